@@ -1,0 +1,143 @@
+ghost use Rattle.std.specs.Prelude.{◌≡◌, ◌↔◌, true, ◌<◌, IsTrue, IsSome, length, Some, None, OnSome};
+ghost use Rattle.ref_board.specs.Cells.{empty_board, tile_at, holds, with_tile, HasNoTile, occupied_on};
+ghost use Rattle.ref_board.specs.Runs.{IsRunThrough, IsFirstBack, IsEndOn};
+
+use crate::directions::Dir;
+use crate::squares::{SIDE, Square};
+use ref_tiles::Tile;
+use std::marker::Model;
+
+/// How many squares the board has.
+const SQUARES: usize = 225;
+
+/// A board: which squares have a tile, and which tile.
+#[derive(Clone, Copy, Debug, PartialEq, Eq)]
+pub struct Board {
+    cells: [Option<Tile>; SQUARES],
+}
+
+impl Model for Board {
+    ghost use Rattle.std.specs.Prelude.{◌≡◌, List, Option, length};
+    ghost use Rattle.ref_tiles.specs.declared.tiles.Tile.{Tile};
+
+    ghost Value = { List (Option Tile) };
+
+    ghost view = { λ b. b.cells };
+
+    ghost invariant = { λ b. length b.cells ≡ 225 };
+
+    ghost inverse = { λ cells. record { cells = cells } };
+}
+
+impl Board {
+    /// A board with no tile.
+    #[tactic(auto, unfolding(crate::specs::Cells::empty_board))]
+    pub fn empty() -> Board
+        ensures { result ≡ empty_board }
+    {
+        Board {
+            cells: [None; SQUARES],
+        }
+    }
+
+    /// The tile on a square.
+    pub fn at(&self, square: Square) -> Option<Tile>
+        ensures { result ≡ tile_at self.now square }
+    {
+        self.cells[square.number()]
+    }
+
+    /// Puts a tile on an empty square.
+    pub fn put(&mut self, square: Square, tile: Tile)
+        requires { tile_at self.old square ≡ None }
+        ensures { self.new ≡ with_tile self.old square (Some tile) }
+    {
+        self.cells[square.number()] = Some(tile);
+    }
+
+    /// Takes the tile off a square, and gives it.
+    pub fn lift(&mut self, square: Square) -> Tile
+        requires { IsSome (tile_at self.old square) }
+        ensures tile { tile_at self.old square ≡ Some result }
+        ensures lifted { self.new ≡ with_tile self.old square None }
+    {
+        let cell = self.cells[square.number()];
+        self.cells[square.number()] = None;
+        cell.unwrap()
+    }
+
+    /// Whether no square has a tile.
+    pub fn is_empty(&self) -> bool
+        ensures { IsTrue result ↔ HasNoTile self.now }
+    {
+        is_blank(&self.cells)
+    }
+
+    /// How many squares the board has: always 225.
+    pub fn len(&self) -> usize
+        ensures len { result ≡ length self.now }
+        ensures size { length self.now ≡ 225 }
+    {
+        let cells: &[Option<Tile>] = &self.cells;
+        cells.len()
+    }
+
+    /// The run through a square that has a tile: the maximal stretch of tiles in a direction, as its first
+    /// square and how many tiles it has. A single tile is a run of one.
+    pub fn run(&self, square: Square, dir: Dir) -> (Square, usize)
+        requires { holds self.now square ≡ true }
+        ensures { IsRunThrough self.now dir square result.0 result.1 }
+    {
+        let line = square.line(dir);
+        let first = self.first_of_run(dir, line, square.place(dir));
+        let end = self.end_of_run(dir, line, square.place(dir));
+        (Square::on_line(dir, line, first), end - first)
+    }
+
+    /// Whether a place of a line has a tile.
+    fn holds(&self, dir: Dir, line: usize, place: usize) -> bool
+        requires line { line < 15 }
+        requires place { place < 15 }
+        ensures { result ≡ occupied_on dir self.now line place }
+    {
+        self.at(Square::on_line(dir, line, place)).is_some()
+    }
+
+    /// The first place of the stretch of tiles that ends at a place.
+    fn first_of_run(&self, dir: Dir, line: usize, place: usize) -> usize
+        requires line { line < 15 }
+        requires place { place < 15 }
+        ensures { IsFirstBack (occupied_on dir self.now line) place result }
+    {
+        let mut first = place;
+        while first > 0 && self.holds(dir, line, first - 1) {
+            first -= 1;
+        }
+        first
+    }
+
+    /// The place after the stretch of tiles that goes on behind a place.
+    fn end_of_run(&self, dir: Dir, line: usize, place: usize) -> usize
+        requires line { line < 15 }
+        requires place { place < 15 }
+        ensures { IsEndOn (occupied_on dir self.now line) place result }
+    {
+        let mut end = place + 1;
+        while end < SIDE && self.holds(dir, line, end) {
+            end += 1;
+        }
+        end
+    }
+}
+
+/// Whether no cell has a tile.
+fn is_blank(cells: &[Option<Tile>]) -> bool
+    ensures { IsTrue result ↔ HasNoTile cells.now }
+{
+    for cell in cells {
+        if cell.is_some() {
+            return false;
+        }
+    }
+    true
+}

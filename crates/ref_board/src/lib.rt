@@ -1,0 +1,10 @@
+//! The board: squares, lines, tiles on squares, and runs of tiles.
+#![tactic(auto)]
+
+mod boards;
+mod directions;
+mod squares;
+
+pub use boards::Board;
+pub use directions::Dir;
+pub use squares::{SIDE, Square};

@@ -1,0 +1,20 @@
+-- Counts of tiles as multisets of kinds: a list of 27 numbers, A to Z and then blanks.
+use Rattle.std.specs.Prelude.{ℕ, ◌≤◌, List, replicate, slice_index, slice_set}
+use Rattle.ref_tiles.specs.Kinds.{number_of}
+use Rattle.ref_tiles.specs.declared.kinds.Kind.{Kind}
+
+-- no tile
+unfoldable pub no_tiles : List ℕ
+no_tiles = replicate 27 0
+
+-- how many tiles of this kind there are
+abbrev pub count_of : List ℕ → Kind → ℕ
+count_of counts kind = slice_index counts (number_of kind)
+
+-- the counts with another number for this kind
+abbrev pub with_count : List ℕ → Kind → ℕ → List ℕ
+with_count counts kind number = slice_set counts (number_of kind) number
+
+-- each kind is there no more often than in the other
+abbrev pub IsContainedIn : List ℕ → List ℕ → Type 0
+IsContainedIn counts other = (k : ℕ) → slice_index counts k ≤ slice_index other k

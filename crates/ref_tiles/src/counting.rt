@@ -1,0 +1,96 @@
+ghost use Rattle.std.specs.Prelude.{◌≡◌, ◌+◌, ◌-◌, ◌<◌, ◌↔◌, IsTrue, IsSome, OnSome, IfNone, length, sum};
+ghost use Rattle.ref_tiles.specs.Counting.{no_tiles, count_of, with_count, IsContainedIn};
+
+use crate::kinds::Kind;
+use std::marker::Model;
+
+/// How many kinds of tiles there are: 26 letters and the blank.
+pub const KINDS: usize = 27;
+
+/// How many tiles of each kind there are: a rack, a bag or a whole tile set, up to 255 of a kind.
+#[derive(Clone, Copy, Debug, PartialEq, Eq)]
+pub struct Counts {
+    numbers: [u8; KINDS],
+}
+
+impl Model for Counts {
+    ghost use Rattle.std.specs.Prelude.{◌≡◌, List, ℕ, length};
+
+    ghost Value = { List ℕ };
+
+    ghost view = { λ c. c.numbers };
+
+    ghost invariant = { λ c. length c.numbers ≡ 27 };
+
+    ghost inverse = { λ numbers. record { numbers = numbers } };
+}
+
+impl Counts {
+    /// The tiles of the English game, 100 in all.
+    pub const ENGLISH: Counts = Counts {
+        numbers: [
+            9, 2, 2, 4, 12, 2, 3, 2, 9, 1, 1, 4, 2, 6, 8, 2, 1, 6, 4, 6, 4, 2, 2, 1, 2, 1, 2,
+        ],
+    };
+
+    /// No tile at all.
+    #[tactic(auto, unfolding(crate::specs::Counting::no_tiles))]
+    pub const fn new() -> Counts
+        ensures { result ≡ no_tiles }
+    {
+        Counts {
+            numbers: [0; KINDS],
+        }
+    }
+
+    /// How many tiles of a kind there are.
+    pub fn count(&self, kind: Kind) -> u8
+        ensures { result ≡ count_of self.now kind }
+    {
+        self.numbers[kind.number()]
+    }
+
+    /// How many tiles there are of all kinds together.
+    pub fn total(&self) -> usize
+        ensures total { result ≡ sum self.now }
+        ensures kinds { length self.now ≡ 27 }
+    {
+        let mut total = 0;
+        for number in &self.numbers {
+            total += *number as usize;
+        }
+        total
+    }
+
+    /// Puts in one tile of a kind.
+    pub fn add(&mut self, kind: Kind)
+        requires { count_of self.old kind < 255 }
+        ensures { self.new ≡ with_count self.old kind (count_of self.old kind + 1) }
+    {
+        self.numbers[kind.number()] += 1;
+    }
+
+    /// Takes out one tile of a kind. With no such tile the answer is none, and the counts stay.
+    pub fn take(&mut self, kind: Kind) -> Option<()>
+        ensures there { IsSome result ↔ (0 < count_of self.old kind) }
+        ensures taken { OnSome result (self.new ≡ with_count self.old kind (count_of self.old kind - 1)) }
+        ensures refused { IfNone result (self.new ≡ self.old) }
+    {
+        let number = kind.number();
+        if self.numbers[number] == 0 {
+            return None;
+        }
+        self.numbers[number] -= 1;
+        Some(())
+    }
+
+    /// Whether each kind is there no more often than in `other`.
+    pub fn fits(&self, other: &Counts) -> bool
+        ensures { IsTrue result ↔ IsContainedIn self.now other.now }
+    {
+        self.numbers
+            .iter()
+            .zip(&other.numbers)
+            .all(|(own, others)| own <= others)
+    }
+}

@@ -1,0 +1,25 @@
+ghost use Rattle.std.specs.Prelude.{◌≡◌};
+ghost use Rattle.ref_tiles.specs.Kinds.{number_of};
+
+use crate::letters::Letter;
+
+/// A kind of tile: a letter, or a blank.
+#[derive(Clone, Copy, Debug, PartialEq, Eq, PartialOrd, Ord, Hash)]
+pub enum Kind {
+    /// A tile that bears this letter.
+    Letter(Letter),
+    /// A tile with no letter, which stands for any letter when it is played.
+    Blank,
+}
+
+impl Kind {
+    /// The number of the kind: 0 to 25 for A to Z, 26 for a blank.
+    pub fn number(&self) -> usize
+        ensures { result ≡ number_of self.now }
+    {
+        match self {
+            Kind::Letter(letter) => letter.index as usize,
+            Kind::Blank => 26,
+        }
+    }
+}
