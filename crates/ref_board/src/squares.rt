@@ -67,6 +67,7 @@ impl Square {
     pub fn row(&self) -> usize
         ensures row { result ≡ self.now / 15 }
         ensures in_range { result < 15 }
+        ensures on_board { self.now < 225 }
     {
         self.number as usize / SIDE
     }
@@ -75,6 +76,7 @@ impl Square {
     pub fn column(&self) -> usize
         ensures column { result ≡ self.now % 15 }
         ensures in_range { result < 15 }
+        ensures on_board { self.now < 225 }
     {
         self.number as usize % SIDE
     }
@@ -94,10 +96,20 @@ impl Square {
     pub fn place(&self, dir: Dir) -> usize
         ensures place { result ≡ place_of dir self.now }
         ensures in_range { result < 15 }
+        ensures on_board { self.now < 225 }
     {
         match dir {
             Dir::Across => self.column(),
             Dir::Down => self.row(),
         }
+    }
+}
+
+/// 1A.
+impl Default for Square {
+    ghost is_default = { λ s. s ≡ 0 };
+
+    fn default() -> Square {
+        Square { number: 0 }
     }
 }

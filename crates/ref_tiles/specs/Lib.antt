@@ -1,6 +1,7 @@
 pub mod Letters
 pub mod Kinds
 pub mod Tiles
+pub mod Faces
 pub mod Symbols
 pub mod Counting
 pub mod Limits

@@ -1,4 +1,4 @@
-ghost use Rattle.std.specs.Prelude.{◌≡◌};
+ghost use Rattle.std.specs.Prelude.{◌≡◌, ◌≤◌};
 ghost use Rattle.ref_tiles.specs.Rulebook.{letter_factor, word_factor};
 
 /// The premium of a square. It counts for a tile put there on this turn, and never again.
@@ -14,7 +14,8 @@ pub enum Premium {
 impl Premium {
     /// By what the points of the tile put there are multiplied.
     pub fn letter_factor(&self) -> u8
-        ensures { result ≡ letter_factor self.now }
+        ensures factor { result ≡ letter_factor self.now }
+        ensures limit { result ≤ 3 }
     {
         match self {
             Premium::DoubleLetter => 2,
@@ -25,7 +26,8 @@ impl Premium {
 
     /// By what each word through the tile put there is multiplied.
     pub fn word_factor(&self) -> u8
-        ensures { result ≡ word_factor self.now }
+        ensures factor { result ≡ word_factor self.now }
+        ensures limit { result ≤ 3 }
     {
         match self {
             Premium::DoubleWord => 2,

@@ -1,4 +1,4 @@
-ghost use Rattle.std.specs.Prelude.{◌≡◌, ◌<◌, IsTrue};
+ghost use Rattle.std.specs.Prelude.{◌≡◌, ◌<◌, ◌≤◌, IsTrue};
 ghost use Rattle.ref_tiles.specs.Limits.{is_tile_set, are_points, is_bonus, is_parameter};
 
 use crate::counting::Counts;
@@ -43,7 +43,8 @@ impl Rules {
 
     /// The points of a kind of tile; a blank has none, whatever it stands for.
     pub fn points_of(&self, kind: Kind) -> u8
-        ensures { result ≡ points_of self.now kind }
+        ensures points { result ≡ points_of self.now kind }
+        ensures limit { result ≤ 99 }
     {
         match kind {
             Kind::Letter(letter) => self.points[letter.index as usize],

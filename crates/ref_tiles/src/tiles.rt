@@ -1,6 +1,5 @@
 ghost use Rattle.std.specs.Prelude.{◌≡◌, IsTrue};
 ghost use Rattle.ref_tiles.specs.Tiles.{can_show};
-ghost use Rattle.ref_tiles.specs.declared.kinds.Kind.TheVariants as kind;
 
 use crate::kinds::Kind;
 use crate::letters::Letter;
@@ -16,10 +15,11 @@ pub struct Tile {
 }
 
 impl Tile {
+    ghost use Rattle.ref_tiles.specs.Faces.{letter_tile, blank_tile};
+
     /// The tile that bears a letter.
     pub fn of_letter(letter: Letter) -> Tile
-        ensures kind { result.kind ≡ kind.Letter letter }
-        ensures shown { result.shown ≡ letter }
+        ensures { result ≡ letter_tile letter }
     {
         Tile {
             kind: Kind::Letter(letter),
@@ -29,12 +29,21 @@ impl Tile {
 
     /// A blank that stands for a letter.
     pub fn of_blank(shown: Letter) -> Tile
-        ensures kind { result.kind ≡ kind.Blank }
-        ensures shown { result.shown ≡ shown }
+        ensures { result ≡ blank_tile shown }
     {
         Tile {
             kind: Kind::Blank,
             shown,
+        }
+    }
+}
+
+/// A blank that stands for A.
+impl Default for Tile {
+    fn default() -> Tile {
+        Tile {
+            kind: Kind::Blank,
+            shown: Letter { index: 0 },
         }
     }
 }

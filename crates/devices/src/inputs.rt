@@ -1,0 +1,76 @@
+ghost use Rattle.std.specs.Prelude.{◌≡◌, ◌++◌, ◌+◌, ◌≤◌, ◌<◌, length, take, IfOk, MatchResult};
+ghost use Rattle.std.specs.Io.KnownBytes.{Consumes, IsAtEnd};
+ghost use Rattle.devices.specs.Devices.{Device, HasRoom, HasWorked};
+ghost use Rattle.devices.specs.Inputs.{Reads, IsInput, TakesAtMost, ReadStops};
+
+use crate::failing::{DeviceFailed, ReadGaveUp};
+use std::alloc::Global;
+
+/// How many bytes one read asks for at most.
+const CHUNK: usize = 8192;
+
+/// Where bytes come from. It counts its failures.
+pub trait Input {
+    /// The bytes that are left, where they are known, and how often a read has failed.
+    ghost device: { Self → Device };
+
+    /// Reads the next bytes into the front of the buffer, and gives how many they are: none only at the end of the
+    /// input or where the buffer is empty.
+    ///
+    /// # Errors
+    ///
+    /// Where the read did not come about. It then took none of the bytes that are known, and counts as one failure.
+    fn read(&mut self, buf: &mut [u8]) -> Result<usize, DeviceFailed>
+        requires { HasRoom (device self.old) }
+        ensures { Reads (device self.old) (device self.new) result buf.new };
+}
+
+/// Reads an input to its end, or to one byte past the limit and not further, so that an input longer than the limit
+/// is told by the length of what it gave.
+///
+/// # Errors
+///
+/// `Failed` where a read failed: the input is not called again after it. `NoMemory` where memory for the bytes was
+/// refused. Either way the bytes that were read are lost.
+pub fn read_within<I: Input>(
+    alloc: Global,
+    input: &mut I,
+    limit: usize,
+) -> Result<Vec<u8>, ReadGaveUp>
+    requires { HasRoom (I.device input.old) }
+    ensures whole { IfOk result (λ bytes. IsInput limit (I.device input.old) bytes.items) }
+    ensures rest { IfOk result (λ bytes. Consumes (I.device input.old).bytes (I.device input.new).bytes bytes.items) }
+    ensures taken { TakesAtMost (limit + 1) (I.device input.old) (I.device input.new) }
+    ensures count { MatchResult result (λ _. HasWorked (I.device input.old) (I.device input.new))
+        (λ why. ReadStops why (I.device input.old) (I.device input.new)) }
+{
+    let mut chunk = [0u8; CHUNK];
+    let mut bytes = Vec::new(alloc);
+    while bytes.len() <= limit {
+        let most = (limit - bytes.len()).min(CHUNK - 1) + 1;
+        if read_more(input, &mut chunk[..most], &mut bytes)? == 0 {
+            break;
+        }
+    }
+    Ok(bytes)
+}
+
+/// Appends what one read into the buffer gives, and tells how many bytes they are.
+fn read_more<I: Input>(
+    input: &mut I,
+    buf: &mut [u8],
+    bytes: &mut Vec<u8>,
+) -> Result<usize, ReadGaveUp>
+    requires { HasRoom (I.device input.old) }
+    ensures bound { IfOk result (λ n. n ≤ length buf.new) }
+    ensures grown { IfOk result (λ n. bytes.new.items ≡ bytes.old.items ++ take n buf.new) }
+    ensures rest { IfOk result (λ n. Consumes (I.device input.old).bytes (I.device input.new).bytes (take n buf.new)) }
+    ensures end { IfOk result (λ n. n ≡ 0 → 0 < length buf.new → IsAtEnd (I.device input.new).bytes) }
+    ensures taken { TakesAtMost (length buf.old) (I.device input.old) (I.device input.new) }
+    ensures count { MatchResult result (λ _. HasWorked (I.device input.old) (I.device input.new))
+        (λ why. ReadStops why (I.device input.old) (I.device input.new)) }
+{
+    let n = input.read(buf)?;
+    bytes.extend_from_slice(&buf[..n])?;
+    Ok(n)
+}

@@ -1,0 +1,11 @@
+pub mod Placing
+pub mod Ranges
+pub mod TextLemmas
+pub mod RangeLaws
+pub mod LineLaws
+pub mod RunLaws
+pub mod PlaceLaws
+pub mod FormedRuns
+pub mod LegalLaws
+pub mod DirectionLaws
+pub mod ScoreLemmas

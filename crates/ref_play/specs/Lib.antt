@@ -1,0 +1,7 @@
+pub mod Placements
+pub mod Formed
+pub mod Legality
+pub mod Texts
+pub mod Words
+pub mod Scores
+pub mod Laws

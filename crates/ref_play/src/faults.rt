@@ -1,0 +1,20 @@
+/// Why the text of a play names no play, or why a play is not legal. The order is that in which they are checked.
+#[derive(Clone, Copy, Debug, PartialEq, Eq, PartialOrd, Ord, Hash)]
+pub enum PlayFault {
+    /// The text leaves the board.
+    OffBoard,
+    /// A dot on an empty square, a letter on a tile that shows another, or a tile on an occupied square.
+    Mismatch,
+    /// Each square of the text has a tile already.
+    NoNewTile,
+    /// More than seven new tiles.
+    TooManyTiles,
+    /// A tile directly before or after the text, or an empty square between two new tiles.
+    NotWhole,
+    /// The first play does not cover the centre.
+    MissesCentre,
+    /// The play forms no word of two letters.
+    TooShort,
+    /// No new tile is orthogonally beside an old one.
+    Apart,
+}

@@ -1,0 +1,25 @@
+//! Laws about the definitions that the contracts of plays cite. Each function does nothing: its contract is the law.
+ghost use Rattle.ref_play.specs.Laws.{RunsAreThoseMet, RunsAreDistinct, FaultlessIsLegal, OneTileFitsBoth, OneTileHasOneFault, WordsFitBoth, MoreTilesFitOne};
+
+/// The runs that a placement forms are the maximal stretches of two tiles or more, in a row or a column, that have
+/// one of its tiles, each once.
+pub fn law_of_runs()
+    ensures met { RunsAreThoseMet }
+    ensures distinct { RunsAreDistinct }
+{}
+
+/// A play has no fault exactly where it is legal by the WESPA rules: its tiles lie on empty squares of one row or
+/// column with no empty square between them, they form a word of two letters, and they cover the centre of an empty
+/// board or lie beside a tile of any other.
+pub fn law_of_legality()
+    ensures { FaultlessIsLegal }
+{}
+
+/// A play of one tile has no direction: it is the same play across and down, with the same fault and the same words.
+/// A play of more tiles has one.
+pub fn law_of_directions()
+    ensures one_tile { OneTileFitsBoth }
+    ensures same_fault { OneTileHasOneFault }
+    ensures same_words { WordsFitBoth }
+    ensures more_tiles { MoreTilesFitOne }
+{}

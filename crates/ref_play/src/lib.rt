@@ -1,0 +1,23 @@
+//! Plays: what a text names, what is legal, which words a play forms and what it scores.
+#![tactic(auto)]
+
+mod faults;
+mod judging;
+mod laws;
+mod legality;
+mod placed;
+mod plays;
+mod runs;
+mod texts;
+mod scoring;
+mod spelling;
+
+pub use faults::PlayFault;
+pub use judging::{apply, judge};
+pub use laws::{law_of_directions, law_of_legality, law_of_runs};
+pub use placed::Placed;
+pub use plays::{Play, RACK};
+pub use runs::Run;
+pub use texts::from_text;
+pub use scoring::score;
+pub use spelling::{Word, Words, words};
