@@ -4,6 +4,8 @@
 mod boards;
 mod directions;
 mod squares;
+#[cfg(test)]
+mod tests;
 
 pub use boards::Board;
 pub use directions::Dir;

@@ -34,35 +34,35 @@ pub on_one_line : (d : Dir) (first : Placed) (ps : List Placed) (p : Placed) →
     → line_of d p.square ≡ line_of d first.square
 on_one_line d first ps p e c =
     ⊎_elim
-        (λ (s : first ≡ p). ap (λ (q : Placed). line_of d q.square) (sym s))
-        (λ (s : Contains ps p). eqb-true (line_of d p.square) (line_of d first.square) (list_all-in (λ (q : Placed). line_of d q.square == line_of d first.square) ps p e s))
-        (Contains-cases first ps p c)
+    (λ (s : first ≡ p). ap (λ (q : Placed). line_of d q.square) (sym s))
+    (λ (s : Contains ps p). eqb-true (line_of d p.square) (line_of d first.square) (list_all-in (λ (q : Placed). line_of d q.square == line_of d first.square) ps p e s))
+    (Contains-cases first ps p c)
 
 pub behind_first : (first : Placed) (ps : List Placed) (p : Placed) → are_rising (first ∷ ps) ≡ true → Contains (first ∷ ps) p → first.square ≤ p.square
 behind_first first ps p e c =
     let parts = and_parts (list_all (λ (q : Placed). nat_lt first.square q.square) ps) (are_rising ps) e in
     ⊎_elim
-        (λ (s : first ≡ p). let same = ap (λ (q : Placed). q.square) s in omega arith)
-        (λ (s : Contains ps p).
-            let less = ltb-true first.square p.square (list_all-in (λ (q : Placed). nat_lt first.square q.square) ps p parts.0 s) in omega arith)
-        (Contains-cases first ps p c)
+    (λ (s : first ≡ p). let same = ap (λ (q : Placed). q.square) s in omega arith)
+    (λ (s : Contains ps p).
+    let less = ltb-true first.square p.square (list_all-in (λ (q : Placed). nat_lt first.square q.square) ps p parts.0 s) in omega arith)
+    (Contains-cases first ps p c)
 
 pub before_last : (first : Placed) (ps : List Placed) (p : Placed) → are_rising (first ∷ ps) ≡ true → Contains (first ∷ ps) p → p.square ≤ last_square first ps
 before_last first [] p e c =
     ⊎_elim
-        (λ (s : first ≡ p). let same = ap (λ (q : Placed). q.square) s in omega arith)
-        (λ (s : Contains [] p). absurd (omega (arith, s.1)))
-        (Contains-cases first [] p c)
+    (λ (s : first ≡ p). let same = ap (λ (q : Placed). q.square) s in omega arith)
+    (λ (s : Contains [] p). absurd (omega (arith, s.1)))
+    (Contains-cases first [] p c)
 before_last first (q ∷ ps) p e c =
     let parts = and_parts (list_all (λ (r : Placed). nat_lt first.square r.square) (q ∷ ps)) (are_rising (q ∷ ps)) e in
     ⊎_elim
-        (λ (s : first ≡ p).
-            let same = ap (λ (r : Placed). r.square) s in
-            let less = ltb-true first.square q.square (list_all-in (λ (r : Placed). nat_lt first.square r.square) (q ∷ ps) q parts.0 (Contains-here q ps)) in
-            let rest = before_last q ps q parts.1 (Contains-here q ps) in
-            omega arith)
-        (λ (s : Contains (q ∷ ps) p). before_last q ps p parts.1 s)
-        (Contains-cases first (q ∷ ps) p c)
+    (λ (s : first ≡ p).
+    let same = ap (λ (r : Placed). r.square) s in
+    let less = ltb-true first.square q.square (list_all-in (λ (r : Placed). nat_lt first.square r.square) (q ∷ ps) q parts.0 (Contains-here q ps)) in
+    let rest = before_last q ps q parts.1 (Contains-here q ps) in
+    omega arith)
+    (λ (s : Contains (q ∷ ps) p). before_last q ps p parts.1 s)
+    (Contains-cases first (q ∷ ps) p c)
 
 pub last_is_there : (first : Placed) (ps : List Placed) → (p : Placed) × Contains (first ∷ ps) p × (p.square ≡ last_square first ps)
 last_is_there first [] = (first, Contains-here first [], refl)
@@ -76,12 +76,12 @@ with_tiles-kept [] board square h e = e
 with_tiles-kept (p ∷ ps) board square h e =
     let same = length-set board p.square (Some p.tile) in
     with_tiles-kept ps (with_tile board p.square (Some p.tile)) square (omega arith)
-        (⊎_elim
-            (λ (s : square ≡ p.square).
-                ap (λ (k : ℕ). holds (with_tile board p.square (Some p.tile)) k) s
-                ∙ ap is_some (get_or-set_same board p.square (Some p.tile) None (omega arith)))
-            (λ (ne : square ≡ p.square → ⊥). ap is_some (get_or-set_other board p.square square (Some p.tile) None ne) ∙ e)
-            (cases_eq square p.square))
+    (⊎_elim
+    (λ (s : square ≡ p.square).
+    ap (λ (k : ℕ). holds (with_tile board p.square (Some p.tile)) k) s
+    ∙ ap is_some (get_or-set_same board p.square (Some p.tile) None (omega arith)))
+    (λ (ne : square ≡ p.square → ⊥). ap is_some (get_or-set_other board p.square square (Some p.tile) None ne) ∙ e)
+    (cases_eq square p.square))
 
 -- each tile of a placement lies on the board with them
 pub with_tiles-holds : (ps : List Placed) (board : List (Option Tile)) (p : Placed) → p.square < length board → Contains ps p
@@ -90,21 +90,21 @@ with_tiles-holds [] board p h c = absurd (omega (arith, c.1))
 with_tiles-holds (q ∷ ps) board p h c =
     let same = length-set board q.square (Some q.tile) in
     ⊎_elim
-        (λ (s : q ≡ p).
-            let e : q.square ≡ p.square = ap (λ (r : Placed). r.square) s in
-            with_tiles-kept ps (with_tile board q.square (Some q.tile)) p.square (omega arith)
-                (ap (λ (k : ℕ). holds (with_tile board q.square (Some q.tile)) k) (sym e)
-                ∙ ap is_some (get_or-set_same board q.square (Some q.tile) None (omega arith))))
-        (λ (s : Contains ps p). with_tiles-holds ps (with_tile board q.square (Some q.tile)) p (omega arith) s)
-        (Contains-cases q ps p c)
+    (λ (s : q ≡ p).
+    let e : q.square ≡ p.square = ap (λ (r : Placed). r.square) s in
+    with_tiles-kept ps (with_tile board q.square (Some q.tile)) p.square (omega arith)
+    (ap (λ (k : ℕ). holds (with_tile board q.square (Some q.tile)) k) (sym e)
+    ∙ ap is_some (get_or-set_same board q.square (Some q.tile) None (omega arith))))
+    (λ (s : Contains ps p). with_tiles-holds ps (with_tile board q.square (Some q.tile)) p (omega arith) s)
+    (Contains-cases q ps p c)
 
 -- a tile lies within the list
 pub holds_within : (board : List (Option Tile)) (square : ℕ) → holds board square ≡ true → square < length board
 holds_within board square e =
     ⊎_elim
-        (λ (h : square < length board). h)
-        (λ (h : length board ≤ square). absurd (both_ways (holds board square) (ap is_some (get_or_past board square None h)) e))
-        (cases_lt square (length board))
+    (λ (h : square < length board). h)
+    (λ (h : length board ≤ square). absurd (both_ways (holds board square) (ap is_some (get_or_past board square None h)) e))
+    (cases_lt square (length board))
 
 pub is_play-few : (d : Dir) (ps : List Placed) → is_play d ps ≡ true → length ps ≤ 7
 unfolding is_play

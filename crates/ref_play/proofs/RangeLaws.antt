@@ -19,12 +19,12 @@ pub flat_map-only : {A : Type 0} (f : ℕ → List A) (a n m : ℕ) → a ≤ m 
 flat_map-only f a zero m low high h = absurd (omega arith)
 flat_map-only f a (suc n) m low high h =
     ⊎_elim
-        (λ (e : a ≡ m).
-            ap (λ xs. f a ++ xs) (flat_map-none f (a + 1) n (λ k p q. h k (omega arith) (omega arith) (λ s. omega arith)))
-            ∙ append-nil (f a) ∙ ap f e)
-        (λ (ne : a ≡ m → ⊥).
-            rw (h a (omega arith) (omega arith) ne) (flat_map-only f (a + 1) n m (omega arith) (omega arith) (λ k p q. h k (omega arith) (omega arith))))
-        (cases_eq a m)
+    (λ (e : a ≡ m).
+    ap (λ xs. f a ++ xs) (flat_map-none f (a + 1) n (λ k p q. h k (omega arith) (omega arith) (λ s. omega arith)))
+    ∙ append-nil (f a) ∙ ap f e)
+    (λ (ne : a ≡ m → ⊥).
+    rw (h a (omega arith) (omega arith) ne) (flat_map-only f (a + 1) n m (omega arith) (omega arith) (λ k p q. h k (omega arith) (omega arith))))
+    (cases_eq a m)
 
 pub filter-none : (p : ℕ → Bool) (a n : ℕ) → ((k : ℕ) → a ≤ k → k < a + n → p k ≡ false) → filter p (range_with_len a n) ≡ []
 filter-none p a zero h = refl
@@ -36,12 +36,12 @@ pub filter-only : (p : ℕ → Bool) (a n m : ℕ) → a ≤ m → m < a + n →
 filter-only p a zero m low high yes' h = absurd (omega arith)
 filter-only p a (suc n) m low high yes' h =
     ⊎_elim
-        (λ (e : a ≡ m).
-            let here : p a ≡ true = ap p e ∙ yes' in
-            rw here (rw (filter-none p (a + 1) n (λ k b c. h k (omega arith) (omega arith) (λ s. omega arith))) (ap (λ (x : ℕ). x ∷ []) e)))
-        (λ (ne : a ≡ m → ⊥).
-            rw (h a (omega arith) (omega arith) ne) (filter-only p (a + 1) n m (omega arith) (omega arith) yes' (λ k b c. h k (omega arith) (omega arith))))
-        (cases_eq a m)
+    (λ (e : a ≡ m).
+    let here : p a ≡ true = ap p e ∙ yes' in
+    rw here (rw (filter-none p (a + 1) n (λ k b c. h k (omega arith) (omega arith) (λ s. omega arith))) (ap (λ (x : ℕ). x ∷ []) e)))
+    (λ (ne : a ≡ m → ⊥).
+    rw (h a (omega arith) (omega arith) ne) (filter-only p (a + 1) n m (omega arith) (omega arith) yes' (λ k b c. h k (omega arith) (omega arith))))
+    (cases_eq a m)
 
 -- how many elements pass
 abbrev pub once : Bool → ℕ
@@ -64,7 +64,7 @@ pub tally-filter : {X : Type 0} (p q : X → Bool) (xs : List X) → tally p (fi
 tally-filter p q [] = refl
 tally-filter p q (x ∷ xs) =
     elim (q x) as (λ b. tally p (cond b (x ∷ filter q xs) (filter q xs)) ≡ once (b && p x) + tally (λ y. q y && p y) xs)
-        [ true ↦ ap (λ n. once (p x) + n) (tally-filter p q xs) | false ↦ tally-filter p q xs ∙ omega arith ]
+    [ true ↦ ap (λ n. once (p x) + n) (tally-filter p q xs) | false ↦ tally-filter p q xs ∙ omega arith ]
 
 pub tally-range_none : (p : ℕ → Bool) (a n : ℕ) → ((k : ℕ) → a ≤ k → k < a + n → p k ≡ false) → tally p (range_with_len a n) ≡ 0
 tally-range_none p a zero h = refl
@@ -76,13 +76,13 @@ pub tally-range_only : (p : ℕ → Bool) (a n m : ℕ) → a ≤ m → m < a + 
 tally-range_only p a zero m low high h = absurd (omega arith)
 tally-range_only p a (suc n) m low high h =
     ⊎_elim
-        (λ (e : a ≡ m).
-            let rest = tally-range_none p (a + 1) n (λ k b c. h k (omega arith) (omega arith) (λ s. omega arith)) in
-            rw rest (rw e (omega arith)))
-        (λ (ne : a ≡ m → ⊥).
-            rw (h a (omega arith) (omega arith) ne)
-                (let rest = tally-range_only p (a + 1) n m (omega arith) (omega arith) (λ k b c. h k (omega arith) (omega arith)) in omega arith))
-        (cases_eq a m)
+    (λ (e : a ≡ m).
+    let rest = tally-range_none p (a + 1) n (λ k b c. h k (omega arith) (omega arith) (λ s. omega arith)) in
+    rw rest (rw e (omega arith)))
+    (λ (ne : a ≡ m → ⊥).
+    rw (h a (omega arith) (omega arith) ne)
+    (let rest = tally-range_only p (a + 1) n m (omega arith) (omega arith) (λ k b c. h k (omega arith) (omega arith)) in omega arith))
+    (cases_eq a m)
 
 pub tally-flat_map_none : {A : Type 0} (p : A → Bool) (f : ℕ → List A) (a n : ℕ)
     → ((k : ℕ) → a ≤ k → k < a + n → tally p (f k) ≡ 0) → tally p (flat_map f (range_with_len a n)) ≡ 0
@@ -90,7 +90,7 @@ tally-flat_map_none p f a zero h = refl
 tally-flat_map_none p f a (suc n) h =
     tally-append p (f a) (flat_map f (range_with_len (a + 1) n))
     ∙ (let here = h a (omega arith) (omega arith) in
-        let rest = tally-flat_map_none p f (a + 1) n (λ k b c. h k (omega arith) (omega arith)) in omega arith)
+    let rest = tally-flat_map_none p f (a + 1) n (λ k b c. h k (omega arith) (omega arith)) in omega arith)
 
 pub tally-flat_map_only : {A : Type 0} (p : A → Bool) (f : ℕ → List A) (a n m : ℕ) → a ≤ m → m < a + n
     → ((k : ℕ) → a ≤ k → k < a + n → (k ≡ m → ⊥) → tally p (f k) ≡ 0) → tally p (flat_map f (range_with_len a n)) ≡ tally p (f m)
@@ -98,13 +98,13 @@ tally-flat_map_only p f a zero m low high h = absurd (omega arith)
 tally-flat_map_only p f a (suc n) m low high h =
     tally-append p (f a) (flat_map f (range_with_len (a + 1) n))
     ∙ ⊎_elim
-        (λ (e : a ≡ m).
-            let rest = tally-flat_map_none p f (a + 1) n (λ k b c. h k (omega arith) (omega arith) (λ s. omega arith)) in
-            rw rest (rw e (omega arith)))
-        (λ (ne : a ≡ m → ⊥).
-            let here = h a (omega arith) (omega arith) ne in
-            let rest = tally-flat_map_only p f (a + 1) n m (omega arith) (omega arith) (λ k b c. h k (omega arith) (omega arith)) in omega arith)
-        (cases_eq a m)
+    (λ (e : a ≡ m).
+    let rest = tally-flat_map_none p f (a + 1) n (λ k b c. h k (omega arith) (omega arith) (λ s. omega arith)) in
+    rw rest (rw e (omega arith)))
+    (λ (ne : a ≡ m → ⊥).
+    let here = h a (omega arith) (omega arith) ne in
+    let rest = tally-flat_map_only p f (a + 1) n m (omega arith) (omega arith) (λ k b c. h k (omega arith) (omega arith)) in omega arith)
+    (cases_eq a m)
 
 pub tally-never : {X : Type 0} (p : X → Bool) → ((x : X) → p x ≡ false) → (xs : List X) → tally p xs ≡ 0
 tally-never p h [] = refl
@@ -124,27 +124,27 @@ All-filter_range P q a zero h = All-nil P
 All-filter_range P q a (suc n) h =
     let rest = All-filter_range P q (a + 1) n (λ k b c e. h k (omega arith) (omega arith) e) in
     ⊎_elim
-        (λ (e : q a ≡ true). rw e (All-cons P a (filter q (range_with_len (a + 1) n)) (h a (omega arith) (omega arith) e) rest))
-        (λ (e : q a ≡ false). rw e rest)
-        (cases_Bool (q a))
+    (λ (e : q a ≡ true). rw e (All-cons P a (filter q (range_with_len (a + 1) n)) (h a (omega arith) (omega arith) e) rest))
+    (λ (e : q a ≡ false). rw e rest)
+    (cases_Bool (q a))
 
 pub All-flat_map_range : {A : Type 0} (P : A → Type 0) (f : ℕ → List A) (a n : ℕ) → ((k : ℕ) → a ≤ k → k < a + n → All P (f k))
     → All P (flat_map f (range_with_len a n))
 All-flat_map_range P f a zero h = All-nil P
 All-flat_map_range P f a (suc n) h =
     All-append P (f a) (flat_map f (range_with_len (a + 1) n)) (h a (omega arith) (omega arith))
-        (All-flat_map_range P f (a + 1) n (λ k b c. h k (omega arith) (omega arith)))
+    (All-flat_map_range P f (a + 1) n (λ k b c. h k (omega arith) (omega arith)))
 
 -- an element that is tallied is there, and one that stands at two places is tallied twice
 pub Contains-from_tally : {X : Type 0} (p : X → Bool) (x : X) → ((y : X) → p y ≡ true → x ≡ y) → (xs : List X) → 0 < tally p xs → Contains xs x
 Contains-from_tally p x same [] h = absurd (omega arith)
 Contains-from_tally p x same (y ∷ xs) h =
     ⊎_elim
-        (λ (e : p y ≡ true). (0, omega arith, sym (same y e)))
-        (λ (e : p y ≡ false).
-            let rest : 0 < tally p xs = (let z : once (p y) ≡ 0 = ap once e in omega arith) in
-            let found = Contains-from_tally p x same xs rest in (suc found.0, omega (arith, found.1), found.2))
-        (cases_Bool (p y))
+    (λ (e : p y ≡ true). (0, omega arith, sym (same y e)))
+    (λ (e : p y ≡ false).
+    let rest : 0 < tally p xs = (let z : once (p y) ≡ 0 = ap once e in omega arith) in
+    let found = Contains-from_tally p x same xs rest in (suc found.0, omega (arith, found.1), found.2))
+    (cases_Bool (p y))
 
 tally-found : {X : Type 0} (p : X → Bool) (xs : List X) (i : ℕ) (d : X) → i < length xs → p (get_or xs i d) ≡ true → 0 < tally p xs
 tally-found p [] i d h e = absurd (omega arith)

@@ -65,11 +65,11 @@ unfolding stretches_within
 stretches_within-tally_none occupied fresh n m p h =
     let f : ℕ → List (ℕ × ℕ) = λ k. map (λ l. (k, l)) (filter (is_formed occupied fresh k) (range_with_len 2 m)) in
     tally-flat_map_none p f 0 n
-        (λ k b c. tally-map p (λ (l : ℕ). (k, l)) (filter (is_formed occupied fresh k) (range_with_len 2 m))
-            ∙ tally-filter (λ (l : ℕ). p (k, l)) (is_formed occupied fresh k) (range_with_len 2 m)
-            ∙ tally-range_none (λ (l : ℕ). is_formed occupied fresh k l && p (k, l)) 2 m
-                (λ l low high. false_from_ne_true (is_formed occupied fresh k l && p (k, l))
-                    (λ t. let parts = and_parts (is_formed occupied fresh k l) (p (k, l)) t in h k l (omega arith) low parts.0 parts.1)))
+    (λ k b c. tally-map p (λ (l : ℕ). (k, l)) (filter (is_formed occupied fresh k) (range_with_len 2 m))
+    ∙ tally-filter (λ (l : ℕ). p (k, l)) (is_formed occupied fresh k) (range_with_len 2 m)
+    ∙ tally-range_none (λ (l : ℕ). is_formed occupied fresh k l && p (k, l)) 2 m
+    (λ l low high. false_from_ne_true (is_formed occupied fresh k l && p (k, l))
+    (λ t. let parts = and_parts (is_formed occupied fresh k l) (p (k, l)) t in h k l (omega arith) low parts.0 parts.1)))
 
 stretches_within-tally_only : (occupied fresh : ℕ → Bool) (n m : ℕ) (p : ℕ × ℕ → Bool) (first len : ℕ) → first < n → 2 ≤ len → len < 2 + m
     → is_formed occupied fresh first len ≡ true → p (first, len) ≡ true
@@ -79,32 +79,33 @@ stretches_within-tally_only occupied fresh n m p first len below low high e here
     let f : ℕ → List (ℕ × ℕ) = λ k. map (λ l. (k, l)) (filter (is_formed occupied fresh k) (range_with_len 2 m)) in
     let q : ℕ → ℕ → Bool = λ k l. is_formed occupied fresh k l && p (k, l) in
     let piece : (k : ℕ) → tally p (f k) ≡ tally (q k) (range_with_len 2 m) =
-        λ k. tally-map p (λ (l : ℕ). (k, l)) (filter (is_formed occupied fresh k) (range_with_len 2 m))
-            ∙ tally-filter (λ (l : ℕ). p (k, l)) (is_formed occupied fresh k) (range_with_len 2 m) in
+    λ k. tally-map p (λ (l : ℕ). (k, l)) (filter (is_formed occupied fresh k) (range_with_len 2 m))
+    ∙ tally-filter (λ (l : ℕ). p (k, l)) (is_formed occupied fresh k) (range_with_len 2 m) in
     tally-flat_map_only p f 0 n first (omega arith) (omega arith)
-        (λ k b c ne. piece k ∙ tally-range_none (q k) 2 m
-            (λ l x y. and_right (is_formed occupied fresh k l) (p (k, l)) (false_from_ne_true (p (k, l)) (λ t. ne ((only k l (omega arith) t).0)))))
+    (λ k b c ne. piece k ∙ tally-range_none (q k) 2 m
+    (λ l x y. and_right (is_formed occupied fresh k l) (p (k, l)) (false_from_ne_true (p (k, l)) (λ t. ne ((only k l (omega arith) t).0)))))
     ∙ piece first
     ∙ tally-range_only (q first) 2 m len low high
-        (λ l x y ne. and_right (is_formed occupied fresh first l) (p (first, l)) (false_from_ne_true (p (first, l)) (λ t. ne ((only first l below t).1))))
+    (λ l x y ne. and_right (is_formed occupied fresh first l) (p (first, l)) (false_from_ne_true (p (first, l)) (λ t. ne ((only first l below t).1))))
     ∙ ap once (and_from (is_formed occupied fresh first len) (p (first, len)) e here)
 
 -- whether a run holds a square
 pub is_on-parts : (run : Run) (square : ℕ) → is_on run square ≡ true
     → (line_of run.dir square ≡ line_of run.dir run.start) × (place_of run.dir run.start ≤ place_of run.dir square)
-      × (place_of run.dir square < place_of run.dir run.start + run.len)
+    × (place_of run.dir square < place_of run.dir run.start + run.len)
 is_on-parts run square e =
     let p = and_parts (line_of run.dir square == line_of run.dir run.start && nat_le (place_of run.dir run.start) (place_of run.dir square)) (nat_lt (place_of run.dir square) (place_of run.dir run.start + run.len)) e in
-    let q = and_parts (line_of run.dir square == line_of run.dir run.start) (nat_le (place_of run.dir run.start) (place_of run.dir square)) p.0 in
-    (eqb-true (line_of run.dir square) (line_of run.dir run.start) q.0,
-     leb-true (place_of run.dir run.start) (place_of run.dir square) q.1,
-     ltb-true (place_of run.dir square) (place_of run.dir run.start + run.len) p.1)
+    let q = and_parts (line_of run.dir square == line_of run.dir run.start) (nat_le (place_of run.dir run.start) (place_of run.dir square)) p.0 in (
+      eqb-true (line_of run.dir square) (line_of run.dir run.start) q.0,
+      leb-true (place_of run.dir run.start) (place_of run.dir square) q.1,
+      ltb-true (place_of run.dir square) (place_of run.dir run.start + run.len) p.1,
+    )
 
 pub is_on-from : (run : Run) (square : ℕ) → line_of run.dir square ≡ line_of run.dir run.start → place_of run.dir run.start ≤ place_of run.dir square
     → place_of run.dir square < place_of run.dir run.start + run.len → is_on run square ≡ true
 is_on-from run square l a b =
     and_from _ _ (and_from _ _ (eq-eqb (line_of run.dir square) (line_of run.dir run.start) l) (le-leb (place_of run.dir run.start) (place_of run.dir square) a))
-        (lt-ltb (place_of run.dir square) (place_of run.dir run.start + run.len) b)
+    (lt-ltb (place_of run.dir square) (place_of run.dir run.start + run.len) b)
 
 -- a stretch that a placement forms is a run that meets it
 stretch_meets : (d : Dir) (after : List (Option Tile)) (ps : List Placed) (line first len : ℕ) → line < 15 → 2 ≤ len
@@ -129,12 +130,12 @@ stretch_meets d after ps line first len below long e =
         on_board = square_at_below d line first below (omega arith);
         long = long;
         whole =
-          subst (λ (l : ℕ). IsWhole (occupied_on d after l) (place_of d start) len) (sym same_line)
-              (subst (λ (p : ℕ). IsWhole (occupied_on d after line) p len) (sym same_place) parts.0);
+            subst (λ (l : ℕ). IsWhole (occupied_on d after l) (place_of d start) len) (sym same_line)
+            (subst (λ (p : ℕ). IsWhole (occupied_on d after line) p len) (sym same_place) parts.0);
       };
       meets =
-        list_any-in (λ (p : Placed). is_on run p.square) ps tile found.1
-            (is_on-from run tile.square (tile_line ∙ sym same_line) (omega arith) (omega arith));
+          list_any-in (λ (p : Placed). is_on run p.square) ps tile found.1
+          (is_on-from run tile.square (tile_line ∙ sym same_line) (omega arith) (omega arith));
     }
 
 -- a run that meets a placement is a stretch of its line that the placement forms
@@ -149,7 +150,7 @@ run_is_formed after ps run m =
     let place = place_of d tile.square in
     let at : tile.square ≡ square_at d line place = sym (ap (λ (l : ℕ). square_at d l place) (sym on.0) ∙ square_at-of d tile.square) in
     is_formed-from (occupied_on d after line) (fresh_on d ps line) (place_of d run.start) run.len place m.is_run.whole on.1 on.2
-        (list_any-in (λ (p : Placed). p.square == square_at d line place) ps tile found.1 (eq-eqb tile.square (square_at d line place) at))
+    (list_any-in (λ (p : Placed). p.square == square_at d line place) ps tile found.1 (eq-eqb tile.square (square_at d line place) at))
 
 -- each run of the list meets the placement
 runs_of_line-meet : (d : Dir) (after : List (Option Tile)) (ps : List Placed) (line n m : ℕ) → line < 15
@@ -159,15 +160,15 @@ runs_of_line-meet d after ps line n m below =
     let formed = is_formed (occupied_on d after line) (fresh_on d ps line) in
     let P : ℕ × ℕ → Type 0 = λ s. MeetsRun after ps (run_of d line s) in
     All-map (MeetsRun after ps) (run_of d line) (stretches_within (occupied_on d after line) (fresh_on d ps line) n m)
-        (All-flat_map_range P (λ k. map (λ l. (k, l)) (filter (formed k) (range_with_len 2 m))) 0 n
-            (λ k b c. All-map P (λ l. (k, l)) (filter (formed k) (range_with_len 2 m))
-                (All-filter_range (λ l. P (k, l)) (formed k) 2 m (λ l low high e. stretch_meets d after ps line k l below low e))))
+    (All-flat_map_range P (λ k. map (λ l. (k, l)) (filter (formed k) (range_with_len 2 m))) 0 n
+    (λ k b c. All-map P (λ l. (k, l)) (filter (formed k) (range_with_len 2 m))
+    (All-filter_range (λ l. P (k, l)) (formed k) 2 m (λ l low high e. stretch_meets d after ps line k l below low e))))
 
 runs_along-meet : (d : Dir) (after : List (Option Tile)) (ps : List Placed) → All (MeetsRun after ps) (runs_along d after ps)
 unfolding runs_along
 runs_along-meet d after ps =
     All-flat_map_range (MeetsRun after ps) (λ line. runs_of_line d after (fresh_on d ps line) line) 0 15
-        (λ k b c. rw (stretches_on-is (occupied_on d after k) (fresh_on d ps k)) (runs_of_line-meet d after ps k 15 14 (omega arith)))
+    (λ k b c. rw (stretches_on-is (occupied_on d after k) (fresh_on d ps k)) (runs_of_line-meet d after ps k 15 14 (omega arith)))
 
 -- a run of the other direction is not in the list of this one
 runs_along-other : (d : Dir) (after : List (Option Tile)) (ps : List Placed) (run : Run) → same_dir run.dir d ≡ false
@@ -175,10 +176,10 @@ runs_along-other : (d : Dir) (after : List (Option Tile)) (ps : List Placed) (ru
 unfolding runs_along
 runs_along-other d after ps run ne =
     tally-flat_map_none (same_run run) (λ line. runs_of_line d after (fresh_on d ps line) line) 0 15
-        (λ k b c. tally-map (same_run run) (run_of d k) (stretches_on (occupied_on d after k) (fresh_on d ps k))
-            ∙ tally-never (λ (s : ℕ × ℕ). same_run run (run_of d k s))
-                (λ s. and_left (run.start == square_at d k s.0 && same_dir run.dir d) (run.len == s.1) (and_right (run.start == square_at d k s.0) (same_dir run.dir d) ne))
-                (stretches_on (occupied_on d after k) (fresh_on d ps k)))
+    (λ k b c. tally-map (same_run run) (run_of d k) (stretches_on (occupied_on d after k) (fresh_on d ps k))
+    ∙ tally-never (λ (s : ℕ × ℕ). same_run run (run_of d k s))
+    (λ s. and_left (run.start == square_at d k s.0 && same_dir run.dir d) (run.len == s.1) (and_right (run.start == square_at d k s.0) (same_dir run.dir d) ne))
+    (stretches_on (occupied_on d after k) (fresh_on d ps k)))
 
 -- a run that meets the placement is in the list of its direction once
 runs_along-once : (after : List (Option Tile)) (ps : List Placed) (run : Run) → MeetsRun after ps run
@@ -196,21 +197,21 @@ runs_along-once after ps run m =
     let f : ℕ → List Run = λ k. runs_of_line d after (fresh_on d ps k) k in
     let p : ℕ → ℕ × ℕ → Bool = λ k s. same_run run (run_of d k s) in
     let piece : (k : ℕ) → tally (same_run run) (f k) ≡ tally (p k) (stretches_within (occupied_on d after k) (fresh_on d ps k) 15 14) =
-        λ k. tally-map (same_run run) (run_of d k) (stretches_on (occupied_on d after k) (fresh_on d ps k))
-            ∙ ap (tally (p k)) (stretches_on-is (occupied_on d after k) (fresh_on d ps k)) in
+    λ k. tally-map (same_run run) (run_of d k) (stretches_on (occupied_on d after k) (fresh_on d ps k))
+    ∙ ap (tally (p k)) (stretches_on-is (occupied_on d after k) (fresh_on d ps k)) in
     tally-flat_map_only (same_run run) f 0 15 line (omega arith) (omega arith)
-        (λ k b c ne. piece k ∙ stretches_within-tally_none (occupied_on d after k) (fresh_on d ps k) 15 14 (p k)
-            (λ k0 l below long' formed t.
-                let same = same_run-parts run (run_of d k (k0, l)) t in
-                ne (sym (ap (line_of d) same.0 ∙ line_of-square_at d k k0 (omega arith) below))))
+    (λ k b c ne. piece k ∙ stretches_within-tally_none (occupied_on d after k) (fresh_on d ps k) 15 14 (p k)
+    (λ k0 l below long' formed t.
+    let same = same_run-parts run (run_of d k (k0, l)) t in
+    ne (sym (ap (line_of d) same.0 ∙ line_of-square_at d k k0 (omega arith) below))))
     ∙ piece line
     ∙ stretches_within-tally_only (occupied_on d after line) (fresh_on d ps line) 15 14 (p line) first run.len first_on long (omega arith)
-        (run_is_formed after ps run m)
-        (same_run-from run (run_of d line (first, run.len))
-            (run_from_parts run (run_of d line (first, run.len)) (sym (square_at-of d run.start)) refl refl))
-        (λ k l below t.
-            let same = same_run-parts run (run_of d line (k, l)) t in
-            (sym (ap (place_of d) same.0 ∙ place_of-square_at d line k line_on below), sym same.2))
+    (run_is_formed after ps run m)
+    (same_run-from run (run_of d line (first, run.len))
+    (run_from_parts run (run_of d line (first, run.len)) (sym (square_at-of d run.start)) refl refl))
+    (λ k l below t.
+    let same = same_run-parts run (run_of d line (k, l)) t in
+    (sym (ap (place_of d) same.0 ∙ place_of-square_at d line k line_on below), sym same.2))
 
 -- and once in the list of both
 other_dir-cases : (d e : Dir) → ((e ≡ d) × (same_dir e (other_dir d) ≡ false)) ⊎ ((e ≡ other_dir d) × (same_dir e d ≡ false))
@@ -225,24 +226,25 @@ runs_formed-once d after ps run m =
     let here : tally (same_run run) (runs_along run.dir after ps) ≡ 1 = runs_along-once after ps run m in
     tally-append (same_run run) (runs_along d after ps) (runs_along (other_dir d) after ps)
     ∙ ⊎_elim
-        (λ (c : (run.dir ≡ d) × (same_dir run.dir (other_dir d) ≡ false)).
-            let along = ap (λ (x : Dir). tally (same_run run) (runs_along x after ps)) (sym c.0) ∙ here in
-            let across = runs_along-other (other_dir d) after ps run c.1 in omega arith)
-        (λ (c : (run.dir ≡ other_dir d) × (same_dir run.dir d ≡ false)).
-            let along = ap (λ (x : Dir). tally (same_run run) (runs_along x after ps)) (sym c.0) ∙ here in
-            let across = runs_along-other d after ps run c.1 in omega arith)
-        (other_dir-cases d run.dir)
+    (λ (c : (run.dir ≡ d) × (same_dir run.dir (other_dir d) ≡ false)).
+    let along = ap (λ (x : Dir). tally (same_run run) (runs_along x after ps)) (sym c.0) ∙ here in
+    let across = runs_along-other (other_dir d) after ps run c.1 in omega arith)
+    (λ (c : (run.dir ≡ other_dir d) × (same_dir run.dir d ≡ false)).
+    let along = ap (λ (x : Dir). tally (same_run run) (runs_along x after ps)) (sym c.0) ∙ here in
+    let across = runs_along-other d after ps run c.1 in omega arith)
+    (other_dir-cases d run.dir)
 
 -- the runs that a placement forms are those that meet it
 pub runs_formed-meet : (d : Dir) (after : List (Option Tile)) (ps : List Placed) (run : Run) → Contains (runs_formed d after ps) run ↔ MeetsRun after ps run
-runs_formed-meet d after ps run =
-    (λ c. All-contains (MeetsRun after ps) (runs_formed d after ps) run
-            (All-append (MeetsRun after ps) (runs_along d after ps) (runs_along (other_dir d) after ps) (runs_along-meet d after ps) (runs_along-meet (other_dir d) after ps)) c,
-     λ m. Contains-from_tally (same_run run) run (same_run-true run) (runs_formed d after ps)
-            (let one = runs_formed-once d after ps run m in omega arith))
+runs_formed-meet d after ps run = (
+  λ c. All-contains (MeetsRun after ps) (runs_formed d after ps) run
+      (All-append (MeetsRun after ps) (runs_along d after ps) (runs_along (other_dir d) after ps) (runs_along-meet d after ps) (runs_along-meet (other_dir d) after ps)) c,
+  λ m. Contains-from_tally (same_run run) run (same_run-true run) (runs_formed d after ps)
+      (let one = runs_formed-once d after ps run m in omega arith),
+)
 
 -- and no two of them are the same
 pub runs_formed-distinct : (d : Dir) (after : List (Option Tile)) (ps : List Placed) → AllPairs (λ a b. a ≡ b → ⊥) (runs_formed d after ps)
 runs_formed-distinct d after ps =
     AllPairs-from_tally same_run same_run-from (runs_formed d after ps)
-        (λ run c. runs_formed-once d after ps run ((runs_formed-meet d after ps run).0 c))
+    (λ run c. runs_formed-once d after ps run ((runs_formed-meet d after ps run).0 c))

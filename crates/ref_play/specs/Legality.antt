@@ -43,7 +43,7 @@ pub record IsLegal (board : List (Option Tile)) (ps : List Placed) : Type 0 wher
   pub no_gap : HasNoGap (with_tiles board ps) ps
   pub forms_run : (run : Run) × MeetsRun (with_tiles board ps) ps run
   pub anchored : (HasNoTile board × (covers ps centre ≡ true))
-    ⊎ ((p : Placed) × (square : ℕ) × Contains ps p × AreBeside p.square square × (holds board square ≡ true))
+      ⊎ ((p : Placed) × (square : ℕ) × Contains ps p × AreBeside p.square square × (holds board square ≡ true))
 
 -- whether the square before it on its line of the direction has a tile
 abbrev pub follows_tile : Dir → List (Option Tile) → ℕ → Bool

@@ -1,3 +1,4 @@
+pub mod Faults
 pub mod Placements
 pub mod Formed
 pub mod Legality

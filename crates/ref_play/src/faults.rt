@@ -1,3 +1,5 @@
+ghost use Rattle.std.specs.Prelude.{◌≡◌};
+
 /// Why the text of a play names no play, or why a play is not legal. The order is that in which they are checked.
 #[derive(Clone, Copy, Debug, PartialEq, Eq, PartialOrd, Ord, Hash)]
 pub enum PlayFault {
@@ -17,4 +19,24 @@ pub enum PlayFault {
     TooShort,
     /// No new tile is orthogonally beside an old one.
     Apart,
+}
+
+impl PlayFault {
+    ghost use Rattle.ref_play.specs.Faults.{name_of};
+
+    /// The name of the fault, as reports print it.
+    pub fn name(&self) -> &'static str
+        ensures { result.now ≡ name_of self.now }
+    {
+        match self {
+            PlayFault::OffBoard => "OffBoard",
+            PlayFault::Mismatch => "Mismatch",
+            PlayFault::NoNewTile => "NoNewTile",
+            PlayFault::TooManyTiles => "TooManyTiles",
+            PlayFault::NotWhole => "NotWhole",
+            PlayFault::MissesCentre => "MissesCentre",
+            PlayFault::TooShort => "TooShort",
+            PlayFault::Apart => "Apart",
+        }
+    }
 }

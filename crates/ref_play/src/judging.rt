@@ -4,14 +4,13 @@ ghost use Rattle.ref_play.specs.Formed.{runs_formed};
 ghost use Rattle.ref_play.specs.Words.{IsWithin};
 ghost use Rattle.ref_play.specs.Legality.{IsLegal, IsLaid, Refuses, fault_of, is_too_short, overlaps};
 
-use arrayvec::ArrayVec;
-use ref_board::{Board, Dir};
-
 use crate::faults::PlayFault;
 use crate::legality::{has_gap, is_apart, misses_centre, overlaps, with_tiles};
 use crate::placed::Placed;
 use crate::plays::Play;
 use crate::runs::{RUNS, Run, runs_of};
+use arrayvec::ArrayVec;
+use ref_board::{Board, Dir};
 
 /// The board with the tiles of a play that lie on empty squares.
 pub fn laid(board: &Board, play: &Play) -> Board

@@ -4,18 +4,15 @@ ghost use Rattle.ref_play.specs.Placements.{with_tiles, are_rising, covers};
 ghost use Rattle.ref_play.specs.Legality.{overlaps, has_gap, is_blank, misses_centre, is_apart, touches, follows_tile, precedes_tile, last_square};
 ghost use Rattle.std.specs.List.{list_all, list_any, range_with_len};
 
-use ref_board::{Board, Dir, SIDE, Square};
-
 use crate::placed::Placed;
+use ref_board::{Board, Dir, SIDE, Square};
 
 /// Whether a tile of a placement lies on an occupied square.
 #[tactic(auto, unfolding(crate::specs::Legality::overlaps))]
 pub fn overlaps(board: &Board, tiles: &[Placed]) -> bool
     ensures { result ≡ overlaps board.now tiles.now }
 {
-    tiles
-        .iter()
-        .any(|placed| board.at(placed.square).is_some())
+    tiles.iter().any(|placed| board.at(placed.square).is_some())
 }
 
 /// The board with the tiles of a placement on empty squares.

@@ -8,9 +8,9 @@ mod legality;
 mod placed;
 mod plays;
 mod runs;
-mod texts;
 mod scoring;
 mod spelling;
+mod texts;
 
 pub use faults::PlayFault;
 pub use judging::{apply, judge};
@@ -18,6 +18,6 @@ pub use laws::{law_of_directions, law_of_legality, law_of_runs};
 pub use placed::Placed;
 pub use plays::{Play, RACK};
 pub use runs::Run;
-pub use texts::from_text;
 pub use scoring::score;
 pub use spelling::{Word, Words, words};
+pub use texts::from_text;

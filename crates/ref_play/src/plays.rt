@@ -1,10 +1,9 @@
 ghost use Rattle.std.specs.Prelude.{IsTrue};
 ghost use Rattle.ref_play.specs.Placements.{is_play};
 
+use crate::placed::Placed;
 use arrayvec::ArrayVec;
 use ref_board::Dir;
-
-use crate::placed::Placed;
 
 /// How many tiles a play has at the most: a full rack.
 pub const RACK: usize = 7;

@@ -3,10 +3,9 @@ ghost use Rattle.ref_board.specs.Cells.{holds};
 ghost use Rattle.ref_play.specs.Formed.{runs_through, runs_formed};
 ghost use Rattle.ref_play.specs.Legality.{IsLaid};
 
+use crate::placed::Placed;
 use arrayvec::ArrayVec;
 use ref_board::{Board, Dir, Square};
-
-use crate::placed::Placed;
 
 /// How many runs a play forms at the most: one along it, and one across each of its tiles.
 pub const RUNS: usize = 8;

@@ -4,15 +4,14 @@ ghost use Rattle.ref_play.specs.Legality.{IsLegal};
 ghost use Rattle.ref_play.specs.Words.{IsWithin};
 ghost use Rattle.ref_play.specs.Scores.{square_points, factor_in, letters_score, words_factor, run_score, bonus_score, score_of};
 
-use ref_board::{Board, Square};
-use ref_tiles::Rules;
-
 use crate::judging::formed;
 use crate::legality::covers;
 use crate::placed::Placed;
 use crate::plays::{Play, RACK};
 use crate::runs::Run;
 use crate::texts::along;
+use ref_board::{Board, Square};
+use ref_tiles::Rules;
 
 /// What a square adds to a word: the points of its tile, a new tile's times the letter premium under it.
 fn square_points(rules: &Rules, after: &Board, tiles: &[Placed], square: Square) -> u32

@@ -3,14 +3,13 @@ ghost use Rattle.ref_board.specs.Lines.{place_of};
 ghost use Rattle.ref_play.specs.Legality.{IsLegal};
 ghost use Rattle.ref_play.specs.Words.{capital_shown, letters_of, words_formed, items_of, IsWithin};
 
-use arrayvec::ArrayVec;
-use ref_board::{Board, SIDE};
-use ref_tiles::Tile;
-
 use crate::judging::formed;
 use crate::plays::Play;
 use crate::runs::{RUNS, Run};
 use crate::texts::along;
+use arrayvec::ArrayVec;
+use ref_board::{Board, SIDE};
+use ref_tiles::Tile;
 
 /// A word: capitals A to Z.
 pub type Word = ArrayVec<u8, SIDE>;

@@ -4,14 +4,13 @@ ghost use Rattle.ref_board.specs.Lines.{place_of};
 ghost use Rattle.ref_play.specs.Formed.{along};
 ghost use Rattle.ref_play.specs.Texts.{symbol_fits, tile_of, fits_board, text_cells, placement_of, is_open_ended, text_fault};
 
-use arrayvec::ArrayVec;
-use ref_board::{Board, Dir, SIDE, Square};
-use ref_tiles::{Symbol, Tile};
-
 use crate::faults::PlayFault;
 use crate::legality::{follows_tile, precedes_tile};
 use crate::placed::Placed;
 use crate::plays::{Play, RACK};
+use arrayvec::ArrayVec;
+use ref_board::{Board, Dir, SIDE, Square};
+use ref_tiles::{Symbol, Tile};
 
 /// The square so many places further on its line.
 pub fn along(square: Square, dir: Dir, by: usize) -> Square

@@ -1,6 +1,6 @@
 -- The two ways to make a tile.
 use Rattle.std.specs.Prelude.{IsTrue, refl}
-use Rattle.std.proofs.Common.{eq-eqb}
+use Rattle.std.proofs.Common.{eq-eqb, lit<}
 use Rattle.ref_tiles.specs.declared.letters.Letter.{Letter}
 use Rattle.ref_tiles.specs.declared.tiles.Tile.{Tile}
 use Rattle.ref_tiles.specs.declared.kinds.Kind.TheVariants as kind
@@ -16,3 +16,6 @@ letter_tile l = record { kind = kind.Letter l; shown = l; proper = can_show_itse
 -- a blank that stands for a letter
 abbrev pub blank_tile : Letter → Tile
 blank_tile l = record { kind = kind.Blank; shown = l; proper = refl }
+
+abbrev pub letter_a : Letter
+letter_a = record { index = 0; in_range = lit< tt }

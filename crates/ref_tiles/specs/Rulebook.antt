@@ -1,5 +1,5 @@
 -- What the rules say of a kind and of a square.
-use Rattle.std.specs.Prelude.{ℕ, List, slice_index, slice_index_or}
+use Rattle.std.specs.Prelude.{ℕ, slice_index, slice_index_or}
 use Rattle.ref_tiles.specs.declared.kinds.Kind.{Kind}
 use Rattle.ref_tiles.specs.declared.kinds.Kind.TheVariants as kind
 use Rattle.ref_tiles.specs.declared.premiums.Premium.{Premium}

@@ -1,5 +1,5 @@
 -- The symbols of a play's text, as bytes.
-use Rattle.std.specs.Prelude.{ℕ, ◌+◌, ◌==◌, nat_lt, Option, Some, None, if◌then◌else◌}
+use Rattle.std.specs.Prelude.{ℕ, ◌+◌, ◌==◌, nat_lt, Option, Some, if◌then◌else◌}
 use Rattle.std.specs.Option.{option_map}
 use Rattle.ref_tiles.specs.Letters.{letter_from}
 use Rattle.ref_tiles.specs.declared.symbols.Symbol.{Symbol}

@@ -1,3 +1,6 @@
+ghost use Rattle.std.specs.Prelude.{◌≡◌, sum};
+ghost use Rattle.ref_tiles.specs.English.{english_counts, english_points, english_premiums};
+
 use crate::counting::Counts;
 use crate::premiums::Premium;
 use crate::rulebook::{Rules, SQUARES};
@@ -44,3 +47,20 @@ pub const ENGLISH: Rules = Rules {
     challenge_unit: 5,
     time_step: 5,
 };
+
+/// The English game, [`ENGLISH`]: its tiles, their points, the premium squares and the five numbers are those of
+/// the tables.
+#[tactic(auto, unfolding(crate::specs::English::english_premiums, crate::specs::Limits::most_tiles))]
+pub fn english_rules() -> Rules
+    ensures counts { result.counts ≡ english_counts }
+    ensures tiles { sum result.counts ≡ 100 }
+    ensures points { result.points ≡ english_points }
+    ensures premiums { result.premiums ≡ english_premiums }
+    ensures bonus { result.bonus ≡ 50 }
+    ensures exchange_min { result.exchange_min ≡ 7 }
+    ensures zero_limit { result.zero_limit ≡ 6 }
+    ensures challenge_unit { result.challenge_unit ≡ 5 }
+    ensures time_step { result.time_step ≡ 5 }
+{
+    ENGLISH
+}

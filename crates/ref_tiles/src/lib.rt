@@ -4,15 +4,19 @@
 mod counting;
 mod english;
 mod kinds;
+mod laws;
 mod letters;
 mod premiums;
 mod rulebook;
 mod symbols;
+#[cfg(test)]
+mod tests;
 mod tiles;
 
 pub use counting::{Counts, KINDS};
-pub use english::ENGLISH;
+pub use english::{ENGLISH, english_rules};
 pub use kinds::Kind;
+pub use laws::law_of_symbols;
 pub use letters::Letter;
 pub use premiums::Premium;
 pub use rulebook::{Rules, SQUARES};

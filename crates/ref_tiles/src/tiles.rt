@@ -40,6 +40,10 @@ impl Tile {
 
 /// A blank that stands for A.
 impl Default for Tile {
+    ghost use Rattle.ref_tiles.specs.Faces.{blank_tile, letter_a};
+
+    ghost is_default = { λ tile. tile ≡ blank_tile letter_a };
+
     fn default() -> Tile {
         Tile {
             kind: Kind::Blank,

@@ -35,14 +35,14 @@ pub decided_by_fault : (rules : Rules) (text : List ℕ) (fault : ReadFault) (v 
 unfolding report
 decided_by_fault rules text fault v bytes given memory is told =
     ⊎_elim
-        (λ (none : fault ≡ no_memory). absurd (memory (ap (λ (f : ReadFault). f.why) none)))
-        (λ (e : game_of text ≡ Err fault). record {
-          judged = λ words lexicon. subst (λ (x : Verdict). Judged rules words lexicon text x) (sym is) (fault, e);
-          told = λ words lexicon.
-              let line : bad_record_text (Err fault) ≡ report rules words lexicon text verdict.BadRecord = sym (ap bad_record_text e) in
-              told ∙ line ∙ ap (report rules words lexicon text) (sym is);
-        })
-        given
+    (λ (none : fault ≡ no_memory). absurd (memory (ap (λ (f : ReadFault). f.why) none)))
+    (λ (e : game_of text ≡ Err fault). record {
+      judged = λ words lexicon. subst (λ (x : Verdict). Judged rules words lexicon text x) (sym is) (fault, e);
+      told = λ words lexicon.
+          let line : bad_record_text (Err fault) ≡ report rules words lexicon text verdict.BadRecord = sym (ap bad_record_text e) in
+          told ∙ line ∙ ap (report rules words lexicon text) (sym is);
+    })
+    given
 
 -- a decision on the bytes of an input, with what was done with its report
 pub decides : (rules : Rules) (input : Device) (v : Verdict) (bytes text : List ℕ) (P : List ℕ → Type 0) → IsInput most_bytes input text → IsDecided rules text v bytes → P bytes

@@ -53,12 +53,12 @@ find_parts : (x : Event) (events : List Event) → find (λ event. not (is_play_
     → (is_play_kind x.kind ≡ true) × (find (λ event. not (is_play_kind event.kind)) events ≡ None)
 find_parts x events none =
     let here : is_play_kind x.kind ≡ true =
-        ⊎_elim
-            (λ (t : is_play_kind x.kind ≡ true). t)
-            (λ (f : is_play_kind x.kind ≡ false).
-                let found = cond-true (not (is_play_kind x.kind)) (Some x) (find (λ event. not (is_play_kind event.kind)) events) (ap not f) in
-                absurd (some_none x (sym found ∙ none)))
-            (cases_Bool (is_play_kind x.kind)) in
+    ⊎_elim
+    (λ (t : is_play_kind x.kind ≡ true). t)
+    (λ (f : is_play_kind x.kind ≡ false).
+    let found = cond-true (not (is_play_kind x.kind)) (Some x) (find (λ event. not (is_play_kind event.kind)) events) (ap not f) in
+    absurd (some_none x (sym found ∙ none)))
+    (cases_Bool (is_play_kind x.kind)) in
     (here, sym (cond-false (not (is_play_kind x.kind)) (Some x) (find (λ event. not (is_play_kind event.kind)) events) (ap not here)) ∙ none)
 
 play_from_find : (events : List Event) → find (λ event. not (is_play_kind event.kind)) events ≡ None → (i : ℕ) (e : Event) → i < length events → e ≡ get_or events i e

@@ -46,10 +46,10 @@ check_play rules table event dir at word =
     let score = text_score rules table.board dir at word in
     let total = total_of table event.player +ℤ event.score in
     first_fault (
-      fails (not (may_move table.mover event.player)) fault.NotYourTurn
-      ∷ option_map fault.Play (play_fault table.board dir at word)
-      ∷ fails (not (int_eq event.score score)) (fault.WrongScore score)
-      ∷ fails (not (int_eq event.total total)) (fault.WrongTotal total) ∷ [])
+    fails (not (may_move table.mover event.player)) fault.NotYourTurn
+    ∷ option_map fault.Play (play_fault table.board dir at word)
+    ∷ fails (not (int_eq event.score score)) (fault.WrongScore score)
+    ∷ fails (not (int_eq event.total total)) (fault.WrongTotal total) ∷ [])
 
 -- The first check of an event that fails. Only plays have checks for now.
 abbrev pub check_kind : Rules → Table → Event → EventKind → Option RuleFault

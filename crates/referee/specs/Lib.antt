@@ -5,3 +5,4 @@ pub mod Verdicts
 pub mod Reports
 pub mod Judging
 pub mod Runs
+pub mod Exits

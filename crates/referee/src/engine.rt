@@ -8,15 +8,14 @@ ghost use Rattle.referee.specs.Judging.{IsJudged, IsRefused, IsDecided};
 ghost use Rattle.referee.specs.Reports.{report};
 ghost use Rattle.referee.specs.Runs.{Decides, GivesUp};
 
+use crate::judging::{judge_events, other_line};
+use crate::reports::{bad_record_line, illegal_line, legal_line};
+use crate::verdicts::{GameFault, Verdict};
 use devices::{Input, Output, ReadGaveUp, read_within, write_whole};
 use gcg_read::{MAX_BYTES, ReadFault, Record, Why, read};
 use ref_tiles::Rules;
 use std::alloc::{AllocError, Global};
 use thiserror::Error;
-
-use crate::judging::{judge_events, other_line};
-use crate::reports::{bad_record_line, illegal_line, legal_line};
-use crate::verdicts::{GameFault, Verdict};
 
 /// Why the referee gave no answer.
 #[derive(Clone, Copy, Debug, PartialEq, Eq, Error)]

@@ -3,11 +3,10 @@ ghost use Rattle.referee.specs.Steps.{IsPlay};
 ghost use Rattle.referee.specs.Checks.{AreAllowed, IsFirstRefusal};
 ghost use Rattle.referee.specs.Verdicts.{is_play_kind, other_line};
 
-use gcg_read::{Event, EventKind};
-use ref_tiles::Rules;
-
 use crate::tables::Table;
 use crate::turns::RuleFault;
+use gcg_read::{Event, EventKind};
+use ref_tiles::Rules;
 
 /// The first event that the rules do not allow.
 #[derive(Clone, Copy, Debug, PartialEq, Eq)]

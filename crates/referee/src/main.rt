@@ -1,11 +1,23 @@
-//! The program `referee`.
+//! The program `referee`: it reads the command line, opens the files, and lets the engine judge.
+//!
+//! Exit statuses: 0 legal or done, 1 illegal, 2 unsettled, 3 bad input, 4 a device or memory, 64 the command line.
 #![tactic(auto)]
 
+mod command_line;
 mod engine;
+mod exits;
 mod judging;
 mod reports;
+mod running;
 mod tables;
+#[cfg(test)]
+mod tests;
 mod turns;
 mod verdicts;
 
-fn main() {}
+use crate::running::run_program;
+use std::process::ExitCode;
+
+fn main(rt: HostRuntime) -> ExitCode {
+    ExitCode::from(run_program(&rt).status())
+}

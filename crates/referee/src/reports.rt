@@ -2,12 +2,11 @@ ghost use Rattle.std.specs.Prelude.{◌≡◌, ◌++◌, OnOk, IfOk};
 ghost use Rattle.std.specs.Fmt.{signed_decimal};
 ghost use Rattle.referee.specs.Reports.{rule_text, fault_text, line_text, illegal_line, bad_record_line, legal_line};
 
+use crate::turns::RuleFault;
+use crate::verdicts::GameFault;
 use gcg_read::ReadFault;
 use itoa::Buffer;
 use std::alloc::{AllocError, Global};
-
-use crate::turns::RuleFault;
-use crate::verdicts::GameFault;
 
 /// Appends a name and a number.
 fn push_expected(text: &mut Vec<u8>, name: &[u8], expected: i32) -> Result<(), AllocError>

@@ -5,12 +5,11 @@ ghost use Rattle.ref_play.specs.Legality.{IsLegal};
 ghost use Rattle.ref_play.specs.Placements.{with_tiles};
 ghost use Rattle.ref_play.specs.Texts.{placement_of};
 
+use crate::turns::RuleFault;
 use gcg_read::{Event, EventKind, Points, Seat};
 use ref_board::{Board, Dir, Square};
 use ref_play::{Play, PlayFault, apply, from_text, judge, score};
 use ref_tiles::{Rules, Symbol};
-
-use crate::turns::RuleFault;
 
 /// The state of a game between two events.
 #[derive(Clone, Copy, Debug, PartialEq, Eq)]
@@ -61,7 +60,8 @@ impl Table {
         ensures { result ≡ may_move self.now.mover seat }
     {
         match (self.mover, seat) {
-            (None, _) | (Some(Seat::First), Seat::First) | (Some(Seat::Second), Seat::Second) => true,
+            (None, _) | (Some(Seat::First), Seat::First) | (Some(Seat::Second), Seat::Second) =>
+                true,
             (Some(_), _) => false,
         }
     }
@@ -81,7 +81,14 @@ impl Table {
 
     /// The play of an event that the rules allow.
     #[tactic(auto, unfolding(crate::specs::Checks::check_play, crate::specs::Checks::text_score))]
-    fn allowed_play(&self, rules: &Rules, event: &Event, at: Square, dir: Dir, word: &[Symbol]) -> Result<Play, RuleFault>
+    fn allowed_play(
+        &self,
+        rules: &Rules,
+        event: &Event,
+        at: Square,
+        dir: Dir,
+        word: &[Symbol],
+    ) -> Result<Play, RuleFault>
         requires { HasPoints self.now }
         ensures told { Tells result (check_play rules.now self.now event.now dir at word.now) }
         ensures legal { IfOk result (λ play. IsLegal self.now.board play.tiles.items) }

@@ -17,8 +17,8 @@ loop-placed-preserved c =
     let f = factor_in c.args.rules.now c.args.run.now in
     record {
       factor =
-        ap (λ k. k * c.factor_in-factor.result) c.loop-placed.invariant.factor ∙ ap (λ k. product (map f (take c.loop-placed.placed-index c.args.tiles.now)) * k) c.factor_in-factor.ensures.factor
-        ∙ sym (factor_more f c.args.tiles.now c.loop-placed.placed-index c.placed-item.result (omega arith) c.placed-item.is);
+          ap (λ k. k * c.factor_in-factor.result) c.loop-placed.invariant.factor ∙ ap (λ k. product (map f (take c.loop-placed.placed-index c.args.tiles.now)) * k) c.factor_in-factor.ensures.factor
+          ∙ sym (factor_more f c.args.tiles.now c.loop-placed.placed-index c.placed-item.result (omega arith) c.placed-item.is);
       limit = factor_limit c.loop-placed.placed-index c.loop-placed.factor c.factor_in-factor.result c.loop-placed.invariant.limit c.factor_in-factor.ensures.limit;
     }
 

@@ -9,7 +9,7 @@ returns-in-Ok c =
     let text = c.args.text.now in
     let events = c.in-Ok.game.events in
     IfOk-weaker c.judge_record.result (λ d. IsJudged rules events d.verdict d.report.items) (λ d. IsDecided rules text d.verdict d.report.items)
-        (λ d h. decided_by_events rules text c.in-Ok.game d.verdict d.report.items c.in-Ok.ensures.gives h) c.judge_record.ensures
+    (λ d h. decided_by_events rules text c.in-Ok.game d.verdict d.report.items c.in-Ok.ensures.gives h) c.judge_record.ensures
 
 pub returns-in-Err : goal.returns-in-Err
 returns-in-Err c =
@@ -17,4 +17,4 @@ returns-in-Err c =
     let text = c.args.text.now in
     let fault = c.in-Err.fault in
     IfOk-weaker c.bad_record.result (λ d. IsRefused fault d.verdict d.report.items) (λ d. IsDecided rules text d.verdict d.report.items)
-        (λ d h. decided_by_fault rules text fault d.verdict d.report.items c.in-Err.ensures.gives h.known h.verdict_is h.told) c.bad_record.ensures
+    (λ d h. decided_by_fault rules text fault d.verdict d.report.items c.in-Err.ensures.gives h.known h.verdict_is h.told) c.bad_record.ensures

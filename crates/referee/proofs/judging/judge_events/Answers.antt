@@ -23,7 +23,7 @@ returns-in-Err-clause-refused c =
       stands = slice_get_read events (length events) i e refl within c.event-item.is;
       on_line = refl;
       fails = fault_here c.args.rules.now events i e within c.event-item.is
-        ∙ ap (λ t. check_kind c.args.rules.now t e e.kind) (sym c.loop-event.invariant.table) ∙ c.in-Err.ensures.told;
+          ∙ ap (λ t. check_kind c.args.rules.now t e e.kind) (sym c.loop-event.invariant.table) ∙ c.in-Err.ensures.told;
       earlier = c.loop-event.invariant.allowed;
     }
 
@@ -35,8 +35,8 @@ loop-event-preserved c =
     let e = c.event-item.result in
     let within : i < length events = omega arith in
     let here : fault_at rules events i ≡ None =
-        fault_here rules events i e within c.event-item.is
-        ∙ ap (λ t. check_kind rules t e e.kind) (sym c.loop-event.invariant.table) ∙ c.in_default.ensures.told in
+    fault_here rules events i e within c.event-item.is
+    ∙ ap (λ t. check_kind rules t e e.kind) (sym c.loop-event.invariant.table) ∙ c.in_default.ensures.told in
     record {
       table = c.in_default.ensures.after ∙ ap (λ t. table_with t e) c.loop-event.invariant.table ∙ table_more events i e within c.event-item.is;
       points = c.in_default.ensures.points;

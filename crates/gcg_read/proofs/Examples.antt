@@ -1,0 +1,146 @@
+-- Records and faults as the definitions give them, computed.
+use Rattle.std.proofs.Common.{◌≡◌, ℕ, pos, negsuc, List, [], ◌∷◌, ◌++◌, map, Some, None, Result, Ok, Err, refl, replicate}
+use Rattle.std.specs.Prelude.{codes}
+use Rattle.ref_tiles.specs.Letters.{letter_at}
+use Rattle.ref_tiles.specs.Symbols.{byte_of}
+use Rattle.ref_board.specs.declared.directions.Dir.TheVariants.{Across, Down}
+use Rattle.gcg_read.specs.declared.faults.Why.{Why}
+use Rattle.gcg_read.specs.declared.faults.Why.TheVariants as why
+use Rattle.gcg_read.specs.declared.faults.ReadFault.{ReadFault}
+use Rattle.gcg_read.specs.declared.events.Event.{Event}
+use Rattle.gcg_read.specs.declared.events.EventKind.TheVariants as kind
+use Rattle.gcg_read.specs.declared.events.Seat.TheVariants.{First, Second}
+use Rattle.gcg_read.specs.declared.players.Players.{Players}
+use Rattle.gcg_read.specs.declared.records.Record.{Record}
+use Rattle.gcg_read.specs.Cutting.{lines_in, fields_of, head_of}
+use Rattle.gcg_read.specs.EventLines.{scored_of, played_of, coded_of, event_of}
+use Rattle.gcg_read.specs.Players.{no_player}
+use Rattle.gcg_read.specs.Racks.{tally}
+use Rattle.gcg_read.specs.Records.{no_record, entry_of, with_event, with_line, record_from, record_of}
+use Rattle.gcg_read.specs.Texts.{symbols_of}
+
+abbrev only_a : Players
+only_a = record { first = record { nick = codes "A"; full = [] }; second = no_player }
+
+-- a play with a rack
+word_play : record_of (codes ">A: DORWAAE 8E WORD +16 16")
+    ≡ Ok (record {
+      players = only_a;
+      events = record {
+        line = 1;
+        player = First;
+        rack = Some (2 ∷ 0 ∷ 0 ∷ 1 ∷ 1 ∷ 0 ∷ 0 ∷ 0 ∷ 0 ∷ 0 ∷ 0 ∷ 0 ∷ 0 ∷ 0 ∷ 1 ∷ 0 ∷ 0 ∷ 1 ∷ 0 ∷ 0 ∷ 0 ∷ 0 ∷ 1 ∷ 0 ∷ 0 ∷ 0 ∷ 0 ∷ []);
+        kind = kind.Play 109 Across (symbols_of (codes "WORD"));
+        score = pos 16;
+        total = pos 16;
+      } ∷ [];
+    })
+unfolding record_of record_from with_line with_event entry_of head_of fields_of lines_in event_of played_of scored_of tally letter_at
+word_play = refl
+
+abbrev fails_as : ℕ → Why → Result Record ReadFault
+fails_as line w = Err (record { line = line; why = w })
+
+-- the bytes of a text's symbols are those that were read
+text_bytes : map byte_of (symbols_of (codes "WOrD.z")) ≡ codes "WOrD.z"
+unfolding letter_at
+text_bytes = refl
+
+-- an empty record
+nothing : record_of [] ≡ Ok no_record
+unfolding record_of record_from with_line lines_in
+nothing = refl
+
+blank_in_nick : record_of (codes ">A B: 8E WORD +16 16") ≡ fails_as 1 why.NoColon
+unfolding record_of record_from with_line with_event entry_of head_of fields_of lines_in
+blank_in_nick = refl
+
+one_field : record_of (codes ">A: 8E") ≡ fails_as 1 why.Fields
+unfolding record_of record_from with_line with_event entry_of head_of fields_of lines_in event_of played_of scored_of coded_of tally letter_at
+one_field = refl
+
+three_fields : record_of (codes ">A: 8E WORD +16") ≡ fails_as 1 why.Code
+unfolding record_of record_from with_line with_event entry_of head_of fields_of lines_in event_of played_of scored_of coded_of tally letter_at
+three_fields = refl
+
+eight_tiles : record_of (codes ">A: AAAAAAAA - +0 0") ≡ fails_as 1 why.Rack
+unfolding record_of record_from with_line with_event entry_of head_of fields_of lines_in event_of played_of scored_of coded_of tally letter_at
+eight_tiles = refl
+
+row_sixteen : record_of (codes ">A: 16A AT +4 4") ≡ fails_as 1 why.Position
+unfolding record_of record_from with_line with_event entry_of head_of fields_of lines_in event_of played_of scored_of coded_of tally letter_at
+row_sixteen = refl
+
+digit_in_word : record_of (codes ">A: 8E W0RD +16 16") ≡ fails_as 1 why.Word
+unfolding record_of record_from with_line with_event entry_of head_of fields_of lines_in event_of played_of scored_of coded_of tally letter_at
+digit_in_word = refl
+
+letter_in_score : record_of (codes ">A: 8E WORD +x 16") ≡ fails_as 1 why.Number
+unfolding record_of record_from with_line with_event entry_of head_of fields_of lines_in event_of played_of scored_of coded_of tally letter_at
+letter_in_score = refl
+
+code_before_number : record_of (codes ">A: - +1234567 0") ≡ fails_as 1 why.Code
+unfolding record_of record_from with_line with_event entry_of head_of fields_of lines_in event_of played_of scored_of coded_of tally letter_at
+code_before_number = refl
+
+no_colon : record_of (codes ">A 8E WORD +16 16") ≡ fails_as 1 why.NoColon
+unfolding record_of record_from with_line with_event entry_of head_of fields_of lines_in event_of played_of scored_of coded_of tally letter_at
+no_colon = refl
+
+six_fields : record_of (codes ">A: A 8A AT +4 4 4") ≡ fails_as 1 why.Fields
+unfolding record_of record_from with_line with_event entry_of head_of fields_of lines_in event_of played_of scored_of coded_of tally letter_at
+six_fields = refl
+
+seven_digits : record_of (codes ">A: 8E WORD +16 1000000") ≡ fails_as 1 why.Number
+unfolding record_of record_from with_line with_event entry_of head_of fields_of lines_in event_of played_of scored_of coded_of tally letter_at
+seven_digits = refl
+
+rack_before_position : record_of (codes ">A: a 16A A- x 0") ≡ fails_as 1 why.Rack
+unfolding record_of record_from with_line with_event entry_of head_of fields_of lines_in event_of played_of scored_of coded_of tally letter_at
+rack_before_position = refl
+
+long_word : record_of (codes ">A: 8A ABCDEFGHIJKLMNOP +4 4") ≡ fails_as 1 why.Word
+unfolding record_of record_from with_line with_event entry_of head_of fields_of lines_in event_of played_of scored_of coded_of tally letter_at
+long_word = refl
+
+only_brackets : record_of (codes ">A: 8A () +4 4") ≡ fails_as 1 why.Word
+unfolding record_of record_from with_line with_event entry_of head_of fields_of lines_in event_of played_of scored_of coded_of tally letter_at
+only_brackets = refl
+
+-- A mark at the front, lines that are read over and are counted, a CR at each end, tabs, a column before its row,
+-- brackets, a minus sign and leading zeros; and then a third nickname.
+abbrev good_lines : List ℕ
+good_lines = (0xef ∷ 0xbb ∷ 0xbf ∷ codes "#player1 X") ++ (13 ∷ 10 ∷ 10 ∷ codes "> A : 08E WORD 16 16") ++ (13 ∷ 10 ∷ codes ">B:") ++ (9 ∷ codes "? a15")
+    ++ (9 ∷ 32 ∷ codes "(W)o.(rd) -007 -0 ") ++ (13 ∷ [])
+
+two_lines : record_of good_lines
+    ≡ Ok (record {
+      players = record { first = record { nick = codes "A"; full = [] }; second = record { nick = codes "B"; full = [] } };
+      events =
+          (record { line = 3; player = First; rack = None; kind = kind.Play 109 Across (symbols_of (codes "WORD")); score = pos 16; total = pos 16 })
+          ∷ (record {
+            line = 4;
+            player = Second;
+            rack = Some (0 ∷ 0 ∷ 0 ∷ 0 ∷ 0 ∷ 0 ∷ 0 ∷ 0 ∷ 0 ∷ 0 ∷ 0 ∷ 0 ∷ 0 ∷ 0 ∷ 0 ∷ 0 ∷ 0 ∷ 0 ∷ 0 ∷ 0 ∷ 0 ∷ 0 ∷ 0 ∷ 0 ∷ 0 ∷ 0 ∷ 1 ∷ []);
+            kind = kind.Play 210 Down (symbols_of (codes "Wo.rd"));
+            score = negsuc 6;
+            total = pos 0;
+          })
+          ∷ [];
+    })
+unfolding record_of record_from with_line with_event entry_of head_of fields_of lines_in event_of played_of scored_of coded_of tally letter_at
+two_lines = refl
+
+third_player : record_of (good_lines ++ (10 ∷ codes ">C: x")) ≡ fails_as 5 why.ThirdPlayer
+unfolding record_of record_from with_line with_event entry_of head_of fields_of lines_in event_of played_of scored_of coded_of tally letter_at
+third_player = refl
+
+-- an event after the last that a record may have
+too_many : (r : Record) (line : ℕ) (text : List ℕ) (e : Event) → entry_of (record r { events = replicate 1000 e }) line text ≡ Err why.TooManyEvents
+unfolding entry_of
+too_many r line text e = refl
+
+-- the first colon ends the nickname
+second_colon : record_of (codes ">B:: 8E WORD +16 16") ≡ fails_as 1 why.Rack
+unfolding record_of record_from with_line with_event entry_of head_of fields_of lines_in event_of played_of scored_of coded_of tally letter_at
+second_colon = refl

@@ -1,0 +1,6 @@
+pub mod Decimals
+pub mod Lists
+pub mod Tallies
+pub mod Cuts
+pub mod Steps
+pub mod Examples

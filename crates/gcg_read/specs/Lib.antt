@@ -1,0 +1,9 @@
+pub mod Cutting
+pub mod Faults
+pub mod Numerals
+pub mod Positions
+pub mod Racks
+pub mod Texts
+pub mod Players
+pub mod EventLines
+pub mod Records

@@ -1,0 +1,28 @@
+-- Racks, as the bytes of a record write them.
+use Rattle.std.specs.Prelude.{ℕ, Bool, ◌&&◌, ◌==◌, nat_le, List, map, length, Option, Some, None, is_some, if◌then◌else◌}
+use Rattle.std.specs.List.{list_all, filter_map, count_by, range_with_len}
+use Rattle.std.specs.Option.{option_map}
+use Rattle.ref_tiles.specs.declared.kinds.Kind.{Kind}
+use Rattle.ref_tiles.specs.declared.kinds.Kind.TheVariants as kind
+use Rattle.ref_tiles.specs.Kinds.{number_of}
+use Rattle.ref_tiles.specs.Letters.{letter_from}
+
+-- how often each of the 27 kinds is among these tiles
+unfoldable pub tally : List Kind → List ℕ
+tally kinds = map (λ k. count_by (λ kind. number_of kind == k) kinds) (range_with_len 0 27)
+
+-- A to Z are letter tiles, '?' (63) is a blank
+abbrev pub kind_of : ℕ → Option Kind
+kind_of byte = if byte == 63 then Some kind.Blank else option_map kind.Letter (letter_from 65 byte)
+
+-- A to Z or '?'
+abbrev pub is_tile : ℕ → Bool
+is_tile byte = is_some (kind_of byte)
+
+-- 1 to 7 tiles
+abbrev pub is_rack : List ℕ → Bool
+is_rack bytes = nat_le 1 (length bytes) && nat_le (length bytes) 7 && list_all is_tile bytes
+
+-- the tiles of a rack, how many of each kind
+abbrev pub rack_of : List ℕ → Option (List ℕ)
+rack_of bytes = if is_rack bytes then Some (tally (filter_map kind_of bytes)) else None

@@ -1,0 +1,153 @@
+ghost use Rattle.std.specs.Prelude.{◌≡◌, ◌∷◌, []};
+ghost use Rattle.std.specs.List.{list_any};
+ghost use Rattle.std.specs.Char.{is_ascii_digit};
+ghost use Rattle.gcg_read.specs.Cutting.{fields_of};
+ghost use Rattle.gcg_read.specs.EventLines.{has_digit, scored_of, played_of, event_of};
+
+use crate::cutting::{Field, next_field};
+use crate::events::{Event, EventKind, Seat};
+use crate::faults::Why;
+use crate::points::Points;
+use crate::positions::read_position;
+use crate::racks::read_rack;
+use crate::texts::Text;
+use ref_tiles::Counts;
+
+/// What an event line says before its fields.
+#[derive(Clone, Copy)]
+pub struct Heading {
+    /// The number of the line.
+    pub line: u32,
+    /// The player that it names.
+    pub player: Seat,
+}
+
+/// The event that the text behind a nickname says.
+#[tactic(auto, unfolding(crate::specs::EventLines::event_of, crate::specs::EventLines::coded_of))]
+pub fn read_event(heading: Heading, text: &[u8]) -> Result<Event, Why>
+    ensures { result ≡ event_of heading (fields_of text.now) }
+{
+    let Some(first) = next_field(text) else {
+        return Err(Why::Fields);
+    };
+    let Some(second) = next_field(first.after) else {
+        return Err(Why::Fields);
+    };
+    let Some(third) = next_field(second.after) else {
+        return Err(Why::Fields);
+    };
+    match next_field(third.after) {
+        None => Err(Why::Code),
+        Some(fourth) => read_longer(heading, first.bytes, second.bytes, third.bytes, fourth),
+    }
+}
+
+/// The event of a line with four fields or more.
+#[tactic(auto, unfolding(crate::specs::EventLines::event_of, crate::specs::EventLines::coded_of))]
+fn read_longer(
+    heading: Heading,
+    first: &[u8],
+    second: &[u8],
+    third: &[u8],
+    fourth: Field<'_>,
+) -> Result<Event, Why>
+    ensures { result ≡ event_of heading (first.now ∷ second.now ∷ third.now ∷ fourth.entry.bytes.now ∷ fields_of fourth.entry.after.now) }
+{
+    let Some(fifth) = next_field(fourth.after) else {
+        return read_four(heading, first, second, third, fourth.bytes);
+    };
+    if next_field(fifth.after).is_some() {
+        return Err(Why::Fields);
+    }
+    let Some(rack) = read_rack(first) else {
+        return Err(Why::Rack);
+    };
+    read_play(
+        heading,
+        Some(rack),
+        second,
+        third,
+        fourth.bytes,
+        fifth.bytes,
+    )
+}
+
+/// The event of a line with four fields: a play without a rack, or a code with one.
+#[tactic(auto, unfolding(crate::specs::EventLines::event_of, crate::specs::EventLines::coded_of))]
+fn read_four(
+    heading: Heading,
+    first: &[u8],
+    second: &[u8],
+    third: &[u8],
+    fourth: &[u8],
+) -> Result<Event, Why>
+    ensures { result ≡ event_of heading (first.now ∷ second.now ∷ third.now ∷ fourth.now ∷ []) }
+{
+    if has_digit(first) {
+        return read_play(heading, None, first, second, third, fourth);
+    }
+    match read_rack(first) {
+        None => Err(Why::Rack),
+        Some(_) => Err(Why::Code),
+    }
+}
+
+/// Whether a byte is a digit.
+fn has_digit(bytes: &[u8]) -> bool
+    ensures { result ≡ has_digit bytes.now }
+{
+    bytes.iter().any(|byte| byte.is_ascii_digit())
+}
+
+/// The event of a play.
+#[tactic(auto, unfolding(crate::specs::EventLines::played_of))]
+fn read_play(
+    heading: Heading,
+    rack: Option<Counts>,
+    position: &[u8],
+    word: &[u8],
+    score: &[u8],
+    total: &[u8],
+) -> Result<Event, Why>
+    ensures { result ≡ played_of heading rack position.now word.now score.now total.now }
+{
+    let Some(position) = read_position(position) else {
+        return Err(Why::Position);
+    };
+    let Some(word) = Text::of_bytes(word) else {
+        return Err(Why::Word);
+    };
+    let kind = EventKind::Play {
+        at: position.at,
+        dir: position.dir,
+        word,
+    };
+    read_numbers(heading, rack, kind, score, total)
+}
+
+/// The event with its score and its total.
+#[tactic(auto, unfolding(crate::specs::EventLines::scored_of))]
+fn read_numbers(
+    heading: Heading,
+    rack: Option<Counts>,
+    kind: EventKind,
+    score: &[u8],
+    total: &[u8],
+) -> Result<Event, Why>
+    ensures { result ≡ scored_of heading rack kind score.now total.now }
+{
+    let Some(score) = Points::of_bytes(score) else {
+        return Err(Why::Number);
+    };
+    let Some(total) = Points::of_bytes(total) else {
+        return Err(Why::Number);
+    };
+    Ok(Event {
+        line: heading.line,
+        player: heading.player,
+        rack,
+        kind,
+        score,
+        total,
+    })
+}

@@ -1,0 +1,118 @@
+ghost use Rattle.std.specs.Prelude.{◌≡◌, [], ◌∷◌, ◌++◌, ◌↔◌, length, IsTrue, OnOk, OnErr};
+
+use crate::points::Points;
+use crate::texts::Text;
+use ref_board::{Dir, Square};
+use ref_tiles::Counts;
+use std::alloc::{AllocError, Global};
+use std::marker::Model;
+
+/// One of the two players of a game.
+#[derive(Clone, Copy, Debug, PartialEq, Eq)]
+pub enum Seat {
+    /// The player whose nickname comes first in the record.
+    First,
+    /// The other player.
+    Second,
+}
+
+/// What happened in an event.
+#[derive(Debug, Drop)]
+pub enum EventKind {
+    /// Tiles were put on the board: where the text begins, in which direction it goes, and the text.
+    Play {
+        /// The square of the first symbol.
+        at: Square,
+        /// Whether the text goes across or down.
+        dir: Dir,
+        /// The symbols, one for each square.
+        word: Text,
+    },
+    /// The player passed.
+    Pass,
+    /// The player exchanged these tiles.
+    Exchange(Counts),
+    /// The player exchanged that many tiles, which are not known.
+    ExchangeUnknown(u8),
+    /// The play before was taken back.
+    Withdraw,
+    /// The play before was challenged without success; the score goes to its player.
+    Challenge,
+    /// A penalty for time.
+    Time,
+    /// The tiles of a last rack: the other player's, or the player's own.
+    LastRack(Counts),
+}
+
+/// One event line of a record.
+#[derive(Debug, Drop)]
+pub struct Event {
+    /// The line of the record, counted from 1.
+    pub line: u32,
+    /// The player that the line names.
+    pub player: Seat,
+    /// The rack, where the line has one.
+    pub rack: Option<Counts>,
+    /// What happened.
+    pub kind: EventKind,
+    /// What the event scores.
+    pub score: Points,
+    /// The player's total after it, as the line says it.
+    pub total: Points,
+}
+
+/// The events of a record, in the order of their lines. Contracts see the list of them.
+#[derive(Debug, Drop)]
+pub struct Events {
+    items: Vec<Event>,
+}
+
+impl Model for Events {
+    ghost use Rattle.std.specs.Prelude.{List};
+    ghost use Rattle.gcg_read.specs.declared.events.Event.{Event};
+
+    ghost Value = { List Event };
+
+    ghost view = { λ e. e.items.items };
+}
+
+impl Events {
+    /// No events. It takes no memory.
+    pub fn new(alloc: Global) -> Events
+        ensures { result ≡ [] }
+    {
+        Events {
+            items: Vec::new(alloc),
+        }
+    }
+
+    /// The events.
+    pub fn as_slice(&self) -> &[Event]
+        ensures { result.now ≡ self.now }
+    {
+        self.items.as_slice()
+    }
+
+    /// How many events there are.
+    pub fn len(&self) -> usize
+        ensures { result ≡ length self.now }
+    {
+        self.items.len()
+    }
+
+    /// Whether there is no event.
+    pub fn is_empty(&self) -> bool
+        ensures { IsTrue result ↔ (self.now ≡ []) }
+    {
+        self.items.is_empty()
+    }
+
+    /// Puts an event behind the others. It fails only where memory runs out, and then the events stay.
+    pub fn push(&mut self, event: Event) -> Result<(), AllocError>
+        ensures pushed { OnOk result (self.new ≡ self.old ++ event ∷ []) }
+        ensures refused { OnErr result (self.new ≡ self.old) }
+    {
+        self.items.push(event)?;
+        Ok(())
+    }
+}

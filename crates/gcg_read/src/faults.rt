@@ -1,0 +1,88 @@
+ghost use Rattle.std.specs.Prelude.{◌≡◌};
+
+use std::alloc::AllocError;
+
+/// Why a record has no meaning, in the order in which the faults of one line are looked for: `Position` and
+/// `Word`, or `Code` in their place, come before `Number`.
+#[derive(Clone, Copy, Debug, PartialEq, Eq)]
+pub enum Why {
+    /// The record has more than 1,048,576 bytes. This is looked for before all else.
+    TooLong,
+    /// The line is the event after the 1,000th.
+    TooManyEvents,
+    /// No colon stands behind the nickname, or there is no nickname, or it has a blank inside.
+    NoColon,
+    /// The nickname is a third one.
+    ThirdPlayer,
+    /// Behind the colon stand fewer than 3 fields or more than 5.
+    Fields,
+    /// The rack is not 1 to 7 of A to Z and `?`.
+    Rack,
+    /// The position is not a row from 1 to 15 and a column from A to O, or these the other way round.
+    Position,
+    /// The word, without its round brackets, is not 1 to 15 letters and dots.
+    Word,
+    /// The score or the total is not 1 to 6 digits behind an optional sign.
+    Number,
+    /// A code that is not read stands in place of a position and a word.
+    Code,
+    /// Memory ran out.
+    NoMemory,
+}
+
+impl Why {
+    ghost use Rattle.gcg_read.specs.Faults.{name_of};
+
+    /// The name of the fault, as reports print it.
+    pub fn name(&self) -> &'static str
+        ensures { result.now ≡ name_of self.now }
+    {
+        match self {
+            Why::TooLong => "TooLong",
+            Why::TooManyEvents => "TooManyEvents",
+            Why::NoColon => "NoColon",
+            Why::ThirdPlayer => "ThirdPlayer",
+            Why::Fields => "Fields",
+            Why::Rack => "Rack",
+            Why::Position => "Position",
+            Why::Word => "Word",
+            Why::Number => "Number",
+            Why::Code => "Code",
+            Why::NoMemory => "NoMemory",
+        }
+    }
+}
+
+/// The first fault of a record.
+#[derive(Clone, Copy, Debug, PartialEq, Eq)]
+pub struct ReadFault {
+    /// The line of the fault, counted from 1; 0 for `TooLong` and `NoMemory`, which lie on no line.
+    pub line: u32,
+    /// What is wrong there.
+    pub why: Why,
+}
+
+impl ReadFault {
+    ghost use Rattle.gcg_read.specs.Faults.{no_memory};
+
+    /// Want of memory, which lies on no line.
+    pub fn no_memory() -> ReadFault
+        ensures { result ≡ no_memory }
+    {
+        ReadFault {
+            line: 0,
+            why: Why::NoMemory,
+        }
+    }
+}
+
+impl From<AllocError> for ReadFault {
+    ghost use Rattle.std.specs.Prelude.{◌≡◌};
+    ghost use Rattle.gcg_read.specs.Faults.{no_memory};
+
+    ghost from_gives = { λ _ fault. fault ≡ no_memory };
+
+    fn from(_error: AllocError) -> ReadFault {
+        ReadFault::no_memory()
+    }
+}

@@ -1,0 +1,107 @@
+ghost use Rattle.std.specs.Prelude.{◌≡◌, ◌≤◌, ◌<◌, length};
+ghost use Rattle.gcg_read.specs.Faults.{Gives, Makes};
+ghost use Rattle.gcg_read.specs.Cutting.{lines_in};
+ghost use Rattle.gcg_read.specs.Records.{no_record, with_event, with_line, record_from, record_of, entry_of, IsEntry};
+
+use crate::cutting::{cut_line, read_head, without_mark};
+use crate::event_lines::{Heading, read_event};
+use crate::events::Event;
+use crate::faults::{ReadFault, Why};
+use crate::records::Record;
+use std::alloc::Global;
+
+/// The most bytes of a record.
+pub const MAX_BYTES: usize = 1_048_576;
+
+/// The most events of a record.
+pub const MAX_EVENTS: usize = 1_000;
+
+/// An event and the nickname of its player.
+#[derive(Drop)]
+struct Entry<'a> {
+    nick: &'a [u8],
+    event: Event,
+}
+
+/// Reads a game record, and gives its players and events, or its first fault: the first by line, and on a line
+/// the first in the order of [`Why`].
+///
+/// Only plays are read: `read` answers `Code` for an event line with a code in place of a position and a word.
+/// Lines that do not begin with `>` are read over.
+#[tactic(auto, unfolding(crate::specs::Records::record_of))]
+pub fn read(alloc: Global, bytes: &[u8]) -> Result<Record, ReadFault>
+    ensures { Gives result (record_of bytes.now) }
+{
+    if bytes.len() > MAX_BYTES {
+        return Err(ReadFault {
+            line: 0,
+            why: Why::TooLong,
+        });
+    }
+    read_lines(alloc, without_mark(bytes))
+}
+
+/// Reads the lines of a text.
+fn read_lines(alloc: Global, text: &[u8]) -> Result<Record, ReadFault>
+    requires { length text.now ≤ 1_048_576 }
+    ensures { Gives result (record_from no_record 1 (lines_in text.now)) }
+{
+    let mut record = Record::empty(alloc);
+    let mut line = 0;
+    let mut left = Some(text);
+    while let Some(rest) = left {
+        let cut = cut_line(rest);
+        line += 1;
+        take_line(alloc, &mut record, line, cut.line)?;
+        left = cut.after;
+    }
+    Ok(record)
+}
+
+/// Reads one line into a record.
+#[tactic(auto, unfolding(crate::specs::Records::with_line))]
+fn take_line(alloc: Global, so_far: &mut Record, line: u32, text: &[u8]) -> Result<(), ReadFault>
+    ensures { Makes so_far.new result (with_line so_far.old line text.now) }
+{
+    match text {
+        [b'>', rest @ ..] => take_event(alloc, so_far, line, rest),
+        _ => Ok(()),
+    }
+}
+
+/// Reads an event line, behind its `>`, into a record.
+#[tactic(auto, unfolding(crate::specs::Records::with_event))]
+fn take_event(alloc: Global, so_far: &mut Record, line: u32, text: &[u8]) -> Result<(), ReadFault>
+    ensures { Makes so_far.new result (with_event so_far.old line text.now) }
+{
+    let entry = match read_entry(so_far, line, text) {
+        Ok(entry) => entry,
+        Err(why) => return Err(ReadFault { line, why }),
+    };
+    so_far
+        .players
+        .take_nick(alloc, entry.event.player, entry.nick)?;
+    so_far.events.push(entry.event)?;
+    Ok(())
+}
+
+/// The event of a line, behind its `>`, and the nickname that it names.
+#[tactic(auto, unfolding(crate::specs::Records::entry_of))]
+fn read_entry<'a>(so_far: &Record, line: u32, text: &'a [u8]) -> Result<Entry<'a>, Why>
+    ensures { IsEntry result (entry_of so_far.now line text.now) }
+{
+    if so_far.events.len() >= MAX_EVENTS {
+        return Err(Why::TooManyEvents);
+    }
+    let Some(head) = read_head(text) else {
+        return Err(Why::NoColon);
+    };
+    let Some(player) = so_far.players.seat_for(head.nick) else {
+        return Err(Why::ThirdPlayer);
+    };
+    let event = read_event(Heading { line, player }, head.after)?;
+    Ok(Entry {
+        nick: head.nick,
+        event,
+    })
+}

@@ -1,0 +1,87 @@
+use crate::command_line::{Request, mistake, read_words};
+use crate::engine::run;
+use crate::exits::{Exit, Trouble};
+use crate::verdicts::Verdict;
+use clap::Error;
+use clap::error::ErrorKind;
+use devices::{FromRead, FromWrite};
+use ref_tiles::english_rules;
+use std::alloc::AllocError;
+use std::rt::{Files, Runtime};
+use std::{env, fs, io};
+
+/// The bytes of an input that is not read yet.
+const NOTHING: &[u8] = &[];
+
+/// Runs the program on the words of its command line. What keeps it from its end is told on standard error.
+pub fn run_program<R: Runtime + AllocGlobal>(rt: &R) -> Exit {
+    let words = match words_of(rt) {
+        Ok(words) => words,
+        Err(error) => return refuse(rt, &error),
+    };
+    match read_words(rt.alloc(), words.as_slice()) {
+        Ok(request) => answer(rt, request),
+        Err(error) => refuse(rt, &error),
+    }
+}
+
+/// The words of the command line, the program's name first.
+fn words_of<R: Runtime + AllocGlobal>(rt: &R) -> Result<Vec<String>, Error> {
+    match env::args(rt) {
+        Ok(args) => Ok(args.collect(rt.alloc())?),
+        Err(error) if error.kind() == io::ErrorKind::OutOfMemory => Err(Error::from(AllocError)),
+        Err(_) => Err(mistake(rt.alloc(), "an argument is no UTF-8 text")),
+    }
+}
+
+/// Tells why the command line gave no request: a mistake or help by clap's text, want of memory by its own.
+fn refuse<R: Runtime>(rt: &R, error: &Error) -> Exit {
+    if error.kind() == ErrorKind::OutOfMemory {
+        return give_up(rt, Trouble::NoMemory);
+    }
+    let _ = rt.eprint(error);
+    Exit::Usage
+}
+
+/// Tells what kept the program from its end.
+fn give_up<R: Runtime>(rt: &R, trouble: Trouble<'_>) -> Exit {
+    let _ = rt.eprintln(trouble);
+    Exit::Broken
+}
+
+/// Does what was asked for.
+fn answer<R: Runtime + AllocGlobal>(rt: &R, request: Request<'_>) -> Exit {
+    let outcome = match request {
+        Request::Judge { game, .. } => judge(rt, game),
+    };
+    match outcome {
+        Ok(verdict) => Exit::from(verdict),
+        Err(trouble) => give_up(rt, trouble),
+    }
+}
+
+/// Judges the game of a file. The report goes to standard output.
+fn judge<'a, R: Runtime + AllocGlobal>(rt: &R, game: &'a str) -> Result<Verdict, Trouble<'a>> {
+    let mut game = FromRead::new(open(rt, game)?);
+    let mut words = FromRead::new(NOTHING);
+    let mut lexicon = FromRead::new(NOTHING);
+    let mut out = FromWrite::new(io::writer(rt));
+    let verdict = run(
+        rt.alloc(),
+        &mut words,
+        &mut lexicon,
+        &mut game,
+        &mut out,
+        &english_rules(),
+    )?;
+    Ok(verdict)
+}
+
+/// Opens a file to be read.
+fn open<'a, R: Files>(rt: &R, name: &'a str) -> Result<R::File, Trouble<'a>> {
+    match fs::open(rt, name) {
+        Ok(file) => Ok(file),
+        Err(error) if error.kind() == io::ErrorKind::OutOfMemory => Err(Trouble::NoMemory),
+        Err(_) => Err(Trouble::CannotOpen(name)),
+    }
+}
