@@ -1,0 +1,5 @@
+pub mod Cuts
+pub mod Orders
+pub mod Steps
+pub mod Laws
+pub mod Examples

@@ -1,0 +1,129 @@
+-- Lines read one after the other.
+use Rattle.std.specs.Prelude.{IfSome, option_map}
+use Rattle.std.proofs.Common.{◌≡◌, ℕ, ◌+◌, ◌<◌, ◌≤◌, arith, List, [], ◌∷◌, ◌++◌, length, Option, Some, None, Ok, Err, sym, ap, ◌∙◌, refl, ◌⊎◌, inl, inr, append_assoc, append-nil, true, false}
+use Rattle.std.proofs.lemmas.Bool.{lt-leb, le-leb}
+use Rattle.std.specs.Borrow.{Bor}
+use Rattle.std.proofs.lemmas.List.{length_push}
+use Rattle.std.proofs.lemmas.List.Sums.{fold-append}
+use Rattle.lex_list.specs.declared.faults.ListWhy.{ListWhy}
+use Rattle.lex_list.specs.declared.faults.ListFault.{ListFault}
+use Rattle.lex_list.specs.Faults.{no_memory}
+use Rattle.lex_list.specs.Lines.{lines_in, lines_behind}
+use Rattle.std.specs.BTreeSet.{insert_key}
+use Rattle.std.proofs.Common.{leb}
+use Rattle.lex_list.specs.declared.faults.ListWhy.TheVariants as why
+use Rattle.lex_list.specs.Words.{word_order, most_words}
+use Rattle.lex_list.specs.Lists.{with_line, words_in, spelling_fault, fault_of, first_fault, at_line, or_fault, list_in, line_in, capitals}
+
+-- how much of a text is left
+abbrev pub size_of : Option (Bor (List ℕ)) → ℕ
+size_of None = 0
+size_of (Some rest) = length rest.now + 1
+
+-- how far a reading has come: these are the words of the lines so far, of which there are so many, and what is
+-- wrong with the whole is wrong with what stands behind
+pub record Progress (lines words : List (List ℕ)) (line : ℕ) (behind : List (List ℕ)) : Type 0 where
+  pub before : List (List ℕ)
+  pub count : length before ≡ line
+  pub there : words ≡ words_in before
+  pub same : first_fault before behind ≡ first_fault [] lines
+  pub whole : before ++ behind ≡ lines
+
+-- no line yet
+pub progress_none : (lines : List (List ℕ)) → Progress lines [] 0 lines
+unfolding words_in
+progress_none lines = record { before = []; count = refl; there = refl; same = refl; whole = refl }
+
+-- a line without a fault
+no_fault : (o : Option ListWhy) (n : ℕ) (words next : List (List ℕ)) → or_fault (option_map (at_line n) o) words ≡ Ok next → (o ≡ None) × (words ≡ next)
+no_fault None n words next e = (refl, cc)
+no_fault (Some w) n words next e = absurd cc
+
+-- a line with a fault
+some_fault : (o : Option ListWhy) (n : ℕ) (words : List (List ℕ)) (fault : ListFault) → or_fault (option_map (at_line n) o) words ≡ Err fault
+    → option_map (at_line n) o ≡ Some fault
+some_fault None n words fault e = absurd cc
+some_fault (Some w) n words fault e = cc
+
+pub words_in_more : (before : List (List ℕ)) (line : List ℕ) → words_in (before ++ line ∷ []) ≡ with_line (words_in before) line
+unfolding words_in
+words_in_more before line = fold-append with_line [] before (line ∷ [])
+
+-- one more line
+pub progress_more : (lines words next : List (List ℕ)) (n : ℕ) (left : Option (Bor (List ℕ))) (rest : Bor (List ℕ)) (text : List ℕ) (others : List (List ℕ))
+    → left ≡ Some rest → lines_in rest.now ≡ text ∷ others → line_in words (n + 1) text ≡ Ok next
+    → Progress lines words n (lines_behind left) → Progress lines next (n + 1) others
+unfolding first_fault
+progress_more lines words next n left rest text others at cut step p =
+    let fine = no_fault (fault_of words text) (n + 1) (with_line words text) next step in
+    let behind : lines_behind left ≡ text ∷ others = rw at cut in
+    let none : fault_of (words_in p.before) text ≡ None = rw p.there at fine.0 in
+    let here : first_fault p.before (text ∷ others) ≡ first_fault (p.before ++ text ∷ []) others = rw none refl in
+    record {
+      before = p.before ++ text ∷ [];
+      count = omega (arith, length_push p.before text, p.count);
+      there = sym fine.1 ∙ ap (λ ws. with_line ws text) p.there ∙ sym (words_in_more p.before text);
+      same = sym here ∙ ap (first_fault p.before) (sym behind) ∙ p.same;
+      whole = append_assoc p.before (text ∷ []) others ∙ ap (λ rest. p.before ++ rest) (sym behind) ∙ p.whole;
+    }
+
+-- a line with a fault, or no memory for it
+pub progress_fails : (lines words : List (List ℕ)) (n : ℕ) (left : Option (Bor (List ℕ))) (rest : Bor (List ℕ)) (text : List ℕ) (others : List (List ℕ)) (fault : ListFault)
+    → left ≡ Some rest → lines_in rest.now ≡ text ∷ others → (fault ≡ no_memory) ⊎ (line_in words (n + 1) text ≡ Err fault)
+    → Progress lines words n (lines_behind left) → (fault ≡ no_memory) ⊎ (list_in lines ≡ Err fault)
+unfolding first_fault list_in
+progress_fails lines words n left rest text others fault at cut (inl memory) p = inl memory
+progress_fails lines words n left rest text others fault at cut (inr step) p =
+    let found = some_fault (fault_of words text) (n + 1) (with_line words text) fault step in
+    let behind : lines_behind left ≡ text ∷ others = rw at cut in
+    let here : option_map (at_line (length p.before + 1)) (fault_of (words_in p.before) text) ≡ Some fault = rw (p.count, ← p.there) found in
+    let first : first_fault p.before (text ∷ others) ≡ Some fault = rw here refl in
+    let whole : first_fault [] lines ≡ Some fault = sym p.same ∙ ap (first_fault p.before) behind ∙ first in
+    inr (rw whole refl)
+
+-- what is left grows shorter by more than the lines count up
+pub room_more : (left after : Option (Bor (List ℕ))) (rest : Bor (List ℕ)) (n limit : ℕ) → left ≡ Some rest → IfSome left (λ text. n + length text.now ≤ limit)
+    → IfSome after (λ text. length text.now < length rest.now) → IfSome after (λ text. n + 1 + length text.now ≤ limit) × (n + 1 ≤ limit + 1)
+room_more left None rest n limit at room shorter = let here = rw at at room in (tt, omega arith)
+room_more left (Some text) rest n limit at room shorter = let here = rw at at room in (omega arith, omega arith)
+
+-- ---- one line
+
+filled : (text : List ℕ) → 0 < length text → (byte : ℕ) × (rest : List ℕ) × (text ≡ byte ∷ rest)
+filled [] lt = absurd (omega arith)
+filled (byte ∷ rest) lt = (byte, rest, refl)
+
+pub line_empty : (words : List (List ℕ)) (n : ℕ) (text : List ℕ) → length text ≡ 0 → line_in words n text ≡ Ok words
+unfolding fault_of with_line
+line_empty words n [] e = refl
+line_empty words n (byte ∷ rest) e = absurd (omega arith)
+
+pub line_bad : (words : List (List ℕ)) (n : ℕ) (text : List ℕ) (w : ListWhy) → 0 < length text → spelling_fault text ≡ Some w → line_in words n text ≡ Err (at_line n w)
+unfolding fault_of
+line_bad words n [] w lt e = absurd (omega arith)
+line_bad words n (byte ∷ rest) w lt e = rw e refl
+
+pub line_many : (words new : List (List ℕ)) (n : ℕ) (text : List ℕ) → 0 < length text → spelling_fault text ≡ None → new ≡ insert_key word_order words (capitals text)
+    → most_words < length new → line_in words n text ≡ Err (at_line n why.TooMany)
+unfolding fault_of with_line
+line_many words new n [] lt e is many = absurd (omega arith)
+line_many words new n (byte ∷ rest) lt e is many =
+    let over : leb (length (insert_key word_order words (capitals (byte ∷ rest)))) most_words ≡ false = rw is at (lt-leb (length new) most_words many) in
+    rw (e, over) refl
+
+pub line_good : (words new : List (List ℕ)) (n : ℕ) (text : List ℕ) → 0 < length text → spelling_fault text ≡ None → new ≡ insert_key word_order words (capitals text)
+    → length new ≤ most_words → line_in words n text ≡ Ok new
+unfolding fault_of with_line
+line_good words new n [] lt e is few = absurd (omega arith)
+line_good words new n (byte ∷ rest) lt e is few =
+    let under : leb (length (insert_key word_order words (capitals (byte ∷ rest)))) most_words ≡ true = rw is at (le-leb (length new) most_words few) in
+    rw (e, under) (ap Ok (sym is))
+
+-- no more lines
+pub progress_done : (lines words : List (List ℕ)) (n : ℕ) (left : Option (Bor (List ℕ))) → left ≡ None → Progress lines words n (lines_behind left) → list_in lines ≡ Ok words
+unfolding first_fault list_in
+progress_done lines words n left at p =
+    let none : lines_behind left ≡ [] = rw at refl in
+    let fine : first_fault [] lines ≡ None = sym p.same ∙ ap (first_fault p.before) none in
+    let all : p.before ≡ lines = sym (append-nil p.before) ∙ ap (λ rest. p.before ++ rest) (sym none) ∙ p.whole in
+    rw fine (ap Ok (sym (p.there ∙ ap words_in all)))

@@ -1,0 +1,34 @@
+use Rattle.std.proofs.Common.{arith, sym, subst}
+use Rattle.std.proofs.lemmas.Result.{err_from_is_err_and}
+use Rattle.lex_list.specs.Lines.{lines_in, lines_behind}
+use Rattle.lex_list.proofs.Steps.{Progress, progress_none, progress_more, progress_fails, progress_done, room_more}
+use Rattle.lex_list.proofs.reading.read_lines.Goals as goal
+
+pub loop-left-init : goal.loop-left-init
+loop-left-init c =
+    record {
+      so_far = subst (λ words. Progress (lines_in c.args.text.now) words 0 (lines_in c.args.text.now)) (sym c.new-words.ensures.empty) (progress_none (lines_in c.args.text.now));
+      room = omega arith;
+      few = omega arith;
+    }
+
+pub returns-in_err-take_line : goal.returns-in_err-take_line
+returns-in_err-take_line c =
+    let p = err_from_is_err_and c.from_residual.result c.from_residual.ensures.1 in
+    rw (p.1, p.2) (progress_fails (lines_in c.args.text.now) c.loop-left.words.keys c.loop-left.line c.loop-left.left c.in-Some.rest c.cut_line-cut.result.line.now
+    (lines_behind c.cut_line-cut.result.after) c.in_err-take_line.field-0.0
+    c.in-Some.is c.cut_line-cut.ensures.lines c.in_err-take_line.ensures c.loop-left.invariant.so_far)
+
+pub loop-left-preserved : goal.loop-left-preserved
+loop-left-preserved c =
+    let room = room_more c.loop-left.left c.cut_line-cut.result.after c.in-Some.rest c.loop-left.line 16777216 c.in-Some.is c.loop-left.invariant.room c.cut_line-cut.ensures.shorter in
+    record {
+      so_far = progress_more (lines_in c.args.text.now) c.loop-left.words.keys c.take_line.new.words.keys c.loop-left.line c.loop-left.left c.in-Some.rest c.cut_line-cut.result.line.now
+          (lines_behind c.cut_line-cut.result.after)
+          c.in-Some.is c.cut_line-cut.ensures.lines c.in_ok-take_line.ensures c.loop-left.invariant.so_far;
+      room = room.0;
+      few = room.1;
+    }
+
+pub returns : goal.returns
+returns c = progress_done (lines_in c.args.text.now) c.loop-left.words.keys c.loop-left.line c.loop-left.left c.in_default.is c.loop-left.invariant.so_far

@@ -1,0 +1,34 @@
+-- Words, their order and sets of them.
+use Rattle.std.specs.Prelude.{◌≡◌, ℕ, ◌≤◌, Bool, true, ◌&&◌, nat_le, nat_eq, List, length}
+use Rattle.std.specs.Char.{is_ascii_uppercase}
+use Rattle.std.specs.Cmp.Lexicographic.{pointwise, slice_cmp}
+use Rattle.std.specs.List.{list_all, list_any}
+use Rattle.std.specs.List.Sorted.{IsStrictlySortedBy}
+use Rattle.std.specs.Ordering.{nat_cmp}
+use Rattle.std.specs.declared.cmp.Ordering.{Ordering}
+
+-- the most words of a list
+unfoldable pub most_words : ℕ
+most_words = 400000
+
+-- a word has 2 to 15 letters
+abbrev pub has_word_length : List ℕ → Bool
+has_word_length word = nat_le 2 (length word) && nat_le (length word) 15
+
+-- 2 to 15 capitals
+abbrev pub is_word : List ℕ → Bool
+is_word word = list_all is_ascii_uppercase word && has_word_length word
+
+-- the order of words: byte by byte, and a word before all that it begins
+abbrev pub word_order : List ℕ → List ℕ → Ordering
+word_order = slice_cmp nat_cmp
+
+-- whether bytes are one of the words
+unfoldable pub is_listed : List (List ℕ) → List ℕ → Bool
+is_listed words word = list_any (pointwise nat_eq word) words
+
+-- what a word list is: words in byte order, each once, and not too many
+pub record IsWordList (words : List (List ℕ)) : Type 0 where
+  pub ordered : IsStrictlySortedBy word_order words
+  pub each : list_all is_word words ≡ true
+  pub few : length words ≤ most_words

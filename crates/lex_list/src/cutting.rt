@@ -1,0 +1,58 @@
+ghost use Rattle.std.specs.Prelude.{◌≡◌, ◌<◌, ◌∷◌, IfSome, length};
+ghost use Rattle.std.specs.List.{position};
+ghost use Rattle.lex_list.specs.Lines.{without_mark, without_return, is_feed, lines_in, lines_behind};
+
+use bstr::ByteSlice;
+
+/// The first line of a text, without its end.
+#[derive(Clone, Copy)]
+pub struct Cut<'a> {
+    /// The line.
+    pub line: &'a [u8],
+    /// The text behind its LF, where it has one.
+    pub after: Option<&'a [u8]>,
+}
+
+/// The text without a byte order mark at its front.
+pub fn without_mark(text: &[u8]) -> &[u8]
+    ensures { result.now ≡ without_mark text.now }
+{
+    match text {
+        [0xef, 0xbb, 0xbf, rest @ ..] => rest,
+        _ => text,
+    }
+}
+
+/// The line without a CR at its end.
+fn without_return(line: &[u8]) -> &[u8]
+    ensures { result.now ≡ without_return line.now }
+{
+    match line {
+        [front @ .., b'\r'] => front,
+        _ => line,
+    }
+}
+
+fn find_feed(text: &[u8]) -> Option<usize>
+    ensures { result ≡ position is_feed text.now }
+{
+    text.find_byte(b'\n')
+}
+
+/// Cuts the first line off a text. A line ends at LF or at the end of the text, and one CR at its end is
+/// dropped.
+pub fn cut_line(text: &[u8]) -> Cut<'_>
+    ensures lines { lines_in text.now ≡ result.line.now ∷ lines_behind result.after }
+    ensures shorter { IfSome result.after (λ after. length after.now < length text.now) }
+{
+    match find_feed(text) {
+        None => Cut {
+            line: without_return(text),
+            after: None,
+        },
+        Some(end) => Cut {
+            line: without_return(&text[..end]),
+            after: Some(&text[end + 1..]),
+        },
+    }
+}

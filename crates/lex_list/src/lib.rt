@@ -1,0 +1,19 @@
+//! The word list that decides which words are valid: from bytes to a set of words, or the first fault.
+//!
+//! A text has one word a line, 2 to 15 letters A to Z in either case, in any order. A line ends at LF or at the
+//! end of the text; one CR at a line's end is dropped, and a byte order mark at the front of the text is passed
+//! over. Repeats count once, and empty lines are read over.
+#![tactic(auto)]
+
+mod cutting;
+mod faults;
+mod lists;
+mod reading;
+mod words;
+
+pub use faults::{ListFault, ListWhy};
+pub use lists::WordList;
+pub use reading::{MAX_BYTES, MAX_WORDS};
+
+#[cfg(test)]
+mod tests;

@@ -1,0 +1,66 @@
+ghost use Rattle.std.specs.Prelude.{◌≡◌, ◌<◌, ◌↔◌, [], IsTrue, IfOk, length, slice_index_or};
+ghost use Rattle.std.specs.List.{Contains};
+
+use crate::words::Word;
+use std::alloc::{AllocError, Global};
+use std::collections::BTreeSet;
+use std::marker::Model;
+
+/// A set of words, in byte order. Contracts see the list of the words, in capitals.
+#[derive(Debug, Drop)]
+pub struct WordList {
+    words: Vec<Word>,
+}
+
+impl Model for WordList {
+    ghost use Rattle.std.specs.Prelude.{List, ℕ};
+    ghost use Rattle.lex_list.specs.Words.{IsWordList};
+
+    ghost Value = { List (List ℕ) };
+
+    ghost view = { λ a. a.words.items };
+
+    ghost invariant = { λ a. IsWordList a.words.items };
+}
+
+impl WordList {
+    ghost use Rattle.lex_list.specs.Words.{IsWordList, is_listed, is_word};
+
+    /// The list of a set of words.
+    pub(crate) fn of_set(alloc: Global, words: BTreeSet<Word>) -> Result<WordList, AllocError>
+        requires { IsWordList words.keys }
+        ensures { IfOk result (λ list. list ≡ words.keys) }
+    {
+        Ok(WordList {
+            words: words.into_iter().collect(alloc)?,
+        })
+    }
+
+    /// Whether these bytes are a word of the list, in capitals.
+    pub fn has(&self, word: &[u8]) -> bool
+        ensures test { result ≡ is_listed self.now word.now }
+        ensures member { IsTrue result ↔ Contains self.now word.now }
+    {
+        match Word::of_bytes(word) {
+            Some(word) => self.words.binary_search(&word).is_ok(),
+            None => false,
+        }
+    }
+
+    /// The number of words, at most 400,000.
+    pub fn len(&self) -> usize
+        ensures number { result ≡ length self.now }
+        ensures proper { IsWordList self.now }
+    {
+        self.words.len()
+    }
+
+    /// The word at a place, from 0, in byte order: 2 to 15 capitals.
+    pub fn word(&self, place: usize) -> &[u8]
+        requires { place < length self.now }
+        ensures word { result.now ≡ slice_index_or self.now place [] }
+        ensures letters { IsTrue (is_word result.now) }
+    {
+        self.words[place].as_slice()
+    }
+}

@@ -1,0 +1,113 @@
+ghost use Rattle.std.specs.Prelude.{◌≡◌, ◌≤◌, IfOk, IfErr, length};
+ghost use Rattle.std.specs.Char.{is_ascii_alphabetic};
+ghost use Rattle.std.specs.List.{list_all};
+ghost use Rattle.lex_list.specs.Faults.{Gives};
+ghost use Rattle.lex_list.specs.Lines.{lines_in, lines_of};
+ghost use Rattle.lex_list.specs.Lists.{most_bytes, list_in, list_of, line_in, HoldsWordsOf, IsFaultOf, Reads, Makes, IsWordIn};
+ghost use Rattle.lex_list.specs.Words.{has_word_length};
+
+use crate::cutting::{cut_line, without_mark};
+use crate::faults::{ListFault, ListWhy};
+use crate::lists::WordList;
+use crate::words::{MOST_LETTERS, Word};
+use std::alloc::Global;
+use std::collections::BTreeSet;
+
+/// The most bytes of a word list: 16 MiB.
+pub const MAX_BYTES: usize = 16_777_216;
+
+/// The most words of a word list.
+pub const MAX_WORDS: usize = 400_000;
+
+/// The fewest letters of a word.
+const FEWEST_LETTERS: usize = 2;
+
+impl WordList {
+    /// Reads a word list, and gives the set of the words of its lines, or its first fault: the first by line,
+    /// and on a line the first in the order of [`ListWhy`].
+    ///
+    /// `TooMany` is on the line of the 400,001st distinct word; a repeat of a word is none. `TooLong` comes before
+    /// all else.
+    #[tactic(auto, unfolding(crate::specs::Lists::list_of, crate::specs::Lists::most_bytes))]
+    pub fn read(alloc: Global, bytes: &[u8]) -> Result<WordList, ListFault>
+        ensures meaning { Gives result (list_of bytes.now) }
+        ensures words { IfOk result (λ list. HoldsWordsOf list (lines_of bytes.now)) }
+        ensures fault { IfErr result (λ fault. IsFaultOf bytes.now fault) }
+    {
+        if bytes.len() > MAX_BYTES {
+            return Err(ListFault {
+                line: 0,
+                why: ListWhy::TooLong,
+            });
+        }
+        let words = read_lines(alloc, without_mark(bytes))?;
+        let list = WordList::of_set(alloc, words)?;
+        Ok(list)
+    }
+}
+
+/// Reads the lines of a text.
+fn read_lines(alloc: Global, text: &[u8]) -> Result<BTreeSet<Word>, ListFault>
+    requires { length text.now ≤ 16_777_216 }
+    ensures { Reads result (list_in (lines_in text.now)) }
+{
+    let mut words = BTreeSet::new(alloc);
+    let mut line = 0;
+    let mut left = Some(text);
+    while let Some(rest) = left {
+        let cut = cut_line(rest);
+        line += 1;
+        take_line(&mut words, line, cut.line)?;
+        left = cut.after;
+    }
+    Ok(words)
+}
+
+/// Reads one line, and adds its word to those of the lines before it.
+fn take_line(words: &mut BTreeSet<Word>, line: u32, text: &[u8]) -> Result<(), ListFault>
+    ensures { Makes words.new.keys result (line_in words.old.keys line text.now) }
+{
+    if text.is_empty() {
+        return Ok(());
+    }
+    let word = match read_word(text) {
+        Ok(word) => word,
+        Err(why) => return Err(ListFault { line, why }),
+    };
+    let Ok(_) = words.insert(word) else {
+        return Err(ListFault::no_memory());
+    };
+    if words.len() > MAX_WORDS {
+        return Err(ListFault {
+            line,
+            why: ListWhy::TooMany,
+        });
+    }
+    Ok(())
+}
+
+/// The word of a line that is not empty.
+#[tactic(auto, unfolding(crate::specs::Lists::spelling_fault))]
+fn read_word(line: &[u8]) -> Result<Word, ListWhy>
+    ensures { IsWordIn result line.now }
+{
+    if !has_letters_alone(line) {
+        return Err(ListWhy::BadLetter);
+    }
+    if !has_word_length(line) {
+        return Err(ListWhy::BadLength);
+    }
+    Ok(Word::of_line(line))
+}
+
+fn has_letters_alone(line: &[u8]) -> bool
+    ensures { result ≡ list_all is_ascii_alphabetic line.now }
+{
+    line.iter().all(u8::is_ascii_alphabetic)
+}
+
+fn has_word_length(line: &[u8]) -> bool
+    ensures { result ≡ has_word_length line.now }
+{
+    FEWEST_LETTERS <= line.len() && line.len() <= MOST_LETTERS
+}
