@@ -1,9 +1,9 @@
 -- The runs of a play without a gap: the one along its direction, and the cross run through each of its tiles.
-use Rattle.std.proofs.Common.{◌≡◌, ℕ, zero, suc, ◌+◌, ◌-◌, ◌<◌, ◌≤◌, Bool, true, false, ◌==◌, nat_lt, List, [], ◌∷◌, ◌++◌, map, length, get_or, refl, sym, ap, ◌∙◌, subst, arith, ◌⊎◌, inl, inr, ⊎_elim, Option}
+use Rattle.std.proofs.Common.{◌≡◌, ℕ, zero, suc, ◌+◌, ◌-◌, ◌<◌, ◌≤◌, Bool, true, false, ◌==◌, nat_lt, List, [], ◌∷◌, ◌++◌, map, length, get_or, refl, sym, ap, ◌∙◌, subst, arith, ⊎_elim, Option}
 use Rattle.std.specs.Prelude.{filter, Contains, All}
-use Rattle.std.specs.List.{flat_map, range_with_len, list_any, list_all}
+use Rattle.std.specs.List.{flat_map, range_with_len, list_all}
 use Rattle.std.proofs.lemmas.List.Elements.{filter_agree, Contains-get_or}
-use Rattle.std.proofs.lemmas.Bool.{cases_eq, cases_lt, cases_Bool, and_parts, both_ways, eqb-true, eq-eqb, ltb-true, false_from_ne_true}
+use Rattle.std.proofs.lemmas.Bool.{cases_eq, cases_lt, and_parts, both_ways, eqb-true, eq-eqb, ltb-true, false_from_ne_true}
 use Rattle.ref_tiles.specs.declared.tiles.Tile.{Tile}
 use Rattle.ref_board.specs.declared.directions.Dir.{Dir}
 use Rattle.ref_board.specs.declared.directions.Dir.TheVariants.{Across, Down}
@@ -15,7 +15,7 @@ use Rattle.ref_play.specs.declared.runs.Run.{Run}
 use Rattle.ref_play.specs.Placements.{is_play, with_tiles, are_rising, are_in_line, covers, fresh_on}
 use Rattle.ref_play.specs.Formed.{is_formed, stretches_on, run_of, runs_of_line, runs_along, runs_formed, runs_through}
 use Rattle.ref_play.specs.Legality.{HasNoGap, IsLaid}
-use Rattle.ref_play.proofs.RangeLaws.{flat_map-none, flat_map-only, list_any-found, list_any-in, list_all-in, Contains-here, Contains-there, Contains-cases as Contains-split}
+use Rattle.ref_play.proofs.RangeLaws.{flat_map-only, list_any-found, list_any-in, list_all-in, Contains-here, Contains-there, Contains-cases as Contains-split}
 use Rattle.ref_play.proofs.LineLaws.{line_of-square_at, place_of-square_at, square_at-of, line_below, place_below, same_square, place_rises, is_formed-parts, is_formed-from, stretches_on-none, stretches_on-one, stretches_on-short}
 use Rattle.ref_play.proofs.RunLaws.{runs_formed-meet}
 use Rattle.ref_play.specs.Words.{IsWithin}

@@ -7,5 +7,7 @@ pub mod RunLaws
 pub mod PlaceLaws
 pub mod FormedRuns
 pub mod LegalLaws
+pub mod WholeTexts
 pub mod DirectionLaws
 pub mod ScoreLemmas
+pub mod Examples

@@ -1,11 +1,11 @@
 -- Squares and lines, and the whole stretches of one line.
-use Rattle.std.proofs.Common.{◌≡◌, ℕ, zero, suc, ◌+◌, ◌-◌, ◌*◌, ◌/◌, ◌%◌, ◌<◌, ◌≤◌, Bool, true, false, not, cond, ◌&&◌, ◌||◌, ◌==◌, nat_le, nat_lt, List, [], ◌∷◌, ◌++◌, map, refl, sym, ap, ◌∙◌, subst, arith, ◌⊎◌, inl, inr, ⊎_elim}
+use Rattle.std.proofs.Common.{◌≡◌, ℕ, zero, suc, ◌+◌, ◌-◌, ◌<◌, ◌≤◌, Bool, true, false, not, ◌&&◌, ◌||◌, ◌==◌, nat_le, List, [], ◌∷◌, map, refl, sym, ap, ◌∙◌, arith, ◌⊎◌, ⊎_elim}
 use Rattle.std.specs.Prelude.{filter}
 use Rattle.std.specs.List.{flat_map, range_with_len, list_any, list_all}
-use Rattle.std.proofs.lemmas.Bool.{cases_eq, cases_lt, cases_Bool, cases_order, or_cases, and_parts, and_from, or_left, or_right, both_ways, leb-true, le-leb, eqb-true, eq-eqb, not-true, not_from_false, false_from_ne_true}
+use Rattle.std.proofs.lemmas.Bool.{cases_eq, cases_order, or_cases, and_parts, and_from, or_left, or_right, both_ways, leb-true, le-leb, eqb-true, eq-eqb, not-true, not_from_false, false_from_ne_true}
 use Rattle.ref_board.specs.declared.directions.Dir.{Dir}
 use Rattle.ref_board.specs.declared.directions.Dir.TheVariants.{Across, Down}
-use Rattle.ref_board.specs.Lines.{line_of, place_of, square_at, other_dir}
+use Rattle.ref_board.specs.Lines.{line_of, place_of, square_at}
 use Rattle.ref_board.specs.Runs.{IsWhole}
 use Rattle.ref_play.specs.Formed.{is_whole, is_formed, stretches_on}
 use Rattle.ref_play.proofs.RangeLaws.{flat_map-only, flat_map-none, filter-only, filter-none}

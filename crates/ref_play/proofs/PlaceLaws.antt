@@ -1,14 +1,13 @@
 -- Placements: their order, their line and the board with their tiles.
-use Rattle.std.proofs.Common.{◌≡◌, ℕ, zero, suc, ◌+◌, ◌-◌, ◌<◌, ◌≤◌, Bool, true, false, ◌&&◌, ◌||◌, ◌==◌, nat_le, nat_lt, List, [], ◌∷◌, length, refl, sym, ap, ◌∙◌, arith, ◌⊎◌, inl, inr, ⊎_elim, Option, Some, None, is_some}
-use Rattle.std.specs.Prelude.{Contains, All}
-use Rattle.std.specs.List.{list_any, list_all}
+use Rattle.std.proofs.Common.{◌≡◌, ℕ, ◌<◌, ◌≤◌, true, ◌&&◌, ◌==◌, nat_le, nat_lt, List, [], ◌∷◌, length, refl, sym, ap, ◌∙◌, arith, ⊎_elim, Option, Some, None, is_some}
+use Rattle.std.specs.Prelude.{Contains}
+use Rattle.std.specs.List.{list_all}
 use Rattle.std.proofs.lemmas.List.{length-set, get_or-set_same, get_or-set_other, get_or_past}
 use Rattle.std.proofs.lemmas.Bool.{cases_eq, cases_lt, and_parts, eqb-true, ltb-true, leb-true, both_ways}
 use Rattle.ref_tiles.specs.declared.tiles.Tile.{Tile}
 use Rattle.ref_board.specs.declared.directions.Dir.{Dir}
-use Rattle.ref_board.specs.declared.directions.Dir.TheVariants.{Across, Down}
-use Rattle.ref_board.specs.Lines.{line_of, place_of, square_at, other_dir}
-use Rattle.ref_board.specs.Cells.{tile_at, holds, with_tile}
+use Rattle.ref_board.specs.Lines.{line_of}
+use Rattle.ref_board.specs.Cells.{holds, with_tile}
 use Rattle.ref_play.specs.declared.placed.Placed.{Placed}
 use Rattle.ref_play.specs.Placements.{are_rising, are_in_line, is_play, with_tiles}
 use Rattle.ref_play.specs.Legality.{last_square}
@@ -70,7 +69,7 @@ last_is_there first (q ∷ ps) =
     let rest = last_is_there q ps in (rest.0, Contains-there first (q ∷ ps) rest.0 rest.1, rest.2)
 
 -- a tile stays where others are put
-with_tiles-kept : (ps : List Placed) (board : List (Option Tile)) (square : ℕ) → square < length board → holds board square ≡ true
+pub with_tiles-kept : (ps : List Placed) (board : List (Option Tile)) (square : ℕ) → square < length board → holds board square ≡ true
     → holds (with_tiles board ps) square ≡ true
 with_tiles-kept [] board square h e = e
 with_tiles-kept (p ∷ ps) board square h e =

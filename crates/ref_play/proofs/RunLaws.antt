@@ -1,9 +1,9 @@
 -- The runs that a placement forms are those of the board that meet it, each once.
-use Rattle.std.proofs.Common.{◌≡◌, ℕ, zero, suc, ◌+◌, ◌-◌, ◌*◌, ◌<◌, ◌≤◌, Bool, true, false, ◌&&◌, ◌||◌, ◌==◌, nat_le, nat_lt, List, [], ◌∷◌, ◌++◌, map, refl, sym, ap, ◌∙◌, subst, arith, ◌⊎◌, inl, inr, ⊎_elim, Option}
+use Rattle.std.proofs.Common.{◌≡◌, ℕ, ◌+◌, ◌<◌, ◌≤◌, Bool, true, false, ◌&&◌, ◌==◌, nat_le, nat_lt, List, map, refl, sym, ap, ◌∙◌, subst, arith, ◌⊎◌, inl, inr, ⊎_elim, Option}
 use Rattle.std.specs.Prelude.{filter, Contains, All, ◌↔◌}
-use Rattle.std.specs.List.{flat_map, range_with_len, list_any, list_all, AllPairs}
-use Rattle.std.proofs.lemmas.List.Elements.{All-append, All-contains, All-map, Contains-append_left, Contains-append_right}
-use Rattle.std.proofs.lemmas.Bool.{cases_eq, cases_lt, cases_Bool, or_cases, and_parts, and_from, and_left, and_right, leb-true, le-leb, eqb-true, eq-eqb, ltb-true, lt-ltb, false_from_ne_true}
+use Rattle.std.specs.List.{range_with_len, AllPairs}
+use Rattle.std.proofs.lemmas.List.Elements.{All-append, All-contains, All-map}
+use Rattle.std.proofs.lemmas.Bool.{and_parts, and_from, and_left, and_right, leb-true, le-leb, eqb-true, eq-eqb, ltb-true, lt-ltb, false_from_ne_true}
 use Rattle.ref_tiles.specs.declared.tiles.Tile.{Tile}
 use Rattle.ref_board.specs.declared.directions.Dir.{Dir}
 use Rattle.ref_board.specs.declared.directions.Dir.TheVariants.{Across, Down}
@@ -12,10 +12,10 @@ use Rattle.ref_board.specs.Cells.{occupied_on}
 use Rattle.ref_board.specs.Runs.{IsWhole}
 use Rattle.ref_play.specs.declared.placed.Placed.{Placed}
 use Rattle.ref_play.specs.declared.runs.Run.{Run}
-use Rattle.ref_play.specs.Placements.{covers, fresh_on}
-use Rattle.ref_play.specs.Formed.{is_whole, is_formed, stretches_on, run_of, runs_of_line, runs_along, runs_formed, IsRun, is_on, MeetsRun}
+use Rattle.ref_play.specs.Placements.{fresh_on}
+use Rattle.ref_play.specs.Formed.{is_formed, stretches_on, run_of, runs_of_line, runs_along, runs_formed, is_on, MeetsRun}
 use Rattle.ref_play.proofs.RangeLaws.{tally, once, tally-append, tally-map, tally-filter, tally-range_none, tally-range_only, tally-flat_map_none, tally-flat_map_only, tally-never, list_any-found, list_any-in, All-filter_range, All-flat_map_range, Contains-from_tally, AllPairs-from_tally}
-use Rattle.ref_play.proofs.LineLaws.{line_of-square_at, place_of-square_at, square_at-of, line_below, place_below, square_at_below, stretches_within, stretches_on-is, is_formed-parts, is_formed-from}
+use Rattle.ref_play.proofs.LineLaws.{line_of-square_at, place_of-square_at, square_at-of, line_below, square_at_below, stretches_within, stretches_on-is, is_formed-parts, is_formed-from}
 
 -- the same run
 abbrev pub same_dir : Dir → Dir → Bool

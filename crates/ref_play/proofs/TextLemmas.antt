@@ -1,9 +1,8 @@
 -- The cells of a text, one after another.
-use Rattle.std.proofs.Common.{◌≡◌, ◌≢◌, ℕ, zero, suc, ◌+◌, ◌*◌, ◌/◌, ◌%◌, ◌<◌, ◌≤◌, ◌&&◌, ◌||◌, ◌==◌, Bool, true, false, nat_lt, nat_le, List, [], ◌∷◌, ◌++◌, map, Option, Some, None, length, drop, get_or, refl, sym, ap, ◌∙◌, subst, arith}
-use Rattle.std.specs.List.{list_any, list_all, flat_map, zip, range_with_len}
-use Rattle.std.proofs.lemmas.List.{at_drop_more, append_assoc}
-use Rattle.std.proofs.lemmas.Bool.{and_parts, and_from, and_left, and_right, lt-ltb, le-leb, eq-eqb, eqb-true, true≢false}
-use Rattle.std.proofs.lemmas.Bool.Decides.{nat_tests}
+use Rattle.std.proofs.Common.{◌≡◌, ℕ, ◌+◌, ◌<◌, ◌≤◌, ◌&&◌, ◌==◌, Bool, true, false, nat_lt, nat_le, List, [], ◌∷◌, ◌++◌, map, Option, Some, None, length, drop, get_or, refl, sym, ap, ◌∙◌, subst, arith}
+use Rattle.std.specs.List.{list_all, flat_map, zip, range_with_len}
+use Rattle.std.proofs.lemmas.List.{at_drop_more}
+use Rattle.std.proofs.lemmas.Bool.{and_parts, and_from, lt-ltb, le-leb, eq-eqb, eqb-true, true≢false}
 use Rattle.ref_tiles.specs.declared.tiles.Tile.{Tile}
 use Rattle.ref_tiles.specs.declared.symbols.Symbol.{Symbol}
 use Rattle.ref_tiles.specs.declared.symbols.Symbol.TheVariants as symbol
@@ -67,7 +66,7 @@ rising_placed : (square : ℕ) (o : Option Tile) (ps : List Placed) → list_all
 rising_placed square None ps h hs = hs
 rising_placed square (Some t) ps h hs = and_from (list_all (λ (p : Placed). nat_lt square p.square) ps) (are_rising ps) h hs
 
-along_rises : (d : Dir) (at i k : ℕ) → i < k → along d at i < along d at k
+pub along_rises : (d : Dir) (at i k : ℕ) → i < k → along d at i < along d at k
 along_rises Across at i k h = omega arith
 along_rises Down at i k h = omega arith
 
@@ -89,7 +88,7 @@ along_line : (d : Dir) (at k : ℕ) → place_of d at + k < 15 → line_of d (al
 along_line Across at k h = omega arith
 along_line Down at k h = omega arith
 
-along_board : (d : Dir) (at k : ℕ) → at < 225 → place_of d at + k < 15 → along d at k < 225
+pub along_board : (d : Dir) (at k : ℕ) → at < 225 → place_of d at + k < 15 → along d at k < 225
 along_board Across at k b h = omega arith
 along_board Down at k b h = omega arith
 

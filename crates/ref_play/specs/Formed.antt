@@ -1,5 +1,5 @@
 -- The runs that a placement forms: the maximal stretches of two tiles or more, across and down, that hold a new tile.
-use Rattle.std.specs.Prelude.{◌≡◌, ℕ, ◌+◌, ◌-◌, ◌*◌, ◌<◌, ◌≤◌, ◌==◌, ◌&&◌, ◌||◌, not, Bool, true, List, [], ◌∷◌, ◌++◌, map, filter, Option, nat_lt, nat_le}
+use Rattle.std.specs.Prelude.{◌≡◌, ℕ, ◌+◌, ◌-◌, ◌*◌, ◌<◌, ◌≤◌, ◌==◌, ◌&&◌, ◌||◌, not, Bool, true, List, ◌++◌, map, filter, Option, nat_lt, nat_le}
 use Rattle.std.specs.List.{list_any, list_all, flat_map, range_with_len}
 use Rattle.ref_tiles.specs.declared.tiles.Tile.{Tile}
 use Rattle.ref_board.specs.declared.directions.Dir.{Dir}
@@ -9,7 +9,7 @@ use Rattle.ref_board.specs.Cells.{occupied_on}
 use Rattle.ref_board.specs.Runs.{IsWhole}
 use Rattle.ref_play.specs.declared.placed.Placed.{Placed}
 use Rattle.ref_play.specs.declared.runs.Run.{Run}
-use Rattle.ref_play.specs.Placements.{covers, fresh_on}
+use Rattle.ref_play.specs.Placements.{fresh_on}
 
 -- the square so many places further on its line
 abbrev pub along : Dir → ℕ → ℕ → ℕ

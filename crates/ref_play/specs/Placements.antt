@@ -1,6 +1,6 @@
 -- Placements: sets of squares with a tile each, as lists in rising order of the squares, so that equal lists are
 -- equal sets.
-use Rattle.std.specs.Prelude.{◌≡◌, ℕ, ◌==◌, ◌&&◌, Bool, true, false, List, [], ◌∷◌, length, Option, Some, nat_lt, nat_le}
+use Rattle.std.specs.Prelude.{ℕ, ◌==◌, ◌&&◌, Bool, true, List, [], ◌∷◌, length, Option, Some, nat_lt, nat_le}
 use Rattle.std.specs.List.{list_any, list_all}
 use Rattle.ref_tiles.specs.declared.tiles.Tile.{Tile}
 use Rattle.ref_board.specs.declared.directions.Dir.{Dir}

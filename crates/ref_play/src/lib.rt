@@ -10,6 +10,8 @@ mod plays;
 mod runs;
 mod scoring;
 mod spelling;
+#[cfg(test)]
+mod tests;
 mod texts;
 
 pub use faults::PlayFault;

@@ -1,3 +1,5 @@
+ghost use Rattle.std.specs.Prelude.{◌≡◌};
+
 use ref_board::Square;
 use ref_tiles::Tile;
 
@@ -10,7 +12,12 @@ pub struct Placed {
     pub tile: Tile,
 }
 
+/// A blank that stands for A, on 1A.
 impl Default for Placed {
+    ghost use Rattle.ref_tiles.specs.Faces.{blank_tile, letter_a};
+
+    ghost is_default = { λ placed. (placed.square ≡ 0) × (placed.tile ≡ blank_tile letter_a) };
+
     fn default() -> Placed {
         Placed {
             square: Square::default(),

@@ -21,7 +21,12 @@ pub struct Run {
     pub len: usize,
 }
 
+/// No tile, across from 1A on.
 impl Default for Run {
+    ghost use Rattle.ref_board.specs.declared.directions.Dir.TheVariants.{Across};
+
+    ghost is_default = { λ run. (run.start ≡ 0) × (run.dir ≡ Across) × (run.len ≡ 0) };
+
     fn default() -> Run {
         Run {
             start: Square::default(),

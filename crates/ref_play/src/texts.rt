@@ -1,6 +1,9 @@
 ghost use Rattle.std.specs.Prelude.{◌≡◌, ◌+◌, ◌<◌, ◌≤◌, length, Some, None, IfErr, IfOk};
 ghost use Rattle.std.specs.List.{list_all};
-ghost use Rattle.ref_board.specs.Lines.{place_of};
+ghost use Rattle.ref_board.specs.Lines.{line_of, place_of};
+ghost use Rattle.ref_board.specs.Cells.{occupied_on};
+ghost use Rattle.ref_board.specs.Runs.{IsWhole};
+ghost use Rattle.ref_play.specs.Placements.{with_tiles};
 ghost use Rattle.ref_play.specs.Formed.{along};
 ghost use Rattle.ref_play.specs.Texts.{symbol_fits, tile_of, fits_board, text_cells, placement_of, is_open_ended, text_fault};
 
@@ -118,7 +121,10 @@ pub fn from_text(board: &Board, at: Square, dir: Dir, word: &[Symbol]) -> Result
     ensures fault { IfErr result (λ why. text_fault board.now dir at word.now ≡ Some why) }
     ensures named { IfOk result (λ play. (text_fault board.now dir at word.now ≡ None)
         × (play.dir ≡ dir) × (play.tiles.items ≡ placement_of board.now dir at word.now)) }
+    ensures whole { IfOk result (λ play.
+        IsWhole (occupied_on dir (with_tiles board.now play.tiles.items) (line_of dir at)) (place_of dir at) (length word.now)) }
 {
+    let _size = board.len();
     if word.len() > SIDE - at.place(dir) {
         return Err(PlayFault::OffBoard);
     }

@@ -2,8 +2,8 @@
 use Rattle.std.specs.Prelude.{ℕ}
 use Rattle.referee.specs.declared.exits.Exit.{Exit}
 use Rattle.referee.specs.declared.exits.Exit.TheVariants.{Fine, Illegal, Unsettled, BadInput, Broken, Usage}
-use Rattle.referee.specs.declared.verdicts.Verdict.{Verdict}
-use Rattle.referee.specs.declared.verdicts.Verdict.TheVariants as verdict
+use Rattle.engine.specs.declared.verdicts.Verdict.{Verdict}
+use Rattle.engine.specs.declared.verdicts.Verdict.TheVariants as verdict
 
 -- the status by which the program ends
 abbrev pub status_of : Exit → ℕ

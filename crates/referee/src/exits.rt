@@ -1,7 +1,6 @@
 ghost use Rattle.std.specs.Prelude.{◌≡◌};
 
-use crate::engine::RunFault;
-use crate::verdicts::Verdict;
+use engine::{RunFault, Verdict};
 use std::fmt;
 
 /// How the program ends.

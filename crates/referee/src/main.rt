@@ -4,16 +4,8 @@
 #![tactic(auto)]
 
 mod command_line;
-mod engine;
 mod exits;
-mod judging;
-mod reports;
 mod running;
-mod tables;
-#[cfg(test)]
-mod tests;
-mod turns;
-mod verdicts;
 
 use crate::running::run_program;
 use std::process::ExitCode;

@@ -1,10 +1,9 @@
 use crate::command_line::{Request, mistake, read_words};
-use crate::engine::run;
 use crate::exits::{Exit, Trouble};
-use crate::verdicts::Verdict;
 use clap::Error;
 use clap::error::ErrorKind;
 use devices::{FromRead, FromWrite};
+use engine::{Verdict, run};
 use ref_tiles::english_rules;
 use std::alloc::AllocError;
 use std::rt::{Files, Runtime};

@@ -1,7 +1,6 @@
 use Rattle.std.proofs.Common.{sym, subst}
 use Rattle.std.specs.Prelude.{All}
 use Rattle.ref_play.specs.Words.{IsWithin}
-use Rattle.ref_play.specs.Placements.{with_tiles}
 use Rattle.ref_play.proofs.LegalLaws.{overlaps-from}
 use Rattle.ref_play.proofs.FormedRuns.{laid_from, runs_within}
 use Rattle.ref_play.proofs.judging.formed.Goals as goal

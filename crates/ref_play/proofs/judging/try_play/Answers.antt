@@ -1,6 +1,5 @@
-use Rattle.std.proofs.Common.{◌≡◌, ◌∙◌, sym, subst}
+use Rattle.std.proofs.Common.{◌∙◌, sym}
 use Rattle.ref_play.specs.Placements.{with_tiles}
-use Rattle.ref_play.specs.Legality.{IsLaid, has_gap, HasNoGap}
 use Rattle.ref_play.proofs.PlaceLaws.{is_play-parts}
 use Rattle.ref_play.proofs.LegalLaws.{has_gap-false}
 use Rattle.ref_play.proofs.FormedRuns.{laid_from}

@@ -1,4 +1,4 @@
-use Rattle.std.proofs.Common.{◌-◌, ◌+◌, ◌≤◌, arith, rules, sym}
+use Rattle.std.proofs.Common.{◌-◌, arith, rules, sym}
 use Rattle.ref_board.specs.Cells.{occupied_on}
 use Rattle.ref_play.proofs.Ranges.{list_all_range, list_all_range_false}
 use Rattle.ref_play.proofs.legality.is_filled.Goals as goal

@@ -1,4 +1,4 @@
-use Rattle.std.proofs.Common.{◌≡◌, ◌<◌, length, arith, sym, ◌∙◌}
+use Rattle.std.proofs.Common.{arith, sym, ◌∙◌}
 use Rattle.ref_play.proofs.Placing.{next_at, with_tiles_more}
 use Rattle.ref_play.proofs.legality.with_tiles.Goals as goal
 

@@ -1,5 +1,4 @@
-use Rattle.std.proofs.Common.{◌+◌, ◌≤◌, ◌^◌, ◌*◌, map, take, ap, sym, ◌∙◌, arith, rules}
-use Rattle.std.specs.List.{range_with_len}
+use Rattle.std.proofs.Common.{◌+◌, ◌*◌, map, take, ap, sym, ◌∙◌, arith}
 use Rattle.std.proofs.lemmas.List.{take_all}
 use Rattle.ref_play.specs.Scores.{factor_in, words_factor, product}
 use Rattle.ref_play.proofs.ScoreLemmas.{factor_more, factor_limit, factors_limit}

@@ -1,0 +1,83 @@
+ghost use Rattle.std.specs.Prelude.{◌≡◌, ◌++◌, OnOk, IfOk};
+ghost use Rattle.std.specs.Fmt.{signed_decimal};
+ghost use Rattle.engine.specs.Reports.{rule_text, fault_text, line_text, illegal_line, bad_record_line, legal_line};
+
+use crate::turns::RuleFault;
+use crate::verdicts::GameFault;
+use gcg_read::ReadFault;
+use itoa::Buffer;
+use std::alloc::{AllocError, Global};
+
+/// Appends a name and a number.
+fn push_expected(text: &mut Vec<u8>, name: &[u8], expected: i32) -> Result<(), AllocError>
+    ensures { OnOk result (text.new.items ≡ text.old.items ++ (name.now ++ signed_decimal expected)) }
+{
+    let mut buffer = Buffer::new();
+    text.extend_from_slice(name)?;
+    text.extend_from_slice(buffer.format(expected).as_bytes())?;
+    Ok(())
+}
+
+/// Appends the name of a fault of the rules, and the number that was expected.
+fn push_rule(text: &mut Vec<u8>, fault: &RuleFault) -> Result<(), AllocError>
+    ensures { OnOk result (text.new.items ≡ text.old.items ++ rule_text fault.now) }
+{
+    match fault {
+        RuleFault::NotYourTurn => text.extend_from_slice(b"NotYourTurn"),
+        RuleFault::Play(why) => text.extend_from_slice(why.name().as_bytes()),
+        RuleFault::WrongScore(expected) => push_expected(text, b"WrongScore ", *expected),
+        RuleFault::WrongTotal(expected) => push_expected(text, b"WrongTotal ", *expected),
+    }
+}
+
+/// Appends ` line N`, or nothing where the line is 0.
+fn push_line(text: &mut Vec<u8>, line: u32) -> Result<(), AllocError>
+    ensures { OnOk result (text.new.items ≡ text.old.items ++ line_text line) }
+{
+    if line == 0 {
+        return Ok(());
+    }
+    let mut buffer = Buffer::new();
+    text.extend_from_slice(b" line ")?;
+    text.extend_from_slice(buffer.format(line).as_bytes())?;
+    Ok(())
+}
+
+/// `illegal line N: FAULT`.
+#[tactic(auto, unfolding(crate::specs::Reports::illegal_line))]
+pub fn illegal_line(alloc: Global, line: u32, fault: &GameFault) -> Result<Vec<u8>, AllocError>
+    ensures { IfOk result (λ text. text.items ≡ illegal_line line fault.now) }
+{
+    let GameFault::Rule(rule) = fault;
+    let mut buffer = Buffer::new();
+    let mut text = Vec::from_slice(alloc, b"illegal line ")?;
+    text.extend_from_slice(buffer.format(line).as_bytes())?;
+    text.extend_from_slice(b": ")?;
+    push_rule(&mut text, rule)?;
+    text.extend_from_slice(b"\n")?;
+    Ok(text)
+}
+
+/// `bad record line N: WHY`, without ` line N` where the fault lies on no line.
+#[tactic(auto, unfolding(crate::specs::Reports::bad_record_line))]
+pub fn bad_record_line(alloc: Global, fault: &ReadFault) -> Result<Vec<u8>, AllocError>
+    ensures { IfOk result (λ text. text.items ≡ bad_record_line fault.now) }
+{
+    let mut text = Vec::from_slice(alloc, b"bad record")?;
+    push_line(&mut text, fault.line)?;
+    text.extend_from_slice(b": ")?;
+    text.extend_from_slice(fault.why.name().as_bytes())?;
+    text.extend_from_slice(b"\n")?;
+    Ok(text)
+}
+
+/// `legal complete` or `legal unfinished`.
+pub fn legal_line(alloc: Global, complete: bool) -> Result<Vec<u8>, AllocError>
+    ensures { IfOk result (λ text. text.items ≡ legal_line complete) }
+{
+    if complete {
+        Vec::from_slice(alloc, b"legal complete\n")
+    } else {
+        Vec::from_slice(alloc, b"legal unfinished\n")
+    }
+}

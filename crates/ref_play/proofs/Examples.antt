@@ -1,0 +1,175 @@
+-- Plays, their faults, words and scores as the definitions give them, computed. Squares are numbered row by row from
+-- 1A, which is 0: 8E is 109 and 9G is 126.
+use Rattle.std.proofs.Common.{◌≡◌, ℕ, List, [], ◌∷◌, Option, Some, None, refl}
+use Rattle.std.specs.Prelude.{codes}
+use Rattle.std.specs.List.{flat_map}
+use Rattle.ref_tiles.specs.declared.tiles.Tile.{Tile}
+use Rattle.ref_tiles.specs.declared.symbols.Symbol.{Symbol}
+use Rattle.ref_tiles.specs.declared.rulebook.Rules.{Rules}
+use Rattle.ref_tiles.specs.English.{english_counts, english_points, english_premiums}
+use Rattle.ref_tiles.specs.Letters.{letter_at}
+use Rattle.ref_tiles.specs.Limits.{most_tiles}
+use Rattle.ref_tiles.specs.Symbols.{symbol_of}
+use Rattle.ref_board.specs.declared.directions.Dir.{Dir}
+use Rattle.ref_board.specs.declared.directions.Dir.TheVariants.{Across, Down}
+use Rattle.ref_board.specs.Cells.{empty_board}
+use Rattle.ref_play.specs.declared.placed.Placed.{Placed}
+use Rattle.ref_play.specs.declared.faults.PlayFault.{PlayFault}
+use Rattle.ref_play.specs.declared.faults.PlayFault.TheVariants as fault
+use Rattle.ref_play.specs.Placements.{with_tiles}
+use Rattle.ref_play.specs.Formed.{stretches_on, runs_along}
+use Rattle.ref_play.specs.Words.{words_formed, letters_of}
+use Rattle.ref_play.specs.Legality.{fault_of, check, overlaps, has_gap, is_blank, misses_centre, is_too_short, is_apart}
+use Rattle.ref_play.specs.Texts.{text_cells, placement_of, text_fault, mismatches, is_open_ended}
+use Rattle.ref_play.specs.Scores.{score_of, letters_score, words_factor}
+
+abbrev listed : Option Symbol → List Symbol
+listed None = []
+listed (Some s) = s ∷ []
+
+-- the symbols that bytes write
+abbrev text : List ℕ → List Symbol
+text bytes = flat_map (λ byte. listed (symbol_of byte)) bytes
+
+-- the new tiles of a text
+abbrev tiles_of : List (Option Tile) → Dir → ℕ → List ℕ → List Placed
+tiles_of board d at bytes = placement_of board d at (text bytes)
+
+-- the first fault of the text, and that of its tiles
+abbrev text_fails : List (Option Tile) → Dir → ℕ → List ℕ → Option PlayFault
+text_fails board d at bytes = text_fault board d at (text bytes)
+
+abbrev play_fails : List (Option Tile) → Dir → ℕ → List ℕ → Option PlayFault
+play_fails board d at bytes = fault_of d board (tiles_of board d at bytes)
+
+-- the boards after 8E WORD, and after 9G AT below it
+abbrev after_word : List (Option Tile)
+after_word = with_tiles empty_board (tiles_of empty_board Across 109 (codes "WORD"))
+
+abbrev after_at : List (Option Tile)
+after_at = with_tiles after_word (tiles_of after_word Across 126 (codes "AT"))
+
+-- the English game
+english : Rules
+unfolding most_tiles
+english = record {
+  counts = english_counts;
+  points = english_points;
+  premiums = english_premiums;
+  bonus = 50;
+  exchange_min = 7;
+  zero_limit = 6;
+  challenge_unit = 5;
+  time_step = 5;
+  tiles_in_limits = refl;
+  points_in_limits = refl;
+  bonus_in_limits = refl;
+  exchange_in_limits = refl;
+  zero_in_limits = refl;
+  challenge_in_limits = refl;
+  time_in_limits = refl;
+}
+
+-- what the text scores
+abbrev scores : List (Option Tile) → Dir → ℕ → List ℕ → ℕ
+scores board d at bytes = score_of english board (tiles_of board d at bytes)
+
+-- the faults of texts
+word_names_a_play : text_fails empty_board Across 109 (codes "WORD") ≡ None
+unfolding text_fault check empty_board mismatches text_cells placement_of is_open_ended letter_at
+word_names_a_play = refl
+
+row_is_left : text_fails empty_board Across 118 (codes "ABC") ≡ Some fault.OffBoard
+unfolding text_fault check empty_board mismatches text_cells placement_of is_open_ended letter_at
+row_is_left = refl
+
+letter_on_another : text_fails after_word Across 108 (codes "QUA") ≡ Some fault.Mismatch
+unfolding text_fault check empty_board mismatches text_cells placement_of is_open_ended letter_at
+letter_on_another = refl
+
+dots_alone : text_fails after_word Across 109 (codes "....") ≡ Some fault.NoNewTile
+unfolding text_fault check empty_board mismatches text_cells placement_of is_open_ended letter_at
+dots_alone = refl
+
+eight_tiles : text_fails after_word Across 0 (codes "ABCDEFGH") ≡ Some fault.TooManyTiles
+unfolding text_fault check empty_board mismatches text_cells placement_of is_open_ended letter_at
+eight_tiles = refl
+
+front_of_a_word : text_fails after_word Across 108 (codes "S") ≡ Some fault.NotWhole
+unfolding text_fault check empty_board mismatches text_cells placement_of is_open_ended letter_at
+front_of_a_word = refl
+
+back_of_a_word : text_fails after_word Across 113 (codes "S") ≡ Some fault.NotWhole
+unfolding text_fault check empty_board mismatches text_cells placement_of is_open_ended letter_at
+back_of_a_word = refl
+
+-- the faults of plays
+word_is_legal : play_fails empty_board Across 109 (codes "WORD") ≡ None
+unfolding fault_of check empty_board overlaps has_gap is_blank misses_centre is_too_short is_apart runs_along stretches_on text_cells placement_of letter_at
+word_is_legal = refl
+
+beside_the_centre : play_fails empty_board Across 108 (codes "WORD") ≡ Some fault.MissesCentre
+unfolding fault_of check empty_board overlaps has_gap is_blank misses_centre is_too_short is_apart runs_along stretches_on text_cells placement_of letter_at
+beside_the_centre = refl
+
+in_a_corner : play_fails empty_board Across 224 (codes "A") ≡ Some fault.MissesCentre
+unfolding fault_of check empty_board overlaps has_gap is_blank misses_centre is_too_short is_apart runs_along stretches_on text_cells placement_of letter_at
+in_a_corner = refl
+
+one_letter : play_fails empty_board Across 112 (codes "A") ≡ Some fault.TooShort
+unfolding fault_of check empty_board overlaps has_gap is_blank misses_centre is_too_short is_apart runs_along stretches_on text_cells placement_of letter_at
+one_letter = refl
+
+far_away : play_fails after_word Across 0 (codes "AT") ≡ Some fault.Apart
+unfolding fault_of check empty_board overlaps has_gap is_blank misses_centre is_too_short is_apart runs_along stretches_on text_cells placement_of letter_at
+far_away = refl
+
+below_a_word : play_fails after_word Across 126 (codes "AT") ≡ None
+unfolding fault_of check empty_board overlaps has_gap is_blank misses_centre is_too_short is_apart runs_along stretches_on text_cells placement_of letter_at
+below_a_word = refl
+
+-- the words, that of the direction first
+word_forms : words_formed Across empty_board (tiles_of empty_board Across 109 (codes "WOrD")) ≡ codes "WORD" ∷ []
+unfolding words_formed letters_of empty_board runs_along stretches_on text_cells placement_of letter_at
+word_forms = refl
+
+at_forms : words_formed Across after_word (tiles_of after_word Across 126 (codes "AT")) ≡ codes "AT" ∷ codes "RA" ∷ codes "DT" ∷ []
+unfolding words_formed letters_of empty_board runs_along stretches_on text_cells placement_of letter_at
+at_forms = refl
+
+eat_forms : words_formed Across after_at (tiles_of after_at Across 125 (codes "E..")) ≡ codes "EAT" ∷ codes "OE" ∷ []
+unfolding words_formed letters_of empty_board runs_along stretches_on text_cells placement_of letter_at
+eat_forms = refl
+
+oe_forms : words_formed Down after_at (tiles_of after_at Down 110 (codes ".E")) ≡ codes "OE" ∷ codes "EAT" ∷ []
+unfolding words_formed letters_of empty_board runs_along stretches_on text_cells placement_of letter_at
+oe_forms = refl
+
+-- the scores
+word_scores : scores empty_board Across 109 (codes "WORD") ≡ 16
+unfolding score_of letters_score words_factor english english_premiums empty_board runs_along stretches_on text_cells placement_of letter_at
+word_scores = refl
+
+blank_r_scores : scores empty_board Across 109 (codes "WOrD") ≡ 14
+unfolding score_of letters_score words_factor english english_premiums empty_board runs_along stretches_on text_cells placement_of letter_at
+blank_r_scores = refl
+
+seven_tiles_score : scores empty_board Across 106 (codes "RETAINS") ≡ 66
+unfolding score_of letters_score words_factor english english_premiums empty_board runs_along stretches_on text_cells placement_of letter_at
+seven_tiles_score = refl
+
+six_tiles_score : scores empty_board Across 108 (codes "RETAIN") ≡ 14
+unfolding score_of letters_score words_factor english english_premiums empty_board runs_along stretches_on text_cells placement_of letter_at
+six_tiles_score = refl
+
+at_scores : scores after_word Across 126 (codes "AT") ≡ 9
+unfolding score_of letters_score words_factor english english_premiums empty_board runs_along stretches_on text_cells placement_of letter_at
+at_scores = refl
+
+eat_scores : scores after_at Across 125 (codes "E..") ≡ 5
+unfolding score_of letters_score words_factor english english_premiums empty_board runs_along stretches_on text_cells placement_of letter_at
+eat_scores = refl
+
+oe_scores : scores after_at Down 110 (codes ".E") ≡ 5
+unfolding score_of letters_score words_factor english english_premiums empty_board runs_along stretches_on text_cells placement_of letter_at
+oe_scores = refl
