@@ -1,5 +1,5 @@
 -- Verdicts on records, from the verdicts on their events.
-use Rattle.std.proofs.Common.{◌≡◌, ◌⊎◌, ℕ, false, List, Result, Ok, Err, refl, sym, ap, subst, ◌∙◌, inl, inr, ⊎_elim}
+use Rattle.std.proofs.Common.{◌≡◌, ◌⊎◌, ℕ, List, Ok, Err, sym, ap, subst, ◌∙◌, inl, inr, ⊎_elim}
 use Rattle.ref_tiles.specs.declared.rulebook.Rules.{Rules}
 use Rattle.gcg_read.specs.declared.records.Record.{Record}
 use Rattle.gcg_read.specs.declared.faults.ReadFault.{ReadFault}

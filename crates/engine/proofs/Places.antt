@@ -1,18 +1,16 @@
 -- The events of a record, one after another.
-use Rattle.std.proofs.Common.{◌≡◌, ◌≢◌, ℕ, zero, suc, ◌+◌, ◌<◌, ◌≤◌, Bool, true, false, not, List, [], ◌∷◌, ◌++◌, length, reverse, take, get_or, slice_get, Option, Some, None, refl, sym, ap, ◌∙◌, subst, arith, ⊎_elim}
+use Rattle.std.proofs.Common.{◌≡◌, ℕ, zero, suc, ◌+◌, ◌<◌, true, false, not, List, [], ◌∷◌, length, reverse, take, get_or, Option, Some, None, refl, sym, ap, ◌∙◌, arith, ⊎_elim}
 use Rattle.std.specs.Prelude.{find, option_map}
 use Rattle.std.proofs.lemmas.List.{take_more, reverse-append}
-use Rattle.std.proofs.lemmas.Option.{slice_get_read, slice_get_past}
+use Rattle.std.proofs.lemmas.Option.{slice_get_read}
 use Rattle.std.proofs.lemmas.Bool.{cases_Bool, cond-true, cond-false}
 use Rattle.ref_tiles.specs.declared.rulebook.Rules.{Rules}
 use Rattle.gcg_read.specs.declared.events.Event.{Event}
 use Rattle.gcg_read.specs.declared.events.EventKind.{EventKind}
 use Rattle.gcg_read.specs.declared.events.EventKind.TheVariants as kind
-use Rattle.engine.specs.declared.tables.Table.{Table}
-use Rattle.engine.specs.declared.turns.RuleFault.{RuleFault}
 use Rattle.engine.specs.Tables.{table_after}
 use Rattle.engine.specs.Steps.{table_with, IsPlay}
-use Rattle.engine.specs.Checks.{check_kind, fault_on, fault_at, AreAllowed, IsFirstRefusal}
+use Rattle.engine.specs.Checks.{check_kind, fault_on, fault_at}
 use Rattle.engine.specs.Verdicts.{is_play_kind, other_line}
 
 -- the past after one more event

@@ -1,6 +1,5 @@
 -- What a run of the referee answers, by the bytes of its devices.
 use Rattle.std.specs.Prelude.{◌≡◌, ℕ, ◌⊎◌, List}
-use Rattle.std.specs.Io.KnownBytes.{Appends}
 use Rattle.ref_tiles.specs.declared.rulebook.Rules.{Rules}
 use Rattle.devices.specs.Devices.{Device, HasFailed, HasWorked, HasStalled}
 use Rattle.devices.specs.Inputs.{IsInput}

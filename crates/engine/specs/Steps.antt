@@ -1,6 +1,5 @@
 -- What judging one event leaves and tells.
-use Rattle.std.specs.Prelude.{◌≡◌, ℤ, ◌+ℤ◌, if◌then◌else◌, Option, Some, None, Result, Ok, Err, List}
-use Rattle.ref_tiles.specs.declared.symbols.Symbol.{Symbol}
+use Rattle.std.specs.Prelude.{◌≡◌, ◌+ℤ◌, if◌then◌else◌, Option, Some, None, Result, Ok, Err}
 use Rattle.gcg_read.specs.declared.events.Event.{Event}
 use Rattle.gcg_read.specs.declared.events.EventKind.{EventKind}
 use Rattle.gcg_read.specs.declared.events.EventKind.TheVariants as kind

@@ -1,8 +1,6 @@
 -- The state of a game at a place of its record, read from the events before it.
 use Rattle.std.specs.Prelude.{ℤ, pos, ◌+ℤ◌, Bool, true, false, List, [], ◌∷◌, Option, Some, None, if◌then◌else◌}
 use Rattle.ref_tiles.specs.declared.tiles.Tile.{Tile}
-use Rattle.ref_tiles.specs.declared.symbols.Symbol.{Symbol}
-use Rattle.ref_board.specs.declared.directions.Dir.{Dir}
 use Rattle.ref_board.specs.Cells.{empty_board}
 use Rattle.ref_play.specs.Placements.{with_tiles}
 use Rattle.ref_play.specs.Texts.{placement_of}
