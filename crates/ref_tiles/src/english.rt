@@ -7,31 +7,31 @@ use crate::rulebook::{Rules, SQUARES};
 
 const P: Premium = Premium::Plain;
 
-const L2: Premium = Premium::DoubleLetter;
+const DL: Premium = Premium::DoubleLetter;
 
-const L3: Premium = Premium::TripleLetter;
+const TL: Premium = Premium::TripleLetter;
 
-const W2: Premium = Premium::DoubleWord;
+const DW: Premium = Premium::DoubleWord;
 
-const W3: Premium = Premium::TripleWord;
+const TW: Premium = Premium::TripleWord;
 
 #[rattlefmt::skip]
 const PREMIUMS: [Premium; SQUARES] = [
-    W3, P, P, L2, P, P, P, W3, P, P, P, L2, P, P, W3,
-    P, W2, P, P, P, L3, P, P, P, L3, P, P, P, W2, P,
-    P, P, W2, P, P, P, L2, P, L2, P, P, P, W2, P, P,
-    L2, P, P, W2, P, P, P, L2, P, P, P, W2, P, P, L2,
-    P, P, P, P, W2, P, P, P, P, P, W2, P, P, P, P,
-    P, L3, P, P, P, L3, P, P, P, L3, P, P, P, L3, P,
-    P, P, L2, P, P, P, L2, P, L2, P, P, P, L2, P, P,
-    W3, P, P, L2, P, P, P, W2, P, P, P, L2, P, P, W3,
-    P, P, L2, P, P, P, L2, P, L2, P, P, P, L2, P, P,
-    P, L3, P, P, P, L3, P, P, P, L3, P, P, P, L3, P,
-    P, P, P, P, W2, P, P, P, P, P, W2, P, P, P, P,
-    L2, P, P, W2, P, P, P, L2, P, P, P, W2, P, P, L2,
-    P, P, W2, P, P, P, L2, P, L2, P, P, P, W2, P, P,
-    P, W2, P, P, P, L3, P, P, P, L3, P, P, P, W2, P,
-    W3, P, P, L2, P, P, P, W3, P, P, P, L2, P, P, W3,
+    TW, P, P, DL, P, P, P, TW, P, P, P, DL, P, P, TW,
+    P, DW, P, P, P, TL, P, P, P, TL, P, P, P, DW, P,
+    P, P, DW, P, P, P, DL, P, DL, P, P, P, DW, P, P,
+    DL, P, P, DW, P, P, P, DL, P, P, P, DW, P, P, DL,
+    P, P, P, P, DW, P, P, P, P, P, DW, P, P, P, P,
+    P, TL, P, P, P, TL, P, P, P, TL, P, P, P, TL, P,
+    P, P, DL, P, P, P, DL, P, DL, P, P, P, DL, P, P,
+    TW, P, P, DL, P, P, P, DW, P, P, P, DL, P, P, TW,
+    P, P, DL, P, P, P, DL, P, DL, P, P, P, DL, P, P,
+    P, TL, P, P, P, TL, P, P, P, TL, P, P, P, TL, P,
+    P, P, P, P, DW, P, P, P, P, P, DW, P, P, P, P,
+    DL, P, P, DW, P, P, P, DL, P, P, P, DW, P, P, DL,
+    P, P, DW, P, P, P, DL, P, DL, P, P, P, DW, P, P,
+    P, DW, P, P, P, TL, P, P, P, TL, P, P, P, DW, P,
+    TW, P, P, DL, P, P, P, TW, P, P, P, DL, P, P, TW,
 ];
 
 /// The English game: 100 tiles, the standard board and the WESPA rules.
