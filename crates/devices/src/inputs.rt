@@ -47,12 +47,21 @@ pub fn read_within<I: Input>(
     let mut chunk = [0u8; CHUNK];
     let mut bytes = Vec::new(alloc);
     while bytes.len() <= limit {
-        let most = (limit - bytes.len()).min(CHUNK - 1) + 1;
+        let most = most_of_read(limit - bytes.len());
         if read_more(input, &mut chunk[..most], &mut bytes)? == 0 {
             break;
         }
     }
     Ok(bytes)
+}
+
+/// How many bytes a read asks for where so many are left up to the limit: at most one past it.
+fn most_of_read(left: usize) -> usize
+    ensures some { 0 < result }
+    ensures few { result ≤ left + 1 }
+    ensures fits { result ≤ 8192 }
+{
+    left.min(CHUNK - 1) + 1
 }
 
 /// Appends what one read into the buffer gives, and tells how many bytes they are.

@@ -1,2 +1,4 @@
 pub mod Places
-pub mod Decisions
+pub mod Answering
+pub mod ReportLines
+pub mod Examples

@@ -4,4 +4,5 @@ pub mod Steps
 pub mod Verdicts
 pub mod Reports
 pub mod Judging
+pub mod Tidying
 pub mod Runs

@@ -1,11 +1,16 @@
 -- The bytes of a report.
-use Rattle.std.specs.Prelude.{ℕ, ◌==◌, Bool, true, false, List, [], ◌∷◌, ◌++◌, Result, Ok, Err, codes, decimal, if◌then◌else◌}
+use Rattle.std.specs.Prelude.{ℕ, ◌==◌, Bool, true, false, List, [], ◌∷◌, ◌++◌, length, slice_get, Option, Some, None, Result, Ok, Err, codes, decimal, if◌then◌else◌}
+use Rattle.std.specs.List.{flat_map, range_with_len}
 use Rattle.std.specs.Fmt.{signed_decimal}
 use Rattle.ref_tiles.specs.declared.rulebook.Rules.{Rules}
 use Rattle.ref_play.specs.Faults as play
+use Rattle.gcg_read.specs.declared.events.Event.{Event}
+use Rattle.gcg_read.specs.declared.players.Players.{Players}
 use Rattle.gcg_read.specs.declared.records.Record.{Record}
 use Rattle.gcg_read.specs.declared.faults.ReadFault.{ReadFault}
 use Rattle.gcg_read.specs.Faults as read
+use Rattle.gcg_read.specs.Players.{player_of}
+use Rattle.gcg_write.specs.Normal.{event_text_of}
 use Rattle.engine.specs.declared.turns.RuleFault.{RuleFault}
 use Rattle.engine.specs.declared.turns.RuleFault.TheVariants as rule
 use Rattle.engine.specs.declared.verdicts.Verdict.{Verdict}
@@ -38,13 +43,35 @@ abbrev pub legal_line : Bool → List ℕ
 legal_line true = codes "legal complete\n"
 legal_line false = codes "legal unfinished\n"
 
+abbrev pub line_with : Players → Option Event → List ℕ
+line_with players None = []
+line_with players (Some event) =
+    decimal event.line ++ 32 ∷ (player_of players event.player).nick ++ 32 ∷ event_text_of event ++ 10 ∷ []
+
+-- N NICK EVENT SCORE TOTAL: the line of the event at a place, counted from 0, N its line in the record
+unfoldable pub event_line : Record → ℕ → List ℕ
+event_line r place = line_with r.players (slice_get r.events place)
+
+-- the lines of the first events
+unfoldable pub event_lines : Record → ℕ → List ℕ
+event_lines r many = flat_map (event_line r) (range_with_len 0 many)
+
+-- the report of a legal game: the verdict, and then a line for each event
+unfoldable pub legal_report : Bool → Record → List ℕ
+legal_report complete r = legal_line complete ++ event_lines r (length r.events)
+
+abbrev pub legal_text : Bool → Result Record ReadFault → List ℕ
+legal_text complete (Ok r) = legal_report complete r
+legal_text complete (Err fault) = []
+
 abbrev pub bad_record_text : Result Record ReadFault → List ℕ
 bad_record_text (Ok r) = []
 bad_record_text (Err fault) = bad_record_line fault
 
--- The report of a verdict: for now its line alone. The verdicts that are not given yet have none.
+-- The report of a verdict: its line, and of a legal game a line for each event. The verdicts that are not given yet
+-- have none.
 unfoldable pub report : Rules → (words lexicon game : List ℕ) → Verdict → List ℕ
-report rules words lexicon text (verdict.Legal complete) = legal_line complete
+report rules words lexicon text (verdict.Legal complete) = legal_text complete (game_of text)
 report rules words lexicon text (verdict.Illegal line fault) = illegal_line line fault
 report rules words lexicon text verdict.Unsettled = []
 report rules words lexicon text verdict.BadList = []

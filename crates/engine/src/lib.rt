@@ -1,17 +1,23 @@
-//! The engine of the referee: it reads a record from an input, judges it by the rules, and writes the report.
+//! The engine of the referee: it reads its inputs, judges the game by the rules, and writes the report.
 //!
-//! [`run`] is the call that the program makes. Its contract is the theorem of the whole, from the bytes of the inputs
-//! to the bytes of the output.
+//! [`run`] and [`run_tidy`] are the calls that the program makes. The contract of [`run`] is the theorem of the whole,
+//! from the bytes of the inputs to the bytes of the output.
 #![tactic(auto)]
 
-mod answers;
+mod decisions;
+mod event_lines;
+mod faults;
 mod judging;
 mod reports;
+mod running;
 mod tables;
+mod tidying;
 mod turns;
 mod verdicts;
 
-pub use answers::{RunFault, run};
+pub use faults::RunFault;
+pub use running::run;
+pub use tidying::run_tidy;
 pub use turns::RuleFault;
 pub use verdicts::{GameFault, Verdict};
 

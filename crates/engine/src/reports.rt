@@ -1,10 +1,11 @@
 ghost use Rattle.std.specs.Prelude.{◌≡◌, ◌++◌, OnOk, IfOk};
 ghost use Rattle.std.specs.Fmt.{signed_decimal};
-ghost use Rattle.engine.specs.Reports.{rule_text, fault_text, line_text, illegal_line, bad_record_line, legal_line};
+ghost use Rattle.engine.specs.Reports.{rule_text, fault_text, line_text, illegal_line, bad_record_line, legal_line, legal_report};
 
+use crate::event_lines::push_event_lines;
 use crate::turns::RuleFault;
 use crate::verdicts::GameFault;
-use gcg_read::ReadFault;
+use gcg_read::{ReadFault, Record};
 use itoa::Buffer;
 use std::alloc::{AllocError, Global};
 
@@ -72,12 +73,22 @@ pub fn bad_record_line(alloc: Global, fault: &ReadFault) -> Result<Vec<u8>, Allo
 }
 
 /// `legal complete` or `legal unfinished`.
-pub fn legal_line(alloc: Global, complete: bool) -> Result<Vec<u8>, AllocError>
-    ensures { IfOk result (λ text. text.items ≡ legal_line complete) }
+fn legal_line(complete: bool) -> &'static [u8]
+    ensures { result.now ≡ legal_line complete }
 {
     if complete {
-        Vec::from_slice(alloc, b"legal complete\n")
+        b"legal complete\n"
     } else {
-        Vec::from_slice(alloc, b"legal unfinished\n")
+        b"legal unfinished\n"
     }
+}
+
+/// The verdict on a legal game, and then a line for each of its events.
+#[tactic(auto, unfolding(crate::specs::Reports::legal_report))]
+pub fn legal_report(alloc: Global, complete: bool, game: &Record) -> Result<Vec<u8>, AllocError>
+    ensures { IfOk result (λ text. text.items ≡ legal_report complete game.now) }
+{
+    let mut text = Vec::from_slice(alloc, legal_line(complete))?;
+    push_event_lines(&mut text, game)?;
+    Ok(text)
 }

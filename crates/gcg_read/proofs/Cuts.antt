@@ -1,15 +1,16 @@
 -- A text that is cut at its first byte of a kind.
 use Rattle.std.proofs.Common.{◌≡◌, ℕ, zero, suc, ◌+◌, ◌-◌, ◌<◌, ◌≤◌, Bool, true, false, not, cond, ltb, ◌||◌, ◌==◌, List, [], ◌∷◌, length, get_or, take, drop, Option, Some, None, arith, sym, ap, refl, ◌∙◌, inl, inr}
-use Rattle.std.specs.List.{position, position_or_len, slice_split}
+use Rattle.std.specs.List.{position, position_or_len, slice_split, suffix_len}
 use Rattle.std.proofs.lemmas.Bool.{cases_lt}
 use Rattle.std.proofs.lemmas.List.{nil_from_length, take_all, length-drop, length-take, get_or-drop}
-use Rattle.std.proofs.lemmas.List.Sums.{position_or_len_is, fails_before_first, passes_at_first}
+use Rattle.std.proofs.lemmas.List.Sums.{position_or_len_is, fails_before_first, passes_at_first, suffix_len_is}
 use Rattle.std.proofs.lemmas.List.Splits.{slice_split_none, slice_split_first, slice_split-cons_yes}
 use Rattle.std.proofs.lemmas.Bool.Decides.{nat_tests}
-use Rattle.bstr.specs.Find.{IsFirstByte}
+use Rattle.bstr.specs.Find.{IsFirstByte, IsLastByte}
 use Rattle.bstr.specs.Bytes.{is_in, not_in}
 use Rattle.gcg_read.specs.Cutting.{is_blank, is_filled, is_colon, is_feed, lines_in, without_return, fields_of, fields_from, head_of, named_by}
 use Rattle.gcg_read.specs.declared.cutting.Field.{Field}
+use Rattle.gcg_read.specs.Pragmas.{end_trimmed}
 use Rattle.std.specs.Prelude.{is_some}
 
 fails : (b : Bool) → (b ≡ true → ⊥) → b ≡ false
@@ -237,3 +238,26 @@ pub head_one : (text nick others : List ℕ) (i : ℕ) (r : Option Field) → So
     → head_of text ≡ Some (record { nick = nick; after = take (length text - (i + 1)) (drop (i + 1) text) })
 head_one text nick others i None e fields rest none = rw (rest_is (i + 1) text) (head_at text i (sym e) ∙ rw (fields, rest) refl)
 head_one text nick others i (Some field) e fields rest none = absurd cc
+
+-- ---- blanks at the end
+
+blank_there : (byte : ℕ) → (not_in (32 ∷ 9 ∷ []) byte ≡ true → ⊥) → is_blank byte ≡ true
+blank_there byte h = blank_from byte (fails (not_blank byte) (λ e. h (ap not (sym (blank_in byte)) ∙ e)))
+
+filled_there : (byte : ℕ) → not_in (32 ∷ 9 ∷ []) byte ≡ true → is_blank byte ≡ false
+filled_there byte h = fails (is_blank byte) (both_ways (is_blank byte) (ap not (blank_in byte) ∙ h))
+
+-- a text of blanks
+pub end_none : (text : List ℕ) → IsLastByte (not_in (32 ∷ 9 ∷ [])) text None → [] ≡ end_trimmed text
+end_none text h =
+    let all = suffix_len_is is_blank text 0 0 (omega arith) (λ k low high. blank_there (get_or text k 0) (h k low high)) (λ lt. absurd (omega arith)) in
+    let none : length text - suffix_len is_blank text ≡ 0 = omega (arith, all) in
+    rw none refl
+
+-- the last byte that is no blank is the last that is kept
+pub end_some : (text : List ℕ) (i : ℕ) → IsLastByte (not_in (32 ∷ 9 ∷ [])) text (Some i) → take (i + 1) text ≡ end_trimmed text
+end_some text i h =
+    let here : is_blank (get_or text (i + 1 - 1) 0) ≡ false = ap (λ n. is_blank (get_or text n 0)) (omega arith) ∙ filled_there (get_or text i 0) h.1 in
+    let back = suffix_len_is is_blank text (i + 1) 0 (omega (arith, h.0.high)) (λ k low high. blank_there (get_or text k 0) (h.0.after k low high)) (λ lt. here) in
+    let kept : length text - suffix_len is_blank text ≡ i + 1 = omega (arith, back, h.0.high) in
+    rw kept refl

@@ -9,6 +9,7 @@ use Rattle.gcg_read.specs.declared.events.Event.{Event}
 use Rattle.gcg_read.specs.declared.events.EventKind.{EventKind}
 use Rattle.gcg_read.specs.declared.events.EventKind.TheVariants as kind
 use Rattle.gcg_read.specs.declared.event_lines.Heading.{Heading}
+use Rattle.gcg_read.specs.Codes.{code_of}
 use Rattle.gcg_read.specs.Faults.{◌>>=◌}
 use Rattle.gcg_read.specs.Numerals.{points_of}
 use Rattle.gcg_read.specs.Positions.{position_of}
@@ -28,10 +29,6 @@ played_of heading rack position word score total = do
   place ← ok_or (position_of position) why.Position
   text ← ok_or (text_of word) why.Word
   scored_of heading rack (kind.Play place.at place.dir text) score total
-
--- what a code says; no code is read yet
-abbrev pub code_of : List ℕ → Option EventKind
-code_of code = None
 
 -- a code, and then the score and the total
 unfoldable pub coded_of : Heading → Option (List ℕ) → List ℕ → List ℕ → List ℕ → Result Event Why

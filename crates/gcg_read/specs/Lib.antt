@@ -5,5 +5,7 @@ pub mod Positions
 pub mod Racks
 pub mod Texts
 pub mod Players
+pub mod Codes
 pub mod EventLines
+pub mod Pragmas
 pub mod Records

@@ -19,6 +19,16 @@ abbrev pub player_of : Players → Seat → Player
 player_of players First = players.first
 player_of players Second = players.second
 
+-- the other seat
+abbrev pub other_seat : Seat → Seat
+other_seat First = Second
+other_seat Second = First
+
+-- the players with this one in a seat
+abbrev pub with_player : Players → Seat → Player → Players
+with_player players First player = record players { first = player }
+with_player players Second player = record players { second = player }
+
 -- whether the player has no nickname yet
 abbrev pub is_unnamed : Player → Bool
 is_unnamed player = length player.nick == 0

@@ -1,15 +1,18 @@
 -- The record of a text: what each of its lines adds, and the first fault.
-use Rattle.std.specs.Prelude.{◌≡◌, ℕ, ◌+◌, ◌==◌, nat_lt, nat_le, List, [], ◌∷◌, ◌++◌, length, Result, Ok, Err, if◌then◌else◌}
+use Rattle.std.specs.Prelude.{◌≡◌, ℕ, ◌+◌, ◌==◌, nat_lt, nat_le, List, [], ◌∷◌, ◌++◌, length, not, Option, Some, None, Result, Ok, Err, if◌then◌else◌}
 use Rattle.std.specs.Option.{ok_or}
+use Rattle.std.specs.Str.{bytes_eq}
 use Rattle.gcg_read.specs.declared.faults.Why.{Why}
 use Rattle.gcg_read.specs.declared.faults.Why.TheVariants as why
 use Rattle.gcg_read.specs.declared.faults.ReadFault.{ReadFault}
 use Rattle.gcg_read.specs.declared.events.Event.{Event}
+use Rattle.gcg_read.specs.declared.players.Players.{Players}
 use Rattle.gcg_read.specs.declared.records.Record.{Record}
 use Rattle.gcg_read.specs.declared.reading.Entry.{Entry}
 use Rattle.gcg_read.specs.Faults.{◌>>=◌, on_line}
 use Rattle.gcg_read.specs.Cutting.{lines_of, fields_of, head_of}
-use Rattle.gcg_read.specs.Players.{no_players, seat_for, seated}
+use Rattle.gcg_read.specs.Players.{no_players, player_of, other_seat, with_player, is_unnamed, seat_for, seated}
+use Rattle.gcg_read.specs.Pragmas.{Naming, naming_of}
 use Rattle.gcg_read.specs.EventLines.{event_of}
 
 -- a record without names and events
@@ -38,10 +41,33 @@ with_event so_far line text = do
   entry ← on_line line (entry_of so_far line text)
   Ok (record { players = seated so_far.players entry.event.player entry.nick; events = so_far.events ++ entry.event ∷ [] })
 
--- The record with one more line. A line that begins with '>' (62) is an event, and every other line is read over.
+-- The players with the names of a pragma: a player who has names keeps them, and the nickname of a player is not
+-- that of the other.
+unfoldable pub players_with : Players → Naming → Result Players Why
+players_with players naming =
+    if not (is_unnamed (player_of players naming.seat)) then Ok players
+    else (if bytes_eq (player_of players (other_seat naming.seat)).nick naming.nick then Err why.ThirdPlayer
+    else Ok (with_player players naming.seat (record { nick = naming.nick; full = naming.full })))
+
+-- the record with the names of a pragma, where it gives some
+abbrev pub with_naming : Record → ℕ → Option Naming → Result Record ReadFault
+with_naming so_far line None = Ok so_far
+with_naming so_far line (Some naming) = do
+  players ← on_line line (players_with so_far.players naming)
+  Ok (record so_far { players = players })
+
+-- The record with the pragma of one more line, behind its '#'. Names count before the first event only.
+unfoldable pub with_pragma : Record → ℕ → List ℕ → Result Record ReadFault
+with_pragma so_far line text =
+    if length so_far.events == 0 then with_naming so_far line (naming_of text) else Ok so_far
+
+-- The record with one more line. A line that begins with '>' (62) is an event, one that begins with '#' (35) is
+-- a pragma, and every other line is read over.
 unfoldable pub with_line : Record → ℕ → List ℕ → Result Record ReadFault
 with_line so_far line [] = Ok so_far
-with_line so_far line (byte ∷ text) = if byte == 62 then with_event so_far line text else Ok so_far
+with_line so_far line (byte ∷ text) =
+    if byte == 62 then with_event so_far line text
+    else (if byte == 35 then with_pragma so_far line text else Ok so_far)
 
 -- the record with further lines, the first of which has this number
 unfoldable pub record_from : Record → ℕ → List (List ℕ) → Result Record ReadFault

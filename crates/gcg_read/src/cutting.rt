@@ -60,16 +60,16 @@ fn find_feed(text: &[u8]) -> Option<usize>
 fn find_colon(text: &[u8]) -> Option<usize>
     ensures { result ≡ position is_colon text.now }
 {
-    text.find_byte(b':')
+    text.iter().position(|byte| *byte == b':')
 }
 
-fn find_blank(text: &[u8]) -> Option<usize>
+pub fn find_blank(text: &[u8]) -> Option<usize>
     ensures { result ≡ position is_blank text.now }
 {
     text.find_byteset(b" \t")
 }
 
-fn find_filled(text: &[u8]) -> Option<usize>
+pub fn find_filled(text: &[u8]) -> Option<usize>
     ensures { result ≡ position (λ byte. not (is_blank byte)) text.now }
 {
     text.find_not_byteset(b" \t")
@@ -77,6 +77,7 @@ fn find_filled(text: &[u8]) -> Option<usize>
 
 /// Cuts the first line off a text. A line ends at LF or at the end of the text, and one CR at its end is
 /// dropped.
+#[tactic(auto, using(crate::proofs::Cuts::lines_end))]
 pub fn cut_line(text: &[u8]) -> Cut<'_>
     ensures lines { lines_in text.now ≡ result.line.now ∷ lines_behind result.after }
     ensures shorter { IfSome result.after (λ after. length after.now < length text.now) }

@@ -2,8 +2,9 @@ ghost use Rattle.std.specs.Prelude.{◌≡◌, ◌∷◌, []};
 ghost use Rattle.std.specs.List.{list_any};
 ghost use Rattle.std.specs.Char.{is_ascii_digit};
 ghost use Rattle.gcg_read.specs.Cutting.{fields_of};
-ghost use Rattle.gcg_read.specs.EventLines.{has_digit, scored_of, played_of, event_of};
+ghost use Rattle.gcg_read.specs.EventLines.{has_digit, scored_of, played_of, coded_of, event_of};
 
+use crate::codes::read_code;
 use crate::cutting::{Field, next_field};
 use crate::events::{Event, EventKind, Seat};
 use crate::faults::Why;
@@ -23,7 +24,7 @@ pub struct Heading {
 }
 
 /// The event that the text behind a nickname says.
-#[tactic(auto, unfolding(crate::specs::EventLines::event_of, crate::specs::EventLines::coded_of))]
+#[tactic(auto, unfolding(crate::specs::EventLines::event_of))]
 pub fn read_event(heading: Heading, text: &[u8]) -> Result<Event, Why>
     ensures { result ≡ event_of heading (fields_of text.now) }
 {
@@ -37,13 +38,13 @@ pub fn read_event(heading: Heading, text: &[u8]) -> Result<Event, Why>
         return Err(Why::Fields);
     };
     match next_field(third.after) {
-        None => Err(Why::Code),
+        None => read_coded(heading, None, first.bytes, second.bytes, third.bytes),
         Some(fourth) => read_longer(heading, first.bytes, second.bytes, third.bytes, fourth),
     }
 }
 
 /// The event of a line with four fields or more.
-#[tactic(auto, unfolding(crate::specs::EventLines::event_of, crate::specs::EventLines::coded_of))]
+#[tactic(auto, unfolding(crate::specs::EventLines::event_of))]
 fn read_longer(
     heading: Heading,
     first: &[u8],
@@ -73,7 +74,7 @@ fn read_longer(
 }
 
 /// The event of a line with four fields: a play without a rack, or a code with one.
-#[tactic(auto, unfolding(crate::specs::EventLines::event_of, crate::specs::EventLines::coded_of))]
+#[tactic(auto, unfolding(crate::specs::EventLines::event_of))]
 fn read_four(
     heading: Heading,
     first: &[u8],
@@ -86,10 +87,10 @@ fn read_four(
     if has_digit(first) {
         return read_play(heading, None, first, second, third, fourth);
     }
-    match read_rack(first) {
-        None => Err(Why::Rack),
-        Some(_) => Err(Why::Code),
-    }
+    let Some(rack) = read_rack(first) else {
+        return Err(Why::Rack);
+    };
+    read_coded(heading, Some(rack), second, third, fourth)
 }
 
 /// Whether a byte is a digit.
@@ -121,6 +122,23 @@ fn read_play(
         at: position.at,
         dir: position.dir,
         word,
+    };
+    read_numbers(heading, rack, kind, score, total)
+}
+
+/// The event of a code.
+#[tactic(auto, unfolding(crate::specs::EventLines::coded_of))]
+fn read_coded(
+    heading: Heading,
+    rack: Option<Counts>,
+    code: &[u8],
+    score: &[u8],
+    total: &[u8],
+) -> Result<Event, Why>
+    ensures { result ≡ coded_of heading rack code.now score.now total.now }
+{
+    let Some(kind) = read_code(code) else {
+        return Err(Why::Code);
     };
     read_numbers(heading, rack, kind, score, total)
 }

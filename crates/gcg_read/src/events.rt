@@ -10,10 +10,24 @@ use std::marker::Model;
 /// One of the two players of a game.
 #[derive(Clone, Copy, Debug, PartialEq, Eq)]
 pub enum Seat {
-    /// The player whose nickname comes first in the record.
+    /// Player 1, whom a `#player1` pragma names before the first event, and else the first new nickname.
     First,
-    /// The other player.
+    /// Player 2, whom a `#player2` pragma names before the first event, and else the next new nickname.
     Second,
+}
+
+impl Seat {
+    ghost use Rattle.gcg_read.specs.Players.{other_seat};
+
+    /// The seat of the other player.
+    pub fn other(self) -> Seat
+        ensures { result ≡ other_seat self }
+    {
+        match self {
+            Seat::First => Seat::Second,
+            Seat::Second => Seat::First,
+        }
+    }
 }
 
 /// What happened in an event.

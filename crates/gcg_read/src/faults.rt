@@ -12,7 +12,7 @@ pub enum Why {
     TooManyEvents,
     /// No colon stands behind the nickname, or there is no nickname, or it has a blank inside.
     NoColon,
-    /// The nickname is a third one.
+    /// The nickname of an event is a third one, or that of a pragma is the other player's.
     ThirdPlayer,
     /// Behind the colon stand fewer than 3 fields or more than 5.
     Fields,
@@ -24,7 +24,8 @@ pub enum Why {
     Word,
     /// The score or the total is not 1 to 6 digits behind an optional sign.
     Number,
-    /// A code that is not read stands in place of a position and a word.
+    /// What stands in place of a position and a word is no code: not `-` or `--`, not `-` with 1 to 7 tiles or
+    /// with one digit from 1 to 7, not `(challenge)` or `(time)`, and not 1 to 7 tiles in round brackets.
     Code,
     /// Memory ran out.
     NoMemory,

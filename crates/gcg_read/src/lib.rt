@@ -1,10 +1,12 @@
 //! The reader of game records in the GCG format: from bytes to players and events, or the first fault.
 //!
 //! The format is the Poslfit GCG specification, <https://www.poslfit.com/scrabble/gcg/>, in a profile of
-//! this project's own. Only event lines that are plays are read for now; an event line with a code in place
-//! of a position and a word is refused as such, and every line that is no event is read over.
+//! this project's own. A line that begins with `>` is an event: a play, or one of the codes `-`, `--`, `-` with
+//! tiles or with a number of them, `(challenge)`, `(time)` and a last rack in round brackets. The pragmas
+//! `#player1` and `#player2` before the first event name the players. Every other line is read over.
 #![tactic(auto)]
 
+mod codes;
 mod cutting;
 mod event_lines;
 mod events;
@@ -14,6 +16,7 @@ mod numerals;
 mod players;
 mod points;
 mod positions;
+mod pragmas;
 mod racks;
 mod reading;
 mod records;

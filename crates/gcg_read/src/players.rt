@@ -1,7 +1,8 @@
-ghost use Rattle.std.specs.Prelude.{◌≡◌, OnOk, OnErr};
+ghost use Rattle.std.specs.Prelude.{◌≡◌, OnOk, OnErr, not};
 
 use crate::events::Seat;
 use crate::names::Name;
+use crate::pragmas::Naming;
 use std::alloc::{AllocError, Global};
 
 /// What a record says of a player. A player without a nickname has the empty one.
@@ -23,7 +24,7 @@ pub struct Players {
 }
 
 impl Player {
-    ghost use Rattle.gcg_read.specs.Players.{no_player, with_nick};
+    ghost use Rattle.gcg_read.specs.Players.{no_player, is_unnamed, with_nick};
 
     /// A player without names. It takes no memory.
     pub fn unnamed(alloc: Global) -> Player
@@ -33,6 +34,13 @@ impl Player {
             nick: Name::empty(alloc),
             full: Name::empty(alloc),
         }
+    }
+
+    /// Whether the player has a nickname.
+    pub(crate) fn is_named(&self) -> bool
+        ensures { result ≡ not (is_unnamed self.now) }
+    {
+        !self.nick.as_bytes().is_empty()
     }
 
     /// Gives the player this nickname, where there is none yet. It fails only where memory runs out, and
@@ -49,7 +57,7 @@ impl Player {
 }
 
 impl Players {
-    ghost use Rattle.gcg_read.specs.Players.{no_players, player_of, seat_for, seated};
+    ghost use Rattle.gcg_read.specs.Players.{no_players, player_of, with_player, seat_for, seated};
 
     /// Two players without names. It takes no memory.
     pub fn unnamed(alloc: Global) -> Players
@@ -89,6 +97,24 @@ impl Players {
         } else {
             None
         }
+    }
+
+    /// Gives the player that a pragma names its names. It fails only where memory runs out, and then the players
+    /// stay.
+    pub(crate) fn take_names(&mut self, alloc: Global, naming: Naming<'_>) -> Result<(), AllocError>
+        ensures named { OnOk result (self.new ≡ with_player self.old naming.entry.seat
+            (record { nick = naming.entry.nick.now; full = naming.entry.full.now })) }
+        ensures refused { OnErr result (self.new ≡ self.old) }
+    {
+        let player = Player {
+            nick: Name::copied(alloc, naming.nick)?,
+            full: Name::copied(alloc, naming.full)?,
+        };
+        match naming.seat {
+            Seat::First => self.first = player,
+            Seat::Second => self.second = player,
+        }
+        Ok(())
     }
 
     /// Gives the player in a seat this nickname, where there is none yet. It fails only where memory runs

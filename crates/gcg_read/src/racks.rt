@@ -4,7 +4,7 @@ ghost use Rattle.gcg_read.specs.Racks.{kind_of, rack_of};
 use ref_tiles::{Counts, Kind, Letter};
 
 /// The most tiles of a rack.
-const MOST_TILES: usize = 7;
+pub const MOST_TILES: usize = 7;
 
 /// The tile that a byte of a rack writes, A to Z or `?` for a blank; none for any other byte.
 fn kind(byte: u8) -> Option<Kind>

@@ -1,12 +1,13 @@
 ghost use Rattle.std.specs.Prelude.{◌≡◌, ◌≤◌, ◌<◌, length};
 ghost use Rattle.gcg_read.specs.Faults.{Gives, Makes};
 ghost use Rattle.gcg_read.specs.Cutting.{lines_in};
-ghost use Rattle.gcg_read.specs.Records.{no_record, with_event, with_line, record_from, record_of, entry_of, IsEntry};
+ghost use Rattle.gcg_read.specs.Records.{no_record, with_event, with_pragma, with_line, record_from, record_of, entry_of, IsEntry};
 
 use crate::cutting::{cut_line, read_head, without_mark};
 use crate::event_lines::{Heading, read_event};
 use crate::events::Event;
 use crate::faults::{ReadFault, Why};
+use crate::pragmas::read_naming;
 use crate::records::Record;
 use std::alloc::Global;
 
@@ -26,8 +27,9 @@ struct Entry<'a> {
 /// Reads a game record, and gives its players and events, or its first fault: the first by line, and on a line
 /// the first in the order of [`Why`].
 ///
-/// Only plays are read: `read` answers `Code` for an event line with a code in place of a position and a word.
-/// Lines that do not begin with `>` are read over.
+/// A line that begins with `>` is an event. The first pragma `#player1` and the first `#player2` before it name
+/// the players; one without a nickname, or whose nickname has a colon, does not count. Every other line is read
+/// over.
 #[tactic(auto, unfolding(crate::specs::Records::record_of))]
 pub fn read(alloc: Global, bytes: &[u8]) -> Result<Record, ReadFault>
     ensures { Gives result (record_of bytes.now) }
@@ -42,6 +44,7 @@ pub fn read(alloc: Global, bytes: &[u8]) -> Result<Record, ReadFault>
 }
 
 /// Reads the lines of a text.
+#[tactic(auto, using(crate::proofs::Steps::line_more, crate::proofs::Steps::line_fails, crate::proofs::Steps::lines_done, crate::proofs::Steps::room_more), unfolding(crate::specs::Records::record_from))]
 fn read_lines(alloc: Global, text: &[u8]) -> Result<Record, ReadFault>
     requires { length text.now ≤ 1_048_576 }
     ensures { Gives result (record_from no_record 1 (lines_in text.now)) }
@@ -65,8 +68,35 @@ fn take_line(alloc: Global, so_far: &mut Record, line: u32, text: &[u8]) -> Resu
 {
     match text {
         [b'>', rest @ ..] => take_event(alloc, so_far, line, rest),
+        [b'#', rest @ ..] => take_pragma(alloc, so_far, line, rest),
         _ => Ok(()),
     }
+}
+
+/// Reads a pragma, behind its `#`, into a record. It counts where it is the first that names its player and no
+/// event stands before it.
+#[tactic(auto, unfolding(crate::specs::Records::with_pragma, crate::specs::Records::players_with))]
+fn take_pragma(alloc: Global, so_far: &mut Record, line: u32, text: &[u8]) -> Result<(), ReadFault>
+    ensures { Makes so_far.new result (with_pragma so_far.old line text.now) }
+{
+    if !so_far.events.is_empty() {
+        return Ok(());
+    }
+    let Some(naming) = read_naming(text) else {
+        return Ok(());
+    };
+    if so_far.players.of(naming.seat).is_named() {
+        return Ok(());
+    }
+    let other = so_far.players.of(naming.seat.other());
+    if other.nick.as_bytes() == naming.nick {
+        return Err(ReadFault {
+            line,
+            why: Why::ThirdPlayer,
+        });
+    }
+    so_far.players.take_names(alloc, naming)?;
+    Ok(())
 }
 
 /// Reads an event line, behind its `>`, into a record.

@@ -1,6 +1,6 @@
 -- Lines read one after the other.
 use Rattle.std.specs.Prelude.{IfSome, option_map}
-use Rattle.std.proofs.Common.{◌≡◌, ℕ, ◌+◌, ◌<◌, ◌≤◌, arith, List, [], ◌∷◌, ◌++◌, length, Option, Some, None, Ok, Err, sym, ap, ◌∙◌, refl, ◌⊎◌, inl, inr, append_assoc, append-nil, true, false}
+use Rattle.std.proofs.Common.{◌≡◌, ℕ, ◌+◌, ◌<◌, ◌≤◌, arith, List, [], ◌∷◌, ◌++◌, length, Option, Some, None, Ok, Err, sym, subst, ap, ◌∙◌, refl, ◌⊎◌, inl, inr, append_assoc, append-nil, true, false}
 use Rattle.std.proofs.lemmas.Bool.{lt-leb, le-leb}
 use Rattle.std.specs.Borrow.{Bor}
 use Rattle.std.proofs.lemmas.List.{length_push}
@@ -33,6 +33,9 @@ pub record Progress (lines words : List (List ℕ)) (line : ℕ) (behind : List 
 pub progress_none : (lines : List (List ℕ)) → Progress lines [] 0 lines
 unfolding words_in
 progress_none lines = record { before = []; count = refl; there = refl; same = refl; whole = refl }
+
+pub progress_empty : (lines words : List (List ℕ)) → words ≡ [] → Progress lines words 0 lines
+progress_empty lines words none = subst (λ words. Progress lines words 0 lines) (sym none) (progress_none lines)
 
 -- a line without a fault
 no_fault : (o : Option ListWhy) (n : ℕ) (words next : List (List ℕ)) → or_fault (option_map (at_line n) o) words ≡ Ok next → (o ≡ None) × (words ≡ next)
@@ -103,21 +106,21 @@ unfolding fault_of
 line_bad words n [] w lt e = absurd (omega arith)
 line_bad words n (byte ∷ rest) w lt e = rw e refl
 
-pub line_many : (words new : List (List ℕ)) (n : ℕ) (text : List ℕ) → 0 < length text → spelling_fault text ≡ None → new ≡ insert_key word_order words (capitals text)
-    → most_words < length new → line_in words n text ≡ Err (at_line n why.TooMany)
-unfolding fault_of with_line
-line_many words new n [] lt e is many = absurd (omega arith)
-line_many words new n (byte ∷ rest) lt e is many =
-    let over : leb (length (insert_key word_order words (capitals (byte ∷ rest)))) most_words ≡ false = rw is at (lt-leb (length new) most_words many) in
+pub line_many : (words new : List (List ℕ)) (n : ℕ) (text word : List ℕ) → 0 < length text → (spelling_fault text ≡ None) × (word ≡ capitals text) → new ≡ insert_key word_order words word
+    → 400000 < length new → line_in words n text ≡ Err (at_line n why.TooMany)
+unfolding fault_of with_line most_words
+line_many words new n [] word lt (e, spelt) is many = absurd (omega arith)
+line_many words new n (byte ∷ rest) word lt (e, spelt) is many =
+    let over : leb (length (insert_key word_order words (capitals (byte ∷ rest)))) 400000 ≡ false = rw (is, spelt) at (lt-leb (length new) 400000 many) in
     rw (e, over) refl
 
-pub line_good : (words new : List (List ℕ)) (n : ℕ) (text : List ℕ) → 0 < length text → spelling_fault text ≡ None → new ≡ insert_key word_order words (capitals text)
-    → length new ≤ most_words → line_in words n text ≡ Ok new
-unfolding fault_of with_line
-line_good words new n [] lt e is few = absurd (omega arith)
-line_good words new n (byte ∷ rest) lt e is few =
-    let under : leb (length (insert_key word_order words (capitals (byte ∷ rest)))) most_words ≡ true = rw is at (le-leb (length new) most_words few) in
-    rw (e, under) (ap Ok (sym is))
+pub line_good : (words new : List (List ℕ)) (n : ℕ) (text word : List ℕ) → 0 < length text → (spelling_fault text ≡ None) × (word ≡ capitals text) → new ≡ insert_key word_order words word
+    → length new ≤ 400000 → line_in words n text ≡ Ok new
+unfolding fault_of with_line most_words
+line_good words new n [] word lt (e, spelt) is few = absurd (omega arith)
+line_good words new n (byte ∷ rest) word lt (e, spelt) is few =
+    let under : leb (length (insert_key word_order words (capitals (byte ∷ rest)))) 400000 ≡ true = rw (is, spelt) at (le-leb (length new) 400000 few) in
+    rw (e, under) (ap Ok (ap (insert_key word_order words) (sym spelt) ∙ sym is))
 
 -- no more lines
 pub progress_done : (lines words : List (List ℕ)) (n : ℕ) (left : Option (Bor (List ℕ))) → left ≡ None → Progress lines words n (lines_behind left) → list_in lines ≡ Ok words

@@ -33,6 +33,7 @@ fn without_return(line: &[u8]) -> &[u8]
     }
 }
 
+#[tactic(auto, using(crate::proofs::Cuts::first_byte))]
 fn find_feed(text: &[u8]) -> Option<usize>
     ensures { result ≡ position is_feed text.now }
 {
@@ -41,6 +42,7 @@ fn find_feed(text: &[u8]) -> Option<usize>
 
 /// Cuts the first line off a text. A line ends at LF or at the end of the text, and one CR at its end is
 /// dropped.
+#[tactic(auto, using(crate::proofs::Cuts::lines_cut, crate::proofs::Cuts::lines_end))]
 pub fn cut_line(text: &[u8]) -> Cut<'_>
     ensures lines { lines_in text.now ≡ result.line.now ∷ lines_behind result.after }
     ensures shorter { IfSome result.after (λ after. length after.now < length text.now) }

@@ -37,9 +37,17 @@ impl WordList {
     }
 
     /// Whether these bytes are a word of the list, in capitals.
+    #[tactic(auto, using(crate::proofs::Orders::is_member))]
     pub fn has(&self, word: &[u8]) -> bool
         ensures test { result ≡ is_listed self.now word.now }
         ensures member { IsTrue result ↔ Contains self.now word.now }
+    {
+        self.is_listed(word)
+    }
+
+    #[tactic(auto, using(crate::proofs::Orders::searched, crate::proofs::Orders::too_long))]
+    fn is_listed(&self, word: &[u8]) -> bool
+        ensures { result ≡ is_listed self.now word.now }
     {
         match Word::of_bytes(word) {
             Some(word) => self.words.binary_search(&word).is_ok(),

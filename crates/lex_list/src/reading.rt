@@ -28,7 +28,7 @@ impl WordList {
     ///
     /// `TooMany` is on the line of the 400,001st distinct word; a repeat of a word is none. `TooLong` comes before
     /// all else.
-    #[tactic(auto, unfolding(crate::specs::Lists::list_of, crate::specs::Lists::most_bytes))]
+    #[tactic(auto, using(crate::proofs::Laws::list_proper, crate::proofs::Laws::list_holds, crate::proofs::Laws::text_fault), unfolding(crate::specs::Lists::list_of, crate::specs::Lists::most_bytes))]
     pub fn read(alloc: Global, bytes: &[u8]) -> Result<WordList, ListFault>
         ensures meaning { Gives result (list_of bytes.now) }
         ensures words { IfOk result (λ list. HoldsWordsOf list (lines_of bytes.now)) }
@@ -47,6 +47,7 @@ impl WordList {
 }
 
 /// Reads the lines of a text.
+#[tactic(auto, using(crate::proofs::Steps::progress_empty))]
 fn read_lines(alloc: Global, text: &[u8]) -> Result<BTreeSet<Word>, ListFault>
     requires { length text.now ≤ 16_777_216 }
     ensures { Reads result (list_in (lines_in text.now)) }
@@ -64,6 +65,7 @@ fn read_lines(alloc: Global, text: &[u8]) -> Result<BTreeSet<Word>, ListFault>
 }
 
 /// Reads one line, and adds its word to those of the lines before it.
+#[tactic(auto, using(crate::proofs::Steps::line_empty, crate::proofs::Steps::line_bad, crate::proofs::Steps::line_many, crate::proofs::Steps::line_good))]
 fn take_line(words: &mut BTreeSet<Word>, line: u32, text: &[u8]) -> Result<(), ListFault>
     ensures { Makes words.new.keys result (line_in words.old.keys line text.now) }
 {

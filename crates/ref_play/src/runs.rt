@@ -50,17 +50,27 @@ fn push_run(runs: &mut ArrayVec<Run, RUNS>, after: &Board, square: Square, dir: 
     }
 }
 
+/// The run through a square, where it has two tiles.
+fn run_along(after: &Board, square: Square, dir: Dir) -> ArrayVec<Run, RUNS>
+    requires { holds after.now square ≡ true }
+    ensures run { result.items ≡ runs_through dir after.now square }
+    ensures few { length result.items ≤ 1 }
+{
+    let mut runs = ArrayVec::new();
+    push_run(&mut runs, after, square, dir);
+    runs
+}
+
 /// The runs that a play without a gap forms: the one of its direction, where it has two tiles, and then the cross runs
 /// in the order of the new tiles. `after` is the board with the tiles of the play.
 pub fn runs_of(after: &Board, dir: Dir, tiles: &[Placed]) -> ArrayVec<Run, RUNS>
     requires { IsLaid dir after.now tiles.now }
     ensures { result.items ≡ runs_formed dir after.now tiles.now }
 {
-    let mut runs = ArrayVec::new();
     let Some((first, _rest)) = tiles.split_first() else {
-        return runs;
+        return ArrayVec::new();
     };
-    push_run(&mut runs, after, first.square, dir);
+    let mut runs = run_along(after, first.square, dir);
     for placed in tiles {
         push_run(&mut runs, after, placed.square, dir.other());
     }

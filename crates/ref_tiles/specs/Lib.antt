@@ -7,3 +7,4 @@ pub mod Counting
 pub mod Limits
 pub mod Rulebook
 pub mod English
+pub mod Parts

@@ -10,10 +10,10 @@ pub const SQUARES: usize = 225;
 
 /// The rules that tournaments vary: the tile set, its points, the board and five numbers.
 ///
-/// Only [`ENGLISH`] makes one for now. Its limits are part of the type.
+/// Only [`ENGLISH`](crate::ENGLISH) and [`Rules::checked`] make one: the limits are part of the type.
 #[derive(Clone, Copy, Debug, PartialEq, Eq)]
 pub struct Rules {
-    /// How many tiles of each kind the game has: 14 or more together.
+    /// How many tiles of each kind the game has: 14 to 100 together.
     pub counts: Counts,
     /// The points of A to Z, 0 to 99. A blank has none.
     pub points: [u8; 26],

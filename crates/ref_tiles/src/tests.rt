@@ -198,3 +198,71 @@ fn letters_and_tiles(rt: HostRuntime) {
     assert_eq!(rt; (blank.kind, blank.shown), (Kind::Blank, z));
     assert_eq!(rt; Tile::default(), Tile::of_blank(a));
 }
+
+/// So many blanks.
+fn blanks(rt: &impl Abort, total: usize) -> Counts {
+    let mut counts = Counts::new();
+    for _ in 0..total {
+        assert!(rt; counts.count(Kind::Blank) < 255);
+        counts.add(Kind::Blank);
+    }
+    counts
+}
+
+#[test]
+fn limits_of_tiles(rt: HostRuntime) {
+    for (total, taken) in [(13, false), (14, true), (100, true), (101, false)] {
+        let mut parts = english_rules().parts();
+        parts.counts = blanks(&rt, total);
+        assert_eq!(rt; Rules::checked(parts).is_some(), taken, "{total} tiles");
+    }
+}
+
+#[test]
+fn limits_of_scores(rt: HostRuntime) {
+    for (points, taken) in [(0, true), (99, true), (100, false)] {
+        let mut parts = english_rules().parts();
+        parts.points[25] = points;
+        assert_eq!(rt; Rules::checked(parts).is_some(), taken, "{points} points");
+    }
+    for (bonus, taken) in [(0, true), (999, true), (1000, false)] {
+        let mut parts = english_rules().parts();
+        parts.bonus = bonus;
+        assert_eq!(rt; Rules::checked(parts).is_some(), taken, "bonus {bonus}");
+    }
+}
+
+#[test]
+fn limits_of_numbers(rt: HostRuntime) {
+    for (number, taken) in [(0, false), (1, true), (99, true), (100, false)] {
+        let mut parts = english_rules().parts();
+        parts.exchange_min = number;
+        assert_eq!(rt; Rules::checked(parts).is_some(), taken, "{number}");
+        parts = english_rules().parts();
+        parts.zero_limit = number;
+        assert_eq!(rt; Rules::checked(parts).is_some(), taken, "{number}");
+        parts = english_rules().parts();
+        parts.challenge_unit = number;
+        assert_eq!(rt; Rules::checked(parts).is_some(), taken, "{number}");
+        parts = english_rules().parts();
+        parts.time_step = number;
+        assert_eq!(rt; Rules::checked(parts).is_some(), taken, "{number}");
+    }
+}
+
+#[test]
+fn checked_parts_stay(rt: HostRuntime) {
+    let mut parts = english_rules().parts();
+    parts.points[16] = 98;
+    parts.bonus = 60;
+    parts.zero_limit = 4;
+    let rules = Rules::checked(parts).expect(&rt, "within the limits");
+    let letter = Letter::new(16).expect(&rt, "Q");
+    assert_eq!(rt; rules.points_of(Kind::Letter(letter)), 98);
+    assert_eq!(rt;
+        (rules.bonus, rules.exchange_min, rules.zero_limit),
+        (60, 7, 4)
+    );
+    assert_eq!(rt; (rules.challenge_unit, rules.time_step), (5, 5));
+    assert_eq!(rt; rules.counts.total(), 100);
+}

@@ -11,6 +11,8 @@ pub enum Request<'a> {
         lexicon: &'a str,
         game: &'a str,
     },
+    /// To write the normal form of a record, named by its file.
+    Tidy { game: &'a str },
 }
 
 /// Reads the words of a command line, the program's name first.
@@ -41,9 +43,10 @@ pub fn mistake(alloc: Global, text: &str) -> Error {
 /// The commands that the program knows.
 fn command<'a>(alloc: Global) -> Result<Command<'a>, AllocError> {
     Command::new(alloc, "referee")
-        .about("Judges one game of Scrabble from its record")
+        .about("Judges a game of Scrabble from its record, or tidies the record")
         .subcommand_required(true)
-        .subcommand(judge_command(alloc)?)
+        .subcommand(judge_command(alloc)?)?
+        .subcommand(tidy_command(alloc)?)
 }
 
 /// `judge WORDS LEXICON GAME`.
@@ -67,12 +70,27 @@ fn judge_command<'a>(alloc: Global) -> Result<Command<'a>, AllocError> {
         )
 }
 
+/// `tidy GAME`.
+fn tidy_command<'a>(alloc: Global) -> Result<Command<'a>, AllocError> {
+    Command::new(alloc, "tidy")
+        .about("Writes the normal form of a record, or its first fault")
+        .arg(
+            Arg::new(alloc, "GAME")
+                .required(true)
+                .help("the GCG record"),
+        )
+}
+
 /// What the matches of a parse ask for: there is always something, since every name is required.
 fn request_of<'a>(matches: &ArgMatches<'a>) -> Option<Request<'a>> {
-    let (_, names) = matches.subcommand()?;
+    let (command, names) = matches.subcommand()?;
+    let game = names.get_str("GAME")?;
+    if command == "tidy" {
+        return Some(Request::Tidy { game });
+    }
     Some(Request::Judge {
         words: names.get_str("WORDS")?,
         lexicon: names.get_str("LEXICON")?,
-        game: names.get_str("GAME")?,
+        game,
     })
 }

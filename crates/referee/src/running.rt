@@ -3,7 +3,7 @@ use crate::exits::{Exit, Trouble};
 use clap::Error;
 use clap::error::ErrorKind;
 use devices::{FromRead, FromWrite};
-use engine::{Verdict, run};
+use engine::{Verdict, run, run_tidy};
 use ref_tiles::english_rules;
 use std::alloc::AllocError;
 use std::rt::{Files, Runtime};
@@ -52,6 +52,7 @@ fn give_up<R: Runtime>(rt: &R, trouble: Trouble<'_>) -> Exit {
 fn answer<R: Runtime + AllocGlobal>(rt: &R, request: Request<'_>) -> Exit {
     let outcome = match request {
         Request::Judge { game, .. } => judge(rt, game),
+        Request::Tidy { game } => tidy(rt, game),
     };
     match outcome {
         Ok(verdict) => Exit::from(verdict),
@@ -73,6 +74,14 @@ fn judge<'a, R: Runtime + AllocGlobal>(rt: &R, game: &'a str) -> Result<Verdict,
         &mut out,
         &english_rules(),
     )?;
+    Ok(verdict)
+}
+
+/// Writes the normal form of the record of a file to standard output.
+fn tidy<'a, R: Runtime + AllocGlobal>(rt: &R, game: &'a str) -> Result<Verdict, Trouble<'a>> {
+    let mut game = FromRead::new(open(rt, game)?);
+    let mut out = FromWrite::new(io::writer(rt));
+    let verdict = run_tidy(rt.alloc(), &mut game, &mut out)?;
     Ok(verdict)
 }
 

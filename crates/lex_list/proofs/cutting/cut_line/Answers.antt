@@ -1,8 +1,5 @@
-use Rattle.lex_list.proofs.Cuts.{lines_end, lines_cut}
+use Rattle.lex_list.proofs.Cuts.{lines_cut}
 use Rattle.lex_list.proofs.cutting.cut_line.Goals as goal
-
-pub returns-in-None-clause-lines : goal.returns-in-None-clause-lines
-returns-in-None-clause-lines c = lines_end c.args.text.now c.without_return.result.now c.in-None.ensures c.without_return.ensures
 
 pub returns-in-Some-clause-lines : goal.returns-in-Some-clause-lines
 returns-in-Some-clause-lines c =

@@ -1,16 +1,7 @@
-use Rattle.std.proofs.Common.{arith, sym, subst}
 use Rattle.std.proofs.lemmas.Result.{err_from_is_err_and}
 use Rattle.lex_list.specs.Lines.{lines_in, lines_behind}
-use Rattle.lex_list.proofs.Steps.{Progress, progress_none, progress_more, progress_fails, progress_done, room_more}
+use Rattle.lex_list.proofs.Steps.{progress_more, progress_fails, progress_done, room_more}
 use Rattle.lex_list.proofs.reading.read_lines.Goals as goal
-
-pub loop-left-init : goal.loop-left-init
-loop-left-init c =
-    record {
-      so_far = subst (λ words. Progress (lines_in c.args.text.now) words 0 (lines_in c.args.text.now)) (sym c.new-words.ensures.empty) (progress_none (lines_in c.args.text.now));
-      room = omega arith;
-      few = omega arith;
-    }
 
 pub returns-in_err-take_line : goal.returns-in_err-take_line
 returns-in_err-take_line c =

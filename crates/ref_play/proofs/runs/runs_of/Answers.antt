@@ -7,8 +7,8 @@ use Rattle.ref_play.proofs.PlaceLaws.{is_play-few, is_play-parts}
 use Rattle.ref_play.proofs.FormedRuns.{runs_at}
 use Rattle.ref_play.proofs.runs.runs_of.Goals as goal
 
-pub push_run-requires-in-loop-placed-clause-room : goal.push_run-requires-in-loop-placed-clause-room
-push_run-requires-in-loop-placed-clause-room c =
+pub push_run-requires-clause-room : goal.push_run-requires-clause-room
+push_run-requires-clause-room c =
     let few : length c.args.tiles.now ≤ 7 = is_play-few c.args.dir c.args.tiles.now c.requires.play in
     omega arith
 
@@ -25,6 +25,6 @@ returns c =
     let tiles = c.args.tiles.now in
     let first = c.in-Some.first.now in
     c.loop-placed.invariant.formed
-    ∙ ap (λ qs. c.push_run.new.runs.items ++ flat_map (λ q. runs_through (other_dir d) after q.square) qs) (take_all c.loop-placed.placed-index tiles c.loop-placed-test.false)
-    ∙ ap (λ rs. rs ++ flat_map (λ q. runs_through (other_dir d) after q.square) tiles) (c.push_run.ensures.run ∙ ap (λ rs. rs ++ runs_through d after first.square) c.new-runs.ensures)
+    ∙ ap (λ qs. c.run_along-runs.result.items ++ flat_map (λ q. runs_through (other_dir d) after q.square) qs) (take_all c.loop-placed.placed-index tiles c.loop-placed-test.false)
+    ∙ ap (λ rs. rs ++ flat_map (λ q. runs_through (other_dir d) after q.square) tiles) c.run_along-runs.ensures.run
     ∙ sym (runs_at d after tiles first c.in-Some._rest.now c.in-Some.ensures.cases.0 c.requires)

@@ -1,0 +1,68 @@
+ghost use Rattle.std.specs.Prelude.{◌≡◌};
+ghost use Rattle.gcg_read.specs.Codes.{unknown_of, dashed_of, bracketed_of, code_of};
+
+use crate::events::EventKind;
+use crate::numerals::numeral;
+use crate::racks::{MOST_TILES, read_rack};
+
+/// What the code of an event says that is no play; none for bytes that are no code.
+///
+/// A `-` is a pass and `--` a withdrawal. A `-` with tiles or with one digit from 1 to 7 behind it is an exchange
+/// of these tiles or of that many. `(challenge)` is a bonus, `(time)` a penalty, and tiles in round brackets are
+/// a last rack.
+pub fn read_code(code: &[u8]) -> Option<EventKind>
+    ensures { result ≡ code_of code.now }
+{
+    match code {
+        [b'-', rest @ ..] => read_dashed(rest),
+        [b'(', inner @ .., b')'] => read_bracketed(inner),
+        _ => None,
+    }
+}
+
+/// What stands behind the `-` of a code.
+#[tactic(auto, unfolding(crate::specs::Codes::dashed_of))]
+fn read_dashed(bytes: &[u8]) -> Option<EventKind>
+    ensures { result ≡ dashed_of bytes.now }
+{
+    if let Some(tiles) = read_rack(bytes) {
+        return Some(EventKind::Exchange(tiles));
+    }
+    if let Some(number) = read_number(bytes) {
+        return Some(EventKind::ExchangeUnknown(number));
+    }
+    match bytes {
+        [] => Some(EventKind::Pass),
+        [b'-'] => Some(EventKind::Withdraw),
+        _ => None,
+    }
+}
+
+/// What stands in the round brackets of a code.
+#[tactic(auto, unfolding(crate::specs::Codes::bracketed_of))]
+fn read_bracketed(bytes: &[u8]) -> Option<EventKind>
+    ensures { result ≡ bracketed_of bytes.now }
+{
+    if let Some(tiles) = read_rack(bytes) {
+        return Some(EventKind::LastRack(tiles));
+    }
+    if bytes == b"challenge".as_slice() {
+        Some(EventKind::Challenge)
+    } else if bytes == b"time".as_slice() {
+        Some(EventKind::Time)
+    } else {
+        None
+    }
+}
+
+/// How many tiles one digit says that are exchanged, 1 to 7; none for any other bytes.
+fn read_number(digit: &[u8]) -> Option<u8>
+    ensures { result ≡ unknown_of digit.now }
+{
+    let number = numeral(1, digit)? as usize;
+    if 1 <= number && number <= MOST_TILES {
+        Some(number as u8)
+    } else {
+        None
+    }
+}

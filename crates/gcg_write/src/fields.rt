@@ -1,0 +1,108 @@
+ghost use Rattle.std.specs.Prelude.{◌≡◌, ◌++◌, ◌∷◌, OnOk, replicate};
+ghost use Rattle.std.specs.Fmt.{signed_decimal};
+ghost use Rattle.gcg_write.specs.Fields.{letters_text, tiles_text, position_text, word_text, score_text, points_text};
+ghost use Rattle.gcg_write.specs.Fronts.{IsFront};
+
+use gcg_read::{Points, Text};
+use itoa::Buffer;
+use ref_board::{Dir, Square};
+use ref_tiles::{Counts, Kind, Letter};
+use std::alloc::AllocError;
+
+/// Appends a byte so many times.
+fn push_times(byte: u8, times: u8, out: &mut Vec<u8>) -> Result<(), AllocError>
+    ensures done { OnOk result (out.new.items ≡ out.old.items ++ replicate times byte) }
+    ensures kept { IsFront out.old.items out.new.items }
+{
+    for _ in 0..times {
+        out.push(byte)?;
+    }
+    Ok(())
+}
+
+/// Appends the letter tiles, A to Z.
+fn push_letters(tiles: &Counts, out: &mut Vec<u8>) -> Result<(), AllocError>
+    ensures done { OnOk result (out.new.items ≡ out.old.items ++ letters_text tiles.now) }
+    ensures kept { IsFront out.old.items out.new.items }
+{
+    for index in 0..26 {
+        let letter = Letter { index };
+        push_times(letter.capital(), tiles.count(Kind::Letter(letter)), out)?;
+    }
+    Ok(())
+}
+
+/// Appends tiles, A to Z and then `?` for each blank.
+pub fn push_tiles(tiles: &Counts, out: &mut Vec<u8>) -> Result<(), AllocError>
+    ensures done { OnOk result (out.new.items ≡ out.old.items ++ tiles_text tiles.now) }
+    ensures kept { IsFront out.old.items out.new.items }
+{
+    push_letters(tiles, out)?;
+    push_times(b'?', tiles.count(Kind::Blank), out)
+}
+
+/// Appends where a play begins: row and column of one across, column and row of one down.
+fn push_position(at: Square, dir: Dir, out: &mut Vec<u8>) -> Result<(), AllocError>
+    ensures done { OnOk result (out.new.items ≡ out.old.items ++ position_text at dir) }
+    ensures kept { IsFront out.old.items out.new.items }
+{
+    let mut buffer = Buffer::new();
+    let row = buffer.format(at.row() + 1).as_bytes();
+    let column = b'A' + at.column() as u8;
+    match dir {
+        Dir::Across => {
+            out.extend_from_slice(row)?;
+            out.push(column)?;
+        }
+        Dir::Down => {
+            out.push(column)?;
+            out.extend_from_slice(row)?;
+        }
+    }
+    Ok(())
+}
+
+/// Appends the text of a play.
+fn push_word(word: &Text, out: &mut Vec<u8>) -> Result<(), AllocError>
+    ensures done { OnOk result (out.new.items ≡ out.old.items ++ word_text word.now) }
+    ensures kept { IsFront out.old.items out.new.items }
+{
+    for symbol in word.as_slice() {
+        out.push(symbol.byte())?;
+    }
+    Ok(())
+}
+
+/// Appends where a play begins and its text.
+pub fn push_play(at: Square, dir: Dir, word: &Text, out: &mut Vec<u8>) -> Result<(), AllocError>
+    ensures done { OnOk result (out.new.items ≡ out.old.items ++ (position_text at dir ++ 32 ∷ word_text word.now)) }
+    ensures kept { IsFront out.old.items out.new.items }
+{
+    push_position(at, dir, out)?;
+    out.push(b' ')?;
+    push_word(word, out)
+}
+
+/// Appends a number with its sign, also where it is 0 or above.
+fn push_signed(points: Points, out: &mut Vec<u8>) -> Result<(), AllocError>
+    ensures done { OnOk result (out.new.items ≡ out.old.items ++ score_text points) }
+    ensures kept { IsFront out.old.items out.new.items }
+{
+    let mut buffer = Buffer::new();
+    let value = points.value();
+    if value >= 0 {
+        out.push(b'+')?;
+    }
+    out.extend_from_slice(buffer.format(value).as_bytes())
+}
+
+/// Appends a score and a total.
+pub fn push_points(score: Points, total: Points, out: &mut Vec<u8>) -> Result<(), AllocError>
+    ensures done { OnOk result (out.new.items ≡ out.old.items ++ points_text score total) }
+    ensures kept { IsFront out.old.items out.new.items }
+{
+    let mut buffer = Buffer::new();
+    push_signed(score, out)?;
+    out.push(b' ')?;
+    out.extend_from_slice(buffer.format(total.value()).as_bytes())
+}

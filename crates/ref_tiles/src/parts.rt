@@ -1,0 +1,122 @@
+ghost use Rattle.std.specs.Prelude.{◌≡◌, ◌≤◌, ◌↔◌, IsTrue, IsSome, IfSome};
+ghost use Rattle.std.specs.List.{list_all};
+ghost use Rattle.ref_tiles.specs.Limits.{is_tile_set, are_points, is_bonus, is_parameter};
+ghost use Rattle.ref_tiles.specs.Parts.{are_in_limits, parts_of};
+
+use crate::counting::Counts;
+use crate::premiums::Premium;
+use crate::rulebook::{Rules, SQUARES};
+
+/// The fewest tiles of a game: two full racks.
+const FEWEST_TILES: usize = 14;
+
+/// The most tiles of a game.
+const MOST_TILES: usize = 100;
+
+/// The most points of a letter.
+const MOST_POINTS: u8 = 99;
+
+/// The greatest bonus of a play of seven tiles.
+const MOST_BONUS: u16 = 999;
+
+/// The parts of [`Rules`], within their limits or not.
+#[derive(Clone, Copy, Debug, PartialEq, Eq)]
+pub struct RuleParts {
+    /// How many tiles of each kind the game has.
+    pub counts: Counts,
+    /// The points of A to Z.
+    pub points: [u8; 26],
+    /// The premiums of the squares, row by row from 1A.
+    pub premiums: [Premium; SQUARES],
+    /// What a play of seven tiles scores on top.
+    pub bonus: u16,
+    /// How many tiles the bag must have for an exchange.
+    pub exchange_min: u8,
+    /// After how many successive turns without a play on the board the game may end.
+    pub zero_limit: u8,
+    /// What an unsuccessful challenge gives for each word that it names.
+    pub challenge_unit: u8,
+    /// Of what number a time penalty is a multiple.
+    pub time_step: u8,
+}
+
+/// Whether a tile set has 14 to 100 tiles.
+#[tactic(auto, unfolding(crate::specs::Limits::most_tiles))]
+fn is_tile_set(counts: &Counts) -> bool
+    ensures { result ≡ is_tile_set counts.now }
+{
+    let total = counts.total();
+    FEWEST_TILES <= total && total <= MOST_TILES
+}
+
+/// Whether each letter has at most 99 points.
+fn are_points(points: &[u8]) -> bool
+    ensures { result ≡ are_points points.now }
+{
+    points.iter().all(|points| *points <= MOST_POINTS)
+}
+
+/// Whether one of the four small numbers is within its limits.
+fn is_parameter(number: u8) -> bool
+    ensures { result ≡ is_parameter number }
+{
+    1 <= number && number <= 99
+}
+
+impl Rules {
+    /// The rules with these parts: exactly where there are 14 to 100 tiles, each letter has at most 99 points, the
+    /// bonus is at most 999, and the other four numbers are 1 to 99.
+    pub fn checked(parts: RuleParts) -> Option<Rules>
+        ensures limits { IsSome result ↔ IsTrue (are_in_limits parts) }
+        ensures parts { IfSome result (λ rules. parts_of rules ≡ parts) }
+    {
+        let RuleParts {
+            counts,
+            points,
+            premiums,
+            bonus,
+            exchange_min,
+            zero_limit,
+            challenge_unit,
+            time_step,
+        } = parts;
+        if !is_tile_set(&counts) || !are_points(&points) || bonus > MOST_BONUS {
+            return None;
+        }
+        if !is_parameter(exchange_min)
+            || !is_parameter(zero_limit)
+            || !is_parameter(challenge_unit)
+            || !is_parameter(time_step)
+        {
+            return None;
+        }
+        Some(Rules {
+            counts,
+            points,
+            premiums,
+            bonus,
+            exchange_min,
+            zero_limit,
+            challenge_unit,
+            time_step,
+        })
+    }
+
+    /// The parts of these rules, from which [`Rules::checked`] makes them again.
+    pub fn parts(&self) -> RuleParts
+        ensures { result ≡ parts_of self.now }
+    {
+        let points = self.points;
+        let premiums = self.premiums;
+        RuleParts {
+            counts: self.counts,
+            points,
+            premiums,
+            bonus: self.bonus,
+            exchange_min: self.exchange_min,
+            zero_limit: self.zero_limit,
+            challenge_unit: self.challenge_unit,
+            time_step: self.time_step,
+        }
+    }
+}
