@@ -1,50 +1,83 @@
 -- Verdicts on records, from the verdicts on their events.
-use Rattle.std.proofs.Common.{◌≡◌, ◌⊎◌, ℕ, List, Result, Ok, Err, IfOk, IfErr, OnOk, OnErr, refl, sym, ap, subst, ◌∙◌, ⊎_elim}
+use Rattle.std.proofs.Common.{◌≡◌, ◌⊎◌, ℕ, Bool, List, Result, Ok, Err, IfOk, IfErr, OnOk, OnErr, refl, sym, ap, subst, ◌∙◌, ⊎_elim}
 use Rattle.ref_tiles.specs.declared.rulebook.Rules.{Rules}
 use Rattle.gcg_read.specs.declared.records.Record.{Record}
 use Rattle.gcg_read.specs.declared.faults.ReadFault.{ReadFault}
-use Rattle.gcg_read.specs.declared.faults.Why.TheVariants as why
 use Rattle.gcg_read.specs.Faults.{no_memory}
 use Rattle.gcg_read.specs.Records.{record_of}
-use Rattle.devices.specs.Devices.{Device, HasWorked}
+use Rattle.devices.specs.Devices.{Device, HasFailed, HasWorked}
+use Rattle.lex_list.specs.Lists.{list_of}
 use Rattle.devices.specs.Outputs.{SendsFront}
+use Rattle.game_turns.specs.declared.faults.RuleFault.{RuleFault}
+use Rattle.game_turns.specs.declared.passed.Passed.{Passed}
+use Rattle.game_turns.specs.Passing.{rules_in, record_in, list_in}
+use Rattle.game_turns.specs.Places.{AreAllowed, IsFirstRefusal, is_finished}
+use Rattle.engine.specs.declared.verdicts.GameFault.TheVariants as game
 use Rattle.engine.specs.declared.verdicts.Verdict.{Verdict}
 use Rattle.engine.specs.declared.verdicts.Verdict.TheVariants as verdict
 use Rattle.engine.specs.declared.faults.RunFault.{RunFault}
 use Rattle.engine.specs.declared.faults.RunFault.TheVariants as run
 use Rattle.engine.specs.Runs.{Answers, HasStopped, ReadGivesUp, GivesUp}
-use Rattle.engine.specs.Verdicts.{game_of, Judged}
-use Rattle.engine.specs.Judging.{IsJudged, IsDecided, IsRefused}
+use Rattle.engine.specs.Verdicts.{IsVerdictOn}
+use Rattle.engine.specs.Judging.{IsJudged, IsDecided, IsDecidedBy, IsRefused, report_on}
 use Rattle.engine.specs.Tidying.{IsTidied}
-use Rattle.engine.specs.Reports.{report, legal_report, legal_text, bad_record_line, bad_record_text}
+use Rattle.engine.specs.Reports.{report, legal_report, legal_text, illegal_line, bad_record_line, bad_record_text}
 
-pub decided_by_events : (rules : Rules) (text : List ℕ) (r : Record) (v : Verdict) (bytes : List ℕ) → game_of text ≡ Ok r → IsJudged rules r v bytes → IsDecided rules text v bytes
+-- a record that was played through
+pub judged_legal : (rules : Rules) (words : List (List ℕ)) (r : Record) (passed : Passed) (complete : Bool) (bytes : List ℕ) → rules_in passed ≡ rules → record_in passed ≡ r → list_in passed ≡ words
+    → AreAllowed rules words r.events → complete ≡ is_finished (rules_in passed) (record_in passed).events
+    → bytes ≡ legal_report (rules_in passed) (list_in passed) (is_finished (rules_in passed) (record_in passed).events) (record_in passed)
+    → IsJudged rules words r (verdict.Legal complete) bytes
+judged_legal rules words r passed complete bytes same_rules same_record same_list allowed done told =
+    let finished : complete ≡ is_finished rules r.events =
+    done ∙ ap (λ q. is_finished q (record_in passed).events) same_rules ∙ ap (λ (q : Record). is_finished rules q.events) same_record in
+    let report : bytes ≡ legal_report rules words complete r =
+    told ∙ ap (λ b. legal_report (rules_in passed) (list_in passed) b (record_in passed)) (sym done) ∙ ap (λ q. legal_report q (list_in passed) complete (record_in passed)) same_rules
+    ∙ ap (λ q. legal_report rules q complete (record_in passed)) same_list ∙ ap (legal_report rules words complete) same_record in
+    record { verdict_is = (allowed, finished); told = report }
+
+pub judged_illegal : (rules : Rules) (words : List (List ℕ)) (r : Record) (line : ℕ) (why : RuleFault) (bytes : List ℕ) → IsFirstRefusal rules words r.events line why
+    → bytes ≡ illegal_line line (game.Rule why) → IsJudged rules words r (verdict.Illegal line (game.Rule why)) bytes
+judged_illegal rules words r line why bytes refused told = record { verdict_is = refused; told = told }
+
+-- the verdict on a record, by the words of a list
+decided_on : (rules : Rules) (words : List (List ℕ)) (listing text : List ℕ) (r : Record) (v : Verdict) (bytes : List ℕ) → list_of listing ≡ Ok words → record_of text ≡ Ok r
+    → IsVerdictOn rules words r v → bytes ≡ report_on rules words r v → IsDecided rules (record { words = listing; game = text }) v bytes
 unfolding report
-decided_by_events rules text r (verdict.Legal complete) bytes e (allowed, unfinished, told) =
+decided_on rules words listing text r (verdict.Legal complete) bytes l e is told =
     record {
-      judged = λ words lexicon. (r, e, allowed, unfinished);
-      told = λ words lexicon. told ∙ ap (λ c. legal_report c r) (sym unfinished) ∙ ap (legal_text complete) (sym e);
+      judged = λ lexicon. record { list = words; listed = l; game = r; recorded = e; verdict_is = is };
+      told = λ lexicon. let whole : legal_text rules complete (list_of listing) (record_of text) ≡ legal_report rules words complete r = rw (l, e) refl in told ∙ sym whole;
     }
-decided_by_events rules text r (verdict.Illegal line fault) bytes e (refused, told) =
-    record { judged = λ words lexicon. (r, e, refused); told = λ words lexicon. told }
-decided_by_events rules text r verdict.Unsettled bytes e h = absurd h
-decided_by_events rules text r verdict.BadList bytes e h = absurd h
-decided_by_events rules text r verdict.BadFile bytes e h = absurd h
-decided_by_events rules text r verdict.BadRecord bytes e h = absurd h
-decided_by_events rules text r verdict.Done bytes e h = absurd h
-decided_by_events rules text r verdict.BadRack bytes e h = absurd h
+decided_on rules words listing text r (verdict.Illegal line fault) bytes l e is told =
+    record { judged = λ lexicon. record { list = words; listed = l; game = r; recorded = e; verdict_is = is }; told = λ lexicon. told }
+decided_on rules words listing text r verdict.Unsettled bytes l e is told = absurd is
+decided_on rules words listing text r verdict.BadList bytes l e is told = absurd is
+decided_on rules words listing text r verdict.BadFile bytes l e is told = absurd is
+decided_on rules words listing text r verdict.BadRecord bytes l e is told = absurd is
+decided_on rules words listing text r verdict.Done bytes l e is told = absurd is
+decided_on rules words listing text r verdict.BadRack bytes l e is told = absurd is
 
-pub decided_by_fault : (rules : Rules) (text : List ℕ) (fault : ReadFault) (v : Verdict) (bytes : List ℕ) → (fault ≡ no_memory) ⊎ (game_of text ≡ Err fault) → (fault.why ≡ why.NoMemory → ⊥)
-    → v ≡ verdict.BadRecord → bytes ≡ bad_record_line fault → IsDecided rules text v bytes
+pub decided_by_events : (rules : Rules) (words : List (List ℕ)) (text : List ℕ) (r : Record) (v : Verdict) (bytes : List ℕ) → record_of text ≡ Ok r → IsJudged rules words r v bytes
+    → IsDecidedBy rules words text v bytes
+decided_by_events rules words text r v bytes e h = record { holds = λ listing l. decided_on rules words listing text r v bytes l e h.verdict_is h.told }
+
+bad_record_on : (rules : Rules) (words : List (List ℕ)) (listing text : List ℕ) (fault : ReadFault) (v : Verdict) (bytes : List ℕ) → list_of listing ≡ Ok words → record_of text ≡ Err fault
+    → v ≡ verdict.BadRecord → bytes ≡ bad_record_line fault → IsDecided rules (record { words = listing; game = text }) v bytes
 unfolding report
-decided_by_fault rules text fault v bytes given memory is told =
+bad_record_on rules words listing text fault v bytes l e is told =
+    subst (λ (x : Verdict). IsDecided rules (record { words = listing; game = text }) x bytes) (sym is) (record {
+      judged = λ lexicon. record { list = words; listed = l; fault = fault; fails = e };
+      told = λ lexicon. told ∙ ap bad_record_text (sym e);
+    })
+
+pub decided_by_fault : (rules : Rules) (words : List (List ℕ)) (text : List ℕ) (fault : ReadFault) (v : Verdict) (bytes : List ℕ) → (fault ≡ no_memory) ⊎ (record_of text ≡ Err fault)
+    → IsRefused fault v bytes → IsDecidedBy rules words text v bytes
+decided_by_fault rules words text fault v bytes given refused =
     ⊎_elim
-    (λ (none : fault ≡ no_memory). absurd (memory (ap (λ (f : ReadFault). f.why) none)))
-    (λ (e : game_of text ≡ Err fault). record {
-      judged = λ words lexicon. subst (λ (x : Verdict). Judged rules words lexicon text x) (sym is) (fault, e);
-      told = λ words lexicon.
-          let line : bad_record_text (Err fault) ≡ report rules words lexicon text verdict.BadRecord = sym (ap bad_record_text e) in
-          told ∙ line ∙ ap (report rules words lexicon text) (sym is);
+    (λ (none : fault ≡ no_memory). absurd (refused.known (ap (λ (f : ReadFault). f.why) none)))
+    (λ (e : record_of text ≡ Err fault). record {
+      holds = λ listing l. bad_record_on rules words listing text fault v bytes l e refused.verdict_is refused.told;
     })
     given
 
@@ -63,20 +96,20 @@ answers IsGiven IsAnswer P (Ok w) given text v report there shown answer same to
 answers IsGiven IsAnswer P (Err fault) given text v report there shown answer same told = tt
 
 pub stops_reading : {X : Type 0} (IsGiven : X → Type 0) (IsAnswer : X → Verdict → List ℕ → Type 0) (fault : RunFault) (game_old game_new out : Device) → ReadGivesUp fault game_old game_new
-    → GivesUp IsGiven IsAnswer game_old game_new out out fault
+    → GivesUp IsGiven IsAnswer (HasFailed game_old game_new) (HasWorked game_old game_new) out out fault
 stops_reading IsGiven IsAnswer run.ReadFailed game_old game_new out h = (h, refl)
 stops_reading IsGiven IsAnswer run.WriteFailed game_old game_new out h = absurd h
 stops_reading IsGiven IsAnswer run.NoMemory game_old game_new out h = (h, refl)
 
 pub stops_writing : {X : Type 0} (IsGiven : X → Type 0) (IsAnswer : X → Verdict → List ℕ → Type 0) (r : Result Verdict RunFault) (given text : X) (v : Verdict) (report : List ℕ)
-    (game_old game_new out_old out_new : Device) → HasWorked game_old game_new
+    (failed worked : Type 0) (out_old out_new : Device) → worked
     → IsGiven given → text ≡ given → IsAnswer text v report → IfErr r (λ fault. fault ≡ run.WriteFailed) → OnErr r (HasStopped out_old out_new) → OnErr r (SendsFront out_old out_new report)
-    → IfErr r (GivesUp IsGiven IsAnswer game_old game_new out_old out_new)
-stops_writing IsGiven IsAnswer (Ok w) given text v report game_old game_new out_old out_new worked there shown answer why stopped front = tt
-stops_writing IsGiven IsAnswer (Err fault) given text v report game_old game_new out_old out_new worked there shown answer why stopped front =
-    subst (GivesUp IsGiven IsAnswer game_old game_new out_old out_new) (sym why) (
+    → IfErr r (GivesUp IsGiven IsAnswer failed worked out_old out_new)
+stops_writing IsGiven IsAnswer (Ok w) given text v report failed worked out_old out_new work there shown answer why stopped front = tt
+stops_writing IsGiven IsAnswer (Err fault) given text v report failed worked out_old out_new work there shown answer why stopped front =
+    subst (GivesUp IsGiven IsAnswer failed worked out_old out_new) (sym why) (
       stopped,
-      worked,
+      work,
       (v, record { texts = given; given = there; report = report; answer = subst (λ t. IsAnswer t v report) shown answer; told = front }),
     )
 

@@ -1,4 +1,4 @@
-pub mod Places
 pub mod Answering
+pub mod Listings
 pub mod ReportLines
 pub mod Examples

@@ -1,6 +1,6 @@
 -- The bytes of a report.
-use Rattle.std.specs.Prelude.{ℕ, ◌==◌, Bool, true, false, List, [], ◌∷◌, ◌++◌, length, slice_get, Option, Some, None, Result, Ok, Err, codes, decimal, if◌then◌else◌}
-use Rattle.std.specs.List.{flat_map, range_with_len}
+use Rattle.std.specs.Prelude.{ℕ, ◌+◌, ◌==◌, Bool, true, false, List, [], ◌∷◌, ◌++◌, length, slice_get, Option, Some, None, Result, Ok, Err, codes, decimal, if◌then◌else◌}
+use Rattle.std.specs.List.{list_all, flat_map, range_with_len}
 use Rattle.std.specs.Fmt.{signed_decimal}
 use Rattle.ref_tiles.specs.declared.rulebook.Rules.{Rules}
 use Rattle.ref_play.specs.Faults as play
@@ -8,16 +8,22 @@ use Rattle.gcg_read.specs.declared.events.Event.{Event}
 use Rattle.gcg_read.specs.declared.players.Players.{Players}
 use Rattle.gcg_read.specs.declared.records.Record.{Record}
 use Rattle.gcg_read.specs.declared.faults.ReadFault.{ReadFault}
+use Rattle.lex_list.specs.declared.faults.ListFault.{ListFault}
+use Rattle.lex_list.specs.Faults as listing
+use Rattle.lex_list.specs.Lists.{list_of}
+use Rattle.lex_list.specs.Words.{is_listed}
+use Rattle.game_turns.specs.LatestEvents.{standing_words}
+use Rattle.game_turns.specs.Tallies.{tally_at}
 use Rattle.gcg_read.specs.Faults as read
+use Rattle.gcg_read.specs.Records.{record_of}
 use Rattle.gcg_read.specs.Players.{player_of}
 use Rattle.gcg_write.specs.Normal.{event_text_of}
-use Rattle.engine.specs.declared.turns.RuleFault.{RuleFault}
-use Rattle.engine.specs.declared.turns.RuleFault.TheVariants as rule
+use Rattle.game_turns.specs.declared.faults.RuleFault.{RuleFault}
+use Rattle.game_turns.specs.declared.faults.RuleFault.TheVariants as rule
 use Rattle.engine.specs.declared.verdicts.Verdict.{Verdict}
 use Rattle.engine.specs.declared.verdicts.Verdict.TheVariants as verdict
 use Rattle.engine.specs.declared.verdicts.GameFault.{GameFault}
 use Rattle.engine.specs.declared.verdicts.GameFault.TheVariants as game
-use Rattle.engine.specs.Verdicts.{game_of}
 
 -- the name of a fault of the rules, and the number that was expected
 abbrev pub rule_text : RuleFault → List ℕ
@@ -25,6 +31,17 @@ rule_text rule.NotYourTurn = codes "NotYourTurn"
 rule_text (rule.Play why) = play.name_of why
 rule_text (rule.WrongScore expected) = codes "WrongScore " ++ signed_decimal expected
 rule_text (rule.WrongTotal expected) = codes "WrongTotal " ++ signed_decimal expected
+rule_text rule.NothingToWithdraw = codes "NothingToWithdraw"
+rule_text rule.WithdrawnValid = codes "WithdrawnValid"
+rule_text rule.BonusOnPhony = codes "BonusOnPhony"
+rule_text rule.BadBonus = codes "BadBonus"
+rule_text rule.ExchangeRefused = codes "ExchangeRefused"
+rule_text rule.ExchangeSize = codes "ExchangeSize"
+rule_text rule.GameOver = codes "GameOver"
+rule_text rule.NotOver = codes "NotOver"
+rule_text rule.LastRackSize = codes "LastRackSize"
+rule_text rule.BadTime = codes "BadTime"
+rule_text rule.TooManyUsed = codes "TooManyUsed"
 
 abbrev pub fault_text : GameFault → List ℕ
 fault_text (game.Rule why) = rule_text why
@@ -39,30 +56,52 @@ illegal_line line fault = codes "illegal line " ++ decimal line ++ codes ": " ++
 unfoldable pub bad_record_line : ReadFault → List ℕ
 bad_record_line fault = codes "bad record" ++ line_text fault.line ++ codes ": " ++ read.name_of fault.why ++ 10 ∷ []
 
+unfoldable pub bad_list_line : ListFault → List ℕ
+bad_list_line fault = codes "bad word list" ++ line_text fault.line ++ codes ": " ++ listing.name_of fault.why ++ 10 ∷ []
+
 abbrev pub legal_line : Bool → List ℕ
 legal_line true = codes "legal complete\n"
 legal_line false = codes "legal unfinished\n"
 
-abbrev pub line_with : Players → Option Event → List ℕ
-line_with players None = []
-line_with players (Some event) =
-    decimal event.line ++ 32 ∷ (player_of players event.player).nick ++ 32 ∷ event_text_of event ++ 10 ∷ []
+-- ---- the lines of a legal game
 
--- N NICK EVENT SCORE TOTAL: the line of the event at a place, counted from 0, N its line in the record
-unfoldable pub event_line : Record → ℕ → List ℕ
-event_line r place = line_with r.players (slice_get r.events place)
+-- a word behind a space, where it is not in the list
+abbrev pub unlisted_word : (list : List (List ℕ)) → List ℕ → List ℕ
+unlisted_word list word = if is_listed list word then [] else 32 ∷ word
+
+-- ' unlisted' and the words that are not in the list, each behind a space; nothing where all are in it
+unfoldable pub unlisted_text : (list : List (List ℕ)) → List (List ℕ) → List ℕ
+unlisted_text list words = if list_all (is_listed list) words then [] else codes " unlisted" ++ flat_map (unlisted_word list) words
+
+abbrev pub line_with : Players → Option Event → (told : List ℕ) → List ℕ
+line_with players None told = []
+line_with players (Some event) told =
+    decimal event.line ++ 32 ∷ (player_of players event.player).nick ++ 32 ∷ event_text_of event ++ told ++ 10 ∷ []
+
+-- N NICK EVENT SCORE TOTAL, and of a play that stands its words that are not in the list: the line of the event at a
+-- place, counted from 0, N its line in the record
+unfoldable pub event_line : Rules → (list : List (List ℕ)) → Record → ℕ → List ℕ
+event_line rules list r place =
+    line_with r.players (slice_get r.events place) (unlisted_text list (standing_words (tally_at rules r.events (place + 1)).latest))
 
 -- the lines of the first events
-unfoldable pub event_lines : Record → ℕ → List ℕ
-event_lines r many = flat_map (event_line r) (range_with_len 0 many)
+unfoldable pub event_lines : Rules → (list : List (List ℕ)) → Record → ℕ → List ℕ
+event_lines rules list r many = flat_map (event_line rules list r) (range_with_len 0 many)
 
 -- the report of a legal game: the verdict, and then a line for each event
-unfoldable pub legal_report : Bool → Record → List ℕ
-legal_report complete r = legal_line complete ++ event_lines r (length r.events)
+unfoldable pub legal_report : Rules → (list : List (List ℕ)) → Bool → Record → List ℕ
+legal_report rules list complete r = legal_line complete ++ event_lines rules list r (length r.events)
 
-abbrev pub legal_text : Bool → Result Record ReadFault → List ℕ
-legal_text complete (Ok r) = legal_report complete r
-legal_text complete (Err fault) = []
+-- ---- the report of a run
+
+abbrev pub legal_text : Rules → Bool → Result (List (List ℕ)) ListFault → Result Record ReadFault → List ℕ
+legal_text rules complete (Ok list) (Ok r) = legal_report rules list complete r
+legal_text rules complete (Ok list) (Err fault) = []
+legal_text rules complete (Err fault) game = []
+
+abbrev pub bad_list_text : Result (List (List ℕ)) ListFault → List ℕ
+bad_list_text (Ok list) = []
+bad_list_text (Err fault) = bad_list_line fault
 
 abbrev pub bad_record_text : Result Record ReadFault → List ℕ
 bad_record_text (Ok r) = []
@@ -71,11 +110,11 @@ bad_record_text (Err fault) = bad_record_line fault
 -- The report of a verdict: its line, and of a legal game a line for each event. The verdicts that are not given yet
 -- have none.
 unfoldable pub report : Rules → (words lexicon game : List ℕ) → Verdict → List ℕ
-report rules words lexicon text (verdict.Legal complete) = legal_text complete (game_of text)
+report rules words lexicon text (verdict.Legal complete) = legal_text rules complete (list_of words) (record_of text)
 report rules words lexicon text (verdict.Illegal line fault) = illegal_line line fault
 report rules words lexicon text verdict.Unsettled = []
-report rules words lexicon text verdict.BadList = []
+report rules words lexicon text verdict.BadList = bad_list_text (list_of words)
 report rules words lexicon text verdict.BadFile = []
-report rules words lexicon text verdict.BadRecord = bad_record_text (game_of text)
+report rules words lexicon text verdict.BadRecord = bad_record_text (record_of text)
 report rules words lexicon text verdict.Done = []
 report rules words lexicon text verdict.BadRack = []

@@ -1,14 +1,20 @@
 -- What a run of the referee answers, by the bytes of its devices.
 use Rattle.std.specs.Prelude.{◌≡◌, ℕ, ◌⊎◌, List}
 use Rattle.devices.specs.Devices.{Device, HasFailed, HasWorked, HasStalled}
+use Rattle.devices.specs.Inputs.{IsInput}
 use Rattle.devices.specs.Outputs.{SendsFront}
 use Rattle.engine.specs.declared.verdicts.Verdict.{Verdict}
 use Rattle.engine.specs.declared.faults.RunFault.{RunFault}
 use Rattle.engine.specs.declared.faults.RunFault.TheVariants as run
+use Rattle.engine.specs.Judging.{Texts}
 
 -- the most bytes of a record
 abbrev pub most_bytes : ℕ
 most_bytes = 1048576
+
+-- the most bytes of a word list
+abbrev pub most_listing : ℕ
+most_listing = 16777216
 
 -- For some bytes that the inputs give, this verdict and a report of it are an answer, and the report has the property.
 pub record Answers {X : Type 0} (IsGiven : X → Type 0) (IsAnswer : X → Verdict → List ℕ → Type 0) (v : Verdict) (P : List ℕ → Type 0) : Type 0 where
@@ -32,10 +38,19 @@ ReadGivesUp run.ReadFailed old new = HasFailed old new
 ReadGivesUp run.WriteFailed old new = ⊥
 ReadGivesUp run.NoMemory old new = HasWorked old new
 
--- Which device failed, and what went out: nothing where the record was not read or memory ran out, and a front of the
--- report where the output failed or took no byte of a write.
-abbrev pub GivesUp : {X : Type 0} → (X → Type 0) → (X → Verdict → List ℕ → Type 0) → (game_old game_new out_old out_new : Device) → RunFault → Type 0
-GivesUp IsGiven IsAnswer game_old game_new out_old out_new run.ReadFailed = HasFailed game_old game_new × (out_new ≡ out_old)
-GivesUp IsGiven IsAnswer game_old game_new out_old out_new run.WriteFailed =
-    HasStopped out_old out_new × HasWorked game_old game_new × SendsPart IsGiven IsAnswer out_old out_new
-GivesUp IsGiven IsAnswer game_old game_new out_old out_new run.NoMemory = HasWorked game_old game_new × (out_new ≡ out_old)
+-- What went out, by why there is no answer: nothing where an input failed or memory ran out, and a front of the report
+-- where the output failed or took no byte of a write. `failed` and `worked` are what that says of the inputs.
+abbrev pub GivesUp : {X : Type 0} → (X → Type 0) → (X → Verdict → List ℕ → Type 0) → (failed worked : Type 0) → (out_old out_new : Device) → RunFault → Type 0
+GivesUp IsGiven IsAnswer failed worked out_old out_new run.ReadFailed = failed × (out_new ≡ out_old)
+GivesUp IsGiven IsAnswer failed worked out_old out_new run.WriteFailed =
+    HasStopped out_old out_new × worked × SendsPart IsGiven IsAnswer out_old out_new
+GivesUp IsGiven IsAnswer failed worked out_old out_new run.NoMemory = worked × (out_new ≡ out_old)
+
+-- of two inputs that are read one after the other, one failed
+abbrev pub OneHasFailed : (first_old first_new second_old second_new : Device) → Type 0
+OneHasFailed first_old first_new second_old second_new =
+    HasFailed first_old first_new × HasWorked second_old second_new ⊎ HasWorked first_old first_new × HasFailed second_old second_new
+
+-- the bytes that the inputs of a game give
+abbrev pub AreGiven : (words game : Device) → Texts → Type 0
+AreGiven words game texts = IsInput most_listing words texts.words × IsInput most_bytes game texts.game

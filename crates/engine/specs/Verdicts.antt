@@ -1,58 +1,55 @@
 -- What a verdict on a game says, over the bytes of the word list, of the lexicon file and of the record.
-use Rattle.std.specs.Prelude.{◌≡◌, ℕ, Bool, true, false, not, List, Option, Some, None, Result, Ok, Err, option_map, find}
+use Rattle.std.specs.Prelude.{◌≡◌, ℕ, List, Ok, Err}
 use Rattle.ref_tiles.specs.declared.rulebook.Rules.{Rules}
+use Rattle.lex_list.specs.declared.faults.ListFault.{ListFault}
+use Rattle.lex_list.specs.Lists.{list_of}
 use Rattle.gcg_read.specs.declared.events.Event.{Event}
-use Rattle.gcg_read.specs.declared.events.EventKind.{EventKind}
-use Rattle.gcg_read.specs.declared.events.EventKind.TheVariants as kind
 use Rattle.gcg_read.specs.declared.records.Record.{Record}
 use Rattle.gcg_read.specs.declared.faults.ReadFault.{ReadFault}
-use Rattle.gcg_read.specs.declared.faults.Why.TheVariants as why
 use Rattle.gcg_read.specs.Records.{record_of}
+use Rattle.game_turns.specs.Places.{AreAllowed, IsFirstRefusal, is_finished}
 use Rattle.engine.specs.declared.verdicts.Verdict.{Verdict}
 use Rattle.engine.specs.declared.verdicts.Verdict.TheVariants as verdict
 use Rattle.engine.specs.declared.verdicts.GameFault.{GameFault}
 use Rattle.engine.specs.declared.verdicts.GameFault.TheVariants as game
-use Rattle.engine.specs.Checks.{AreAllowed, IsFirstRefusal}
-
--- whether an event is a play
-abbrev pub is_play_kind : EventKind → Bool
-is_play_kind (kind.Play at dir word) = true
-is_play_kind kind.Pass = false
-is_play_kind (kind.Exchange tiles) = false
-is_play_kind (kind.ExchangeUnknown n) = false
-is_play_kind kind.Withdraw = false
-is_play_kind kind.Challenge = false
-is_play_kind kind.Time = false
-is_play_kind (kind.LastRack tiles) = false
-
--- the line of the first event that is no play
-unfoldable pub other_line : List Event → Option ℕ
-other_line events = option_map (λ event. event.line) (find (λ event. not (is_play_kind event.kind)) events)
-
--- Only plays are judged for now: the first event of another kind is a code that is not read.
-abbrev pub played : Record → Option ℕ → Result Record ReadFault
-played r None = Ok r
-played r (Some line) = Err (record { line = line; why = why.Code })
-
-abbrev pub then_played : Result Record ReadFault → Result Record ReadFault
-then_played (Ok r) = played r (other_line r.events)
-then_played (Err fault) = Err fault
-
--- the record of a text, or its first fault
-unfoldable pub game_of : List ℕ → Result Record ReadFault
-game_of text = then_played (record_of text)
 
 -- the first event that is not allowed is on this line, and this is why
-abbrev pub RefusesFor : Rules → List Event → ℕ → GameFault → Type 0
-RefusesFor rules events line (game.Rule why) = IsFirstRefusal rules events line why
+abbrev pub RefusesFor : Rules → (list : List (List ℕ)) → List Event → ℕ → GameFault → Type 0
+RefusesFor rules list events line (game.Rule why) = IsFirstRefusal rules list events line why
 
--- What a verdict says. The words and the lexicon are not read for now, and no game of plays alone is complete.
+-- the verdict on the record of a game, by a word list; a record that is one has only these two
+abbrev pub IsVerdictOn : Rules → (list : List (List ℕ)) → Record → Verdict → Type 0
+IsVerdictOn rules list r (verdict.Legal complete) = AreAllowed rules list r.events × (complete ≡ is_finished rules r.events)
+IsVerdictOn rules list r (verdict.Illegal line fault) = RefusesFor rules list r.events line fault
+IsVerdictOn rules list r verdict.Unsettled = ⊥
+IsVerdictOn rules list r verdict.BadList = ⊥
+IsVerdictOn rules list r verdict.BadFile = ⊥
+IsVerdictOn rules list r verdict.BadRecord = ⊥
+IsVerdictOn rules list r verdict.Done = ⊥
+IsVerdictOn rules list r verdict.BadRack = ⊥
+
+-- the words are a list, the text is a record, and this is the verdict on it
+pub record IsOnGame (rules : Rules) (words text : List ℕ) (v : Verdict) : Type 0 where
+  pub list : List (List ℕ)
+  pub listed : list_of words ≡ Ok list
+  pub game : Record
+  pub recorded : record_of text ≡ Ok game
+  pub verdict_is : IsVerdictOn rules list game v
+
+-- the words are a list, and the text is no record
+pub record IsBadRecord (words text : List ℕ) : Type 0 where
+  pub list : List (List ℕ)
+  pub listed : list_of words ≡ Ok list
+  pub fault : ReadFault
+  pub fails : record_of text ≡ Err fault
+
+-- What a verdict says. The lexicon is not read for now. No row speaks of an input below the one that decides.
 abbrev pub Judged : Rules → (words lexicon game : List ℕ) → Verdict → Type 0
-Judged rules words lexicon text (verdict.Legal complete) = (r : Record) × (game_of text ≡ Ok r) × AreAllowed rules r.events × (complete ≡ false)
-Judged rules words lexicon text (verdict.Illegal line fault) = (r : Record) × (game_of text ≡ Ok r) × RefusesFor rules r.events line fault
+Judged rules words lexicon text (verdict.Legal complete) = IsOnGame rules words text (verdict.Legal complete)
+Judged rules words lexicon text (verdict.Illegal line fault) = IsOnGame rules words text (verdict.Illegal line fault)
 Judged rules words lexicon text verdict.Unsettled = ⊥
-Judged rules words lexicon text verdict.BadList = ⊥
+Judged rules words lexicon text verdict.BadList = (fault : ListFault) × (list_of words ≡ Err fault)
 Judged rules words lexicon text verdict.BadFile = ⊥
-Judged rules words lexicon text verdict.BadRecord = (fault : ReadFault) × (game_of text ≡ Err fault)
+Judged rules words lexicon text verdict.BadRecord = IsBadRecord words text
 Judged rules words lexicon text verdict.Done = ⊥
 Judged rules words lexicon text verdict.BadRack = ⊥

@@ -7,18 +7,15 @@
 mod decisions;
 mod event_lines;
 mod faults;
-mod judging;
+mod listing;
 mod reports;
 mod running;
-mod tables;
 mod tidying;
-mod turns;
 mod verdicts;
 
 pub use faults::RunFault;
 pub use running::run;
 pub use tidying::run_tidy;
-pub use turns::RuleFault;
 pub use verdicts::{GameFault, Verdict};
 
 #[cfg(test)]

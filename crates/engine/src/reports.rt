@@ -1,12 +1,15 @@
 ghost use Rattle.std.specs.Prelude.{◌≡◌, ◌++◌, OnOk, IfOk};
 ghost use Rattle.std.specs.Fmt.{signed_decimal};
-ghost use Rattle.engine.specs.Reports.{rule_text, fault_text, line_text, illegal_line, bad_record_line, legal_line, legal_report};
+ghost use Rattle.game_turns.specs.Passing.{rules_in, record_in, list_in};
+ghost use Rattle.game_turns.specs.Places.{is_finished};
+ghost use Rattle.engine.specs.Reports.{rule_text, fault_text, line_text, illegal_line, bad_record_line, bad_list_line, legal_line, legal_report};
 
 use crate::event_lines::push_event_lines;
-use crate::turns::RuleFault;
 use crate::verdicts::GameFault;
-use gcg_read::{ReadFault, Record};
+use game_turns::{Passed, RuleFault};
+use gcg_read::ReadFault;
 use itoa::Buffer;
+use lex_list::ListFault;
 use std::alloc::{AllocError, Global};
 
 /// Appends a name and a number.
@@ -28,6 +31,17 @@ fn push_rule(text: &mut Vec<u8>, fault: &RuleFault) -> Result<(), AllocError>
         RuleFault::Play(why) => text.extend_from_slice(why.name().as_bytes()),
         RuleFault::WrongScore(expected) => push_expected(text, b"WrongScore ", *expected),
         RuleFault::WrongTotal(expected) => push_expected(text, b"WrongTotal ", *expected),
+        RuleFault::NothingToWithdraw => text.extend_from_slice(b"NothingToWithdraw"),
+        RuleFault::WithdrawnValid => text.extend_from_slice(b"WithdrawnValid"),
+        RuleFault::BonusOnPhony => text.extend_from_slice(b"BonusOnPhony"),
+        RuleFault::BadBonus => text.extend_from_slice(b"BadBonus"),
+        RuleFault::ExchangeRefused => text.extend_from_slice(b"ExchangeRefused"),
+        RuleFault::ExchangeSize => text.extend_from_slice(b"ExchangeSize"),
+        RuleFault::GameOver => text.extend_from_slice(b"GameOver"),
+        RuleFault::NotOver => text.extend_from_slice(b"NotOver"),
+        RuleFault::LastRackSize => text.extend_from_slice(b"LastRackSize"),
+        RuleFault::BadTime => text.extend_from_slice(b"BadTime"),
+        RuleFault::TooManyUsed => text.extend_from_slice(b"TooManyUsed"),
     }
 }
 
@@ -72,6 +86,19 @@ pub fn bad_record_line(alloc: Global, fault: &ReadFault) -> Result<Vec<u8>, Allo
     Ok(text)
 }
 
+/// `bad word list line N: WHY`, without ` line N` where the fault lies on no line.
+#[tactic(auto, unfolding(crate::specs::Reports::bad_list_line))]
+pub fn bad_list_line(alloc: Global, fault: &ListFault) -> Result<Vec<u8>, AllocError>
+    ensures { IfOk result (λ text. text.items ≡ bad_list_line fault.now) }
+{
+    let mut text = Vec::from_slice(alloc, b"bad word list")?;
+    push_line(&mut text, fault.line)?;
+    text.extend_from_slice(b": ")?;
+    text.extend_from_slice(fault.why.name().as_bytes())?;
+    text.extend_from_slice(b"\n")?;
+    Ok(text)
+}
+
 /// `legal complete` or `legal unfinished`.
 fn legal_line(complete: bool) -> &'static [u8]
     ensures { result.now ≡ legal_line complete }
@@ -85,10 +112,11 @@ fn legal_line(complete: bool) -> &'static [u8]
 
 /// The verdict on a legal game, and then a line for each of its events.
 #[tactic(auto, unfolding(crate::specs::Reports::legal_report))]
-pub fn legal_report(alloc: Global, complete: bool, game: &Record) -> Result<Vec<u8>, AllocError>
-    ensures { IfOk result (λ text. text.items ≡ legal_report complete game.now) }
+pub fn legal_report(alloc: Global, passed: &Passed<'_>) -> Result<Vec<u8>, AllocError>
+    ensures { IfOk result (λ text. text.items
+        ≡ legal_report (rules_in passed.now) (list_in passed.now) (is_finished (rules_in passed.now) (record_in passed.now).events) (record_in passed.now)) }
 {
-    let mut text = Vec::from_slice(alloc, legal_line(complete))?;
-    push_event_lines(&mut text, game)?;
+    let mut text = Vec::from_slice(alloc, legal_line(passed.complete()))?;
+    push_event_lines(&mut text, passed)?;
     Ok(text)
 }

@@ -1,33 +1,38 @@
-ghost use Rattle.std.specs.Prelude.{◌≡◌, ◌+◌, None, IfOk, IfErr, OnOk};
+ghost use Rattle.std.specs.Prelude.{◌≡◌, ◌+◌, IfOk, IfErr, OnOk};
 ghost use Rattle.std.specs.Io.KnownBytes.{Appends};
-ghost use Rattle.devices.specs.Devices.{HasRoom, HasWorked};
+ghost use Rattle.devices.specs.Devices.{HasRoom, HasFailed, HasWorked};
 ghost use Rattle.devices.specs.Inputs.{TakesAtMost, IsInput};
-ghost use Rattle.devices.specs.Outputs.{SendsFront};
-ghost use Rattle.gcg_read.specs.Faults.{Gives};
-ghost use Rattle.engine.specs.Verdicts.{other_line, game_of};
-ghost use Rattle.engine.specs.Judging.{IsJudged, IsDecided};
-ghost use Rattle.engine.specs.Runs.{most_bytes, Answers, GivesUp};
+ghost use Rattle.engine.specs.Judging.{IsJudged, IsDecidedBy, IsDecided};
+ghost use Rattle.engine.specs.Runs.{most_bytes, Answers, GivesUp, AreGiven, OneHasFailed};
 
 use crate::decisions::{Decision, bad_record, read_text, send};
 use crate::faults::RunFault;
-use crate::judging::{judge_events, other_line};
+use crate::listing::{Listed, read_list};
 use crate::reports::{illegal_line, legal_report};
 use crate::verdicts::{GameFault, Verdict};
 use devices::{Input, Output};
-use gcg_read::{MAX_BYTES, ReadFault, Record, Why, read};
+use game_turns::play_through;
+use gcg_read::{MAX_BYTES, Record, read};
+use lex_list::WordList;
 use ref_tiles::Rules;
 use std::alloc::{AllocError, Global};
 
-/// The verdict on a record of plays.
-fn judge_record(alloc: Global, rules: &Rules, game: &Record) -> Result<Decision, AllocError>
-    requires { other_line game.now.events ≡ None }
-    ensures { IfOk result (λ d. IsJudged rules.now game.now d.verdict d.report.items) }
+/// The verdict on a record.
+#[tactic(auto, using(crate::proofs::Answering::judged_legal, crate::proofs::Answering::judged_illegal))]
+fn judge_record(
+    alloc: Global,
+    rules: &Rules,
+    list: &WordList,
+    game: &Record,
+) -> Result<Decision, AllocError>
+    ensures { IfOk result (λ d. IsJudged rules.now list.now game.now d.verdict d.report.items) }
 {
-    match judge_events(rules, game.events.as_slice()) {
-        Ok(()) => {
-            let report = legal_report(alloc, false, game)?;
+    match play_through(rules, game, list) {
+        Ok(passed) => {
+            let complete = passed.complete();
+            let report = legal_report(alloc, &passed)?;
             Ok(Decision {
-                verdict: Verdict::Legal { complete: false },
+                verdict: Verdict::Legal { complete },
                 report,
             })
         }
@@ -43,42 +48,63 @@ fn judge_record(alloc: Global, rules: &Rules, game: &Record) -> Result<Decision,
     }
 }
 
-/// Reads a record of plays.
-#[tactic(auto, unfolding(crate::specs::Verdicts::game_of))]
-fn read_plays(alloc: Global, text: &[u8]) -> Result<Record, ReadFault>
-    ensures gives { Gives result (game_of text.now) }
-    ensures plays { IfOk result (λ game. other_line game.events ≡ None) }
-{
-    let game = read(alloc, text)?;
-    match other_line(game.events.as_slice()) {
-        None => Ok(game),
-        Some(line) => Err(ReadFault {
-            line,
-            why: Why::Code,
-        }),
-    }
-}
-
 /// The verdict on the bytes of a record.
-fn decide(alloc: Global, rules: &Rules, text: &[u8]) -> Result<Decision, AllocError>
-    ensures { IfOk result (λ d. IsDecided rules.now text.now d.verdict d.report.items) }
+fn decide(
+    alloc: Global,
+    rules: &Rules,
+    list: &WordList,
+    text: &[u8],
+) -> Result<Decision, AllocError>
+    ensures { IfOk result (λ d. IsDecidedBy rules.now list.now text.now d.verdict d.report.items) }
 {
-    match read_plays(alloc, text) {
-        Ok(game) => judge_record(alloc, rules, &game),
+    match read(alloc, text) {
+        Ok(game) => judge_record(alloc, rules, list, &game),
         Err(fault) => bad_record(alloc, &fault),
     }
 }
 
-/// Judges a game from its record, and writes the report.
+/// Judges a game from its record by a word list, and writes the report.
+#[tactic(auto, using(crate::proofs::Answering::answers, crate::proofs::Answering::stops_reading, crate::proofs::Answering::stops_writing))]
+fn judge_game<G: Input, O: Output>(
+    alloc: Global,
+    rules: &Rules,
+    list: &WordList,
+    game: &mut G,
+    out: &mut O,
+) -> Result<Verdict, RunFault>
+    requires game { HasRoom (G.device game.old) }
+    requires out { HasRoom (O.device out.old) }
+
+    ensures judged { IfOk result (λ v. Answers (IsInput most_bytes (G.device game.old)) (IsDecidedBy rules.now list.now) v
+        (Appends (O.device out.old).bytes (O.device out.new).bytes)) }
+    ensures worked { OnOk result (HasWorked (G.device game.old) (G.device game.new)
+        × HasWorked (O.device out.old) (O.device out.new)) }
+    ensures gave_up { IfErr result (GivesUp (IsInput most_bytes (G.device game.old)) (IsDecidedBy rules.now list.now)
+        (HasFailed (G.device game.old) (G.device game.new)) (HasWorked (G.device game.old) (G.device game.new))
+        (O.device out.old) (O.device out.new)) }
+    ensures game { TakesAtMost (1048576 + 1) (G.device game.old) (G.device game.new) }
+{
+    let text = match read_text(alloc, game, MAX_BYTES) {
+        Ok(text) => text,
+        Err(fault) => return Err(fault),
+    };
+    let Ok(decision) = decide(alloc, rules, list, &text) else {
+        return Err(RunFault::NoMemory);
+    };
+    send(out, &decision)
+}
+
+/// Judges a game from its record by the words of a list, and writes the report.
 ///
-/// The words and the lexicon are not read for now. The record is read to its end, or to one byte past 1 MiB and no
-/// further. The report is made in memory before the first write.
+/// The words are read before the record, each to its end, or to one byte past its limit of 16 MiB or 1 MiB and no
+/// further; where the words are no list, the record is not read. The lexicon is not read for now. The report is made in
+/// memory before the first write.
 ///
 /// # Errors
 ///
 /// `ReadFailed` and `WriteFailed` come only where that device failed, or a write took no byte; `NoMemory` where memory
 /// was refused. After `WriteFailed` a front of the report went out, after the other two nothing.
-#[tactic(auto, using(crate::proofs::Answering::answers, crate::proofs::Answering::stops_reading, crate::proofs::Answering::stops_writing))]
+#[tactic(auto, using(crate::proofs::Listings::judged_by_list, crate::proofs::Listings::gave_up_by_list, crate::proofs::Listings::refused_list, crate::proofs::Listings::refused_stops, crate::proofs::Listings::stops_listing))]
 pub fn run<W: Input, L: Input, G: Input, O: Output>(
     alloc: Global,
     words: &mut W,
@@ -92,24 +118,24 @@ pub fn run<W: Input, L: Input, G: Input, O: Output>(
     requires game { HasRoom (G.device game.old) }
     requires out { HasRoom (O.device out.old) }
 
-    ensures judged { IfOk result (λ v. Answers (IsInput most_bytes (G.device game.old)) (IsDecided rules.now) v
+    ensures judged { IfOk result (λ v. Answers (AreGiven (W.device words.old) (G.device game.old)) (IsDecided rules.now) v
         (Appends (O.device out.old).bytes (O.device out.new).bytes)) }
-    ensures worked { OnOk result (HasWorked (G.device game.old) (G.device game.new)
+    ensures worked { OnOk result (HasWorked (W.device words.old) (W.device words.new)
+        × HasWorked (G.device game.old) (G.device game.new)
         × HasWorked (O.device out.old) (O.device out.new)) }
-    ensures gave_up { IfErr result (GivesUp (IsInput most_bytes (G.device game.old)) (IsDecided rules.now)
-        (G.device game.old) (G.device game.new) (O.device out.old) (O.device out.new)) }
+    ensures gave_up { IfErr result (GivesUp (AreGiven (W.device words.old) (G.device game.old)) (IsDecided rules.now)
+        (OneHasFailed (W.device words.old) (W.device words.new) (G.device game.old) (G.device game.new))
+        (HasWorked (W.device words.old) (W.device words.new) × HasWorked (G.device game.old) (G.device game.new))
+        (O.device out.old) (O.device out.new)) }
 
     // No input is read further than one byte past its limit.
+    ensures words { TakesAtMost (16777216 + 1) (W.device words.old) (W.device words.new) }
     ensures game { TakesAtMost (1048576 + 1) (G.device game.old) (G.device game.new) }
-    ensures words { W.device words.new ≡ W.device words.old }
     ensures lexicon { L.device lexicon.new ≡ L.device lexicon.old }
 {
-    let text = match read_text(alloc, game, MAX_BYTES) {
-        Ok(text) => text,
-        Err(fault) => return Err(fault),
-    };
-    let Ok(decision) = decide(alloc, rules, &text) else {
-        return Err(RunFault::NoMemory);
-    };
-    send(out, &decision)
+    match read_list(alloc, words) {
+        Ok(Listed::List(list)) => judge_game(alloc, rules, &list, game, out),
+        Ok(Listed::Refused(decision)) => send(out, &decision),
+        Err(fault) => Err(fault),
+    }
 }

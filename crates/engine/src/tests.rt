@@ -2,169 +2,509 @@
 use crate::faults::RunFault;
 use crate::running::run;
 use crate::tidying::run_tidy;
-use crate::turns::RuleFault;
 use crate::verdicts::{GameFault, Verdict};
 use devices::{FromRead, FromWrite};
+use game_turns::RuleFault;
 use ref_play::PlayFault;
-use ref_tiles::english_rules;
+use ref_tiles::{Counts, Kind, Letter, Rules, english_rules};
 use std::alloc::Global;
 use std::process::Abort;
 use std::test::Fail;
 
-/// Judges a record, and gives the verdict and what was written.
-fn judged(alloc: Global, game: &[u8]) -> Result<(Verdict, Vec<u8>), RunFault> {
-    let mut words = FromRead::new(b"".as_slice());
+/// A word list, a record, and what is written of them.
+struct Row {
+    words: &'static str,
+    game: &'static str,
+    report: &'static str,
+}
+
+/// Judges a record by words and rules, and gives the verdict and what was written.
+fn judged(
+    alloc: Global,
+    rules: &Rules,
+    words: &[u8],
+    game: &[u8],
+) -> Result<(Verdict, Vec<u8>), RunFault> {
+    let mut words = FromRead::new(words);
     let mut lexicon = FromRead::new(b"".as_slice());
     let mut game = FromRead::new(game);
     let mut out = FromWrite::new(Vec::new(alloc));
-    let verdict = run(
-        alloc,
-        &mut words,
-        &mut lexicon,
-        &mut game,
-        &mut out,
-        &english_rules(),
-    )?;
+    let verdict = run(alloc, &mut words, &mut lexicon, &mut game, &mut out, rules)?;
     Ok((verdict, out.into_inner()))
 }
 
-/// Asserts what is written of a record.
-fn reports(rt: &impl Abort, alloc: Global, game: &[u8], want: &str) -> Result<(), Fail> {
-    let (_verdict, report) = judged(alloc, game)?;
-    assert_eq!(rt; report.as_slice(), want.as_bytes(), "{want}");
+/// Asserts what is written of a record behind lines that all rows begin with.
+fn reports(
+    rt: &impl Abort,
+    alloc: Global,
+    rules: &Rules,
+    start: &str,
+    row: &Row,
+) -> Result<(), Fail> {
+    let game = format!(in alloc; "{start}{}", row.game)?;
+    let (_verdict, report) = judged(alloc, rules, row.words.as_bytes(), game.as_bytes())?;
+    assert_eq!(rt; report.as_slice(), row.report.as_bytes(), "{}", row.report);
     Ok(())
 }
 
+/// Records of one line or none.
+const ONE_LINE: [Row; 16] = [
+    Row {
+        words: "WORD",
+        game: ">A: DORWAAE 8E WORD +16 16\n",
+        report: "legal unfinished\n1 A 8E WORD +16 16\n",
+    },
+    Row {
+        words: "WORD",
+        game: ">A: DORWAAE 8E WORD +18 18\n",
+        report: "illegal line 1: WrongScore 16\n",
+    },
+    Row {
+        words: "WORD",
+        game: ">A: DORWAAE 8E WORD +16 17\n",
+        report: "illegal line 1: WrongTotal 16\n",
+    },
+    Row {
+        words: "WORD",
+        game: ">A: DORWAAE 8D WORD +16 16\n",
+        report: "illegal line 1: MissesCentre\n",
+    },
+    Row {
+        words: "WORD",
+        game: ">A: DOW? 8E WOrD +14 14\n",
+        report: "legal unfinished\n1 A 8E WOrD +14 14\n",
+    },
+    Row {
+        words: "WORD",
+        game: ">A: DOW? 8E WOrD +16 16\n",
+        report: "illegal line 1: WrongScore 14\n",
+    },
+    Row {
+        words: "WORD",
+        game: ">A: 8N ABC +0 0\n",
+        report: "illegal line 1: OffBoard\n",
+    },
+    Row {
+        words: "WORD",
+        game: ">A: 15O A +0 0\n",
+        report: "illegal line 1: MissesCentre\n",
+    },
+    Row {
+        words: "WORD",
+        game: ">A: 8H A +0 0\n",
+        report: "illegal line 1: TooShort\n",
+    },
+    Row {
+        words: "",
+        game: "",
+        report: "legal unfinished\n",
+    },
+    Row {
+        words: "RETAINS",
+        game: ">A: AEINRST 8B RETAINS +66 66\n",
+        report: "legal unfinished\n1 A 8B RETAINS +66 66\n",
+    },
+    Row {
+        words: "",
+        game: "no event\n>A: 8E WORD -1 16",
+        report: "illegal line 2: WrongScore 16\n",
+    },
+    Row {
+        words: "RETAINS",
+        game: ">A: AEINRST - +0 0\n",
+        report: "legal unfinished\n1 A - +0 0\n",
+    },
+    Row {
+        words: "WORD",
+        game: ">A: -- +0 0\n",
+        report: "illegal line 1: NothingToWithdraw\n",
+    },
+    Row {
+        words: "WORD",
+        game: ">A: (challenge) +5 5\n",
+        report: "illegal line 1: BadBonus\n",
+    },
+    Row {
+        words: "",
+        game: ">A: DORWAAE 8E WORD +16 16\n",
+        report: "legal unfinished\n1 A 8E WORD +16 16 unlisted WORD\n",
+    },
+];
+
 #[test]
-fn one_play(rt: HostRuntime) -> Result<(), Fail> {
-    let rows: [(&str, &str); 12] = [
-        (
-            ">A: DORWAAE 8E WORD +16 16\n",
-            "legal unfinished\n1 A 8E WORD +16 16\n",
-        ),
-        (
-            ">A: DORWAAE 8E WORD +18 18\n",
-            "illegal line 1: WrongScore 16\n",
-        ),
-        (
-            ">A: DORWAAE 8E WORD +16 17\n",
-            "illegal line 1: WrongTotal 16\n",
-        ),
-        (
-            ">A: DORWAAE 8D WORD +16 16\n",
-            "illegal line 1: MissesCentre\n",
-        ),
-        (
-            ">A: DOW? 8E WOrD +14 14\n",
-            "legal unfinished\n1 A 8E WOrD +14 14\n",
-        ),
-        (
-            ">A: DOW? 8E WOrD +16 16\n",
-            "illegal line 1: WrongScore 14\n",
-        ),
-        (">A: 8N ABC +0 0\n", "illegal line 1: OffBoard\n"),
-        (">A: 15O A +0 0\n", "illegal line 1: MissesCentre\n"),
-        (">A: 8H A +0 0\n", "illegal line 1: TooShort\n"),
-        ("", "legal unfinished\n"),
-        (
-            ">A: AEINRST 8B RETAINS +66 66\n",
-            "legal unfinished\n1 A 8B RETAINS +66 66\n",
-        ),
-        (
-            "no event\n>A: 8E WORD -1 16",
-            "illegal line 2: WrongScore 16\n",
-        ),
-    ];
-    for (game, want) in rows {
-        reports(&rt, rt.alloc(), game.as_bytes(), want)?;
+fn one_line(rt: HostRuntime) -> Result<(), Fail> {
+    for row in &ONE_LINE {
+        reports(&rt, rt.alloc(), &english_rules(), "", row)?;
     }
     Ok(())
 }
 
+/// The first line of the records of two lines.
+const WORD: &str = ">A: DORWAAE 8E WORD +16 16\n";
+
+/// Lines behind that one.
+const TWO_LINES: [Row; 12] = [
+    Row {
+        words: "WORD\nAT\nRA\n",
+        game: ">B: AT 9G AT +9 9\n",
+        report: "legal unfinished\n1 A 8E WORD +16 16\n2 B 9G AT +9 9 unlisted DT\n",
+    },
+    Row {
+        words: "WORD\nAT\nRA\nDT\n",
+        game: ">B: AT 9G AT +9 9\n",
+        report: "legal unfinished\n1 A 8E WORD +16 16\n2 B 9G AT +9 9\n",
+    },
+    Row {
+        words: "WORD",
+        game: ">B: A? 9G At +7 7\n",
+        report: "legal unfinished\n1 A 8E WORD +16 16\n2 B 9G At +7 7 unlisted AT RA DT\n",
+    },
+    Row {
+        words: "WORD",
+        game: ">A: AT 9G AT +9 25\n",
+        report: "illegal line 2: NotYourTurn\n",
+    },
+    Row {
+        words: "WORD",
+        game: ">A: - +0 16\n",
+        report: "illegal line 2: NotYourTurn\n",
+    },
+    Row {
+        words: "WORD",
+        game: ">B: 8D QUA +0 0\n",
+        report: "illegal line 2: Mismatch\n",
+    },
+    Row {
+        words: "WORD",
+        game: ">B: 8E .... +0 0\n",
+        report: "illegal line 2: NoNewTile\n",
+    },
+    Row {
+        words: "WORD",
+        game: ">B: 1A ABCDEFGH +0 0\n",
+        report: "illegal line 2: TooManyTiles\n",
+    },
+    Row {
+        words: "WORD",
+        game: ">B: 8D S +0 0\n",
+        report: "illegal line 2: NotWhole\n",
+    },
+    Row {
+        words: "WORD",
+        game: ">B: 1A AT +0 0\n",
+        report: "illegal line 2: Apart\n",
+    },
+    Row {
+        words: "WORD",
+        game: ">B: AT 9G AT +9 25\n",
+        report: "illegal line 2: WrongTotal 9\n",
+    },
+    Row {
+        words: "WORD",
+        game: ">B: 8E WORDS +9 9\n",
+        report: "legal unfinished\n1 A 8E WORD +16 16\n2 B 8E WORDS +9 9 unlisted WORDS\n",
+    },
+];
+
 #[test]
-fn two_plays(rt: HostRuntime) -> Result<(), Fail> {
-    let rows: [(&str, &str); 9] = [
-        (
-            ">B: AT 9G AT +9 9\n",
-            "legal unfinished\n1 A 8E WORD +16 16\n2 B 9G AT +9 9\n",
-        ),
-        (">A: AT 9G AT +9 25\n", "illegal line 2: NotYourTurn\n"),
-        (">B: 8D QUA +0 0\n", "illegal line 2: Mismatch\n"),
-        (">B: 8E .... +0 0\n", "illegal line 2: NoNewTile\n"),
-        (">B: 1A ABCDEFGH +0 0\n", "illegal line 2: TooManyTiles\n"),
-        (">B: 8D S +0 0\n", "illegal line 2: NotWhole\n"),
-        (">B: 1A AT +0 0\n", "illegal line 2: Apart\n"),
-        (">B: AT 9G AT +9 25\n", "illegal line 2: WrongTotal 9\n"),
-        (
-            ">B: 8E WORDS +9 9\n",
-            "legal unfinished\n1 A 8E WORD +16 16\n2 B 8E WORDS +9 9\n",
-        ),
-    ];
-    for (line, want) in rows {
-        let game = format!(in rt.alloc(); ">A: DORWAAE 8E WORD +16 16\n{line}")?;
-        reports(&rt, rt.alloc(), game.as_bytes(), want)?;
+fn two_lines(rt: HostRuntime) -> Result<(), Fail> {
+    for row in &TWO_LINES {
+        reports(&rt, rt.alloc(), &english_rules(), WORD, row)?;
     }
     Ok(())
 }
 
+/// The first two lines of longer records.
+const WORD_AT: &str = ">A: DORWAAE 8E WORD +16 16\n>B: AT 9G AT +9 9\n";
+
+/// Lines behind these two.
+const MORE_LINES: [Row; 15] = [
+    Row {
+        words: "WORD\nAT\nRA\nEAT\nOE",
+        game: ">A: E 9F E.. +5 21\n",
+        report: "legal unfinished\n1 A 8E WORD +16 16\n2 B 9G AT +9 9 unlisted DT\n3 A 9F E.. +5 21\n",
+    },
+    Row {
+        words: "WORD\nAT\nRA\nEAT\nOE",
+        game: ">A: E F8 .E +5 21\n",
+        report: "legal unfinished\n1 A 8E WORD +16 16\n2 B 9G AT +9 9 unlisted DT\n3 A F8 .E +5 21\n",
+    },
+    Row {
+        words: "WORD\nAT\nRA\nEAT\nOE",
+        game: ">A: 9F E(AT) +5 21\n",
+        report: "legal unfinished\n1 A 8E WORD +16 16\n2 B 9G AT +9 9 unlisted DT\n3 A 9F EAT +5 21\n",
+    },
+    Row {
+        words: "WORD",
+        game: ">A: E 9F E.. +6 22\n",
+        report: "illegal line 3: WrongScore 5\n",
+    },
+    Row {
+        words: "WORD\nAT\nRA\n",
+        game: ">B: AT -- -9 0\n>A: AT 9G AT +9 25\n",
+        report: "legal unfinished\n1 A 8E WORD +16 16\n2 B 9G AT +9 9\n3 B -- -9 0\n4 A 9G AT +9 25 unlisted DT\n",
+    },
+    Row {
+        words: "WORD\nAT\nRA\nDT\n",
+        game: ">B: AT -- -9 0\n>A: AT 9G AT +9 25\n",
+        report: "illegal line 3: WithdrawnValid\n",
+    },
+    Row {
+        words: "WORD\nAT\nRA\n",
+        game: ">B: ZZZZZZZ -- -9 0\n",
+        report: "legal unfinished\n1 A 8E WORD +16 16\n2 B 9G AT +9 9\n3 B -- -9 0\n",
+    },
+    Row {
+        words: "WORD\nAT\nRA\n",
+        game: ">B: AT (challenge) +5 14\n",
+        report: "legal unfinished\n1 A 8E WORD +16 16\n2 B 9G AT +9 9 unlisted DT\n3 B (challenge) +5 14\n",
+    },
+    Row {
+        words: "WORD\nAT\nRA\n",
+        game: ">B: AT (challenge) +10 19\n",
+        report: "legal unfinished\n1 A 8E WORD +16 16\n2 B 9G AT +9 9 unlisted DT\n3 B (challenge) +10 19\n",
+    },
+    Row {
+        words: "WORD\nAT\nRA\n",
+        game: ">B: AT (challenge) +15 24\n",
+        report: "illegal line 3: BadBonus\n",
+    },
+    Row {
+        words: "WORD\nAT\nRA\nDT\n",
+        game: ">B: AT (challenge) +15 24\n",
+        report: "legal unfinished\n1 A 8E WORD +16 16\n2 B 9G AT +9 9\n3 B (challenge) +15 24\n",
+    },
+    Row {
+        words: "WORD\nAT\nRA\nDT\n",
+        game: ">B: AT (challenge) +20 29\n",
+        report: "illegal line 3: BadBonus\n",
+    },
+    Row {
+        words: "WORD",
+        game: ">B: AT (challenge) +5 14\n",
+        report: "illegal line 3: BonusOnPhony\n",
+    },
+    Row {
+        words: "WORD\nAT\nRA\n",
+        game: ">B: (time) -5 4\n>B: AT -- -9 -5\n",
+        report: "illegal line 4: NothingToWithdraw\n",
+    },
+    Row {
+        words: "WORD\nAT\nRA\n",
+        game: ">B: (time) -5 4\n>B: (challenge) +5 9\n",
+        report: "illegal line 4: BadBonus\n",
+    },
+];
+
 #[test]
-fn three_plays(rt: HostRuntime) -> Result<(), Fail> {
-    let rows: [(&str, &str); 3] = [
-        (">A: E 9F E.. +5 21\n", "3 A 9F E.. +5 21\n"),
-        (">A: E F8 .E +5 21\n", "3 A F8 .E +5 21\n"),
-        (">A: 9F E(AT) +5 21\n", "3 A 9F EAT +5 21\n"),
-    ];
-    for (line, want) in rows {
-        let game = format!(in rt.alloc(); ">A: DORWAAE 8E WORD +16 16\n>B: AT 9G AT +9 9\n{line}")?;
-        let report = format!(in rt.alloc();
-            "legal unfinished\n1 A 8E WORD +16 16\n2 B 9G AT +9 9\n{want}"
-        )?;
-        reports(&rt, rt.alloc(), game.as_bytes(), &report)?;
+fn more_lines(rt: HostRuntime) -> Result<(), Fail> {
+    for row in &MORE_LINES {
+        reports(&rt, rt.alloc(), &english_rules(), WORD_AT, row)?;
     }
     Ok(())
 }
 
+/// Records of passes, exchanges and last racks.
+const ENDS: [Row; 5] = [
+    Row {
+        words: "RETAINS",
+        game: ">A: - +0 0\n>B: - +0 0\n>A: - +0 0\n>B: - +0 0\n>A: - +0 0\n>B: - +0 0\n>A: AEINRST (AEINRST) -7 -7\n>B: AEINRST (AEINRST) -7 -7\n",
+        report: "legal complete\n1 A - +0 0\n2 B - +0 0\n3 A - +0 0\n4 B - +0 0\n5 A - +0 0\n6 B - +0 0\n7 A (AEINRST) -7 -7\n8 B (AEINRST) -7 -7\n",
+    },
+    Row {
+        words: "RETAINS",
+        game: ">A: - +0 0\n>B: - +0 0\n>A: - +0 0\n>B: - +0 0\n>A: - +0 0\n>B: AEINRST (AEINRST) -7 -7\n",
+        report: "illegal line 6: NotOver\n",
+    },
+    Row {
+        words: "RETAINS",
+        game: ">A: - +0 0\n>B: - +0 0\n>A: - +0 0\n>B: - +0 0\n>A: - +0 0\n>B: - +0 0\n>A: (???????) +0 0\n>A: - +0 0\n",
+        report: "illegal line 8: GameOver\n",
+    },
+    Row {
+        words: "RETAINS",
+        game: ">A: - +0 0\n>B: - +0 0\n>A: - +0 0\n>B: - +0 0\n>A: - +0 0\n>B: - +0 0\n>B: (??????) +0 0\n",
+        report: "illegal line 7: LastRackSize\n",
+    },
+    Row {
+        words: "AT",
+        game: ">A: AEI -5 +0 0\n>B: QU - +0 0\n>A: SX - +0 0\n",
+        report: "legal unfinished\n1 A -5 +0 0\n2 B - +0 0\n3 A - +0 0\n",
+    },
+];
+
 #[test]
-fn wrong_score_of_three(rt: HostRuntime) -> Result<(), Fail> {
-    reports(
-        &rt,
-        rt.alloc(),
-        b">A: DORWAAE 8E WORD +16 16\n>B: AT 9G AT +9 9\n>A: E 9F E.. +6 22\n",
-        "illegal line 3: WrongScore 5\n",
-    )
+fn ends(rt: HostRuntime) -> Result<(), Fail> {
+    for row in &ENDS {
+        reports(&rt, rt.alloc(), &english_rules(), "", row)?;
+    }
+    Ok(())
+}
+
+/// Records by rules with 14 tiles.
+const SMALL: [Row; 9] = [
+    Row {
+        words: "RETAINS",
+        game: ">A: AEINRST 8D RETAINS +66 66\n>A: (ADEORTW) +22 88\n",
+        report: "legal complete\n1 A 8D RETAINS +66 66\n2 A (ADEORTW) +22 88\n",
+    },
+    Row {
+        words: "RETAINS",
+        game: ">A: AEINRST 8D RETAINS +66 66\n>A: (ADEORW) +20 86\n",
+        report: "illegal line 2: LastRackSize\n",
+    },
+    Row {
+        words: "RETAINS",
+        game: ">A: AEINRST 8D RETAINS +66 66\n>A: (ADEORTW) +22 88\n>A: (ADEORTW) +22 110\n",
+        report: "illegal line 3: GameOver\n",
+    },
+    Row {
+        words: "RETAINS",
+        game: ">A: AEINRST -AE +0 0\n",
+        report: "illegal line 1: ExchangeRefused\n",
+    },
+    Row {
+        words: "RETAINS",
+        game: ">A: 8H AT +4 4\n>B: - +0 0\n>A: 9H ABCDEF +0 4\n",
+        report: "illegal line 3: TooManyUsed\n",
+    },
+    Row {
+        words: "RETAINS",
+        game: ">A: AEINRST 8D RETAINS +66 66\n>B: ADEORTW - +0 0\n>B: ADEORTW - +0 0\n",
+        report: "illegal line 3: GameOver\n",
+    },
+    Row {
+        words: "RETAINS",
+        game: ">A: AEINRST 8D RETAINS +66 66\n>B: ADEORTW - +0 0\n>A: (ADEORTW) +22 88\n>A: (time) -5 83\n",
+        report: "legal complete\n1 A 8D RETAINS +66 66\n2 B - +0 0\n3 A (ADEORTW) +22 88\n4 A (time) -5 83\n",
+    },
+    Row {
+        words: "RETAINS",
+        game: ">A: AEINRST 8D RETAINS +66 66\n>B: ADEORTW - +0 0\n>A: (ADEORTW) +22 88\n>A: (time) -7 81\n",
+        report: "illegal line 4: BadTime\n",
+    },
+    Row {
+        words: "RETAINS",
+        game: ">A: AEINRST 8D RETAINS +66 66\n>B: ADEORTW - +0 0\n>A: (ADEORTW) +22 88\n>A: (time) -5 83\n>A: (time) -5 78\n",
+        report: "illegal line 5: BadTime\n",
+    },
+];
+
+/// Rules with the English numbers and premiums, and these tiles alone.
+fn rules_with(rt: &impl Abort, tiles: &[u8], exchange_min: u8) -> Rules {
+    let mut counts = Counts::new();
+    for byte in tiles {
+        let kind = Kind::Letter(Letter::counted_from(b'A', *byte).expect(rt, "a letter"));
+        assert!(rt; counts.count(kind) < 255);
+        counts.add(kind);
+    }
+    let mut parts = english_rules().parts();
+    parts.counts = counts;
+    parts.exchange_min = exchange_min;
+    Rules::checked(parts).expect(rt, "within the limits")
 }
 
 #[test]
-fn faults_of_reading(rt: HostRuntime) -> Result<(), Fail> {
-    let rows: [(&str, &str); 6] = [
-        (">A: 8E WORD +x 16\n", "bad record line 1: Number\n"),
-        (
-            "#note\n>A B: 8E WORD +16 16\n",
-            "bad record line 2: NoColon\n",
-        ),
-        (">A: - +0 0\n", "bad record line 1: Code\n"),
-        (">A: 8E W0RD +16 16\n", "bad record line 1: Word\n"),
-        (
-            ">A: 8E WORD +16 16\n>B: 8D S +0 0\n>C: 8D S +0 0\n",
-            "bad record line 3: ThirdPlayer\n",
-        ),
-        (">A: AAAAAAAA 8E WORD +16 16\n", "bad record line 1: Rack\n"),
-    ];
-    for (game, want) in rows {
-        reports(&rt, rt.alloc(), game.as_bytes(), want)?;
+fn small_sets(rt: HostRuntime) -> Result<(), Fail> {
+    let rules = rules_with(&rt, b"AADEEINORRSTTW", 7);
+    for row in &SMALL {
+        reports(&rt, rt.alloc(), &rules, "", row)?;
+    }
+    Ok(())
+}
+
+/// Records by rules with 17 tiles, where one tile in the bag is enough for an exchange.
+const SMALL_BAG: [Row; 2] = [
+    Row {
+        words: "RETAINS",
+        game: ">A: AEINRST -5 +0 0\n",
+        report: "illegal line 1: ExchangeSize\n",
+    },
+    Row {
+        words: "RETAINS",
+        game: ">A: AEINRST -AEI +0 0\n",
+        report: "legal unfinished\n1 A -AEI +0 0\n",
+    },
+];
+
+#[test]
+fn small_bag(rt: HostRuntime) -> Result<(), Fail> {
+    let rules = rules_with(&rt, b"AAAAADEEINORRSTTW", 1);
+    for row in &SMALL_BAG {
+        reports(&rt, rt.alloc(), &rules, "", row)?;
+    }
+    Ok(())
+}
+
+/// Inputs that are no word list or no record.
+const BAD_INPUTS: [Row; 9] = [
+    Row {
+        words: "WORD",
+        game: ">A: 8E WORD +x 16\n",
+        report: "bad record line 1: Number\n",
+    },
+    Row {
+        words: "WORD",
+        game: "#note\n>A B: 8E WORD +16 16\n",
+        report: "bad record line 2: NoColon\n",
+    },
+    Row {
+        words: "WORD",
+        game: ">A: -8 +0 0\n",
+        report: "bad record line 1: Code\n",
+    },
+    Row {
+        words: "WORD",
+        game: ">A: 8E W0RD +16 16\n",
+        report: "bad record line 1: Word\n",
+    },
+    Row {
+        words: "WORD",
+        game: ">A: - +0 0\n>B: - +0 0\n>C: - +0 0\n",
+        report: "bad record line 3: ThirdPlayer\n",
+    },
+    Row {
+        words: "WORD",
+        game: ">A: AAAAAAAA 8E WORD +16 16\n",
+        report: "bad record line 1: Rack\n",
+    },
+    Row {
+        words: "AT\nA1",
+        game: ">A B: 8E WORD +16 16\n",
+        report: "bad word list line 2: BadLetter\n",
+    },
+    Row {
+        words: "A",
+        game: ">A: 8H A +0 0\n",
+        report: "bad word list line 1: BadLength\n",
+    },
+    Row {
+        words: "A-B",
+        game: "",
+        report: "bad word list line 1: BadLetter\n",
+    },
+];
+
+#[test]
+fn bad_inputs(rt: HostRuntime) -> Result<(), Fail> {
+    for row in &BAD_INPUTS {
+        reports(&rt, rt.alloc(), &english_rules(), "", row)?;
     }
     Ok(())
 }
 
 #[test]
 fn verdicts(rt: HostRuntime) -> Result<(), Fail> {
-    let (legal, _report) = judged(rt.alloc(), b">A: DORWAAE 8E WORD +16 16\n")?;
+    let rules = english_rules();
+    let (legal, _report) = judged(rt.alloc(), &rules, b"WORD", WORD.as_bytes())?;
     assert_eq!(rt; legal, Verdict::Legal { complete: false });
-    let (illegal, _report) = judged(rt.alloc(), b">A: 8H A +0 0\n")?;
+    let (illegal, _report) = judged(rt.alloc(), &rules, b"WORD", b">A: 8H A +0 0\n")?;
     let fault = GameFault::Rule(RuleFault::Play(PlayFault::TooShort));
     assert_eq!(rt; illegal, Verdict::Illegal { line: 1, fault });
-    let (bad, _report) = judged(rt.alloc(), b">A\n")?;
+    let (bad, _report) = judged(rt.alloc(), &rules, b"WORD", b">A\n")?;
     assert_eq!(rt; bad, Verdict::BadRecord);
+    let (bad, _report) = judged(rt.alloc(), &rules, b"W", b">A\n")?;
+    assert_eq!(rt; bad, Verdict::BadList);
     Ok(())
 }
 

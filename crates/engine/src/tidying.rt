@@ -1,6 +1,6 @@
 ghost use Rattle.std.specs.Prelude.{◌≡◌, ◌+◌, ◌++◌, [], IfOk, IfErr, OnOk};
 ghost use Rattle.std.specs.Io.KnownBytes.{Appends};
-ghost use Rattle.devices.specs.Devices.{HasRoom, HasWorked};
+ghost use Rattle.devices.specs.Devices.{HasRoom, HasFailed, HasWorked};
 ghost use Rattle.devices.specs.Inputs.{TakesAtMost, IsInput};
 ghost use Rattle.gcg_write.specs.Normal.{normal_of};
 ghost use Rattle.engine.specs.Tidying.{IsTidied};
@@ -62,7 +62,8 @@ pub fn run_tidy<G: Input, O: Output>(
     ensures worked { OnOk result (HasWorked (G.device game.old) (G.device game.new)
         × HasWorked (O.device out.old) (O.device out.new)) }
     ensures gave_up { IfErr result (GivesUp (IsInput most_bytes (G.device game.old)) IsTidied
-        (G.device game.old) (G.device game.new) (O.device out.old) (O.device out.new)) }
+        (HasFailed (G.device game.old) (G.device game.new)) (HasWorked (G.device game.old) (G.device game.new))
+        (O.device out.old) (O.device out.new)) }
 
     // The input is not read further than one byte past its limit.
     ensures game { TakesAtMost (1048576 + 1) (G.device game.old) (G.device game.new) }

@@ -1,4 +1,4 @@
-use crate::turns::RuleFault;
+use game_turns::RuleFault;
 
 /// Why a game is not legal.
 #[derive(Clone, Copy, Debug, PartialEq, Eq)]

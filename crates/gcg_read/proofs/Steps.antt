@@ -45,3 +45,6 @@ pub room_more : (left after : Option (Bor (List ℕ))) (rest : Bor (List ℕ)) (
     → IfSome after (λ text. length text.now < length rest.now) → IfSome after (λ text. n + 1 + length text.now ≤ limit) × (n + 1 ≤ limit + 1)
 room_more left None rest n limit at room shorter = let here = rw at at room in (tt, omega arith)
 room_more left (Some text) rest n limit at room shorter = let here = rw at at room in (omega arith, omega arith)
+
+-- what a loop over the lines of a text needs
+pub ruleset steps = (line_more, line_fails, lines_done, room_more)

@@ -1,4 +1,4 @@
--- Codes of events that are no plays, as the bytes of a record write them. No code has two of these meanings.
+-- Codes of events that are no plays, as the bytes of a record write them.
 use Rattle.std.specs.Prelude.{ℕ, ◌-◌, ◌==◌, ◌&&◌, nat_le, List, [], ◌∷◌, length, take, eqb, codes, Option, Some, None, if◌then◌else◌}
 use Rattle.std.specs.List.{ends_with}
 use Rattle.std.specs.Option.{option_or, option_map, option_and_then}

@@ -44,7 +44,7 @@ pub fn read(alloc: Global, bytes: &[u8]) -> Result<Record, ReadFault>
 }
 
 /// Reads the lines of a text.
-#[tactic(auto, using(crate::proofs::Steps::line_more, crate::proofs::Steps::line_fails, crate::proofs::Steps::lines_done, crate::proofs::Steps::room_more), unfolding(crate::specs::Records::record_from))]
+#[tactic(auto, using(crate::proofs::Steps::steps), unfolding(crate::specs::Records::record_from))]
 fn read_lines(alloc: Global, text: &[u8]) -> Result<Record, ReadFault>
     requires { length text.now ≤ 1_048_576 }
     ensures { Gives result (record_from no_record 1 (lines_in text.now)) }

@@ -1,7 +1,7 @@
 -- Texts line by line, in the writer's own form.
-use Rattle.std.proofs.Common.{◌≡◌, ℕ, ◌+◌, ◌<◌, ◌≤◌, List, [], ◌∷◌, ◌++◌, length, map, arith, sym, ap, refl, ◌∙◌, replicate, add-one}
-use Rattle.std.specs.List.{flat_map, range_with_len}
-use Rattle.std.proofs.lemmas.List.{append-nil, map-id}
+use Rattle.std.proofs.Common.{◌≡◌, ℕ, ◌+◌, List, [], ◌∷◌, ◌++◌, map, arith, sym, ap, refl, ◌∙◌}
+use Rattle.std.specs.List.{range_with_len}
+use Rattle.std.proofs.lemmas.List.{append-nil, append_assoc, map-id}
 use Rattle.std.proofs.lemmas.List.Concat.{flat_map-append}
 use Rattle.std.specs.Prelude.{codes}
 use Rattle.gcg_read.specs.declared.events.Event.{Event}
@@ -29,8 +29,7 @@ lines_of_events : (players : Players) (events : List Event) → text_of_lines (m
 lines_of_events players [] = refl
 lines_of_events players (event ∷ events) = ap (λ t. (event_line players event ++ 10 ∷ []) ++ t) (lines_of_events players events)
 
--- the normal form, part by part
-pub normal_parts : (r : Record)
+normal_parts : (r : Record)
     → normal_of r ≡ text_of_lines (player_lines (codes "#player1 ") r.players.first)
     ++ text_of_lines (player_lines (codes "#player2 ") r.players.second) ++ events_text r.players r.events
 unfolding normal_of
@@ -40,3 +39,13 @@ normal_parts r =
     flat_map-append (λ (line : List ℕ). line ++ 10 ∷ []) (one ++ two) (map (event_line r.players) r.events)
     ∙ ap (λ t. t ++ text_of_lines (map (event_line r.players) r.events)) (flat_map-append (λ (line : List ℕ). line ++ 10 ∷ []) one two)
     ∙ ap (λ t. text_of_lines one ++ text_of_lines two ++ t) (lines_of_events r.players r.events)
+
+-- the normal form behind an output, part by part
+pub normal_behind : (out : List ℕ) (r : Record)
+    → out ++ normal_of r ≡ out ++ text_of_lines (player_lines (codes "#player1 ") r.players.first)
+    ++ text_of_lines (player_lines (codes "#player2 ") r.players.second) ++ events_text r.players r.events
+normal_behind out r =
+    let one = text_of_lines (player_lines (codes "#player1 ") r.players.first) in
+    let two = text_of_lines (player_lines (codes "#player2 ") r.players.second) in
+    ap (λ (text : List ℕ). out ++ text) (normal_parts r) ∙ sym (append_assoc out (one ++ two) (events_text r.players r.events))
+    ∙ ap (λ (text : List ℕ). text ++ events_text r.players r.events) (sym (append_assoc out one two))

@@ -1,3 +1,4 @@
 pub mod Fronts
 pub mod Fields
 pub mod Normal
+pub mod Rounds

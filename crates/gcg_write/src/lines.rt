@@ -144,12 +144,12 @@ fn push_player(pragma: &[u8], player: &Player, out: &mut Vec<u8>) -> Result<(), 
 }
 
 /// Appends the normal form of a record.
-
-pub fn push_record(record: &Record, out: &mut Vec<u8>) -> Result<(), AllocError>
-    ensures done { OnOk result (out.new.items ≡ out.old.items ++ normal_of record.now) }
+#[tactic(auto, using(crate::proofs::Texts::normal_behind))]
+pub fn push_record(game: &Record, out: &mut Vec<u8>) -> Result<(), AllocError>
+    ensures done { OnOk result (out.new.items ≡ out.old.items ++ normal_of game.now) }
     ensures kept { IsFront out.old.items out.new.items }
 {
-    push_player(b"#player1 ", &record.players.first, out)?;
-    push_player(b"#player2 ", &record.players.second, out)?;
-    push_events(&record.players, record.events.as_slice(), out)
+    push_player(b"#player1 ", &game.players.first, out)?;
+    push_player(b"#player2 ", &game.players.second, out)?;
+    push_events(&game.players, game.events.as_slice(), out)
 }

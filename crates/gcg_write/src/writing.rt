@@ -10,12 +10,12 @@ pub use std::alloc::AllocError as NoMemory;
 
 /// Appends the normal form of a record: a line for each player who has a nickname, and a line for each
 /// event. It fails only where the growth of `out` was refused, and then `out` is as it was.
-pub fn write(record: &Record, out: &mut Vec<u8>) -> Result<(), NoMemory>
-    ensures written { OnOk result (out.new.items ≡ out.old.items ++ normal_of record.now) }
+pub fn write(game: &Record, out: &mut Vec<u8>) -> Result<(), NoMemory>
+    ensures written { OnOk result (out.new.items ≡ out.old.items ++ normal_of game.now) }
     ensures refused { OnErr result (out.new.items ≡ out.old.items) }
 {
     let len = out.len();
-    let written = push_record(record, out);
+    let written = push_record(game, out);
     if written.is_err() {
         out.truncate(len);
     }
@@ -24,13 +24,13 @@ pub fn write(record: &Record, out: &mut Vec<u8>) -> Result<(), NoMemory>
 
 /// Appends what the line of event `i` says behind its rack, in the normal form: the event, its score and the
 /// total after it. It fails only where the growth of `out` was refused, and then `out` is as it was.
-pub fn event_text(record: &Record, i: usize, out: &mut Vec<u8>) -> Result<(), NoMemory>
-    requires { i < length record.now.events }
-    ensures written { OnOk result (HoldsAt (λ event. out.new.items ≡ out.old.items ++ event_text_of event) record.now.events i) }
+pub fn event_text(game: &Record, i: usize, out: &mut Vec<u8>) -> Result<(), NoMemory>
+    requires { i < length game.now.events }
+    ensures written { OnOk result (HoldsAt (λ event. out.new.items ≡ out.old.items ++ event_text_of event) game.now.events i) }
     ensures refused { OnErr result (out.new.items ≡ out.old.items) }
 {
     let len = out.len();
-    let events = record.events.as_slice();
+    let events = game.events.as_slice();
     let written = push_event(&events[i], out);
     if written.is_err() {
         out.truncate(len);

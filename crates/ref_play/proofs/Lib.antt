@@ -10,4 +10,5 @@ pub mod LegalLaws
 pub mod WholeTexts
 pub mod DirectionLaws
 pub mod ScoreLemmas
+pub mod Taking
 pub mod Examples

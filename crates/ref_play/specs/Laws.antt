@@ -1,15 +1,15 @@
 -- Laws: the definitions that compute say what the rules say.
-use Rattle.std.specs.Prelude.{◌≡◌, ◌≢◌, ◌↔◌, true, List, [], ◌∷◌, Option, None, length, Contains, IsPermutation}
+use Rattle.std.specs.Prelude.{◌≡◌, ◌≢◌, ◌↔◌, true, false, List, [], ◌∷◌, Option, None, length, Contains, IsPermutation}
 use Rattle.std.specs.List.{AllPairs}
 use Rattle.ref_tiles.specs.declared.tiles.Tile.{Tile}
 use Rattle.ref_board.specs.declared.directions.Dir.{Dir}
 use Rattle.ref_board.specs.declared.directions.Dir.TheVariants.{Across, Down}
 use Rattle.ref_play.specs.declared.placed.Placed.{Placed}
 use Rattle.ref_play.specs.declared.runs.Run.{Run}
-use Rattle.ref_play.specs.Placements.{is_play}
+use Rattle.ref_play.specs.Placements.{is_play, with_tiles, without_tiles}
 use Rattle.ref_play.specs.Formed.{MeetsRun, runs_formed}
 use Rattle.ref_play.specs.Words.{words_formed}
-use Rattle.ref_play.specs.Legality.{IsLegal, fault_of}
+use Rattle.ref_play.specs.Legality.{IsLegal, overlaps, fault_of}
 
 -- the list of runs holds the runs of the board that have a tile of the placement, and no other
 abbrev pub RunsAreThoseMet : Type 0
@@ -40,3 +40,7 @@ WordsFitBoth = (board : List (Option Tile)) (ps : List Placed) → IsPermutation
 -- two tiles or more are a play of one direction at the most
 abbrev pub MoreTilesFitOne : Type 0
 MoreTilesFitOne = (ps : List Placed) → is_play Across ps ≡ true → is_play Down ps ≡ true → length ps ≡ 1
+
+-- tiles that were put on empty squares and taken off again leave the board as it was
+abbrev pub TakingBackRestores : Type 0
+TakingBackRestores = (board : List (Option Tile)) (ps : List Placed) → overlaps board ps ≡ false → without_tiles (with_tiles board ps) ps ≡ board

@@ -1,5 +1,5 @@
-ghost use Rattle.std.specs.Prelude.{◌≡◌, ◌↔◌, false, IsOk, All};
-ghost use Rattle.ref_play.specs.Placements.{with_tiles};
+ghost use Rattle.std.specs.Prelude.{◌≡◌, ◌↔◌, true, false, IsOk, All};
+ghost use Rattle.ref_play.specs.Placements.{with_tiles, without_tiles, are_rising, HasTiles, EmptiesSquares};
 ghost use Rattle.ref_play.specs.Formed.{runs_formed};
 ghost use Rattle.ref_play.specs.Words.{IsWithin};
 ghost use Rattle.ref_play.specs.Legality.{IsLegal, IsLaid, Refuses, fault_of, is_too_short, overlaps};
@@ -70,9 +70,33 @@ pub fn judge(board: &Board, play: &Play) -> Result<(), PlayFault>
 /// Puts the tiles of a legal play on the board.
 pub fn apply(board: &mut Board, play: &Play)
     requires { IsLegal board.old play.now.tiles.items }
-    ensures { board.new ≡ with_tiles board.old play.now.tiles.items }
+    ensures board { board.new ≡ with_tiles board.old play.now.tiles.items }
+    ensures there { HasTiles board.new play.now.tiles.items }
 {
+    let _size = board.len();
     *board = laid(board, play);
+}
+
+/// Takes the tiles of a play off the board that holds them. The squares of the play are empty then, and every other
+/// square is as it was.
+#[tactic(auto, using(crate::proofs::Taking::without_empties))]
+pub fn undo(board: &mut Board, play: &Play)
+    requires { HasTiles board.old play.now.tiles.items }
+    ensures board { board.new ≡ without_tiles board.old play.now.tiles.items }
+    ensures squares { EmptiesSquares play.now.tiles.items board.old board.new }
+{
+    lift_tiles(board, &play.tiles);
+}
+
+/// Takes tiles off the board that holds them.
+fn lift_tiles(board: &mut Board, tiles: &[Placed])
+    requires rising { are_rising tiles.now ≡ true }
+    requires there { HasTiles board.old tiles.now }
+    ensures { board.new ≡ without_tiles board.old tiles.now }
+{
+    for placed in tiles {
+        board.lift(placed.square);
+    }
 }
 
 /// The board with the tiles of a legal play, and the runs that the play forms.

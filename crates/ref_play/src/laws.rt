@@ -1,5 +1,5 @@
 //! Laws about the definitions that the contracts of plays cite. Each function does nothing: its contract is the law.
-ghost use Rattle.ref_play.specs.Laws.{RunsAreThoseMet, RunsAreDistinct, FaultlessIsLegal, OneTileFitsBoth, OneTileHasOneFault, WordsFitBoth, MoreTilesFitOne};
+ghost use Rattle.ref_play.specs.Laws.{RunsAreThoseMet, RunsAreDistinct, FaultlessIsLegal, OneTileFitsBoth, OneTileHasOneFault, WordsFitBoth, MoreTilesFitOne, TakingBackRestores};
 
 /// The runs that a placement forms are the maximal stretches of two tiles or more, in a row or a column, that have
 /// one of its tiles, each once.
@@ -22,4 +22,9 @@ pub fn law_of_directions()
     ensures same_fault { OneTileHasOneFault }
     ensures same_words { WordsFitBoth }
     ensures more_tiles { MoreTilesFitOne }
+{}
+
+/// Tiles that were put on empty squares and taken off again leave the board as it was.
+pub fn law_of_undoing()
+    ensures { TakingBackRestores }
 {}

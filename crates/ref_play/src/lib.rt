@@ -15,8 +15,8 @@ mod tests;
 mod texts;
 
 pub use faults::PlayFault;
-pub use judging::{apply, judge};
-pub use laws::{law_of_directions, law_of_legality, law_of_runs};
+pub use judging::{apply, judge, undo};
+pub use laws::{law_of_directions, law_of_legality, law_of_runs, law_of_undoing};
 pub use placed::Placed;
 pub use plays::{Play, RACK};
 pub use runs::Run;

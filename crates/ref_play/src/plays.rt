@@ -1,7 +1,8 @@
-ghost use Rattle.std.specs.Prelude.{IsTrue};
+ghost use Rattle.std.specs.Prelude.{◌≡◌, IsTrue};
 ghost use Rattle.ref_play.specs.Placements.{is_play};
 
 use crate::placed::Placed;
+use crate::texts::shortened;
 use arrayvec::ArrayVec;
 use ref_board::Dir;
 
@@ -16,4 +17,16 @@ pub struct Play {
     /// The new tiles, in rising order.
     pub tiles: ArrayVec<Placed, RACK>,
     pub ghost proper: { IsTrue (is_play dir tiles.items) },
+}
+
+impl Play {
+    /// An equal play.
+    pub fn copy(&self) -> Play
+        ensures { result ≡ self.now }
+    {
+        Play {
+            dir: self.dir,
+            tiles: shortened(&self.tiles),
+        }
+    }
 }

@@ -100,7 +100,7 @@ fn is_open_ended(board: &Board, at: Square, dir: Dir, word: &[Symbol]) -> bool
 }
 
 /// The same tiles in room for a rack.
-fn shortened(tiles: &[Placed]) -> ArrayVec<Placed, RACK>
+pub fn shortened(tiles: &[Placed]) -> ArrayVec<Placed, RACK>
     requires { length tiles.now ≤ 7 }
     ensures { result.items ≡ tiles.now }
 {

@@ -12,7 +12,9 @@ pub enum Request<'a> {
         game: &'a str,
     },
     /// To write the normal form of a record, named by its file.
-    Tidy { game: &'a str },
+    Tidy {
+        game: &'a str,
+    },
 }
 
 /// Reads the words of a command line, the program's name first.

@@ -51,7 +51,7 @@ fn give_up<R: Runtime>(rt: &R, trouble: Trouble<'_>) -> Exit {
 /// Does what was asked for.
 fn answer<R: Runtime + AllocGlobal>(rt: &R, request: Request<'_>) -> Exit {
     let outcome = match request {
-        Request::Judge { game, .. } => judge(rt, game),
+        Request::Judge { words, game, .. } => judge(rt, words, game),
         Request::Tidy { game } => tidy(rt, game),
     };
     match outcome {
@@ -60,10 +60,14 @@ fn answer<R: Runtime + AllocGlobal>(rt: &R, request: Request<'_>) -> Exit {
     }
 }
 
-/// Judges the game of a file. The report goes to standard output.
-fn judge<'a, R: Runtime + AllocGlobal>(rt: &R, game: &'a str) -> Result<Verdict, Trouble<'a>> {
+/// Judges the game of a file by the words of another. The report goes to standard output.
+fn judge<'a, R: Runtime + AllocGlobal>(
+    rt: &R,
+    words: &'a str,
+    game: &'a str,
+) -> Result<Verdict, Trouble<'a>> {
+    let mut words = FromRead::new(open(rt, words)?);
     let mut game = FromRead::new(open(rt, game)?);
-    let mut words = FromRead::new(NOTHING);
     let mut lexicon = FromRead::new(NOTHING);
     let mut out = FromWrite::new(io::writer(rt));
     let verdict = run(

@@ -1,0 +1,323 @@
+-- The state after an event that the rules allow is the tally at the next place.
+use Rattle.std.proofs.Common.{◌≡◌, ℕ, ℤ, ◌+◌, ◌-◌, ◌==◌, ◌&&◌, Bool, true, false, min, List, ◌∷◌, Option, Some, None, refl, sym, ap, ◌∙◌, arith, ◌||◌, ◌≤◌, length, sum, is_some, is_none}
+use Rattle.std.specs.Prelude.{if◌then◌else◌}
+use Rattle.ref_tiles.specs.declared.rulebook.Rules.{Rules}
+use Rattle.ref_tiles.specs.declared.symbols.Symbol.{Symbol}
+use Rattle.ref_tiles.specs.declared.tiles.Tile.{Tile}
+use Rattle.ref_board.specs.declared.directions.Dir.{Dir}
+use Rattle.ref_play.specs.declared.placed.Placed.{Placed}
+use Rattle.ref_play.specs.Placements.{with_tiles, without_tiles}
+use Rattle.ref_play.specs.Texts.{placement_of}
+use Rattle.ref_play.specs.Legality.{overlaps}
+use Rattle.ref_play.proofs.Taking.{without-with}
+use Rattle.game_turns.specs.declared.sides.Sides.{Sides}
+use Rattle.gcg_read.specs.Players.{other_seat}
+use Rattle.gcg_read.specs.declared.events.Seat.{Seat}
+use Rattle.gcg_read.specs.declared.events.Seat.TheVariants.{First, Second}
+use Rattle.gcg_read.specs.declared.events.Event.{Event}
+use Rattle.gcg_read.specs.declared.events.EventKind.{EventKind}
+use Rattle.gcg_read.specs.declared.events.EventKind.TheVariants as kind
+use Rattle.game_turns.specs.Standing.{standing, board_at, tiles_laid, laid_by, drawn_by, rack_after, rack_at, out_after}
+use Rattle.game_turns.specs.Tallies.{State, tally, out_at, idle_turns, mover_at, has_idle_pass}
+use Rattle.game_turns.specs.Seats.{with_rack}
+use Rattle.game_turns.specs.Changes.{after, after_pass, after_standing, after_waiting, after_withdraw, after_idle, after_idle_pass, after_challenge, after_time, after_last_rack}
+
+-- counted up to a limit, one by one
+run_more : (limit n : ℕ) → min limit (min limit n + 1) ≡ min limit (n + 1)
+run_more limit n = omega arith
+
+run_none : (limit : ℕ) → 0 ≡ min limit 0
+run_none limit = omega arith
+
+-- the same state with one more turn in its run
+run_fits : (s : State) (limit n : ℕ) → record s { zero_run = min limit (min limit n + 1) } ≡ record s { zero_run = min limit (n + 1) }
+run_fits s limit n = ap (λ (z : ℕ). record s { zero_run = z }) (run_more limit n)
+
+-- an event of these parts
+abbrev pub made : ℕ → Seat → Option (List ℕ) → EventKind → ℤ → ℤ → Event
+made line player rack what score total = record { line = line; player = player; rack = rack; kind = what; score = score; total = total }
+
+pub challenge_more : (rules : Rules) (past : List Event) (line : ℕ) (player : Seat) (rack : Option (List ℕ)) (score total : ℤ) (w : Bool)
+    → after rules (tally rules false past) (made line player rack kind.Challenge score total) w ≡ tally rules w (made line player rack kind.Challenge score total ∷ past)
+unfolding tally after after_challenge
+challenge_more rules past line First rack score total true = refl
+challenge_more rules past line First rack score total false = refl
+challenge_more rules past line Second rack score total true = refl
+challenge_more rules past line Second rack score total false = refl
+
+pub time_more : (rules : Rules) (past : List Event) (line : ℕ) (player : Seat) (rack : Option (List ℕ)) (score total : ℤ) (w : Bool)
+    → after rules (tally rules false past) (made line player rack kind.Time score total) w ≡ tally rules w (made line player rack kind.Time score total ∷ past)
+unfolding tally after after_time
+time_more rules past line First rack score total true = refl
+time_more rules past line First rack score total false = refl
+time_more rules past line Second rack score total true = refl
+time_more rules past line Second rack score total false = refl
+
+pub last_rack_more : (rules : Rules) (past : List Event) (line : ℕ) (player : Seat) (rack : Option (List ℕ)) (tiles : List ℕ) (score total : ℤ) (w : Bool)
+    → after rules (tally rules false past) (made line player rack (kind.LastRack tiles) score total) w
+    ≡ tally rules w (made line player rack (kind.LastRack tiles) score total ∷ past)
+unfolding tally after after_last_rack
+last_rack_more rules past line First rack tiles score total true = refl
+last_rack_more rules past line First rack tiles score total false = refl
+last_rack_more rules past line Second rack tiles score total true = refl
+last_rack_more rules past line Second rack tiles score total false = refl
+
+pub exchange_more : (rules : Rules) (past : List Event) (line : ℕ) (player : Seat) (rack : Option (List ℕ)) (tiles : List ℕ) (score total : ℤ) (w : Bool)
+    → after rules (tally rules false past) (made line player rack (kind.Exchange tiles) score total) w
+    ≡ tally rules w (made line player rack (kind.Exchange tiles) score total ∷ past)
+unfolding tally after after_idle
+exchange_more rules past line First rack tiles score total true =
+    run_fits (tally rules true (made line First rack (kind.Exchange tiles) score total ∷ past)) rules.zero_limit (idle_turns rules false past)
+exchange_more rules past line First rack tiles score total false =
+    run_fits (tally rules false (made line First rack (kind.Exchange tiles) score total ∷ past)) rules.zero_limit (idle_turns rules false past)
+exchange_more rules past line Second rack tiles score total true =
+    run_fits (tally rules true (made line Second rack (kind.Exchange tiles) score total ∷ past)) rules.zero_limit (idle_turns rules false past)
+exchange_more rules past line Second rack tiles score total false =
+    run_fits (tally rules false (made line Second rack (kind.Exchange tiles) score total ∷ past)) rules.zero_limit (idle_turns rules false past)
+
+pub unknown_more : (rules : Rules) (past : List Event) (line : ℕ) (player : Seat) (rack : Option (List ℕ)) (n : ℕ) (score total : ℤ) (w : Bool)
+    → after rules (tally rules false past) (made line player rack (kind.ExchangeUnknown n) score total) w
+    ≡ tally rules w (made line player rack (kind.ExchangeUnknown n) score total ∷ past)
+unfolding tally after after_idle
+unknown_more rules past line First rack n score total true =
+    run_fits (tally rules true (made line First rack (kind.ExchangeUnknown n) score total ∷ past)) rules.zero_limit (idle_turns rules false past)
+unknown_more rules past line First rack n score total false =
+    run_fits (tally rules false (made line First rack (kind.ExchangeUnknown n) score total ∷ past)) rules.zero_limit (idle_turns rules false past)
+unknown_more rules past line Second rack n score total true =
+    run_fits (tally rules true (made line Second rack (kind.ExchangeUnknown n) score total ∷ past)) rules.zero_limit (idle_turns rules false past)
+unknown_more rules past line Second rack n score total false =
+    run_fits (tally rules false (made line Second rack (kind.ExchangeUnknown n) score total ∷ past)) rules.zero_limit (idle_turns rules false past)
+
+-- two states that differ in what a pass changes
+passed_alike : (t : State) (m n : Option Seat) (y z : ℕ) (a b : Bool) → m ≡ n → y ≡ z → a ≡ b
+    → record t { mover = m; zero_run = y; idle_pass = a } ≡ record t { mover = n; zero_run = z; idle_pass = b }
+passed_alike t m n y z a b movers runs passes =
+    ap (λ (x : Option Seat). record t { mover = x; zero_run = y; idle_pass = a }) movers
+    ∙ ap (λ (x : ℕ). record t { mover = n; zero_run = x; idle_pass = a }) runs
+    ∙ ap (λ (x : Bool). record t { mover = n; zero_run = z; idle_pass = x }) passes
+
+-- what a pass makes of the mover, of the run and of the pass after a player is out
+abbrev mover_with : Rules → List Event → Seat → Option Seat → Option Seat
+mover_with rules past player o = if is_none o then Some (other_seat player) else mover_at rules false past
+
+abbrev run_with : Rules → List Event → Option Seat → ℕ
+run_with rules past o = min rules.zero_limit (if is_none o then idle_turns rules false past + 1 else idle_turns rules false past)
+
+abbrev idle_with : Rules → List Event → Option Seat → Bool
+idle_with rules past o = is_some o || has_idle_pass rules past
+
+pub pass_more : (rules : Rules) (past : List Event) (line : ℕ) (player : Seat) (rack : Option (List ℕ)) (score total : ℤ) (w : Bool) (o : Option Seat) → out_at rules false past ≡ o
+    → after_pass rules (tally rules false past) (made line player rack kind.Pass score total) o ≡ tally rules w (made line player rack kind.Pass score total ∷ past)
+unfolding tally after_idle after_idle_pass
+pass_more rules past line First rack score total true None e =
+    passed_alike (tally rules true (made line First rack kind.Pass score total ∷ past)) _ _ _ _ _ _
+    (ap (mover_with rules past First) (sym e)) (run_more rules.zero_limit (idle_turns rules false past) ∙ ap (run_with rules past) (sym e)) (ap (idle_with rules past) (sym e))
+pass_more rules past line First rack score total true (Some x) e =
+    passed_alike (tally rules true (made line First rack kind.Pass score total ∷ past)) _ _ _ _ _ _
+    (ap (mover_with rules past First) (sym e)) (ap (run_with rules past) (sym e)) (ap (idle_with rules past) (sym e))
+pass_more rules past line First rack score total false None e =
+    passed_alike (tally rules false (made line First rack kind.Pass score total ∷ past)) _ _ _ _ _ _
+    (ap (mover_with rules past First) (sym e)) (run_more rules.zero_limit (idle_turns rules false past) ∙ ap (run_with rules past) (sym e)) (ap (idle_with rules past) (sym e))
+pass_more rules past line First rack score total false (Some x) e =
+    passed_alike (tally rules false (made line First rack kind.Pass score total ∷ past)) _ _ _ _ _ _
+    (ap (mover_with rules past First) (sym e)) (ap (run_with rules past) (sym e)) (ap (idle_with rules past) (sym e))
+pass_more rules past line Second rack score total true None e =
+    passed_alike (tally rules true (made line Second rack kind.Pass score total ∷ past)) _ _ _ _ _ _
+    (ap (mover_with rules past Second) (sym e)) (run_more rules.zero_limit (idle_turns rules false past) ∙ ap (run_with rules past) (sym e)) (ap (idle_with rules past) (sym e))
+pass_more rules past line Second rack score total true (Some x) e =
+    passed_alike (tally rules true (made line Second rack kind.Pass score total ∷ past)) _ _ _ _ _ _
+    (ap (mover_with rules past Second) (sym e)) (ap (run_with rules past) (sym e)) (ap (idle_with rules past) (sym e))
+pass_more rules past line Second rack score total false None e =
+    passed_alike (tally rules false (made line Second rack kind.Pass score total ∷ past)) _ _ _ _ _ _
+    (ap (mover_with rules past Second) (sym e)) (run_more rules.zero_limit (idle_turns rules false past) ∙ ap (run_with rules past) (sym e)) (ap (idle_with rules past) (sym e))
+pass_more rules past line Second rack score total false (Some x) e =
+    passed_alike (tally rules false (made line Second rack kind.Pass score total ∷ past)) _ _ _ _ _ _
+    (ap (mover_with rules past Second) (sym e)) (ap (run_with rules past) (sym e)) (ap (idle_with rules past) (sym e))
+
+-- ---- plays
+
+-- the bag after so many tiles are drawn from it, as far as it goes
+bag_falls : (whole laid n : ℕ) → whole - laid - min n (whole - laid) ≡ whole - (n + laid)
+bag_falls whole laid n = omega arith
+
+-- the rack after so many tiles were laid and drawn
+rack_refills : (whole laid drawn own n : ℕ) → n ≤ 7 + drawn - own
+    → 7 + drawn - own - 0 - n + min n (whole - laid) ≡ 7 + ((whole - laid - (whole - (n + laid))) + drawn) - (n + own)
+rack_refills whole laid drawn own n fits = omega arith
+
+rack_refilled_at : (whole laid drawn own n : ℕ) → n ≤ 7 + drawn - own
+    → 7 + drawn - own - 0 - n + min n (whole - laid) ≡ 7 + ((whole - laid - (whole - (n + laid))) + drawn) - (n + own) - 0
+rack_refilled_at whole laid drawn own n fits = omega arith
+
+rack_waits : (rack n : ℕ) → rack - 0 - n ≡ rack - (n + 0)
+rack_waits rack n = omega arith
+
+rack_restored : (rack n : ℕ) → n ≤ rack → rack - (n + 0) + n ≡ rack - 0
+rack_restored rack n fits = omega arith
+
+-- who is out after a play by a player, where these are the bag and the rack
+abbrev out_with : Seat → Option Seat → ℕ → ℕ → Option Seat
+out_with player before bag rack = if bag == 0 && rack == 0 then Some player else before
+
+-- two states that differ in what a play changes
+played_alike : (t : State) (x y : Sides) (a b : ℕ) (m n : Option Seat) (u v : ℕ) → x ≡ y → a ≡ b → m ≡ n → u ≡ v
+    → record t { sides = x; bag = a; out = m; zero_run = u } ≡ record t { sides = y; bag = b; out = n; zero_run = v }
+played_alike t x y a b m n u v sides bags outs runs =
+    ap (λ (s : Sides). record t { sides = s; bag = a; out = m; zero_run = u }) sides
+    ∙ ap (λ (k : ℕ). record t { sides = y; bag = k; out = m; zero_run = u }) bags
+    ∙ ap (λ (o : Option Seat). record t { sides = y; bag = b; out = o; zero_run = u }) outs
+    ∙ ap (λ (k : ℕ). record t { sides = y; bag = b; out = n; zero_run = k }) runs
+
+-- the new tiles of a text
+abbrev pub laid_at : List Event → Dir → ℕ → List Symbol → List Placed
+laid_at past dir at word = placement_of (board_at false past) dir at word
+
+abbrev pub play_made : ℕ → Seat → Option (List ℕ) → Dir → ℕ → List Symbol → ℤ → ℤ → Event
+play_made line player rack dir at word score total = made line player rack (kind.Play at dir word) score total
+
+pub first_plays : (rules : Rules) (past : List Event) (line : ℕ) (rack : Option (List ℕ)) (dir : Dir) (at : ℕ) (word : List Symbol) (score total : ℤ)
+    → length (laid_at past dir at word) ≤ rack_at rules First false past
+    → after rules (tally rules false past) (play_made line First rack dir at word score total) false ≡ tally rules false ((play_made line First rack dir at word score total) ∷ past)
+unfolding tally after after_standing
+first_plays rules past line rack dir at word score total fits =
+    let plays = standing false past in
+    let n = length (laid_at past dir at word) in
+    let whole = sum rules.counts - 14 in
+    let laid = tiles_laid plays in
+    let own = laid_by First plays in
+    let drawn = drawn_by rules First plays in
+    let t = tally rules false ((play_made line First rack dir at word score total) ∷ past) in
+    let within : n ≤ 7 + drawn - own = omega arith in
+    let bags = bag_falls whole laid n in
+    let racks = rack_refills whole laid drawn own n within in
+    played_alike t
+    (with_rack t.sides First (7 + drawn - own - 0 - n + min n (whole - laid)))
+    (with_rack t.sides First (7 + ((whole - laid - (whole - (n + laid))) + drawn) - (n + own) - 0))
+    (whole - laid - min n (whole - laid)) (whole - (n + laid))
+    (out_with First (out_after rules plays) (whole - laid - min n (whole - laid)) (7 + drawn - own - 0 - n + min n (whole - laid)))
+    (out_with First (out_after rules plays) (whole - (n + laid)) (7 + ((whole - laid - (whole - (n + laid))) + drawn) - (n + own)))
+    0 (min rules.zero_limit 0)
+    (ap (λ (r : ℕ). with_rack t.sides First r) (rack_refilled_at whole laid drawn own n within))
+    bags
+    (ap (λ (b : ℕ). out_with First (out_after rules plays) b (7 + drawn - own - 0 - n + min n (whole - laid))) bags
+    ∙ ap (out_with First (out_after rules plays) (whole - (n + laid))) racks)
+    (run_none rules.zero_limit)
+
+pub second_plays : (rules : Rules) (past : List Event) (line : ℕ) (rack : Option (List ℕ)) (dir : Dir) (at : ℕ) (word : List Symbol) (score total : ℤ)
+    → length (laid_at past dir at word) ≤ rack_at rules Second false past
+    → after rules (tally rules false past) (play_made line Second rack dir at word score total) false ≡ tally rules false ((play_made line Second rack dir at word score total) ∷ past)
+unfolding tally after after_standing
+second_plays rules past line rack dir at word score total fits =
+    let plays = standing false past in
+    let n = length (laid_at past dir at word) in
+    let whole = sum rules.counts - 14 in
+    let laid = tiles_laid plays in
+    let own = laid_by Second plays in
+    let drawn = drawn_by rules Second plays in
+    let t = tally rules false ((play_made line Second rack dir at word score total) ∷ past) in
+    let within : n ≤ 7 + drawn - own = omega arith in
+    let bags = bag_falls whole laid n in
+    let racks = rack_refills whole laid drawn own n within in
+    played_alike t
+    (with_rack t.sides Second (7 + drawn - own - 0 - n + min n (whole - laid)))
+    (with_rack t.sides Second (7 + ((whole - laid - (whole - (n + laid))) + drawn) - (n + own) - 0))
+    (whole - laid - min n (whole - laid)) (whole - (n + laid))
+    (out_with Second (out_after rules plays) (whole - laid - min n (whole - laid)) (7 + drawn - own - 0 - n + min n (whole - laid)))
+    (out_with Second (out_after rules plays) (whole - (n + laid)) (7 + ((whole - laid - (whole - (n + laid))) + drawn) - (n + own)))
+    0 (min rules.zero_limit 0)
+    (ap (λ (r : ℕ). with_rack t.sides Second r) (rack_refilled_at whole laid drawn own n within))
+    bags
+    (ap (λ (b : ℕ). out_with Second (out_after rules plays) b (7 + drawn - own - 0 - n + min n (whole - laid))) bags
+    ∙ ap (out_with Second (out_after rules plays) (whole - (n + laid))) racks)
+    (run_none rules.zero_limit)
+
+pub first_waits : (rules : Rules) (past : List Event) (line : ℕ) (rack : Option (List ℕ)) (dir : Dir) (at : ℕ) (word : List Symbol) (score total : ℤ)
+    → after rules (tally rules false past) (play_made line First rack dir at word score total) true ≡ tally rules true ((play_made line First rack dir at word score total) ∷ past)
+unfolding tally after after_waiting
+first_waits rules past line rack dir at word score total =
+    let t = tally rules true ((play_made line First rack dir at word score total) ∷ past) in
+    ap (λ (r : ℕ). record t { sides = with_rack t.sides First r })
+    (rack_waits (rack_after rules First (standing false past)) (length (laid_at past dir at word)))
+
+pub second_waits : (rules : Rules) (past : List Event) (line : ℕ) (rack : Option (List ℕ)) (dir : Dir) (at : ℕ) (word : List Symbol) (score total : ℤ)
+    → after rules (tally rules false past) (play_made line Second rack dir at word score total) true ≡ tally rules true ((play_made line Second rack dir at word score total) ∷ past)
+unfolding tally after after_waiting
+second_waits rules past line rack dir at word score total =
+    let t = tally rules true ((play_made line Second rack dir at word score total) ∷ past) in
+    ap (λ (r : ℕ). record t { sides = with_rack t.sides Second r })
+    (rack_waits (rack_after rules Second (standing false past)) (length (laid_at past dir at word)))
+
+-- ---- withdrawals
+
+-- two states that differ in what a withdrawal changes
+withdrawn_alike : (t : State) (a b : List (Option Tile)) (x y : Sides) (u v : ℕ) → a ≡ b → x ≡ y → u ≡ v
+    → record t { board = a; sides = x; zero_run = u } ≡ record t { board = b; sides = y; zero_run = v }
+withdrawn_alike t a b x y u v boards sides runs =
+    ap (λ (c : List (Option Tile)). record t { board = c; sides = x; zero_run = u }) boards
+    ∙ ap (λ (s : Sides). record t { board = b; sides = s; zero_run = u }) sides
+    ∙ ap (λ (k : ℕ). record t { board = b; sides = y; zero_run = k }) runs
+
+abbrev pub withdraw_made : ℕ → Seat → Option (List ℕ) → ℤ → ℤ → Event
+withdraw_made line player rack score total = made line player rack kind.Withdraw score total
+
+pub first_withdraws : (rules : Rules) (past : List Event) (line : ℕ) (rack : Option (List ℕ)) (dir : Dir) (at : ℕ) (word : List Symbol) (score total : ℤ)
+    (line2 : ℕ) (rack2 : Option (List ℕ)) (score2 total2 : ℤ) (w : Bool)
+    → length (laid_at past dir at word) ≤ rack_at rules First false past
+    → overlaps (board_at false past) (laid_at past dir at word) ≡ false
+    → after rules (tally rules true ((play_made line First rack dir at word score total) ∷ past)) (withdraw_made line2 First rack2 score2 total2) w ≡ tally rules w ((withdraw_made line2 First rack2 score2 total2) ∷ (play_made line First rack dir at word score total) ∷ past)
+unfolding tally after after_withdraw
+first_withdraws rules past line rack dir at word score total line2 rack2 score2 total2 true fits free =
+    let ps = laid_at past dir at word in
+    let whole = rack_after rules First (standing false past) in
+    let t = tally rules true ((withdraw_made line2 First rack2 score2 total2) ∷ (play_made line First rack dir at word score total) ∷ past) in
+    let within : length ps ≤ whole = omega arith in
+    withdrawn_alike t
+    (without_tiles (with_tiles (board_at false past) ps) ps) (board_at false past)
+    (with_rack t.sides First (whole - (length ps + 0) + length ps)) (with_rack t.sides First (whole - 0))
+    (min rules.zero_limit (min rules.zero_limit (idle_turns rules false past) + 1)) (min rules.zero_limit (idle_turns rules false past + 1))
+    (without-with (board_at false past) ps free)
+    (ap (λ (r : ℕ). with_rack t.sides First r) (rack_restored whole (length ps) within))
+    (run_more rules.zero_limit (idle_turns rules false past))
+first_withdraws rules past line rack dir at word score total line2 rack2 score2 total2 false fits free =
+    let ps = laid_at past dir at word in
+    let whole = rack_after rules First (standing false past) in
+    let t = tally rules false ((withdraw_made line2 First rack2 score2 total2) ∷ (play_made line First rack dir at word score total) ∷ past) in
+    let within : length ps ≤ whole = omega arith in
+    withdrawn_alike t
+    (without_tiles (with_tiles (board_at false past) ps) ps) (board_at false past)
+    (with_rack t.sides First (whole - (length ps + 0) + length ps)) (with_rack t.sides First (whole - 0))
+    (min rules.zero_limit (min rules.zero_limit (idle_turns rules false past) + 1)) (min rules.zero_limit (idle_turns rules false past + 1))
+    (without-with (board_at false past) ps free)
+    (ap (λ (r : ℕ). with_rack t.sides First r) (rack_restored whole (length ps) within))
+    (run_more rules.zero_limit (idle_turns rules false past))
+
+pub second_withdraws : (rules : Rules) (past : List Event) (line : ℕ) (rack : Option (List ℕ)) (dir : Dir) (at : ℕ) (word : List Symbol) (score total : ℤ)
+    (line2 : ℕ) (rack2 : Option (List ℕ)) (score2 total2 : ℤ) (w : Bool)
+    → length (laid_at past dir at word) ≤ rack_at rules Second false past
+    → overlaps (board_at false past) (laid_at past dir at word) ≡ false
+    → after rules (tally rules true ((play_made line Second rack dir at word score total) ∷ past)) (withdraw_made line2 Second rack2 score2 total2) w ≡ tally rules w ((withdraw_made line2 Second rack2 score2 total2) ∷ (play_made line Second rack dir at word score total) ∷ past)
+unfolding tally after after_withdraw
+second_withdraws rules past line rack dir at word score total line2 rack2 score2 total2 true fits free =
+    let ps = laid_at past dir at word in
+    let whole = rack_after rules Second (standing false past) in
+    let t = tally rules true ((withdraw_made line2 Second rack2 score2 total2) ∷ (play_made line Second rack dir at word score total) ∷ past) in
+    let within : length ps ≤ whole = omega arith in
+    withdrawn_alike t
+    (without_tiles (with_tiles (board_at false past) ps) ps) (board_at false past)
+    (with_rack t.sides Second (whole - (length ps + 0) + length ps)) (with_rack t.sides Second (whole - 0))
+    (min rules.zero_limit (min rules.zero_limit (idle_turns rules false past) + 1)) (min rules.zero_limit (idle_turns rules false past + 1))
+    (without-with (board_at false past) ps free)
+    (ap (λ (r : ℕ). with_rack t.sides Second r) (rack_restored whole (length ps) within))
+    (run_more rules.zero_limit (idle_turns rules false past))
+second_withdraws rules past line rack dir at word score total line2 rack2 score2 total2 false fits free =
+    let ps = laid_at past dir at word in
+    let whole = rack_after rules Second (standing false past) in
+    let t = tally rules false ((withdraw_made line2 Second rack2 score2 total2) ∷ (play_made line Second rack dir at word score total) ∷ past) in
+    let within : length ps ≤ whole = omega arith in
+    withdrawn_alike t
+    (without_tiles (with_tiles (board_at false past) ps) ps) (board_at false past)
+    (with_rack t.sides Second (whole - (length ps + 0) + length ps)) (with_rack t.sides Second (whole - 0))
+    (min rules.zero_limit (min rules.zero_limit (idle_turns rules false past) + 1)) (min rules.zero_limit (idle_turns rules false past + 1))
+    (without-with (board_at false past) ps free)
+    (ap (λ (r : ℕ). with_rack t.sides Second r) (rack_restored whole (length ps) within))
+    (run_more rules.zero_limit (idle_turns rules false past))

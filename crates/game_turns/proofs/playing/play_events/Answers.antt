@@ -1,0 +1,51 @@
+use Rattle.std.proofs.Common.{◌≡◌, ◌+◌, ◌<◌, length, refl, ◌∙◌, arith, Some, None}
+use Rattle.std.specs.Option.{option_copied}
+use Rattle.std.proofs.lemmas.Option.{slice_get_read}
+use Rattle.game_turns.specs.Machines.{rules_of, state_of}
+use Rattle.game_turns.specs.Places.{fault_at}
+use Rattle.game_turns.proofs.PlaceLaws.{start_tally, allowed_more, fault_told, state_left, copied_get}
+use Rattle.game_turns.proofs.playing.play_events.Goals as goal
+
+pub loop-place-init : goal.loop-place-init
+loop-place-init c =
+    record { rules = c.new-machine.ensures.rules; state = c.new-machine.ensures.state ∙ start_tally c.args.rules.now c.args.events.now; allowed = λ place below. absurd (omega arith) }
+
+pub returns-in-Err-clause-refused : goal.returns-in-Err-clause-refused
+returns-in-Err-clause-refused c =
+    let rules = c.args.rules.now in
+    let list = c.args.list.now in
+    let events = c.args.events.now in
+    let place = c.loop-place.place in
+    let event = c.index-events-place.result in
+    let machine = c.loop-place.machine in
+    let within : place < length events = omega arith in
+    let is = slice_get_read events (length events) place event refl within c.index-events-place.is in
+    record {
+      place = place;
+      event = event;
+      stands = is;
+      on_line = omega arith;
+      fails = fault_told rules list events place event (rules_of machine) (state_of machine) (Some c.in-Err.fault) is c.loop-place.invariant.rules c.loop-place.invariant.state
+          c.in-Err.ensures.told;
+      earlier = c.loop-place.invariant.allowed;
+    }
+
+pub loop-place-preserved : goal.loop-place-preserved
+loop-place-preserved c =
+    let rules = c.args.rules.now in
+    let list = c.args.list.now in
+    let events = c.args.events.now in
+    let place = c.loop-place.place in
+    let event = c.index-events-place.result in
+    let machine = c.loop-place.machine in
+    let within : place < length events = omega arith in
+    let is = slice_get_read events (length events) place event refl within c.index-events-place.is in
+    let here : fault_at rules list events place ≡ None = fault_told rules list events place event (rules_of machine) (state_of machine) None is c.loop-place.invariant.rules c.loop-place.invariant.state c.in_default.ensures.told in
+    let allowed = allowed_more rules list events place c.loop-place.invariant.allowed here in
+    let next = copied_get events (place + 1) c.get.result c.get.ensures.lookup.0 c.get.ensures.lookup.1 in
+    record {
+      rules = c.in_default.ensures.rules ∙ c.loop-place.invariant.rules;
+      state = state_left rules list events place event (rules_of machine) (state_of machine) (state_of c.step.new.self) (option_copied c.get.result) is
+          c.loop-place.invariant.rules c.loop-place.invariant.state next allowed c.in_default.ensures.state;
+      allowed = allowed;
+    }

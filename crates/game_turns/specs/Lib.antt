@@ -1,0 +1,11 @@
+pub mod Seats
+pub mod Standing
+pub mod Tallies
+pub mod Checks
+pub mod Places
+pub mod Changes
+pub mod Answers
+pub mod LatestEvents
+pub mod Machines
+pub mod Laws
+pub mod Passing

@@ -1,0 +1,24 @@
+-- What contracts see of a machine: its rules, and the state of the game.
+use Rattle.ref_tiles.specs.declared.rulebook.Rules.{Rules}
+use Rattle.game_turns.specs.declared.machine.Machine.{Machine}
+use Rattle.game_turns.specs.Tallies.{State}
+use Rattle.game_turns.specs.LatestEvents.{latest_of}
+
+-- the rules that the game is judged by
+abbrev pub rules_of : Machine → Rules
+rules_of machine = machine.rules
+
+-- the state of the game
+abbrev pub state_of : Machine → State
+state_of machine =
+    record {
+      board = machine.board;
+      sides = machine.sides;
+      bag = machine.bag;
+      mover = machine.mover;
+      zero_run = machine.zero_run;
+      out = machine.out;
+      idle_pass = machine.idle_pass;
+      complete = machine.complete;
+      latest = latest_of machine.latest;
+    }

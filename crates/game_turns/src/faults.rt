@@ -1,0 +1,36 @@
+use ref_play::PlayFault;
+
+/// Why the rules do not allow an event.
+#[derive(Clone, Copy, Debug, PartialEq, Eq)]
+pub enum RuleFault {
+    /// The turn is the other player's.
+    NotYourTurn,
+    /// The text names no play, or the play is not legal.
+    Play(PlayFault),
+    /// The score is not this one.
+    WrongScore(i32),
+    /// The running total is not this one.
+    WrongTotal(i32),
+    /// There is no play of this player to take back; or there is one, and the event is something else.
+    NothingToWithdraw,
+    /// The play that is taken back forms listed words alone.
+    WithdrawnValid,
+    /// The challenged play forms no listed word.
+    BonusOnPhony,
+    /// There is no play of this player to challenge, or its listed words do not give this bonus.
+    BadBonus,
+    /// The bag has too few tiles for an exchange.
+    ExchangeRefused,
+    /// The exchange is of more tiles than the rack or the bag has.
+    ExchangeSize,
+    /// The turns are over, or the game is.
+    GameOver,
+    /// No last rack is due yet.
+    NotOver,
+    /// The last rack has more or fewer tiles than that.
+    LastRackSize,
+    /// The penalty is not a multiple of the step, or it is the player's second.
+    BadTime,
+    /// The play has more tiles than the rack.
+    TooManyUsed,
+}

@@ -1,0 +1,9 @@
+//! A law about the definitions that the contracts of turns cite. The function does nothing: its contract is the
+//! law.
+ghost use Rattle.game_turns.specs.Laws.{NextTallyIsAfter};
+
+/// The state that an allowed event leaves is the tally at the next place. The tally is read from the list of the
+/// events alone, so what the machine keeps event by event is what the whole record says.
+pub fn law_of_tallies()
+    ensures { NextTallyIsAfter }
+{}

@@ -1,0 +1,30 @@
+//! The turns of a game: whether the rules allow each event of a record, and the first check that fails.
+#![tactic(auto)]
+
+mod amounts;
+mod changes;
+mod checks;
+mod faults;
+mod kinds;
+mod latest;
+mod laws;
+mod listing;
+mod machine;
+mod passed;
+mod playing;
+mod replaying;
+mod seats;
+mod sides;
+mod steps;
+mod turns;
+
+pub use faults::RuleFault;
+pub use laws::law_of_tallies;
+pub use listing::all_listed;
+pub use machine::Machine;
+pub use passed::Passed;
+pub use playing::{Refusal, play_through};
+pub use turns::Turn;
+
+#[cfg(test)]
+mod tests;

@@ -1,0 +1,64 @@
+ghost use Rattle.std.specs.Prelude.{◌≡◌, ◌↔◌, length, IsOk, IfOk, OnOk, IfErr};
+ghost use Rattle.game_turns.specs.Tallies.{tally_at};
+ghost use Rattle.game_turns.specs.Places.{AreAllowed, IsFirstRefusal};
+ghost use Rattle.game_turns.specs.Machines.{state_of};
+ghost use Rattle.game_turns.specs.Passing.{rules_in, record_in, list_in};
+
+use crate::faults::RuleFault;
+use crate::machine::Machine;
+use crate::passed::Passed;
+use gcg_read::{Event, Record};
+use lex_list::WordList;
+use ref_tiles::Rules;
+
+/// The first event that the rules do not allow.
+#[derive(Clone, Copy, Debug, PartialEq, Eq)]
+pub struct Refusal {
+    /// Its line.
+    pub line: u32,
+    /// The first check that fails.
+    pub fault: RuleFault,
+}
+
+/// The machine behind all of the events, or the first event that the rules do not allow.
+fn play_events(rules: &Rules, events: &[Event], list: &WordList) -> Result<Machine, Refusal>
+    ensures state { IfOk result (λ machine.
+        state_of machine ≡ tally_at rules.now events.now (length events.now)) }
+    ensures allowed { OnOk result (AreAllowed rules.now list.now events.now) }
+    ensures refused { IfErr result (λ r. IsFirstRefusal rules.now list.now events.now r.line r.fault) }
+{
+    let mut machine = Machine::new(rules);
+    for (place, event) in events.iter().enumerate() {
+        if let Err(fault) = machine.step(event, events.get(place + 1), list) {
+            return Err(Refusal {
+                line: event.line,
+                fault,
+            });
+        }
+    }
+    Ok(machine)
+}
+
+/// Judges the events of a record in their order, by rules and a word list.
+///
+/// Where the rules allow every event, the record has passed; else the answer is the line of the first event that
+/// they do not allow, and the first check that fails there.
+pub fn play_through<'a>(
+    rules: &'a Rules,
+    record: &'a Record,
+    list: &'a WordList,
+) -> Result<Passed<'a>, Refusal>
+    ensures passed { IsOk result ↔ AreAllowed rules.now list.now record.now.events }
+    ensures rules { IfOk result (λ passed. rules_in passed ≡ rules.now) }
+    ensures record { IfOk result (λ passed. record_in passed ≡ record.now) }
+    ensures list { IfOk result (λ passed. list_in passed ≡ list.now) }
+    ensures refused { IfErr result (λ r. IsFirstRefusal rules.now list.now record.now.events r.line r.fault) }
+{
+    let machine = play_events(rules, record.events.as_slice(), list)?;
+    Ok(Passed {
+        rules,
+        record,
+        list,
+        complete: machine.finished(),
+    })
+}

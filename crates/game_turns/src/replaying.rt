@@ -1,0 +1,24 @@
+ghost use Rattle.std.specs.Prelude.{◌≡◌, ◌+◌, ◌<◌, length};
+ghost use Rattle.game_turns.specs.Machines.{rules_of, state_of};
+ghost use Rattle.game_turns.specs.Tallies.{tally_at};
+
+use crate::machine::Machine;
+use crate::passed::Passed;
+
+impl Passed<'_> {
+    ghost use Rattle.game_turns.specs.Passing.{rules_in, record_in, list_in};
+
+    /// Takes the event at a place of the record, from 0, on a machine that took those before it.
+    pub fn take_event(&self, machine: &mut Machine, place: usize)
+        requires place { place < length (record_in self.now).events }
+        requires rules { rules_of machine.old ≡ rules_in self.now }
+        requires state { state_of machine.old ≡ tally_at (rules_in self.now) (record_in self.now).events place }
+        ensures rules { rules_of machine.new ≡ rules_in self.now }
+        ensures state { state_of machine.new ≡ tally_at (rules_in self.now) (record_in self.now).events (place + 1) }
+    {
+        let events = self.record.events.as_slice();
+        let Ok(_) = machine.step(&events[place], events.get(place + 1), self.list) else {
+            unreachable!()
+        };
+    }
+}

@@ -1,0 +1,32 @@
+-- What a second reading gives.
+use Rattle.std.specs.Prelude.{◌≡◌, ◌≤◌, ℕ, ◌+◌, false, eqb, List, [], ◌∷◌, length, codes, Ok}
+use Rattle.std.specs.List.{ends_with}
+use Rattle.gcg_read.specs.declared.events.Event.{Event}
+use Rattle.gcg_read.specs.declared.players.Player.{Player}
+use Rattle.gcg_read.specs.declared.records.Record.{Record}
+use Rattle.gcg_read.specs.Records.{record_of}
+use Rattle.gcg_write.specs.Normal.{player_lines, normal_of}
+
+-- the same events on lines one below the other, the first of which has this number
+abbrev pub renumbered : ℕ → List Event → List Event
+renumbered line [] = []
+renumbered line (event ∷ events) = record event { line = line } ∷ renumbered (line + 1) events
+
+-- the line of the first event in the normal form: those of the players stand above it
+abbrev pub first_line : Record → ℕ
+first_line r = 1 + length (player_lines (codes "#player1 ") r.players.first) + length (player_lines (codes "#player2 ") r.players.second)
+
+-- the same players and events, with the lines of the normal form
+abbrev pub normal_record : Record → Record
+normal_record r = record r { events = renumbered (first_line r) r.events }
+
+-- no name ends in CR (13)
+abbrev pub EndsInNoReturn : Player → Type 0
+EndsInNoReturn player = (ends_with eqb player.nick (13 ∷ []) ≡ false) × (ends_with eqb player.full (13 ∷ []) ≡ false)
+
+-- The normal form of a record that was read says the same record but for the numbers of its lines, which are those
+-- of the normal form, where it is short enough to be read and no name ends in CR.
+abbrev pub IsReadAgain : Type 0
+IsReadAgain =
+    (text : List ℕ) (r : Record) → record_of text ≡ Ok r → EndsInNoReturn r.players.first → EndsInNoReturn r.players.second
+    → length (normal_of r) ≤ 1048576 → record_of (normal_of r) ≡ Ok (normal_record r)
