@@ -4,6 +4,8 @@ use Rattle.std.proofs.lemmas.List.{take_more, reverse-append}
 use Rattle.std.specs.Borrow.{Bor}
 use Rattle.std.specs.Option.{option_copied, is_some, IfSome}
 use Rattle.std.proofs.lemmas.Option.{slice_get_past, slice_get_read, slice_get_within, slice_get-get_or, get_or_from_slice_get}
+use Rattle.ref_play.specs.Laws.{TakingBackRestores}
+use Rattle.game_turns.specs.Laws.{NextTallyIsAfter}
 use Rattle.ref_tiles.specs.declared.rulebook.Rules.{Rules}
 use Rattle.gcg_read.specs.declared.events.Event.{Event}
 use Rattle.std.proofs.lemmas.Bool.{cases_eq, ltb-true, ltb-false}
@@ -45,16 +47,16 @@ latest_at rules list (d ∷ rest) (suc place) within allowed =
     let past : reverse (take (suc place) events) ≡ e ∷ reverse (take place events) = ap (λ k. reverse (take k events)) (sym step) ∙ past_more events place e is in
     subst (IsLatest rules list) (sym past) (next_at rules list events place e is (allowed place (omega arith)))
 
-pub next_tally : (rules : Rules) (list : List (List ℕ)) (events : List Event) (place : ℕ) (e : Event) → slice_get events place ≡ Some e → AreAllowedTo rules list events (place + 1)
+pub next_tally : TakingBackRestores → (rules : Rules) (list : List (List ℕ)) (events : List Event) (place : ℕ) (e : Event) → slice_get events place ≡ Some e → AreAllowedTo rules list events (place + 1)
     → after rules (tally_at rules events place) e (withdraws (slice_get events (place + 1))) ≡ tally_at rules events (place + 1)
-next_tally rules list events place e is allowed =
+next_tally restores rules list events place e is allowed =
     let within = slice_get_within events place e is in
     let w = withdraws (slice_get events (place + 1)) in
     let past = reverse (take place events) in
     let before = latest_at rules list events place (omega arith) (λ k below. allowed k (omega arith)) in
     let here = next_at rules list events place e is (allowed place (omega arith)) in
     ap (λ o. after rules (tally rules (withdraws o) past) e w) is
-    ∙ tally_after rules list past e w before here ∙ ap (tally rules w) (sym (past_more events place e is))
+    ∙ tally_after restores rules list past e w before here ∙ ap (tally rules w) (sym (past_more events place e is))
 
 same_start : (rules : Rules) (w : Bool) → tally rules false [] ≡ tally rules w []
 unfolding tally
@@ -82,12 +84,12 @@ fault_told rules list events place e own s o is same_rules same_state told =
     ∙ sym (ap (λ t. fault_in own list t e) same_state) ∙ told
 
 -- and leaves the tally at the next place
-pub state_left : (rules : Rules) (list : List (List ℕ)) (events : List Event) (place : ℕ) (e : Event) (own : Rules) (s new : State) (next : Option Event)
+pub state_left : NextTallyIsAfter → (rules : Rules) (list : List (List ℕ)) (events : List Event) (place : ℕ) (e : Event) (own : Rules) (s new : State) (next : Option Event)
     → slice_get events place ≡ Some e → own ≡ rules → s ≡ tally_at rules events place → next ≡ slice_get events (place + 1)
     → AreAllowedTo rules list events (place + 1) → new ≡ after own s e (withdraws next) → new ≡ tally_at rules events (place + 1)
-state_left rules list events place e own s new next is same_rules same_state same_next allowed left =
+state_left law rules list events place e own s new next is same_rules same_state same_next allowed left =
     left ∙ ap (λ r. after r s e (withdraws next)) same_rules ∙ ap (λ t. after rules t e (withdraws next)) same_state
-    ∙ ap (λ o. after rules (tally_at rules events place) e (withdraws o)) same_next ∙ next_tally rules list events place e is allowed
+    ∙ ap (λ o. after rules (tally_at rules events place) e (withdraws o)) same_next ∙ law rules list events place e is allowed
 
 -- what a look-up in the events gives
 pub copied_get : (events : List Event) (place : ℕ) (o : Option (Bor Event)) → is_some o ≡ nat_lt place (length events) → IfSome o (λ x. x.now ≡ get_or events place x.now)

@@ -9,7 +9,7 @@ use Rattle.ref_play.specs.declared.placed.Placed.{Placed}
 use Rattle.ref_play.specs.Placements.{with_tiles, without_tiles}
 use Rattle.ref_play.specs.Texts.{placement_of}
 use Rattle.ref_play.specs.Legality.{overlaps}
-use Rattle.ref_play.proofs.Taking.{without-with}
+use Rattle.ref_play.specs.Laws.{TakingBackRestores}
 use Rattle.game_turns.specs.declared.sides.Sides.{Sides}
 use Rattle.gcg_read.specs.Players.{other_seat}
 use Rattle.gcg_read.specs.declared.events.Seat.{Seat}
@@ -260,13 +260,13 @@ withdrawn_alike t a b x y u v boards sides runs =
 abbrev pub withdraw_made : ℕ → Seat → Option (List ℕ) → ℤ → ℤ → Event
 withdraw_made line player rack score total = made line player rack kind.Withdraw score total
 
-pub first_withdraws : (rules : Rules) (past : List Event) (line : ℕ) (rack : Option (List ℕ)) (dir : Dir) (at : ℕ) (word : List Symbol) (score total : ℤ)
+pub first_withdraws : TakingBackRestores → (rules : Rules) (past : List Event) (line : ℕ) (rack : Option (List ℕ)) (dir : Dir) (at : ℕ) (word : List Symbol) (score total : ℤ)
     (line2 : ℕ) (rack2 : Option (List ℕ)) (score2 total2 : ℤ) (w : Bool)
     → length (laid_at past dir at word) ≤ rack_at rules First false past
     → overlaps (board_at false past) (laid_at past dir at word) ≡ false
     → after rules (tally rules true ((play_made line First rack dir at word score total) ∷ past)) (withdraw_made line2 First rack2 score2 total2) w ≡ tally rules w ((withdraw_made line2 First rack2 score2 total2) ∷ (play_made line First rack dir at word score total) ∷ past)
 unfolding tally after after_withdraw
-first_withdraws rules past line rack dir at word score total line2 rack2 score2 total2 true fits free =
+first_withdraws restores rules past line rack dir at word score total line2 rack2 score2 total2 true fits free =
     let ps = laid_at past dir at word in
     let whole = rack_after rules First (standing false past) in
     let t = tally rules true ((withdraw_made line2 First rack2 score2 total2) ∷ (play_made line First rack dir at word score total) ∷ past) in
@@ -275,10 +275,10 @@ first_withdraws rules past line rack dir at word score total line2 rack2 score2 
     (without_tiles (with_tiles (board_at false past) ps) ps) (board_at false past)
     (with_rack t.sides First (whole - (length ps + 0) + length ps)) (with_rack t.sides First (whole - 0))
     (min rules.zero_limit (min rules.zero_limit (idle_turns rules false past) + 1)) (min rules.zero_limit (idle_turns rules false past + 1))
-    (without-with (board_at false past) ps free)
+    (restores (board_at false past) ps free)
     (ap (λ (r : ℕ). with_rack t.sides First r) (rack_restored whole (length ps) within))
     (run_more rules.zero_limit (idle_turns rules false past))
-first_withdraws rules past line rack dir at word score total line2 rack2 score2 total2 false fits free =
+first_withdraws restores rules past line rack dir at word score total line2 rack2 score2 total2 false fits free =
     let ps = laid_at past dir at word in
     let whole = rack_after rules First (standing false past) in
     let t = tally rules false ((withdraw_made line2 First rack2 score2 total2) ∷ (play_made line First rack dir at word score total) ∷ past) in
@@ -287,17 +287,17 @@ first_withdraws rules past line rack dir at word score total line2 rack2 score2 
     (without_tiles (with_tiles (board_at false past) ps) ps) (board_at false past)
     (with_rack t.sides First (whole - (length ps + 0) + length ps)) (with_rack t.sides First (whole - 0))
     (min rules.zero_limit (min rules.zero_limit (idle_turns rules false past) + 1)) (min rules.zero_limit (idle_turns rules false past + 1))
-    (without-with (board_at false past) ps free)
+    (restores (board_at false past) ps free)
     (ap (λ (r : ℕ). with_rack t.sides First r) (rack_restored whole (length ps) within))
     (run_more rules.zero_limit (idle_turns rules false past))
 
-pub second_withdraws : (rules : Rules) (past : List Event) (line : ℕ) (rack : Option (List ℕ)) (dir : Dir) (at : ℕ) (word : List Symbol) (score total : ℤ)
+pub second_withdraws : TakingBackRestores → (rules : Rules) (past : List Event) (line : ℕ) (rack : Option (List ℕ)) (dir : Dir) (at : ℕ) (word : List Symbol) (score total : ℤ)
     (line2 : ℕ) (rack2 : Option (List ℕ)) (score2 total2 : ℤ) (w : Bool)
     → length (laid_at past dir at word) ≤ rack_at rules Second false past
     → overlaps (board_at false past) (laid_at past dir at word) ≡ false
     → after rules (tally rules true ((play_made line Second rack dir at word score total) ∷ past)) (withdraw_made line2 Second rack2 score2 total2) w ≡ tally rules w ((withdraw_made line2 Second rack2 score2 total2) ∷ (play_made line Second rack dir at word score total) ∷ past)
 unfolding tally after after_withdraw
-second_withdraws rules past line rack dir at word score total line2 rack2 score2 total2 true fits free =
+second_withdraws restores rules past line rack dir at word score total line2 rack2 score2 total2 true fits free =
     let ps = laid_at past dir at word in
     let whole = rack_after rules Second (standing false past) in
     let t = tally rules true ((withdraw_made line2 Second rack2 score2 total2) ∷ (play_made line Second rack dir at word score total) ∷ past) in
@@ -306,10 +306,10 @@ second_withdraws rules past line rack dir at word score total line2 rack2 score2
     (without_tiles (with_tiles (board_at false past) ps) ps) (board_at false past)
     (with_rack t.sides Second (whole - (length ps + 0) + length ps)) (with_rack t.sides Second (whole - 0))
     (min rules.zero_limit (min rules.zero_limit (idle_turns rules false past) + 1)) (min rules.zero_limit (idle_turns rules false past + 1))
-    (without-with (board_at false past) ps free)
+    (restores (board_at false past) ps free)
     (ap (λ (r : ℕ). with_rack t.sides Second r) (rack_restored whole (length ps) within))
     (run_more rules.zero_limit (idle_turns rules false past))
-second_withdraws rules past line rack dir at word score total line2 rack2 score2 total2 false fits free =
+second_withdraws restores rules past line rack dir at word score total line2 rack2 score2 total2 false fits free =
     let ps = laid_at past dir at word in
     let whole = rack_after rules Second (standing false past) in
     let t = tally rules false ((withdraw_made line2 Second rack2 score2 total2) ∷ (play_made line Second rack dir at word score total) ∷ past) in
@@ -318,6 +318,6 @@ second_withdraws rules past line rack dir at word score total line2 rack2 score2
     (without_tiles (with_tiles (board_at false past) ps) ps) (board_at false past)
     (with_rack t.sides Second (whole - (length ps + 0) + length ps)) (with_rack t.sides Second (whole - 0))
     (min rules.zero_limit (min rules.zero_limit (idle_turns rules false past) + 1)) (min rules.zero_limit (idle_turns rules false past + 1))
-    (without-with (board_at false past) ps free)
+    (restores (board_at false past) ps free)
     (ap (λ (r : ℕ). with_rack t.sides Second r) (rack_restored whole (length ps) within))
     (run_more rules.zero_limit (idle_turns rules false past))

@@ -103,14 +103,8 @@ impl Machine {
         ensures { items_of result.now ≡ standing_words (state_of self.now).latest }
     {
         match &self.latest {
-            LatestEvent::Played(laid) => {
-                if laid.stands {
-                    &laid.words
-                } else {
-                    &[]
-                }
-            }
-            LatestEvent::TakenBack(_) | LatestEvent::Other => &[],
+            LatestEvent::Played(laid) if laid.stands => &laid.words,
+            LatestEvent::Played(_) | LatestEvent::TakenBack(_) | LatestEvent::Other => &[],
         }
     }
 }

@@ -5,6 +5,7 @@ ghost use Rattle.game_turns.specs.Machines.{state_of};
 ghost use Rattle.game_turns.specs.Passing.{rules_in, record_in, list_in};
 
 use crate::faults::RuleFault;
+use crate::laws::law_of_tallies;
 use crate::machine::Machine;
 use crate::passed::Passed;
 use gcg_read::{Event, Record};
@@ -27,6 +28,7 @@ fn play_events(rules: &Rules, events: &[Event], list: &WordList) -> Result<Machi
     ensures allowed { OnOk result (AreAllowed rules.now list.now events.now) }
     ensures refused { IfErr result (λ r. IsFirstRefusal rules.now list.now events.now r.line r.fault) }
 {
+    law_of_tallies();
     let mut machine = Machine::new(rules);
     for (place, event) in events.iter().enumerate() {
         if let Err(fault) = machine.step(event, events.get(place + 1), list) {

@@ -2,6 +2,7 @@ ghost use Rattle.std.specs.Prelude.{◌≡◌, ◌+◌, ◌<◌, length};
 ghost use Rattle.game_turns.specs.Machines.{rules_of, state_of};
 ghost use Rattle.game_turns.specs.Tallies.{tally_at};
 
+use crate::laws::law_of_tallies;
 use crate::machine::Machine;
 use crate::passed::Passed;
 
@@ -16,6 +17,7 @@ impl Passed<'_> {
         ensures rules { rules_of machine.new ≡ rules_in self.now }
         ensures state { state_of machine.new ≡ tally_at (rules_in self.now) (record_in self.now).events (place + 1) }
     {
+        law_of_tallies();
         let events = self.record.events.as_slice();
         let Ok(_) = machine.step(&events[place], events.get(place + 1), self.list) else {
             unreachable!()

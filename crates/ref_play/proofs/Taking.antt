@@ -5,10 +5,12 @@ use Rattle.std.proofs.lemmas.List.{length-set, get_or-set_same, get_or-set_other
 use Rattle.std.proofs.lemmas.List.Elements.{All-nil, All-cons, All-head, All-tail}
 use Rattle.std.proofs.lemmas.Bool.{cases_eq, cases_lt, cases_Bool, or_cases, or_parts, or_from, and_parts, eqb-true, ltb-true, ne_eqb, eqb-false, false≢true}
 use Rattle.ref_tiles.specs.declared.tiles.Tile.{Tile}
+use Rattle.ref_board.specs.declared.directions.Dir.{Dir}
 use Rattle.ref_board.specs.Cells.{tile_at, holds, with_tile}
 use Rattle.ref_play.specs.declared.placed.Placed.{Placed}
-use Rattle.ref_play.specs.Placements.{with_tiles, without_tiles, HasTiles, EmptiesSquares, are_rising, covers}
+use Rattle.ref_play.specs.Placements.{with_tiles, without_tiles, HasTiles, EmptiesSquares, is_play, are_rising, covers}
 use Rattle.ref_play.specs.Legality.{overlaps}
+use Rattle.ref_play.proofs.PlaceLaws.{is_play-parts}
 
 none_from_false : (o : Option Tile) → is_some o ≡ false → o ≡ None
 none_from_false None e = refl
@@ -101,7 +103,7 @@ uncovered (p ∷ ps) square e =
     or_from (p.square == square) (covers ps square) (ne_eqb p.square square (λ s. omega arith)) (uncovered ps square parts.1)
 
 -- each tile of a rising placement lies on its square once all are put down
-pub with-has : (ps : List Placed) (board : List (Option Tile)) → are_rising ps ≡ true → list_all (λ (p : Placed). nat_lt p.square 225) ps ≡ true → length board ≡ 225
+with-has : (ps : List Placed) (board : List (Option Tile)) → are_rising ps ≡ true → list_all (λ (p : Placed). nat_lt p.square 225) ps ≡ true → length board ≡ 225
     → HasTiles (with_tiles board ps) ps
 with-has [] board rising within size = All-nil (λ (q : Placed). tile_at board q.square ≡ Some q.tile)
 with-has (p ∷ ps) board rising within size =
@@ -151,3 +153,7 @@ pub without_tiles_more : (board : List (Option Tile)) (ps : List Placed) (i : �
 without_tiles_more board ps i p within is =
     let at : drop i ps ≡ p ∷ drop (i + 1) ps = at_drop_more (λ qs. qs) ps i p within ∙ ap (λ q. q ∷ drop (i + 1) ps) (sym is) in
     ap (λ qs. without_tiles board qs) at
+
+-- each tile of a play lies on its square once the play is on the board
+pub laid_has : (d : Dir) (board : List (Option Tile)) (ps : List Placed) → is_play d ps ≡ true → length board ≡ 225 → HasTiles (with_tiles board ps) ps
+laid_has d board ps e size = let parts = is_play-parts d ps e in with-has ps board parts.2 parts.1 size

@@ -68,6 +68,7 @@ pub fn judge(board: &Board, play: &Play) -> Result<(), PlayFault>
 }
 
 /// Puts the tiles of a legal play on the board.
+#[tactic(auto, using(crate::proofs::Taking::laid_has))]
 pub fn apply(board: &mut Board, play: &Play)
     requires { IsLegal board.old play.now.tiles.items }
     ensures board { board.new ≡ with_tiles board.old play.now.tiles.items }

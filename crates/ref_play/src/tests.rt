@@ -303,6 +303,25 @@ fn tiles_put_down(rt: HostRuntime) {
 }
 
 #[test]
+fn tiles_taken_back(rt: HostRuntime) {
+    let before = after(&rt, rt.alloc(), &[WORD]);
+    let mut board = before;
+    match judged(&rt, rt.alloc(), &board, AT) {
+        Ok(play) => {
+            apply(&mut board, &play);
+            assert!(rt; board != before);
+            let copy = play.copy();
+            assert!(rt; copy.dir == play.dir);
+            assert!(rt; copy.tiles.as_slice() == play.tiles.as_slice());
+            undo(&mut board, &copy);
+            assert!(rt; board == before);
+        }
+        Err(fault) => assert!(rt; false, "{fault:?}"),
+    }
+    law_of_undoing();
+}
+
+#[test]
 fn names(rt: HostRuntime) {
     assert_eq!(rt; PlayFault::OffBoard.name(), "OffBoard");
     assert_eq!(rt; PlayFault::Apart.name(), "Apart");

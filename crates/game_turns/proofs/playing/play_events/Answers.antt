@@ -45,7 +45,7 @@ loop-place-preserved c =
     let next = copied_get events (place + 1) c.get.result c.get.ensures.lookup.0 c.get.ensures.lookup.1 in
     record {
       rules = c.in_default.ensures.rules ∙ c.loop-place.invariant.rules;
-      state = state_left rules list events place event (rules_of machine) (state_of machine) (state_of c.step.new.self) (option_copied c.get.result) is
+      state = state_left c.law_of_tallies.ensures rules list events place event (rules_of machine) (state_of machine) (state_of c.step.new.self) (option_copied c.get.result) is
           c.loop-place.invariant.rules c.loop-place.invariant.state next allowed c.in_default.ensures.state;
       allowed = allowed;
     }
