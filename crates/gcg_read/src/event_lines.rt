@@ -5,7 +5,6 @@ ghost use Rattle.gcg_read.specs.Cutting.{fields_of};
 ghost use Rattle.gcg_read.specs.EventLines.{has_digit, scored_of, played_of, coded_of, event_of};
 
 use crate::codes::read_code;
-use crate::cutting::{Field, next_field};
 use crate::events::{Event, EventKind, Seat};
 use crate::faults::Why;
 use crate::points::Points;
@@ -13,6 +12,7 @@ use crate::positions::read_position;
 use crate::racks::read_rack;
 use crate::texts::Text;
 use ref_tiles::Counts;
+use text_lines::{Field, next_field};
 
 /// What an event line says before its fields.
 #[derive(Clone, Copy)]

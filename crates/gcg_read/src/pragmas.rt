@@ -3,9 +3,9 @@ ghost use Rattle.std.specs.List.{before_first, after_first, list_any};
 ghost use Rattle.gcg_read.specs.Cutting.{is_blank, is_colon};
 ghost use Rattle.gcg_read.specs.Pragmas.{front_trimmed, end_trimmed, trimmed, is_nick, seat_named, names_of, naming_of, naming_in};
 
-use crate::cutting::{find_blank, find_filled};
 use crate::events::Seat;
 use bstr::ByteSlice;
+use text_lines::{find_blank, find_filled};
 
 /// The names that a pragma gives a player.
 #[derive(Clone, Copy)]

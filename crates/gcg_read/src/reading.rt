@@ -3,13 +3,14 @@ ghost use Rattle.gcg_read.specs.Faults.{Gives, Makes};
 ghost use Rattle.gcg_read.specs.Cutting.{lines_in};
 ghost use Rattle.gcg_read.specs.Records.{no_record, with_event, with_pragma, with_line, record_from, record_of, entry_of, IsEntry};
 
-use crate::cutting::{cut_line, read_head, without_mark};
+use crate::cutting::read_head;
 use crate::event_lines::{Heading, read_event};
 use crate::events::Event;
 use crate::faults::{ReadFault, Why};
 use crate::pragmas::read_naming;
 use crate::records::Record;
 use std::alloc::Global;
+use text_lines::{cut_line, without_mark};
 
 /// The most bytes of a record.
 pub const MAX_BYTES: usize = 1_048_576;

@@ -1,4 +1,3 @@
-pub mod Cuts
 pub mod Orders
 pub mod Steps
 pub mod Laws

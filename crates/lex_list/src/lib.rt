@@ -5,7 +5,6 @@
 //! over. Repeats count once, and empty lines are read over.
 #![tactic(auto)]
 
-mod cutting;
 mod faults;
 mod lists;
 mod reading;

@@ -6,12 +6,12 @@ ghost use Rattle.lex_list.specs.Lines.{lines_in, lines_of};
 ghost use Rattle.lex_list.specs.Lists.{most_bytes, list_in, list_of, line_in, HoldsWordsOf, IsFaultOf, Reads, Makes, IsWordIn};
 ghost use Rattle.lex_list.specs.Words.{has_word_length};
 
-use crate::cutting::{cut_line, without_mark};
 use crate::faults::{ListFault, ListWhy};
 use crate::lists::WordList;
 use crate::words::{MOST_LETTERS, Word};
 use std::alloc::Global;
 use std::collections::BTreeSet;
+use text_lines::{cut_line, without_mark};
 
 /// The most bytes of a word list: 16 MiB.
 pub const MAX_BYTES: usize = 16_777_216;

@@ -1,6 +1,6 @@
 ghost use Rattle.std.specs.Prelude.{◌≡◌, ◌<◌, ◌∷◌, IfSome, length};
 ghost use Rattle.std.specs.List.{position};
-ghost use Rattle.lex_list.specs.Lines.{without_mark, without_return, is_feed, lines_in, lines_behind};
+ghost use Rattle.text_lines.specs.Lines.{without_mark, without_return, is_feed, lines_in, lines_behind};
 
 use bstr::ByteSlice;
 
@@ -42,7 +42,7 @@ fn find_feed(text: &[u8]) -> Option<usize>
 
 /// Cuts the first line off a text. A line ends at LF or at the end of the text, and one CR at its end is
 /// dropped.
-#[tactic(auto, using(crate::proofs::Cuts::lines_cut, crate::proofs::Cuts::lines_end))]
+#[tactic(auto, using(crate::proofs::LineCuts::lines_end))]
 pub fn cut_line(text: &[u8]) -> Cut<'_>
     ensures lines { lines_in text.now ≡ result.line.now ∷ lines_behind result.after }
     ensures shorter { IfSome result.after (λ after. length after.now < length text.now) }

@@ -1,5 +1,5 @@
-use Rattle.gcg_read.proofs.Cuts.{lines_cut}
-use Rattle.gcg_read.proofs.cutting.cut_line.Goals as goal
+use Rattle.text_lines.proofs.LineCuts.{lines_cut}
+use Rattle.text_lines.proofs.lines.cut_line.Goals as goal
 
 pub returns-in-Some-clause-lines : goal.returns-in-Some-clause-lines
 returns-in-Some-clause-lines c =

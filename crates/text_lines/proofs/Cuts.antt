@@ -6,9 +6,8 @@ use Rattle.std.proofs.lemmas.List.Sums.{position_or_len_is, fails_before_first}
 use Rattle.std.proofs.lemmas.List.Splits.{slice_split_none, slice_split_first}
 use Rattle.std.proofs.lemmas.Bool.Decides.{nat_tests}
 use Rattle.bstr.specs.Find.{IsFirstByte}
-use Rattle.lex_list.specs.Lines.{is_feed, lines_in, without_return}
 
-fails : (b : Bool) → (b ≡ true → ⊥) → b ≡ false
+pub fails : (b : Bool) → (b ≡ true → ⊥) → b ≡ false
 fails true h = absurd (h refl)
 fails false h = refl
 
@@ -68,21 +67,3 @@ split_at p text i e =
     let same = there.0 in
     let inside = there.1 in
     rw same at (slice_split_first p text 0 (omega arith))
-
--- ---- lines
-
-pub line_last : (text : List ℕ) → position is_feed text ≡ None → lines_in text ≡ without_return text ∷ []
-unfolding lines_in
-line_last text e = rw (split_none is_feed text e) refl
-
-pub line_next : (text : List ℕ) (i : ℕ) → position is_feed text ≡ Some i → lines_in text ≡ without_return (take i text) ∷ lines_in (drop (i + 1) text)
-unfolding lines_in
-line_next text i e = rw (split_at is_feed text i e) refl
-
-pub lines_cut : (text line : List ℕ) (i : ℕ) → Some i ≡ position is_feed text → line ≡ without_return (take i text)
-    → lines_in text ≡ line ∷ lines_in (take (length text - (i + 1)) (drop (i + 1) text))
-lines_cut text line i e cut =
-    rw (rest_is (i + 1) text, cut) (line_next text i (sym e))
-
-pub lines_end : (text line : List ℕ) → None ≡ position is_feed text → line ≡ without_return text → lines_in text ≡ line ∷ []
-lines_end text line e cut = rw cut (line_last text (sym e))
