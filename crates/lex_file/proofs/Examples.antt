@@ -1,0 +1,150 @@
+-- Files, their languages and their faults as the definitions give them, computed.
+use Rattle.std.proofs.Common.{◌≡◌, ℕ, Bool, true, false, List, [], ◌∷◌, ◌++◌, Some, None, map, take, drop, refl}
+use Rattle.std.specs.Prelude.{codes, ◌==◌, if◌then◌else◌}
+use Rattle.lex_file.specs.declared.faults.FileFault.TheVariants as why
+use Rattle.lex_file.specs.FileWords.{words_in}
+use Rattle.lex_file.specs.Nodes.{run_of, start_at}
+use Rattle.lex_file.specs.Shapes.{arc_fault, arcs_fault, body_fault, header_fault, form_fault, fault_of, file_node, arc_count_of, word_count_of}
+use Rattle.lex_file.specs.Languages.{tail_in, language_of}
+use Rattle.lex_file.specs.RotatedPaths.{label_of, mark, path_of, is_path_behind, is_path}
+
+-- the labels of a text, where + stands for the mark
+abbrev labels : List ℕ → List ℕ
+labels text = map (λ byte. if byte == 43 then mark else label_of byte) text
+
+-- a word of 32 bits of which the two high bytes are 0
+abbrev word : ℕ → ℕ → List ℕ
+word low high = low ∷ high ∷ 0 ∷ 0 ∷ []
+
+-- a header of numbers below 256
+abbrev header : ℕ → ℕ → ℕ → List ℕ
+header arcs root words = codes "GAD1" ++ word arcs 0 ++ word root 0 ++ word words 0
+
+-- the arcs of the word AT, whose paths are A+T and TA
+abbrev arcs_of_at : List ℕ
+arcs_of_at = word 0x74 0 ++ word 0xc0 0 ++ word 0x61 0 ++ word 0x01 1 ++ word 0xd4 1
+
+-- the file of the word AT
+abbrev at_file : List ℕ
+at_file = header 5 4 1 ++ arcs_of_at
+
+-- the file of the words AT and IT, with the node of +T shared
+abbrev at_it_file : List ℕ
+at_it_file = header 7 5 2 ++ word 0x74 0 ++ word 0xc0 0 ++ word 0x21 0 ++ word 0x69 0 ++ word 0x01 1 ++ word 0x09 1 ++ word 0xd4 1
+
+-- which of some texts are in the language of a file
+abbrev accepted : List ℕ → List (List ℕ) → List Bool
+accepted bytes texts = map (λ text. language_of bytes (labels text)) texts
+
+at_shape : fault_of (at_file) ≡ None
+unfolding fault_of form_fault header_fault body_fault arcs_fault arc_fault words_in start_at
+at_shape = refl
+
+at_it_shape : fault_of (at_it_file) ≡ None
+unfolding fault_of form_fault header_fault body_fault arcs_fault arc_fault words_in start_at
+at_it_shape = refl
+
+empty_shape : fault_of (header 0 0 0) ≡ None
+unfolding fault_of form_fault header_fault body_fault arcs_fault arc_fault words_in start_at
+empty_shape = refl
+
+at_language : accepted at_file (codes "A+T" ∷ codes "TA" ∷ codes "" ∷ codes "A" ∷ codes "AT" ∷ codes "T" ∷ codes "+T" ∷ codes "A+" ∷ codes "TA+" ∷ codes "A+TA" ∷ [])
+    ≡ true ∷ true ∷ false ∷ false ∷ false ∷ false ∷ false ∷ false ∷ false ∷ false ∷ []
+unfolding tail_in file_node run_of words_in
+at_language = refl
+
+at_it_language : accepted at_it_file (codes "A+T" ∷ codes "I+T" ∷ codes "TA" ∷ codes "TI" ∷ codes "I" ∷ codes "IT" ∷ codes "+T" ∷ [])
+    ≡ true ∷ true ∷ true ∷ true ∷ false ∷ false ∷ false ∷ []
+unfolding tail_in file_node run_of words_in
+at_it_language = refl
+
+empty_language : accepted (header 0 0 0) (codes "" ∷ codes "A" ∷ codes "A+T" ∷ []) ≡ false ∷ false ∷ false ∷ []
+unfolding tail_in file_node run_of words_in
+empty_language = refl
+
+at_counts : (word_count_of at_file ∷ arc_count_of at_file ∷ []) ≡ 1 ∷ 5 ∷ []
+unfolding words_in arc_count_of
+at_counts = refl
+
+-- ---- changes of the file of AT, and their faults
+
+no_byte : fault_of ([]) ≡ Some why.Short
+unfolding fault_of form_fault header_fault body_fault arcs_fault arc_fault words_in start_at
+no_byte = refl
+
+fifteen_bytes : fault_of (take 15 at_file) ≡ Some why.Short
+unfolding fault_of form_fault header_fault body_fault arcs_fault arc_fault words_in start_at
+fifteen_bytes = refl
+
+sixteen_bytes : fault_of (take 16 at_file) ≡ Some why.Length
+unfolding fault_of form_fault header_fault body_fault arcs_fault arc_fault words_in start_at
+sixteen_bytes = refl
+
+last_byte_missing : fault_of (take 35 at_file) ≡ Some why.Length
+unfolding fault_of form_fault header_fault body_fault arcs_fault arc_fault words_in start_at
+last_byte_missing = refl
+
+byte_more : fault_of (at_file ++ 0 ∷ []) ≡ Some why.Length
+unfolding fault_of form_fault header_fault body_fault arcs_fault arc_fault words_in start_at
+byte_more = refl
+
+other_magic : fault_of (0x48 ∷ drop 1 at_file) ≡ Some why.Magic
+unfolding fault_of form_fault header_fault body_fault arcs_fault arc_fault words_in start_at
+other_magic = refl
+
+root_in_a_node : fault_of (header 5 5 1 ++ arcs_of_at) ≡ Some why.Root
+unfolding fault_of form_fault header_fault body_fault arcs_fault arc_fault words_in start_at
+root_in_a_node = refl
+
+no_root : fault_of (header 5 0 1 ++ arcs_of_at) ≡ Some why.Root
+unfolding fault_of form_fault header_fault body_fault arcs_fault arc_fault words_in start_at
+no_root = refl
+
+root_past_the_end : fault_of (header 5 6 1 ++ arcs_of_at) ≡ Some why.Root
+unfolding fault_of form_fault header_fault body_fault arcs_fault arc_fault words_in start_at
+root_past_the_end = refl
+
+root_of_no_arcs : fault_of (header 0 1 0) ≡ Some why.Root
+unfolding fault_of form_fault header_fault body_fault arcs_fault arc_fault words_in start_at
+root_of_no_arcs = refl
+
+label_27 : fault_of (header 5 4 1 ++ word 0x7b 0 ++ drop 20 at_file) ≡ Some why.Label
+unfolding fault_of form_fault header_fault body_fault arcs_fault arc_fault words_in start_at
+label_27 = refl
+
+label_repeated : fault_of (take 32 at_file ++ word 0xc1 1) ≡ Some why.Order
+unfolding fault_of form_fault header_fault body_fault arcs_fault arc_fault words_in start_at
+label_repeated = refl
+
+target_ahead : fault_of (take 20 at_file ++ word 0x40 1 ++ drop 24 at_file) ≡ Some why.Target
+unfolding fault_of form_fault header_fault body_fault arcs_fault arc_fault words_in start_at
+target_ahead = refl
+
+target_own_node : fault_of (take 32 at_file ++ word 0x54 2) ≡ Some why.Target
+unfolding fault_of form_fault header_fault body_fault arcs_fault arc_fault words_in start_at
+target_own_node = refl
+
+dead_arc : fault_of (header 5 4 1 ++ word 0x54 0 ++ drop 20 at_file) ≡ Some why.DeadArc
+unfolding fault_of form_fault header_fault body_fault arcs_fault arc_fault words_in start_at
+dead_arc = refl
+
+open_run : fault_of (take 32 at_file ++ word 0x94 1) ≡ Some why.OpenRun
+unfolding fault_of form_fault header_fault body_fault arcs_fault arc_fault words_in start_at
+open_run = refl
+
+-- ---- paths
+
+paths_of_at : map (is_path (codes "AT" ∷ [])) (map labels (codes "A+T" ∷ codes "TA" ∷ codes "" ∷ codes "AT" ∷ codes "TA+" ∷ codes "+AT" ∷ codes "A+T+" ∷ []))
+    ≡ true ∷ true ∷ false ∷ false ∷ false ∷ false ∷ false ∷ []
+unfolding is_path_behind
+paths_of_at = refl
+
+-- the four paths of a word of four letters
+splits : path_of (codes "C") (codes "ARE") ∷ path_of (codes "CA") (codes "RE") ∷ path_of (codes "CAR") (codes "E") ∷ path_of (codes "CARE") [] ∷ []
+    ≡ map labels (codes "C+ARE" ∷ codes "AC+RE" ∷ codes "RAC+E" ∷ codes "ERAC" ∷ [])
+splits = refl
+
+paths_of_care : map (is_path (codes "CARE" ∷ codes "AT" ∷ [])) (map labels (codes "C+ARE" ∷ codes "AC+RE" ∷ codes "RAC+E" ∷ codes "ERAC" ∷ codes "TA" ∷ codes "CA+RE" ∷ codes "CARE" ∷ []))
+    ≡ true ∷ true ∷ true ∷ true ∷ true ∷ false ∷ false ∷ []
+unfolding is_path_behind
+paths_of_care = refl

@@ -1,0 +1,12 @@
+use Rattle.std.proofs.Common.{◌≡◌, None}
+use Rattle.lex_file.specs.FileWords.{words_in}
+use Rattle.lex_file.specs.Nodes.{start_at}
+use Rattle.lex_file.specs.Shapes.{arcs_fault}
+use Rattle.lex_file.proofs.opening.check_arcs.Given as goal
+
+abbrev pub invariant-loop-place : goal.invariant-loop-place
+invariant-loop-place l =
+    record {
+      fine : arcs_fault (words_in l.arcs) l.place ≡ None;
+      node : l.start ≡ start_at (words_in l.arcs) l.place;
+    }

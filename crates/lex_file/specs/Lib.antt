@@ -1,0 +1,11 @@
+pub mod FileWords
+pub mod Arcs
+pub mod Faults
+pub mod Nodes
+pub mod Shapes
+pub mod Languages
+pub mod Lexicons
+pub mod RotatedPaths
+pub mod SoundNodes
+pub mod Files
+pub mod Laws

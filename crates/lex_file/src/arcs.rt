@@ -1,0 +1,27 @@
+ghost use Rattle.std.specs.Prelude.{◌≡◌, ◌<◌, ◌^◌};
+
+/// An arc of a compiled lexicon.
+#[derive(Clone, Copy, Debug, PartialEq, Eq)]
+pub struct Arc {
+    /// The label: 0 for the mark, 1 to 26 for the letters A to Z.
+    pub label: u8,
+    /// Whether the string that ends with this arc is in the set.
+    pub accepts: bool,
+    /// The number of the node that the arc leads to, 0 for none.
+    pub target: u32,
+}
+
+impl Arc {
+    ghost use Rattle.lex_file.specs.Arcs.{arc_of};
+
+    /// The arc that a word of a GAD1 file stores.
+    pub(crate) fn of_word(word: u32) -> Arc
+        ensures { result ≡ arc_of word }
+    {
+        Arc {
+            label: (word % 32) as u8,
+            accepts: word / 32 % 2 == 1,
+            target: word / 128,
+        }
+    }
+}

@@ -1,0 +1,25 @@
+//! Laws about the definitions that the contracts of files and lists cite. The functions do nothing: their contracts
+//! are the laws.
+ghost use Rattle.lex_file.specs.Laws.{LanguageIsSpelt, TailsAreSpelt, NodesHoldArcs, TargetsEndBefore, PathsAreTested};
+
+/// The language of a compiled lexicon is the set of the strings of labels for which there are arcs with these
+/// labels, the first in the root's node, each next one in the node that the arc before targets, the last accepting.
+/// The same holds of the tails of each of its nodes. The contracts of [`crate::LexFile`] tell both by a recursion on
+/// the string.
+pub fn law_of_language()
+    ensures language { LanguageIsSpelt }
+    ensures tails { TailsAreSpelt }
+{}
+
+/// What the checks of an arc say of nodes: an arc's own node, whose first arc they count up to, has the arc; and a
+/// target passes exactly where it is none, or the first arc of a node that ends before the arc's own node begins.
+pub fn law_of_nodes()
+    ensures own { NodesHoldArcs }
+    ensures targets { TargetsEndBefore }
+{}
+
+/// Where words are of capitals alone, a string is a rotated path of one of them exactly where it passes the test that
+/// cuts it at its first mark and reads the word back.
+pub fn law_of_paths()
+    ensures { PathsAreTested }
+{}

@@ -1,0 +1,57 @@
+ghost use Rattle.std.specs.Prelude.{◌≡◌, ◌<◌, ◌≤◌, ℕ, List, [], ◌∷◌, Bool, true, false, IfSome, IfNone, IsSome, IsTrue, length};
+ghost use Rattle.std.specs.List.{list_all};
+ghost use Rattle.lex_file.specs.Lexicons.{is_label, NoTail, NextGives};
+
+/// What a lexicon gives at a label.
+#[derive(Clone, Copy, Debug, PartialEq, Eq)]
+pub struct Step<N> {
+    /// Whether the label alone is a tail of the node.
+    pub accepts: bool,
+    /// The node of the longer tails that begin with the label, without it, where there are some.
+    pub next: Option<N>,
+}
+
+/// A finite set of strings of labels, none of them empty, that is walked label by label.
+///
+/// Each node has a set of tails; those of the root are the set. A whole number of the node, its height, falls with
+/// each step, so every walk ends. Labels are below 27, and a tail has no more labels than the height of its node, so
+/// the tails of a node are finitely many.
+pub trait PathLex {
+    /// A place in a walk.
+    type Node: Copy;
+
+    // Whether a string is in the set.
+    ghost language: { Self → List ℕ → Bool };
+
+    // The nodes of this lexicon.
+    ghost is_node: { Self → Self.Node → Type 0 };
+
+    // Whether a string is a tail of a node.
+    ghost tail: { Self → Self.Node → List ℕ → Bool };
+
+    // A number that falls with each step.
+    ghost height: { Self → Self.Node → ℕ };
+
+    /// The node whose tails are the whole set.
+    fn root(&self) -> Self::Node
+        ensures node { is_node self.now result }
+        ensures tails { (string : List ℕ) → tail self.now result string ≡ language self.now string };
+
+    /// What stands behind a label, or None where no tail of the node begins with it. The node is one that this
+    /// lexicon gave.
+    fn step(&self, node: Self::Node, label: u8) -> Option<Step<Self::Node>>
+        requires { is_node self.now node }
+        ensures none { IfNone result (NoTail (tail self.now) node label) }
+        ensures accepts { IfSome result (λ step. step.accepts ≡ tail self.now node (label ∷ [])) }
+        ensures next { IfSome result (λ step. NextGives (is_node self.now) (tail self.now) (height self.now) node label step.next) }
+        ensures alive { IfSome result (λ step. step.accepts ≡ false → IsSome step.next) };
+
+    // No tail is empty.
+    ghost nonempty: { (lexicon : Self) (node : Self.Node) → is_node lexicon node → tail lexicon node [] ≡ false };
+
+    // The labels of a tail are below 27.
+    ghost labels: { (lexicon : Self) (node : Self.Node) (string : List ℕ) → is_node lexicon node → tail lexicon node string ≡ true → IsTrue (list_all is_label string) };
+
+    // A tail has no more labels than the height of its node.
+    ghost bounded: { (lexicon : Self) (node : Self.Node) (string : List ℕ) → is_node lexicon node → tail lexicon node string ≡ true → length string ≤ height lexicon node };
+}

@@ -1,0 +1,35 @@
+//! Compiled lexicons: a view on the bytes of a file that nobody vouches for, and what every lexicon that is walked
+//! label by label promises.
+//!
+//! A compiled lexicon is a set of strings of labels, 1 to 26 for the letters A to Z and 0 for a mark between the two
+//! parts of a rotated word (Steven Gordon, A Faster Scrabble Move Generation Algorithm, 1994). A file of the format
+//! GAD1 is a list of words of 32 bits, the lowest byte first. The header has 16 bytes: the bytes `GAD1`, the number of
+//! arcs, the root, the number of words. The arcs follow, numbered from 1:
+//!
+//! | bits of an arc | meaning |
+//! |---|---|
+//! | 0 to 4 | label |
+//! | 5 | accepts: the string that ends here is in the set |
+//! | 6 | last arc of its node |
+//! | 7 to 31 | target: the first arc of a node, 0 for none |
+//!
+//! A node is a run of arcs up to the first that is last, and is named by its first arc. Its labels rise, and a target
+//! is a node that ends before the arc's own node begins, so every walk ends. Nodes that no walk reaches are allowed.
+#![tactic(auto)]
+
+mod arcs;
+mod faults;
+mod files;
+mod laws;
+mod lexicons;
+mod opening;
+mod reading;
+
+pub use arcs::Arc;
+pub use faults::FileFault;
+pub use files::{LexFile, Node};
+pub use laws::{law_of_language, law_of_nodes, law_of_paths};
+pub use lexicons::{PathLex, Step};
+
+#[cfg(test)]
+mod tests;

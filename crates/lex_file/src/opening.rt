@@ -1,0 +1,108 @@
+ghost use Rattle.std.specs.Prelude.{◌≡◌, ◌≤◌, ◌<◌, length, slice_index};
+ghost use Rattle.lex_file.specs.FileWords.{words_in};
+ghost use Rattle.lex_file.specs.Faults.{Refuses};
+ghost use Rattle.lex_file.specs.Nodes.{start_at};
+ghost use Rattle.lex_file.specs.Shapes.{label_before, leads_back, arc_fault, body_fault, header_fault, fault_of};
+
+use crate::arcs::Arc;
+use crate::faults::FileFault;
+use crate::reading::{begins, is_first, is_last, is_node, word_at, word_count};
+
+/// The bytes of the header.
+pub const HEADER_BYTES: usize = 16;
+
+/// The most arcs of a file.
+const MOST_ARCS: u32 = 33_554_431;
+
+/// The greatest label, that of Z.
+const GREATEST_LABEL: u8 = 26;
+
+/// Looks for the first fault of a file, in one pass over its arcs.
+#[tactic(auto, unfolding(crate::specs::Shapes::fault_of, crate::specs::Shapes::form_fault))]
+pub fn check_form(bytes: &[u8]) -> Result<(), FileFault>
+    ensures { Refuses result (fault_of bytes.now) }
+{
+    if bytes.len() < HEADER_BYTES {
+        return Err(FileFault::Short);
+    }
+    if !bytes.starts_with(b"GAD1") {
+        return Err(FileFault::Magic);
+    }
+    check_header(bytes)?;
+    check_arcs(&bytes[HEADER_BYTES..])
+}
+
+/// Looks for the first fault of a header.
+#[tactic(auto, using(crate::proofs::Runs::header_words), unfolding(crate::specs::Shapes::header_fault))]
+fn check_header(bytes: &[u8]) -> Result<(), FileFault>
+    requires { 16 ≤ length bytes.now }
+    ensures { Refuses result (header_fault bytes.now) }
+{
+    let count = word_at(bytes, 1);
+    if count > MOST_ARCS || bytes.len() != HEADER_BYTES + 4 * count as usize {
+        return Err(FileFault::Length);
+    }
+    let root = word_at(bytes, 2);
+    if !is_node(&bytes[HEADER_BYTES..], root) {
+        return Err(FileFault::Root);
+    }
+    Ok(())
+}
+
+/// Looks for the first fault of the arcs.
+#[tactic(auto, using(crate::proofs::Checks::fine_none, crate::proofs::Checks::fine_more, crate::proofs::Checks::start_none, crate::proofs::Checks::start_last, crate::proofs::Checks::start_same), unfolding(crate::specs::Shapes::body_fault))]
+fn check_arcs(arcs: &[u8]) -> Result<(), FileFault>
+    ensures { Refuses result (body_fault (words_in arcs.now)) }
+{
+    let count = word_count(arcs);
+    let mut start = 1;
+    for place in 0..count {
+        check_arc(arcs, place, start)?;
+        if is_last(word_at(arcs, place)) {
+            start = place + 2;
+        }
+    }
+    if !begins(arcs, count) {
+        return Err(FileFault::OpenRun);
+    }
+    Ok(())
+}
+
+/// Looks for the first fault of the arc at a place. The first arc of its node has the number `start`.
+#[tactic(auto, unfolding(crate::specs::Shapes::arc_fault))]
+fn check_arc(arcs: &[u8], place: usize, start: usize) -> Result<(), FileFault>
+    requires inside { place < length (words_in arcs.now) }
+    requires node { start ≡ start_at (words_in arcs.now) place }
+    ensures { Refuses result (arc_fault (words_in arcs.now) place) }
+{
+    let arc = Arc::of_word(word_at(arcs, place));
+    if arc.label > GREATEST_LABEL {
+        return Err(FileFault::Label);
+    }
+    if !begins(arcs, place) && arc.label <= label_before(arcs, place) {
+        return Err(FileFault::Order);
+    }
+    if !leads_back(arcs, start, arc.target) {
+        return Err(FileFault::Target);
+    }
+    if !arc.accepts && arc.target == 0 {
+        return Err(FileFault::DeadArc);
+    }
+    Ok(())
+}
+
+/// The label of the arc before a place that is not the first.
+fn label_before(arcs: &[u8], place: usize) -> u8
+    requires first { 0 < place }
+    requires inside { place < length (words_in arcs.now) }
+    ensures { result ≡ label_before (words_in arcs.now) place }
+{
+    Arc::of_word(word_at(arcs, place - 1)).label
+}
+
+/// Whether a target is none, or the first arc of a node that ends before arc `start`.
+fn leads_back(arcs: &[u8], start: usize, target: u32) -> bool
+    ensures { result ≡ leads_back (words_in arcs.now) start target }
+{
+    target == 0 || ((target as usize) < start && is_first(arcs, target))
+}

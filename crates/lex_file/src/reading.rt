@@ -1,0 +1,83 @@
+ghost use Rattle.std.specs.Prelude.{◌≡◌, ◌+◌, ◌*◌, ◌^◌, ◌<◌, ◌≤◌, IsTrue, length, slice_index};
+ghost use Rattle.lex_file.specs.FileWords.{words_in};
+ghost use Rattle.lex_file.specs.Arcs.{arc_with, is_last};
+ghost use Rattle.lex_file.specs.Nodes.{begins, is_first, is_node, node_at};
+
+use crate::arcs::Arc;
+use byteorder::{ByteOrder, LittleEndian};
+
+/// The number of words of 32 bits in some bytes.
+#[tactic(auto, using(crate::proofs::Runs::count))]
+pub fn word_count(bytes: &[u8]) -> usize
+    ensures count { result ≡ length (words_in bytes.now) }
+    ensures small { result < 2 ^ 62 }
+{
+    bytes.len() / 4
+}
+
+/// The word at a place, from 0.
+pub fn word_at(bytes: &[u8], place: usize) -> u32
+    requires { place < length (words_in bytes.now) }
+    ensures { result ≡ slice_index (words_in bytes.now) place }
+{
+    prove!(place < bytes.len() / 4);
+    LittleEndian::read_u32(&bytes[4 * place..])
+}
+
+/// Whether a node begins at a place.
+pub fn begins(arcs: &[u8], place: usize) -> bool
+    requires { place ≤ length (words_in arcs.now) }
+    ensures { result ≡ begins (words_in arcs.now) place }
+{
+    place == 0 || is_last(word_at(arcs, place - 1))
+}
+
+/// Whether a word stores the last arc of its node.
+pub fn is_last(word: u32) -> bool
+    ensures { result ≡ is_last word }
+{
+    word / 64 % 2 == 1
+}
+
+/// Whether a number is that of the first arc of a node.
+pub fn is_first(arcs: &[u8], number: u32) -> bool
+    ensures { result ≡ is_first (words_in arcs.now) number }
+{
+    if number == 0 {
+        return false;
+    }
+    let place = number as usize - 1;
+    place < word_count(arcs) && begins(arcs, place)
+}
+
+/// Whether a number names a node.
+pub fn is_node(arcs: &[u8], number: u32) -> bool
+    ensures { result ≡ is_node (words_in arcs.now) number }
+{
+    if number == 0 {
+        return word_count(arcs) == 0;
+    }
+    is_first(arcs, number)
+}
+
+/// The arc of a node with a label.
+#[tactic(auto, using(crate::proofs::Runs::node_starts, crate::proofs::Runs::here, crate::proofs::Runs::further, crate::proofs::Runs::ends, crate::proofs::Runs::past, crate::proofs::Runs::inside_node))]
+pub fn arc_with(arcs: &[u8], node: u32, label: u8) -> Option<Arc>
+    requires { IsTrue (is_node (words_in arcs.now) node) }
+    ensures { result ≡ arc_with label (node_at (words_in arcs.now) node) }
+{
+    if node == 0 {
+        return None;
+    }
+    for place in node as usize - 1..word_count(arcs) {
+        let word = word_at(arcs, place);
+        let arc = Arc::of_word(word);
+        if arc.label == label {
+            return Some(arc);
+        }
+        if is_last(word) {
+            return None;
+        }
+    }
+    None
+}
