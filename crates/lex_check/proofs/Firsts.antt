@@ -1,0 +1,286 @@
+-- Least strings and first differences, label by label.
+use Rattle.std.proofs.Common.{◌≡◌, ℕ, ◌<◌, Bool, true, false, List, [], ◌∷◌, ◌++◌, length, length-append, Option, Some, None, inl, inr, refl, sym, ap, subst, ◌∙◌, arith}
+use mathlib.Core.Bool.{beq, not}
+use Rattle.std.specs.Prelude.{IsTrue}
+use Rattle.std.specs.List.{list_all}
+use Rattle.std.specs.Option.{is_some}
+use Rattle.std.proofs.lemmas.Bool.{false≢true, and_parts, ltb-true}
+use Rattle.lex_file.specs.Lexicons.{is_label, NoTail, NoLonger, IsBehind, NextGives}
+use Rattle.lex_check.specs.Orders.{IsBefore, IsLeast}
+use Rattle.lex_check.specs.Differences.{Begins, IsMissing, IsExtra, IsFirstDifference, IsLonger}
+use Rattle.lex_check.specs.declared.differences.Difference.{Difference}
+use Rattle.lex_check.specs.declared.differences.Difference.TheVariants.{Missing, Extra}
+use Rattle.lex_check.specs.Meetings.{IsFirstUnder}
+use Rattle.arrayvec.specs.ArrayVec.{ArrayVec as Items}
+
+-- ---- what a look tells
+
+pub looked_none : {N : Type 0} (tail : N → List ℕ → Bool) (node : N) (label : ℕ) → tail node (label ∷ []) ≡ false → NoLonger tail node label
+    → NoTail tail node label
+looked_none tail node label ends longer [] = ends
+looked_none tail node label ends longer (after ∷ rest) = longer after rest
+
+pub looked_nothing : {N : Type 0} (is_node : N → Type 0) (tail : N → List ℕ → Bool) (height : N → ℕ) (node : N) (label : ℕ) (next : Option N)
+    → tail node (label ∷ []) ≡ false → NextGives is_node tail height node label next → is_some next ≡ false → NoTail tail node label
+looked_nothing is_node tail height node label None ends gives none = looked_none tail node label ends gives
+looked_nothing is_node tail height node label (Some next) ends gives none = absurd (false≢true (sym none))
+
+pub looked_accepts : (has : List ℕ → Bool) (label : ℕ) → has (label ∷ []) ≡ true → Begins has (label ∷ [])
+looked_accepts has label ends = record { rest = []; holds = ends }
+
+pub looked_longer : {N : Type 0} (is_node : N → Type 0) (tail : N → List ℕ → Bool) (height : N → ℕ) (node : N) (label : ℕ) (next : N)
+    → IsBehind is_node tail height node label next → Begins (tail node) (label ∷ [])
+looked_longer is_node tail height node label next behind =
+    let after = behind.some.0 in
+    let rest = behind.some.1 in
+    record { rest = after ∷ rest; holds = behind.tails after rest ∙ behind.some.2 }
+
+pub below_begins : {N : Type 0} (is_node : N → Type 0) (tail : N → List ℕ → Bool) (height : N → ℕ) (node : N) (label : ℕ) (next : N)
+    → IsBehind is_node tail height node label next → Begins (tail next) []
+below_begins is_node tail height node label next behind = record { rest = behind.some.0 ∷ behind.some.1; holds = behind.some.2 }
+
+-- the first label of a string of labels
+pub head_label : (label : ℕ) (rest : List ℕ) → IsTrue (list_all is_label (label ∷ rest)) → label < 27
+head_label label rest all = ltb-true label 27 (and_parts (is_label label) (list_all is_label rest) all).0
+
+-- labels are below 27, so the least is found among these
+pub all_looked : (has : List ℕ → Bool) → has [] ≡ false → ((label : ℕ) (rest : List ℕ) → has (label ∷ rest) ≡ true → label < 27)
+    → ((label : ℕ) → label < 27 → (rest : List ℕ) → has (label ∷ rest) ≡ false) → (string : List ℕ) → has string ≡ true → ⊥
+all_looked has empty labels none [] holds = false≢true (sym empty ∙ holds)
+all_looked has empty labels none (label ∷ rest) holds = false≢true (sym (none label (labels label rest holds) rest) ∙ holds)
+
+-- ---- least strings
+
+pub least_one : (has : List ℕ → Bool) (label : ℕ) → has [] ≡ false → has (label ∷ []) ≡ true
+    → ((lower : ℕ) → lower < label → (rest : List ℕ) → has (lower ∷ rest) ≡ false) → IsLeast has (label ∷ [])
+least_one has label empty holds below = record { holds = holds; first = first }
+  where
+    first : (string : List ℕ) → IsBefore string (label ∷ []) → has string ≡ false
+    first [] before = empty
+    first (lower ∷ rest) (inl lt) = below lower lt rest
+    first (lower ∷ rest) (inr same) = absurd same.1
+
+pub least_more : (has behind : List ℕ → Bool) (label : ℕ) (path : List ℕ) → has [] ≡ false → has (label ∷ []) ≡ false
+    → ((after : ℕ) (rest : List ℕ) → has (label ∷ after ∷ rest) ≡ behind (after ∷ rest)) → behind [] ≡ false
+    → ((lower : ℕ) → lower < label → (rest : List ℕ) → has (lower ∷ rest) ≡ false) → IsLeast behind path → IsLeast has (label ∷ path)
+least_more has behind label [] empty ends tails none below least = absurd (false≢true (sym none ∙ least.holds))
+least_more has behind label (next ∷ path) empty ends tails none below least = record { holds = tails next path ∙ least.holds; first = first }
+  where
+    first : (string : List ℕ) → IsBefore string (label ∷ next ∷ path) → has string ≡ false
+    first [] before = empty
+    first (lower ∷ rest) (inl lt) = below lower lt rest
+    first (lower ∷ []) (inr same) = subst (λ (l : ℕ). has (l ∷ []) ≡ false) (sym same.0) ends
+    first (lower ∷ after ∷ rest) (inr same) =
+        subst (λ (l : ℕ). has (l ∷ after ∷ rest) ≡ false) (sym same.0) (tails after rest ∙ least.first (after ∷ rest) same.1)
+
+-- a label that begins a string, and none that goes on behind it, is that string
+pub found_alone : (has : List ℕ → Bool) (label : ℕ) → Begins has (label ∷ []) → ((after : ℕ) (rest : List ℕ) → has (label ∷ after ∷ rest) ≡ false)
+    → has (label ∷ []) ≡ true
+found_alone has label found none = alone found.rest found.holds
+  where
+    alone : (rest : List ℕ) → has (label ∷ rest) ≡ true → has (label ∷ []) ≡ true
+    alone [] holds = holds
+    alone (after ∷ rest) holds = absurd (false≢true (sym (none after rest) ∙ holds))
+
+-- ---- what is first among the strings that begin with one label
+
+pub same_under : (file list : List ℕ → Bool) (label : ℕ) → file (label ∷ []) ≡ list (label ∷ [])
+    → ((after : ℕ) (rest : List ℕ) → file (label ∷ after ∷ rest) ≡ list (label ∷ after ∷ rest))
+    → (rest : List ℕ) → file (label ∷ rest) ≡ list (label ∷ rest)
+same_under file list label same longer [] = same
+same_under file list label same longer (after ∷ rest) = longer after rest
+
+-- the file goes on where no string of the list begins with the label
+pub extra_one : (file list : List ℕ → Bool) (label : ℕ) (path : Items ℕ) → path.items ≡ label ∷ [] → Begins file (label ∷ [])
+    → ((rest : List ℕ) → list (label ∷ rest) ≡ false) → IsFirstUnder label file list (Extra path)
+extra_one file list label path e begins none = record {
+  starts = ([], e);
+  differs = subst (IsExtra file list) (sym e) (record { extra = inr (begins, none); known = known });
+  agree = λ rest before. none_before rest (subst (IsBefore (label ∷ rest)) e before);
+}
+  where
+    known : (front back : List ℕ) → label ∷ [] ≡ front ++ back → 0 < length front → 0 < length back → Begins list front
+    known front back same some more =
+        let long : 1 ≡ length (front ++ back) = ap length same in
+        absurd (omega (arith, length-append front back))
+
+    none_before : (rest : List ℕ) → IsBefore (label ∷ rest) (label ∷ []) → file (label ∷ rest) ≡ list (label ∷ rest)
+    none_before rest (inl lt) = absurd (omega arith)
+    none_before rest (inr same) = absurd same.1
+
+-- the list has the label alone, and only the file goes on behind it, first with the label `next`
+pub extra_two : (file list behind : List ℕ → Bool) (label next : ℕ) (path : Items ℕ) → path.items ≡ label ∷ next ∷ []
+    → file (label ∷ []) ≡ list (label ∷ []) → list (label ∷ []) ≡ true
+    → ((after : ℕ) (rest : List ℕ) → file (label ∷ after ∷ rest) ≡ behind (after ∷ rest))
+    → ((after : ℕ) (rest : List ℕ) → list (label ∷ after ∷ rest) ≡ false)
+    → Begins behind (next ∷ []) → ((lower : ℕ) → lower < next → (rest : List ℕ) → behind (lower ∷ rest) ≡ false)
+    → IsFirstUnder label file list (Extra path)
+extra_two file list behind label next path e same listed tails none begins least = record {
+  starts = (next ∷ [], e);
+  differs = subst (IsExtra file list) (sym e) (record {
+    extra = inr (record { rest = begins.rest; holds = tails next begins.rest ∙ begins.holds }, none next);
+    known = known;
+  });
+  agree = λ rest before. agree rest (subst (IsBefore (label ∷ rest)) e before);
+}
+  where
+    known : (front back : List ℕ) → label ∷ next ∷ [] ≡ front ++ back → 0 < length front → 0 < length back → Begins list front
+    known [] back parts some more = absurd (omega arith)
+    known (first ∷ []) back parts some more =
+        let here : label ≡ first = cc in
+        subst (λ (l : ℕ). Begins list (l ∷ [])) here (record { rest = []; holds = listed })
+    known (first ∷ second ∷ front) back parts some more =
+        let long : 2 ≡ length (first ∷ second ∷ (front ++ back)) = ap length parts in
+        absurd (omega (arith, length-append front back))
+
+    agree : (rest : List ℕ) → IsBefore (label ∷ rest) (label ∷ next ∷ []) → file (label ∷ rest) ≡ list (label ∷ rest)
+    agree rest (inl lt) = absurd (omega arith)
+    agree [] (inr before) = same
+    agree (lower ∷ rest) (inr (_, inl lt)) = tails lower rest ∙ least lower lt rest ∙ sym (none lower rest)
+    agree (lower ∷ rest) (inr (_, inr before)) = absurd before.1
+
+-- only the list goes on behind the label
+pub missing_more : (file list behind : List ℕ → Bool) (label : ℕ) (least path : Items ℕ) → path.items ≡ label ∷ least.items
+    → file (label ∷ []) ≡ list (label ∷ [])
+    → ((after : ℕ) (rest : List ℕ) → file (label ∷ after ∷ rest) ≡ false)
+    → ((after : ℕ) (rest : List ℕ) → list (label ∷ after ∷ rest) ≡ behind (after ∷ rest))
+    → behind [] ≡ false → IsLeast behind least.items → IsFirstUnder label file list (Missing path)
+missing_more file list behind label least path e same none tails empty first = record {
+  starts = (least.items, e);
+  differs = subst (IsMissing file list) (sym e) (record { absent = absent least.items first.holds; listed = listed least.items first.holds });
+  agree = λ rest before. agree rest (subst (IsBefore (label ∷ rest)) e before);
+}
+  where
+    absent : (path : List ℕ) → behind path ≡ true → file (label ∷ path) ≡ false
+    absent [] holds = absurd (false≢true (sym empty ∙ holds))
+    absent (after ∷ rest) holds = none after rest
+
+    listed : (path : List ℕ) → behind path ≡ true → list (label ∷ path) ≡ true
+    listed [] holds = absurd (false≢true (sym empty ∙ holds))
+    listed (after ∷ rest) holds = tails after rest ∙ holds
+
+    agree : (rest : List ℕ) → IsBefore (label ∷ rest) (label ∷ least.items) → file (label ∷ rest) ≡ list (label ∷ rest)
+    agree rest (inl lt) = absurd (omega arith)
+    agree [] (inr before) = same
+    agree (after ∷ rest) (inr before) = none after rest ∙ sym (tails after rest ∙ first.first (after ∷ rest) before.1)
+
+-- Both sides go on behind the label: their strings there without it are those of two sets.
+pub record AreBehind (label : ℕ) (file list file_behind list_behind : List ℕ → Bool) : Type 0 where
+  pub same : file (label ∷ []) ≡ list (label ∷ [])
+  pub of_file : (after : ℕ) (rest : List ℕ) → file (label ∷ after ∷ rest) ≡ file_behind (after ∷ rest)
+  pub of_list : (after : ℕ) (rest : List ℕ) → list (label ∷ after ∷ rest) ≡ list_behind (after ∷ rest)
+  pub begins : Begins list (label ∷ [])
+
+missing_behind : (label : ℕ) (file list file_behind list_behind : List ℕ → Bool) → AreBehind label file list file_behind list_behind
+    → (path : List ℕ) → 0 < length path → IsMissing file_behind list_behind path → IsMissing file list (label ∷ path)
+missing_behind label file list file_behind list_behind b [] some m = absurd (omega arith)
+missing_behind label file list file_behind list_behind b (after ∷ rest) some m =
+    record { absent = b.of_file after rest ∙ m.absent; listed = b.of_list after rest ∙ m.listed }
+
+known_behind : (label : ℕ) (file list file_behind list_behind : List ℕ → Bool) → AreBehind label file list file_behind list_behind
+    → (path : List ℕ) → ((front back : List ℕ) → path ≡ front ++ back → 0 < length front → 0 < length back → Begins list_behind front)
+    → (front back : List ℕ) → label ∷ path ≡ front ++ back → 0 < length front → 0 < length back → Begins list front
+known_behind label file list file_behind list_behind b path known [] back parts some more = absurd (omega arith)
+known_behind label file list file_behind list_behind b path known (first ∷ []) back parts some more =
+    let here : label ≡ first = cc in
+    subst (λ (l : ℕ). Begins list (l ∷ [])) here b.begins
+known_behind label file list file_behind list_behind b path known (first ∷ second ∷ front) back parts some more =
+    let here : label ≡ first = cc in
+    let rest : path ≡ second ∷ (front ++ back) = cc in
+    let begins = known (second ∷ front) back rest (omega arith) more in
+    subst (λ (l : ℕ). Begins list (l ∷ second ∷ front)) here (record { rest = begins.rest; holds = b.of_list second (front ++ begins.rest) ∙ begins.holds })
+
+extra_behind : (label : ℕ) (file list file_behind list_behind : List ℕ → Bool) → AreBehind label file list file_behind list_behind
+    → (path : List ℕ) → 0 < length path → IsExtra file_behind list_behind path → IsExtra file list (label ∷ path)
+extra_behind label file list file_behind list_behind b [] some x = absurd (omega arith)
+extra_behind label file list file_behind list_behind b (after ∷ path) some x = record {
+  extra = elim (x.extra) [
+    | inl here ↦ inl (b.of_file after path ∙ here.0, b.of_list after path ∙ here.1)
+    | inr there ↦ inr (
+      record { rest = there.0.rest; holds = b.of_file after (path ++ there.0.rest) ∙ there.0.holds },
+      λ rest. b.of_list after (path ++ rest) ∙ there.1 rest,
+    )
+  ];
+  known = known_behind label file list file_behind list_behind b (after ∷ path) x.known;
+}
+
+agree_behind : (label : ℕ) (file list file_behind list_behind : List ℕ → Bool) → AreBehind label file list file_behind list_behind
+    → (path : List ℕ) → ((string : List ℕ) → IsBefore string path → file_behind string ≡ list_behind string)
+    → (rest : List ℕ) → IsBefore (label ∷ rest) (label ∷ path) → file (label ∷ rest) ≡ list (label ∷ rest)
+agree_behind label file list file_behind list_behind b path agree rest (inl lt) = absurd (omega arith)
+agree_behind label file list file_behind list_behind b path agree [] (inr before) = b.same
+agree_behind label file list file_behind list_behind b path agree (after ∷ rest) (inr before) =
+    b.of_file after rest ∙ agree (after ∷ rest) before.1 ∙ sym (b.of_list after rest)
+
+pub first_behind : (label : ℕ) (file list file_behind list_behind : List ℕ → Bool) → AreBehind label file list file_behind list_behind
+    → (difference longer : Difference) → IsLonger label difference longer → IsFirstDifference file_behind list_behind difference
+    → IsFirstUnder label file list longer
+first_behind label file list file_behind list_behind b (Missing path) (Missing longer) e first = record {
+  starts = (path.items, e);
+  differs = subst (IsMissing file list) (sym e) (missing_behind label file list file_behind list_behind b path.items first.some first.differs);
+  agree = λ rest before. agree_behind label file list file_behind list_behind b path.items first.agree rest (subst (IsBefore (label ∷ rest)) e before);
+}
+first_behind label file list file_behind list_behind b (Extra path) (Extra longer) e first = record {
+  starts = (path.items, e);
+  differs = subst (IsExtra file list) (sym e) (extra_behind label file list file_behind list_behind b path.items first.some first.differs);
+  agree = λ rest before. agree_behind label file list file_behind list_behind b path.items first.agree rest (subst (IsBefore (label ∷ rest)) e before);
+}
+first_behind label file list file_behind list_behind b (Missing path) (Extra longer) e first = absurd e
+first_behind label file list file_behind list_behind b (Extra path) (Missing longer) e first = absurd e
+
+pub all_behind : (label : ℕ) (file list file_behind list_behind : List ℕ → Bool) → AreBehind label file list file_behind list_behind
+    → ((string : List ℕ) → file_behind string ≡ list_behind string) → (rest : List ℕ) → file (label ∷ rest) ≡ list (label ∷ rest)
+all_behind label file list file_behind list_behind b all =
+    same_under file list label b.same (λ after rest. b.of_file after rest ∙ all (after ∷ rest) ∙ sym (b.of_list after rest))
+
+-- ---- over all labels
+
+pub first_of_all : (label : ℕ) (file list : List ℕ → Bool) (difference : Difference) → file [] ≡ list []
+    → ((lower : ℕ) (rest : List ℕ) → lower < label → file (lower ∷ rest) ≡ list (lower ∷ rest))
+    → IsFirstUnder label file list difference → IsFirstDifference file list difference
+first_of_all label file list difference empty below under = record {
+  some = rw (ap length under.starts.1) (omega arith);
+  differs = under.differs;
+  agree = λ string before. agree string (subst (IsBefore string) under.starts.1 before);
+}
+  where
+    agree : (string : List ℕ) → IsBefore string (label ∷ under.starts.0) → file string ≡ list string
+    agree [] before = empty
+    agree (lower ∷ rest) (inl lt) = below lower rest lt
+    agree (lower ∷ rest) (inr before) =
+        subst (λ (l : ℕ). file (l ∷ rest) ≡ list (l ∷ rest)) (sym before.0)
+        (under.agree rest (subst (IsBefore (label ∷ rest)) (sym under.starts.1) (inr (refl, before.1))))
+
+pub same_of_all : (file list : List ℕ → Bool) → file [] ≡ list []
+    → ((label : ℕ) (rest : List ℕ) → file (label ∷ rest) ≡ true → label < 27)
+    → ((label : ℕ) (rest : List ℕ) → list (label ∷ rest) ≡ true → label < 27)
+    → ((label : ℕ) (rest : List ℕ) → label < 27 → file (label ∷ rest) ≡ list (label ∷ rest))
+    → (string : List ℕ) → file string ≡ list string
+same_of_all file list empty of_file of_list below [] = empty
+same_of_all file list empty of_file of_list below (label ∷ rest) = by (file (label ∷ rest)) (list (label ∷ rest)) refl refl
+  where
+    by : (x y : Bool) → file (label ∷ rest) ≡ x → list (label ∷ rest) ≡ y → file (label ∷ rest) ≡ list (label ∷ rest)
+    by true y e h = below label rest (of_file label rest e)
+    by x true e h = below label rest (of_list label rest h)
+    by false false e h = e ∙ sym h
+
+-- ---- tests
+
+pub same_test : (x y : Bool) → not (beq x y) ≡ false → x ≡ y
+same_test true true e = refl
+same_test false false e = refl
+same_test true false e = absurd (false≢true (sym e))
+same_test false true e = absurd (false≢true (sym e))
+
+-- what a meeting tells that goes on
+pub are_behind : {M N : Type 0} (is_m : M → Type 0) (tail_m : M → List ℕ → Bool) (height_m : M → ℕ) (m : M)
+    (is_n : N → Type 0) (tail_n : N → List ℕ → Bool) (height_n : N → ℕ) (n : N) (label : ℕ) (next : M) (listed_next : N)
+    → IsBehind is_m tail_m height_m m label next → IsBehind is_n tail_n height_n n label listed_next
+    → tail_m m (label ∷ []) ≡ tail_n n (label ∷ [])
+    → AreBehind label (tail_m m) (tail_n n) (tail_m next) (tail_n listed_next)
+are_behind is_m tail_m height_m m is_n tail_n height_n n label next listed_next behind listed_behind same = record {
+  same = same;
+  of_file = behind.tails;
+  of_list = listed_behind.tails;
+  begins = looked_longer is_n tail_n height_n n label listed_next listed_behind;
+}

@@ -1,0 +1,4 @@
+pub mod Firsts
+pub mod Stretches
+pub mod Rotations
+pub mod Agreements

@@ -1,0 +1,104 @@
+-- Laws of stretches: which strings are tails, and that they are of labels, not empty and short.
+use Rattle.std.proofs.Common.{◌≡◌, ℕ, zero, suc, ◌+◌, ◌-◌, ◌<◌, ◌≤◌, Bool, true, false, ◌||◌, List, [], length, get_or, length-drop, refl, sym, ap, subst, ◌∙◌, arith}
+use Rattle.std.specs.Prelude.{IsTrue, nat_eq}
+use Rattle.std.specs.Cmp.Lexicographic.{pointwise}
+use Rattle.std.specs.List.{list_all}
+use Rattle.std.proofs.lemmas.Bool.{false≢true}
+use Rattle.std.proofs.lemmas.Slice.Eq.{bytes_eq-Decides}
+use Rattle.lex_file.specs.Lexicons.{is_label}
+use Rattle.lex_check.specs.declared.sorted.Stretch.{Stretch}
+use Rattle.lex_check.specs.Stretches.{left_at, is_left, IsStretch, stretch_tail}
+
+same_string : (x y : List ℕ) → x ≡ y → pointwise nat_eq x y ≡ true
+same_string x y e = (bytes_eq-Decides x y).1 e
+
+one_string : (x y : List ℕ) → pointwise nat_eq x y ≡ true → x ≡ y
+one_string x y e = (bytes_eq-Decides x y).0 e
+
+-- a path at some of the places has this string left
+pub record IsLeft (paths : List (List ℕ)) (depth : ℕ) (string : List ℕ) (low high : ℕ) : Type 0 where
+  pub place : ℕ
+  pub from : low ≤ place
+  pub to : place < high
+  pub left : string ≡ left_at paths depth place
+
+pub left_from : (paths : List (List ℕ)) (depth : ℕ) (string : List ℕ) (low count : ℕ) → IsLeft paths depth string low (low + count)
+    → is_left paths depth string low count ≡ true
+unfolding is_left
+left_from paths depth string low zero at = absurd (let h = at.from in let k = at.to in omega arith)
+left_from paths depth string low (suc count) at =
+    by (pointwise nat_eq string (left_at paths depth low)) refl (left_from paths depth string (suc low) count)
+  where
+    by : (b : Bool) → pointwise nat_eq string (left_at paths depth low) ≡ b
+        → (IsLeft paths depth string (suc low) (suc low + count) → is_left paths depth string (suc low) count ≡ true)
+        → (b || is_left paths depth string (suc low) count) ≡ true
+    by true e more = refl
+    by false e more =
+        let from = at.from in
+        let to = at.to in
+        let other : at.place ≡ low → ⊥ = λ same. false≢true (sym e ∙ same_string string (left_at paths depth low) (at.left ∙ ap (left_at paths depth) same)) in
+        more (record { place = at.place; from = omega arith; to = omega arith; left = at.left })
+
+pub left_to : (paths : List (List ℕ)) (depth : ℕ) (string : List ℕ) (low count : ℕ) → is_left paths depth string low count ≡ true
+    → IsLeft paths depth string low (low + count)
+unfolding is_left
+left_to paths depth string low zero e = absurd (false≢true e)
+left_to paths depth string low (suc count) e =
+    by (pointwise nat_eq string (left_at paths depth low)) refl (left_to paths depth string (suc low) count) e
+  where
+    by : (b : Bool) → pointwise nat_eq string (left_at paths depth low) ≡ b
+        → (is_left paths depth string (suc low) count ≡ true → IsLeft paths depth string (suc low) (suc low + count))
+        → (b || is_left paths depth string (suc low) count) ≡ true → IsLeft paths depth string low (low + suc count)
+    by true same more h = record { place = low; from = omega arith; to = omega arith; left = one_string string (left_at paths depth low) same }
+    by false other more h =
+        let at = more h in
+        let from = at.from in
+        let to = at.to in
+        record { place = at.place; from = omega arith; to = omega arith; left = at.left }
+
+pub tail_from : (paths : List (List ℕ)) (stretch : Stretch) (string : List ℕ) → IsStretch paths stretch
+    → IsLeft paths stretch.depth string stretch.low stretch.high → stretch_tail paths stretch string ≡ true
+tail_from paths stretch string is at =
+    let order = is.order in
+    let high : stretch.high ≡ stretch.low + (stretch.high - stretch.low) = omega arith in
+    left_from paths stretch.depth string stretch.low (stretch.high - stretch.low) (subst (IsLeft paths stretch.depth string stretch.low) high at)
+
+pub tail_to : (paths : List (List ℕ)) (stretch : Stretch) (string : List ℕ) → IsStretch paths stretch → stretch_tail paths stretch string ≡ true
+    → IsLeft paths stretch.depth string stretch.low stretch.high
+tail_to paths stretch string is e =
+    let order = is.order in
+    let high : stretch.low + (stretch.high - stretch.low) ≡ stretch.high = omega arith in
+    subst (IsLeft paths stretch.depth string stretch.low) high (left_to paths stretch.depth string stretch.low (stretch.high - stretch.low) e)
+
+not_true : (b : Bool) → (b ≡ true → ⊥) → b ≡ false
+not_true true h = absurd (h refl)
+not_true false h = refl
+
+pub tail_none : (paths : List (List ℕ)) (stretch : Stretch) (string : List ℕ) → IsStretch paths stretch
+    → (IsLeft paths stretch.depth string stretch.low stretch.high → ⊥) → stretch_tail paths stretch string ≡ false
+tail_none paths stretch string is none = not_true (stretch_tail paths stretch string) (λ e. none (tail_to paths stretch string is e))
+
+-- ---- what each tail is
+
+pub stretch_nonempty : (paths : List (List ℕ)) (stretch : Stretch) → IsStretch paths stretch → stretch_tail paths stretch [] ≡ false
+stretch_nonempty paths stretch is =
+    tail_none paths stretch [] is (λ at.
+    let long = is.long at.place at.from at.to in
+    let size = ap length at.left in
+    let left = length-drop stretch.depth (get_or paths at.place []) in
+    omega arith)
+
+pub stretch_labels : (paths : List (List ℕ)) (stretch : Stretch) (string : List ℕ) → IsStretch paths stretch → stretch_tail paths stretch string ≡ true
+    → IsTrue (list_all is_label string)
+stretch_labels paths stretch string is e =
+    let at = tail_to paths stretch string is e in
+    ap (list_all is_label) at.left ∙ is.labels at.place at.from at.to
+
+pub stretch_bounded : (paths : List (List ℕ)) (stretch : Stretch) (string : List ℕ) → IsStretch paths stretch → stretch_tail paths stretch string ≡ true
+    → length string ≤ 16 - stretch.depth
+stretch_bounded paths stretch string is e =
+    let at = tail_to paths stretch string is e in
+    let few = is.few at.place at.from at.to in
+    let size = ap length at.left in
+    let left = length-drop stretch.depth (get_or paths at.place []) in
+    omega arith

@@ -1,0 +1,27 @@
+//! The checker of compiled lexicons: it says exactly where a lexicon first differs from another one.
+//!
+//! A lexicon is a set of strings of labels. Strings are ordered label by label, the mark of a rotated word first,
+//! and a string stands before all that it begins.
+#![tactic(auto)]
+
+mod checks;
+mod differences;
+mod least;
+mod meetings;
+mod pairing;
+mod pairs;
+mod rotated;
+mod rotating;
+mod sorted;
+mod walks;
+
+pub use checks::{Mismatch, check, text_of};
+pub use differences::{Difference, Path};
+pub use pairing::pair;
+pub use pairs::Checked;
+pub use sorted::{SortedPaths, Stretch};
+pub use std::alloc::AllocError as NoMemory;
+pub use walks::check_paths;
+
+#[cfg(test)]
+mod tests;

@@ -1,0 +1,60 @@
+ghost use Rattle.std.specs.Prelude.{◌≡◌, ◌≤◌, ◌<◌, ◌+◌, length};
+ghost use Rattle.lex_check.specs.Meetings.{MeetingGives, IsShort, IsEnded};
+
+use crate::differences::{Difference, only, with_front};
+use crate::least::{first_label, least_tail, look};
+use lex_file::PathLex;
+
+/// How the tails of two nodes that begin with one label compare.
+#[derive(Drop)]
+pub enum Meeting<M, N> {
+    /// They are the same.
+    Agree,
+    /// The label alone is a tail of both nodes or of neither, and both go on behind it, to these nodes.
+    Deeper(M, N),
+    /// They differ, first here.
+    Differ(Difference),
+}
+
+/// The difference where a string ends with the label in one of the two alone.
+fn ended(label: u8, in_file: bool) -> Difference
+    ensures { IsEnded label in_file result }
+{
+    if in_file {
+        Difference::Extra(only(label))
+    } else {
+        Difference::Missing(only(label))
+    }
+}
+
+/// Compares the tails of two nodes that begin with a label, as far as one step tells.
+pub fn meet<A: PathLex, B: PathLex>(
+    file: &A,
+    list: &B,
+    of_file: A::Node,
+    of_list: B::Node,
+    label: u8,
+) -> Meeting<A::Node, B::Node>
+    requires file { A.is_node file.now of_file }
+    requires list { B.is_node list.now of_list }
+    requires low { B.height list.now of_list ≤ 16 }
+    ensures gives { MeetingGives (A.is_node file.now) (A.tail file.now) (A.height file.now) of_file (B.is_node list.now) (B.tail list.now) (B.height list.now) of_list label result }
+    ensures short { IsShort (B.height list.now of_list + 1) result }
+{
+    let here = look(file, of_file, label);
+    let listed = look(list, of_list, label);
+    if here.accepts != listed.accepts {
+        return Meeting::Differ(ended(label, here.accepts));
+    }
+    match (here.next, listed.next) {
+        (None, None) => Meeting::Agree,
+        (Some(next), Some(listed_next)) => Meeting::Deeper(next, listed_next),
+        (None, Some(listed_next)) => {
+            Meeting::Differ(Difference::Missing(with_front(label, least_tail(list, listed_next))))
+        }
+        (Some(next), None) if listed.accepts => {
+            Meeting::Differ(Difference::Extra(with_front(label, only(first_label(file, next)))))
+        }
+        (Some(_), None) => Meeting::Differ(Difference::Extra(only(label))),
+    }
+}

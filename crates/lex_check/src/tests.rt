@@ -1,0 +1,193 @@
+use super::*;
+use lex_file::{LexFile, PathLex};
+use lex_list::WordList;
+use std::alloc::Global;
+use std::process::Abort;
+use std::test::Fail;
+
+/// The file of the word AT, whose paths are A+T and TA.
+const AT: [u8; 36] = [
+    0x47, 0x41, 0x44, 0x31, 0x05, 0x00, 0x00, 0x00, 0x04, 0x00, 0x00, 0x00, 0x01, 0x00, 0x00, 0x00,
+    0x74, 0x00, 0x00, 0x00, 0xc0, 0x00, 0x00, 0x00, 0x61, 0x00, 0x00, 0x00, 0x01, 0x01, 0x00, 0x00,
+    0xd4, 0x01, 0x00, 0x00,
+];
+
+/// The file of AT with an arc that accepts A too.
+const AT_AND_A: [u8; 36] = [
+    0x47, 0x41, 0x44, 0x31, 0x05, 0x00, 0x00, 0x00, 0x04, 0x00, 0x00, 0x00, 0x01, 0x00, 0x00, 0x00,
+    0x74, 0x00, 0x00, 0x00, 0xc0, 0x00, 0x00, 0x00, 0x61, 0x00, 0x00, 0x00, 0x21, 0x01, 0x00, 0x00,
+    0xd4, 0x01, 0x00, 0x00,
+];
+
+/// The file of AT with the number of words 2.
+const AT_AS_TWO: [u8; 36] = [
+    0x47, 0x41, 0x44, 0x31, 0x05, 0x00, 0x00, 0x00, 0x04, 0x00, 0x00, 0x00, 0x02, 0x00, 0x00, 0x00,
+    0x74, 0x00, 0x00, 0x00, 0xc0, 0x00, 0x00, 0x00, 0x61, 0x00, 0x00, 0x00, 0x01, 0x01, 0x00, 0x00,
+    0xd4, 0x01, 0x00, 0x00,
+];
+
+/// The file of the words AT and IT, whose paths are A+T, I+T, TA and TI.
+const AT_IT: [u8; 44] = [
+    0x47, 0x41, 0x44, 0x31, 0x07, 0x00, 0x00, 0x00, 0x05, 0x00, 0x00, 0x00, 0x02, 0x00, 0x00, 0x00,
+    0x74, 0x00, 0x00, 0x00, 0xc0, 0x00, 0x00, 0x00, 0x21, 0x00, 0x00, 0x00, 0x69, 0x00, 0x00, 0x00,
+    0x01, 0x01, 0x00, 0x00, 0x09, 0x01, 0x00, 0x00, 0xd4, 0x01, 0x00, 0x00,
+];
+
+/// The file of the empty list.
+const EMPTY: [u8; 16] = [
+    0x47, 0x41, 0x44, 0x31, 0x00, 0x00, 0x00, 0x00, 0x00, 0x00, 0x00, 0x00, 0x00, 0x00, 0x00, 0x00,
+];
+
+/// What a check answers, with a path as reports print it.
+enum Answer {
+    Agrees,
+    Missing(&'static [u8]),
+    Extra(&'static [u8]),
+    WordCount,
+}
+
+/// A word list and a file, and what their check answers.
+struct Row {
+    words: &'static [u8],
+    file: &'static [u8],
+    answer: Answer,
+}
+
+const ROWS: [Row; 9] = [
+    Row {
+        words: b"AT",
+        file: &AT,
+        answer: Answer::Agrees,
+    },
+    Row {
+        words: b"AT",
+        file: &AT_AND_A,
+        answer: Answer::Extra(b"A"),
+    },
+    Row {
+        words: b"AT",
+        file: &AT_AS_TWO,
+        answer: Answer::WordCount,
+    },
+    Row {
+        words: b"AT\nIT",
+        file: &AT,
+        answer: Answer::Missing(b"I+T"),
+    },
+    Row {
+        words: b"AT",
+        file: &AT_IT,
+        answer: Answer::Extra(b"I"),
+    },
+    Row {
+        words: b"AT\nIT",
+        file: &AT_IT,
+        answer: Answer::Agrees,
+    },
+    Row {
+        words: b"",
+        file: &EMPTY,
+        answer: Answer::Agrees,
+    },
+    Row {
+        words: b"AT",
+        file: &EMPTY,
+        answer: Answer::Missing(b"A+T"),
+    },
+    Row {
+        words: b"",
+        file: &AT,
+        answer: Answer::Extra(b"A"),
+    },
+];
+
+/// The check of a file's bytes; none where a text or a file is refused before it.
+fn outcome(alloc: Global, words: &[u8], file: &[u8]) -> Option<Result<(), Mismatch>> {
+    let list = WordList::read(alloc, words).ok()?;
+    let lexicon = LexFile::open(file).ok()?;
+    Some(check(alloc, &list, &lexicon))
+}
+
+fn is_answer(outcome: &Option<Result<(), Mismatch>>, answer: &Answer) -> bool {
+    match (outcome, answer) {
+        (Some(Ok(())), Answer::Agrees) => true,
+        (Some(Err(Mismatch::Missing(path))), Answer::Missing(text)) => text_of(path).as_slice()
+            == *text,
+        (Some(Err(Mismatch::Extra(path))), Answer::Extra(text)) => text_of(path).as_slice()
+            == *text,
+        (Some(Err(Mismatch::WordCount)), Answer::WordCount) => true,
+        _ => false,
+    }
+}
+
+#[test]
+fn answers(rt: HostRuntime) {
+    for row in &ROWS {
+        let here = outcome(rt.alloc(), row.words, row.file);
+        assert!(rt; is_answer(&here, &row.answer), "{:?}", here);
+    }
+}
+
+#[test]
+fn each_bit_counts(rt: HostRuntime) {
+    for place in 0..AT.len() {
+        for bit in [1, 2, 4, 8, 16, 32, 64, 128] {
+            let mut bytes = AT;
+            bytes[place] ^= bit;
+            let here = outcome(rt.alloc(), b"AT", &bytes);
+            assert!(rt;
+                !is_answer(&here, &Answer::Agrees),
+                "byte {place}, bit {bit}"
+            );
+        }
+    }
+}
+
+#[test]
+fn a_file_of_very_many_walks(rt: HostRuntime) {
+    let mut bytes = [0; 216];
+    bytes[..16].copy_from_slice(b"GAD1\x32\0\0\0\x31\0\0\0\x01\0\0\0");
+    for node in 0..25u8 {
+        let place = 16 + 8 * node as usize;
+        let (target, accepts) = if node == 0 {
+            (0, 0x20)
+        } else {
+            (2 * node as u32 - 1, 0)
+        };
+        let first = target * 128 + accepts + 1;
+        bytes[place..place + 4].copy_from_slice(&first.to_le_bytes());
+        bytes[place + 4..place + 8].copy_from_slice(&(first + 0x41).to_le_bytes());
+    }
+    let here = outcome(rt.alloc(), b"AT", &bytes);
+    assert!(rt; is_answer(&here, &Answer::Missing(b"A+T")), "{:?}", here);
+}
+
+#[test]
+fn a_pair_gives_both_back(rt: HostRuntime) {
+    let Ok(list) = WordList::read(rt.alloc(), b"AT") else {
+        panic!(rt; "no list");
+    };
+    let Ok(file) = LexFile::open(&AT) else {
+        panic!(rt; "no file");
+    };
+    let Ok(pair) = pair(rt.alloc(), &list, file) else {
+        panic!(rt; "no pair");
+    };
+    assert_eq!(rt; pair.list().len(), 1);
+    assert_eq!(rt; pair.file().word_count(), 1);
+}
+
+#[test]
+fn sorted_paths_are_walked(rt: HostRuntime) {
+    let Ok(list) = WordList::read(rt.alloc(), b"AT") else {
+        panic!(rt; "no list");
+    };
+    let Ok(paths) = SortedPaths::new(rt.alloc(), &list) else {
+        panic!(rt; "no paths");
+    };
+    let root = paths.root();
+    assert!(rt; paths.step(root, 2).is_none());
+    let step = paths.step(root, 20);
+    assert!(rt; matches!(step, Some(_)));
+    assert!(rt; check_paths(&paths, &paths).is_ok());
+}
