@@ -2,3 +2,4 @@ pub mod Firsts
 pub mod Stretches
 pub mod Rotations
 pub mod Agreements
+mod Examples

@@ -164,6 +164,12 @@ gathered_from words (suc count) string at =
 
 -- ---- the sorted paths are those of the words
 
+-- what is read at a place inside does not hang on what is read past the end
+read_at : (xs : List (List ℕ)) (k : ℕ) (d : List ℕ) → k < length xs → get_or xs k d ≡ get_or xs k []
+read_at [] k d lt = absurd (omega arith)
+read_at (x ∷ xs) zero d lt = refl
+read_at (x ∷ xs) (suc k) d lt = read_at xs k d (omega arith)
+
 word_at : (words : List (List ℕ)) → list_all is_word words ≡ true → (place : ℕ) → place < length words → is_word (get_or words place []) ≡ true
 word_at [] all place lt = absurd (omega arith)
 word_at (word ∷ words) all zero lt = (and_parts (is_word word) (list_all is_word words) all).0
@@ -199,19 +205,14 @@ gathered_split words string at =
     record {
       front = take at.split word;
       back = drop at.split word;
-      listed = subst (Contains words) (sym (take-append-drop at.split word)) (at.place, at.inside, known words at.place at.inside);
+      listed = subst (Contains words) (sym (take-append-drop at.split word)) (at.place, at.inside, read_at words at.place (get_or words at.place []) at.inside);
       some = omega arith;
       path = at.path;
     }
-  where
-    known : (xs : List (List ℕ)) (k : ℕ) → k < length xs → get_or xs k (get_or xs k []) ≡ get_or xs k []
-    known [] k lt = absurd (omega arith)
-    known (x ∷ xs) zero lt = refl
-    known (x ∷ xs) (suc k) lt = known xs k (omega arith)
 
 split_gathered : (words : List (List ℕ)) (string : List ℕ) → IsPath words string → IsGathered words (length words) string
 split_gathered words string path =
-    let here : get_or words path.listed.0 [] ≡ path.front ++ path.back = known words path.listed.0 (path.front ++ path.back) path.listed.1 path.listed.2 in
+    let here : get_or words path.listed.0 [] ≡ path.front ++ path.back = sym (read_at words path.listed.0 (path.front ++ path.back) path.listed.1) ∙ path.listed.2 in
     let size = length-append path.front path.back in
     let front : take (length path.front) (get_or words path.listed.0 []) ≡ path.front = rw here (take-append_seam path.front path.back) in
     let back : drop (length path.front) (get_or words path.listed.0 []) ≡ path.back = rw here (drop-append_seam path.front path.back) in
@@ -223,11 +224,6 @@ split_gathered words string path =
       within = rw here (omega arith);
       path = path.path ∙ rw (front, back) refl;
     }
-  where
-    known : (xs : List (List ℕ)) (k : ℕ) (x : List ℕ) → k < length xs → get_or xs k x ≡ x → get_or xs k [] ≡ x
-    known [] k x lt e = absurd (omega arith)
-    known (y ∷ xs) zero x lt e = e
-    known (y ∷ xs) (suc k) x lt e = known xs k x (omega arith) e
 
 -- paths that are put in order, each once
 pub record IsInOrder (gathered sorted kept : List (List ℕ)) : Type 0 where
@@ -251,15 +247,10 @@ kept_list words paths sorted kept all e o = record {
   ordered = subst (IsStrictlySortedBy (slice_cmp nat_cmp)) (sym o.once)
       (IsStrictlySortedBy-dedup nat_list_cmp_total (λ x y. texts_ties x y) sorted o.ordered);
   each = λ place lt.
-      let at : Contains paths (get_or kept place []) = kept_to paths sorted kept (get_or kept place []) o (place, lt, known kept place lt) in
+      let at : Contains paths (get_or kept place []) = kept_to paths sorted kept (get_or kept place []) o (place, lt, read_at kept place (get_or kept place []) lt) in
       gathered_path words (get_or kept place []) all
       (gathered_to words (length words) (get_or kept place []) (subst (λ (xs : List (List ℕ)). Contains xs (get_or kept place [])) e at));
 }
-  where
-    known : (xs : List (List ℕ)) (k : ℕ) → k < length xs → get_or xs k (get_or xs k []) ≡ get_or xs k []
-    known [] k lt = absurd (omega arith)
-    known (x ∷ xs) zero lt = refl
-    known (x ∷ xs) (suc k) lt = known xs k (omega arith)
 
 pub kept_paths : (words paths sorted kept : List (List ℕ)) → list_all is_word words ≡ true → paths ≡ gathered words (length words) → IsInOrder paths sorted kept
     → PathsAreTested → (string : List ℕ) → is_one_of kept string ≡ is_path words string
@@ -269,7 +260,7 @@ kept_paths words paths sorted kept all e o tested string =
     let at = left_to kept 0 string 0 (length kept) h in
     let to = at.to in
     let lt : at.place < length kept = omega arith in
-    let has : Contains kept string = (at.place, lt, known kept at.place string lt ∙ sym at.left) in
+    let has : Contains kept string = (at.place, lt, read_at kept at.place string lt ∙ sym at.left) in
     (tested words (capitals_alone words all) string).1
     (gathered_split words string
     (gathered_to words (length words) string (subst (λ (xs : List (List ℕ)). Contains xs string) e (kept_to paths sorted kept string o has)))))
@@ -279,9 +270,4 @@ kept_paths words paths sorted kept all e o tested string =
     (subst (λ (xs : List (List ℕ)). Contains xs string) (sym e) (gathered_from words (length words) string (split_gathered words string path))) in
     let lt = has.1 in
     left_from kept 0 string 0 (length kept)
-    (record { place = has.0; from = omega arith; to = omega arith; left = sym (sym (known kept has.0 string has.1) ∙ has.2) }))
-  where
-    known : (xs : List (List ℕ)) (k : ℕ) (d : List ℕ) → k < length xs → get_or xs k d ≡ get_or xs k []
-    known [] k d lt = absurd (omega arith)
-    known (x ∷ xs) zero d lt = refl
-    known (x ∷ xs) (suc k) d lt = known xs k d (omega arith)
+    (record { place = has.0; from = omega arith; to = omega arith; left = sym (sym (read_at kept has.0 string has.1) ∙ has.2) }))
