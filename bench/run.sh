@@ -8,9 +8,16 @@ work=$(mktemp -d)
 trap 'rm -rf "$work"' EXIT
 export LC_ALL=C
 
+: > "$work/empty"
 awk -f "$here/inputs.awk" > "$work/words"
 sort "$work/words" > "$work/sorted"
-: > "$work/empty"
+awk -f "$here/dictionary.awk" > "$work/dictionary"
+awk -f "$here/paths.awk" "$work/dictionary" > "$work/paths"
+awk -f "$here/paths.awk" "$work/words" > "$work/harsh-paths"
+"$program" build "$work/dictionary" "$work/lexicon"
+"$program" build "$work/words" "$work/harsh"
+"$program" build "$work/empty" "$work/none"
+ls -l "$work/lexicon" "$work/harsh" | awk '{ print $5, "bytes of a lexicon" }'
 
 # Records of so many events: plays of WORD, each taken back at once.
 record() {
@@ -23,17 +30,19 @@ record() {
 }
 record 500 > "$work/500"
 record 1000 > "$work/1000"
+record 50 > "$work/50"
 # The same 1,000 events in 1 MiB, between lines that are read over.
 awk '{ print; for (i = 0; i < 1031; i++) printf "x"; print "" }' "$work/1000" > "$work/long"
 head -c $((1048576 - $(wc -c < "$work/long"))) /dev/zero | tr '\0' y >> "$work/long"
 
-# The best mean time of five batches of so many runs, in milliseconds, and the peak memory of one run.
+# The best mean time of some batches of so many runs, in milliseconds, and the peak memory of one run.
+batches=5
 measure() {
     label=$1
     runs=$2
     shift 2
     best=
-    for _ in 1 2 3 4 5; do
+    for _ in $(seq "$batches"); do
         start=$(date +%s%N)
         for _ in $(seq "$runs"); do "$@" > /dev/null 2> /dev/null || true; done
         end=$(date +%s%N)
@@ -45,9 +54,21 @@ measure() {
 measure 'cat of the record of 1 MiB' 50 cat "$work/long"
 measure 'tidy of an empty record' 50 "$program" tidy "$work/empty"
 measure 'tidy of the record of 1 MiB' 50 "$program" tidy "$work/long"
-measure 'judge of 500 events, no words' 50 "$program" judge "$work/empty" none "$work/500"
-measure 'judge of 1,000 events, no words' 50 "$program" judge "$work/empty" none "$work/1000"
-measure 'judge with 400,000 words, empty record' 5 "$program" judge "$work/words" none "$work/empty"
+measure 'judge of 500 events, no words' 50 "$program" judge "$work/empty" "$work/none" "$work/500"
+measure 'judge of 1,000 events, no words' 50 "$program" judge "$work/empty" "$work/none" "$work/1000"
+
+# The reading of a word list alone: an empty file is no lexicon.
+measure 'judge with 400,000 words, empty lexicon' 5 "$program" judge "$work/words" "$work/empty" "$work/empty"
 measure 'sort -u of these words' 5 sort -u --parallel=1 "$work/words"
-measure 'the same, the words sorted' 5 "$program" judge "$work/sorted" none "$work/empty"
+measure 'the same, the words sorted' 5 "$program" judge "$work/sorted" "$work/empty" "$work/empty"
 measure 'sort -u of these' 5 sort -u --parallel=1 "$work/sorted"
+
+# The lexicon of 400,000 words that are built as those of a language, and beside it that of words of random letters.
+batches=3
+measure 'build of 400,000 words' 1 "$program" build "$work/dictionary" "$work/built"
+measure 'check of their lexicon' 1 "$program" check "$work/dictionary" "$work/lexicon"
+measure 'judge of 25 turns with both' 1 "$program" judge "$work/dictionary" "$work/lexicon" "$work/50"
+measure 'sort of the rotated paths' 1 sort --parallel=1 "$work/paths"
+measure 'build of 400,000 random words' 1 "$program" build "$work/words" "$work/built"
+measure 'check of the lexicon of these' 1 "$program" check "$work/words" "$work/harsh"
+measure 'sort of their rotated paths' 1 sort --parallel=1 "$work/harsh-paths"

@@ -6,6 +6,7 @@ import tempfile
 from pathlib import Path
 
 from games import ACROSS, DOWN, POINTS, Event, Game, Refused, judge, place, runs, score_of
+from lexicons import build
 
 choose = random.choice
 LETTERS = "AEINRSTOUDLGBCMPQZ"
@@ -129,15 +130,16 @@ def main():
     random.seed(seed)
     differences, verdicts = 0, {}
     with tempfile.TemporaryDirectory() as folder:
-        words, game = Path(folder, "words"), Path(folder, "game")
+        words, lexicon, game = (Path(folder, name) for name in ("words", "lexicon", "game"))
         for _ in range(cases):
             maker = Maker(choose([3, 10, 40, 120]))
             events = maker.game()
             if not events or events[0].player:
                 continue
             words.write_text("\n".join(sorted(maker.listed)))
+            lexicon.write_bytes(build(maker.listed))
             game.write_text("".join(line(event) for event in events))
-            told = subprocess.run([program, "judge", words, "none", game], capture_output=True, check=False).stdout.decode()
+            told = subprocess.run([program, "judge", words, lexicon, game], capture_output=True, check=False).stdout.decode()
             expected = judge(events, maker.listed)
             verdict = expected.split("\n")[0].split(": ")[-1].split(" ")[0 if expected.startswith("illegal") else -1]
             verdicts[verdict] = verdicts.get(verdict, 0) + 1

@@ -1,5 +1,5 @@
 -- Verdicts on records, from the verdicts on their events.
-use Rattle.std.proofs.Common.{◌≡◌, ◌⊎◌, ℕ, Bool, List, Result, Ok, Err, IfOk, IfErr, OnOk, OnErr, refl, sym, ap, subst, ◌∙◌, ⊎_elim}
+use Rattle.std.proofs.Common.{◌≡◌, ◌≢◌, ◌⊎◌, ℕ, Bool, List, Result, Ok, Err, IfOk, IfErr, OnOk, OnErr, refl, sym, ap, subst, ◌∙◌, ⊎_elim}
 use Rattle.ref_tiles.specs.declared.rulebook.Rules.{Rules}
 use Rattle.gcg_read.specs.declared.records.Record.{Record}
 use Rattle.gcg_read.specs.declared.faults.ReadFault.{ReadFault}
@@ -19,9 +19,10 @@ use Rattle.engine.specs.declared.faults.RunFault.{RunFault}
 use Rattle.engine.specs.declared.faults.RunFault.TheVariants as run
 use Rattle.engine.specs.Runs.{Answers, HasStopped, ReadGivesUp, GivesUp}
 use Rattle.engine.specs.Verdicts.{IsVerdictOn}
-use Rattle.engine.specs.Judging.{IsJudged, IsDecided, IsDecidedBy, IsRefused, report_on}
+use Rattle.engine.specs.Judging.{IsJudged, IsDecided, IsDecidedByPair, IsRefused, report_on}
+use Rattle.engine.specs.Lexicons.{IsLexicon}
 use Rattle.engine.specs.Tidying.{IsTidied}
-use Rattle.engine.specs.Reports.{report, legal_report, legal_text, illegal_line, bad_record_line, bad_record_text}
+use Rattle.engine.specs.Reports.{legal_report, legal_text, illegal_line, bad_record_line, bad_record_text}
 
 -- a record that was played through
 pub judged_legal : (rules : Rules) (words : List (List ℕ)) (r : Record) (passed : Passed) (complete : Bool) (bytes : List ℕ) → rules_in passed ≡ rules → record_in passed ≡ r → list_in passed ≡ words
@@ -40,44 +41,56 @@ pub judged_illegal : (rules : Rules) (words : List (List ℕ)) (r : Record) (lin
     → bytes ≡ illegal_line line (game.Rule why) → IsJudged rules words r (verdict.Illegal line (game.Rule why)) bytes
 judged_illegal rules words r line why bytes refused told = record { verdict_is = refused; told = told }
 
--- the verdict on a record, by the words of a list
-decided_on : (rules : Rules) (words : List (List ℕ)) (listing text : List ℕ) (r : Record) (v : Verdict) (bytes : List ℕ) → list_of listing ≡ Ok words → record_of text ≡ Ok r
-    → IsVerdictOn rules words r v → bytes ≡ report_on rules words r v → IsDecided rules (record { words = listing; game = text }) v bytes
-unfolding report
-decided_on rules words listing text r (verdict.Legal complete) bytes l e is told =
+-- the verdict on a record, by the words of a list and their lexicon
+decided_on : (rules : Rules) (words : List (List ℕ)) (listing lexicon text : List ℕ) (r : Record) (v : Verdict) (bytes : List ℕ) → list_of listing ≡ Ok words → IsLexicon words lexicon
+    → record_of text ≡ Ok r → IsVerdictOn rules words r v → bytes ≡ report_on rules words r v → IsDecided rules (record { words = listing; lexicon = lexicon; game = text }) v bytes
+decided_on rules words listing lexicon text r (verdict.Legal complete) bytes l p e is told =
     record {
-      judged = λ lexicon. record { list = words; listed = l; game = r; recorded = e; verdict_is = is };
-      told = λ lexicon. let whole : legal_text rules complete (list_of listing) (record_of text) ≡ legal_report rules words complete r = rw (l, e) refl in told ∙ sym whole;
+      judged = record { list = words; listed = l; paired = p; game = r; recorded = e; verdict_is = is };
+      told = let whole : legal_text rules complete (list_of listing) (record_of text) ≡ legal_report rules words complete r = rw (l, e) refl in told ∙ sym whole;
     }
-decided_on rules words listing text r (verdict.Illegal line fault) bytes l e is told =
-    record { judged = λ lexicon. record { list = words; listed = l; game = r; recorded = e; verdict_is = is }; told = λ lexicon. told }
-decided_on rules words listing text r verdict.Unsettled bytes l e is told = absurd is
-decided_on rules words listing text r verdict.BadList bytes l e is told = absurd is
-decided_on rules words listing text r verdict.BadFile bytes l e is told = absurd is
-decided_on rules words listing text r verdict.BadRecord bytes l e is told = absurd is
-decided_on rules words listing text r verdict.Done bytes l e is told = absurd is
-decided_on rules words listing text r verdict.BadRack bytes l e is told = absurd is
+decided_on rules words listing lexicon text r (verdict.Illegal line fault) bytes l p e is told =
+    record { judged = record { list = words; listed = l; paired = p; game = r; recorded = e; verdict_is = is }; told = told }
+decided_on rules words listing lexicon text r verdict.Unsettled bytes l p e is told = absurd is
+decided_on rules words listing lexicon text r verdict.BadList bytes l p e is told = absurd is
+decided_on rules words listing lexicon text r verdict.BadFile bytes l p e is told = absurd is
+decided_on rules words listing lexicon text r verdict.BadRecord bytes l p e is told = absurd is
+decided_on rules words listing lexicon text r verdict.Done bytes l p e is told = absurd is
+decided_on rules words listing lexicon text r verdict.BadRack bytes l p e is told = absurd is
+
+-- a verdict on a record is on neither the list nor the file
+never_list : (rules : Rules) (words : List (List ℕ)) (r : Record) (v : Verdict) → IsVerdictOn rules words r v → v ≢ verdict.BadList
+never_list rules words r v is same = let none : IsVerdictOn rules words r verdict.BadList = subst (IsVerdictOn rules words r) same is in none
+
+never_file : (rules : Rules) (words : List (List ℕ)) (r : Record) (v : Verdict) → IsVerdictOn rules words r v → v ≢ verdict.BadFile
+never_file rules words r v is same = let none : IsVerdictOn rules words r verdict.BadFile = subst (IsVerdictOn rules words r) same is in none
 
 pub decided_by_events : (rules : Rules) (words : List (List ℕ)) (text : List ℕ) (r : Record) (v : Verdict) (bytes : List ℕ) → record_of text ≡ Ok r → IsJudged rules words r v bytes
-    → IsDecidedBy rules words text v bytes
-decided_by_events rules words text r v bytes e h = record { holds = λ listing l. decided_on rules words listing text r v bytes l e h.verdict_is h.told }
+    → IsDecidedByPair rules words text v bytes
+decided_by_events rules words text r v bytes e h =
+    record {
+      past_list = never_list rules words r v h.verdict_is;
+      past_file = never_file rules words r v h.verdict_is;
+      holds = λ listing lexicon l p. decided_on rules words listing lexicon text r v bytes l p e h.verdict_is h.told;
+    }
 
-bad_record_on : (rules : Rules) (words : List (List ℕ)) (listing text : List ℕ) (fault : ReadFault) (v : Verdict) (bytes : List ℕ) → list_of listing ≡ Ok words → record_of text ≡ Err fault
-    → v ≡ verdict.BadRecord → bytes ≡ bad_record_line fault → IsDecided rules (record { words = listing; game = text }) v bytes
-unfolding report
-bad_record_on rules words listing text fault v bytes l e is told =
-    subst (λ (x : Verdict). IsDecided rules (record { words = listing; game = text }) x bytes) (sym is) (record {
-      judged = λ lexicon. record { list = words; listed = l; fault = fault; fails = e };
-      told = λ lexicon. told ∙ ap bad_record_text (sym e);
+bad_record_on : (rules : Rules) (words : List (List ℕ)) (listing lexicon text : List ℕ) (fault : ReadFault) (v : Verdict) (bytes : List ℕ) → list_of listing ≡ Ok words → IsLexicon words lexicon
+    → record_of text ≡ Err fault → v ≡ verdict.BadRecord → bytes ≡ bad_record_line fault → IsDecided rules (record { words = listing; lexicon = lexicon; game = text }) v bytes
+bad_record_on rules words listing lexicon text fault v bytes l p e is told =
+    subst (λ (x : Verdict). IsDecided rules (record { words = listing; lexicon = lexicon; game = text }) x bytes) (sym is) (record {
+      judged = record { list = words; listed = l; paired = p; fault = fault; fails = e };
+      told = told ∙ ap bad_record_text (sym e);
     })
 
 pub decided_by_fault : (rules : Rules) (words : List (List ℕ)) (text : List ℕ) (fault : ReadFault) (v : Verdict) (bytes : List ℕ) → (fault ≡ no_memory) ⊎ (record_of text ≡ Err fault)
-    → IsRefused fault v bytes → IsDecidedBy rules words text v bytes
+    → IsRefused fault v bytes → IsDecidedByPair rules words text v bytes
 decided_by_fault rules words text fault v bytes given refused =
     ⊎_elim
     (λ (none : fault ≡ no_memory). absurd (refused.known (ap (λ (f : ReadFault). f.why) none)))
     (λ (e : record_of text ≡ Err fault). record {
-      holds = λ listing l. bad_record_on rules words listing text fault v bytes l e refused.verdict_is refused.told;
+      past_list = λ same. let both : verdict.BadRecord ≡ verdict.BadList = sym refused.verdict_is ∙ same in cc;
+      past_file = λ same. let both : verdict.BadRecord ≡ verdict.BadFile = sym refused.verdict_is ∙ same in cc;
+      holds = λ listing lexicon l p. bad_record_on rules words listing lexicon text fault v bytes l p e refused.verdict_is refused.told;
     })
     given
 

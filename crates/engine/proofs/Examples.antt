@@ -1,7 +1,9 @@
 -- Reports as the definitions give them, computed.
-use Rattle.std.proofs.Common.{◌≡◌, pos, [], ◌∷◌, Some, None, refl}
+use Rattle.std.proofs.Common.{◌≡◌, ℕ, pos, [], ◌∷◌, Some, None, refl}
 use Rattle.std.specs.Prelude.{codes}
 use Rattle.std.specs.Fmt.{digits}
+use Rattle.arrayvec.specs.ArrayVec.{ArrayVec}
+use Rattle.lex_file.specs.declared.faults.FileFault.TheVariants as form
 use Rattle.ref_play.specs.declared.faults.PlayFault.TheVariants as play
 use Rattle.lex_list.specs.Words.{is_listed}
 use Rattle.lex_list.specs.declared.faults.ListWhy.TheVariants as list_why
@@ -12,7 +14,8 @@ use Rattle.gcg_write.specs.Fields.{kind_text}
 use Rattle.gcg_write.specs.Normal.{event_text_of}
 use Rattle.game_turns.specs.declared.faults.RuleFault.TheVariants as rule
 use Rattle.engine.specs.declared.verdicts.GameFault.TheVariants as game
-use Rattle.engine.specs.Reports.{unlisted_text, line_with, illegal_line, bad_record_line, bad_list_line}
+use Rattle.engine.specs.declared.lexicons.LexiconFault.TheVariants as lexicon
+use Rattle.engine.specs.Reports.{unlisted_text, line_with, illegal_line, bad_record_line, bad_list_line, bad_file_line, ok_line}
 
 -- the lines of faults
 score_is_told : illegal_line 1 (game.Rule (rule.WrongScore (pos 16))) ≡ codes "illegal line 1: WrongScore 16\n"
@@ -34,6 +37,23 @@ length_is_told = refl
 list_is_told : bad_list_line (record { line = 2; why = list_why.BadLetter }) ≡ codes "bad word list line 2: BadLetter\n"
 unfolding digits bad_list_line
 list_is_told = refl
+
+magic_is_told : bad_file_line (lexicon.Form form.Magic) ≡ codes "bad lexicon: Magic\n"
+unfolding bad_file_line
+magic_is_told = refl
+
+arcs_are_told : bad_file_line lexicon.TooManyArcs ≡ codes "bad lexicon: TooManyArcs\n"
+unfolding bad_file_line
+arcs_are_told = refl
+
+path_is_told : (path : ArrayVec ℕ) → path.items ≡ 9 ∷ 0 ∷ 20 ∷ [] → bad_file_line (lexicon.Missing path) ≡ codes "bad lexicon: Missing I+T\n"
+unfolding bad_file_line
+path_is_told path is = rw is refl
+
+-- the line of a file that is the lexicon of a list
+number_is_told : ok_line 12 ≡ codes "ok 12\n"
+unfolding digits ok_line
+number_is_told = refl
 
 -- words that are not in the list
 nothing_unlisted : unlisted_text (codes "AT" ∷ codes "WORD" ∷ []) (codes "WORD" ∷ []) ≡ []

@@ -1,4 +1,9 @@
 pub mod Answering
+pub mod Sequences
+pub mod Judgements
 pub mod Listings
+pub mod Pairings
+pub mod CheckedFiles
 pub mod ReportLines
 pub mod Examples
+pub mod BuiltFiles

@@ -7,10 +7,12 @@ use Rattle.lex_list.specs.Lists.{list_of}
 use Rattle.gcg_read.specs.declared.records.Record.{Record}
 use Rattle.gcg_read.specs.declared.faults.ReadFault.{ReadFault}
 use Rattle.gcg_read.specs.declared.faults.Why.TheVariants as why
+use Rattle.gcg_read.specs.Records.{record_of}
 use Rattle.engine.specs.declared.verdicts.Verdict.{Verdict}
 use Rattle.engine.specs.declared.verdicts.Verdict.TheVariants as verdict
 use Rattle.engine.specs.Verdicts.{Judged, IsVerdictOn}
-use Rattle.engine.specs.Reports.{legal_report, illegal_line, bad_record_line, bad_list_line, report}
+use Rattle.engine.specs.Lexicons.{IsLexicon, IsWrongFile}
+use Rattle.engine.specs.Reports.{legal_report, legal_text, illegal_line, bad_record_line, bad_record_text, bad_list_line, bad_list_text}
 
 -- the report of a verdict on a record
 abbrev pub report_on : Rules → (words : List (List ℕ)) → Record → Verdict → List ℕ
@@ -28,19 +30,48 @@ pub record IsJudged (rules : Rules) (words : List (List ℕ)) (r : Record) (v : 
   pub verdict_is : IsVerdictOn rules words r v
   pub told : bytes ≡ report_on rules words r v
 
--- the bytes of the inputs that are read
+-- The report of a verdict: its line, and of a legal game a line for each event. The verdicts that are not given yet have
+-- none.
+abbrev pub IsReport : Rules → (words lexicon game : List ℕ) → Verdict → List ℕ → Type 0
+IsReport rules words lexicon text (verdict.Legal complete) bytes = bytes ≡ legal_text rules complete (list_of words) (record_of text)
+IsReport rules words lexicon text (verdict.Illegal line fault) bytes = bytes ≡ illegal_line line fault
+IsReport rules words lexicon text verdict.Unsettled bytes = ⊥
+IsReport rules words lexicon text verdict.BadList bytes = bytes ≡ bad_list_text (list_of words)
+IsReport rules words lexicon text verdict.BadFile bytes = IsWrongFile words lexicon bytes
+IsReport rules words lexicon text verdict.BadRecord bytes = bytes ≡ bad_record_text (record_of text)
+IsReport rules words lexicon text verdict.Done bytes = ⊥
+IsReport rules words lexicon text verdict.BadRack bytes = ⊥
+
+-- the bytes of the inputs
 pub record Texts : Type 0 where
   pub words : List ℕ
+  pub lexicon : List ℕ
   pub game : List ℕ
 
--- the verdict holds of the inputs, whatever the lexicon is, and this is its report
+-- the verdict holds of the inputs, and this is its report
 pub record IsDecided (rules : Rules) (texts : Texts) (v : Verdict) (bytes : List ℕ) : Type 0 where
-  pub judged : (lexicon : List ℕ) → Judged rules texts.words lexicon texts.game v
-  pub told : (lexicon : List ℕ) → bytes ≡ report rules texts.words lexicon texts.game v
+  pub judged : Judged rules texts.words texts.lexicon texts.game v
+  pub told : IsReport rules texts.words texts.lexicon texts.game v bytes
 
--- by these words the verdict on a record is this one, and this is its report
-pub record IsDecidedBy (rules : Rules) (words : List (List ℕ)) (text : List ℕ) (v : Verdict) (bytes : List ℕ) : Type 0 where
-  pub holds : (listing : List ℕ) → list_of listing ≡ Ok words → IsDecided rules (record { words = listing; game = text }) v bytes
+-- ---- the same by what was read before
+
+-- the bytes of the inputs behind the word list
+pub record LaterTexts : Type 0 where
+  pub lexicon : List ℕ
+  pub game : List ℕ
+
+-- by the words of a list that was read
+pub record IsDecidedByList (rules : Rules) (words : List (List ℕ)) (texts : LaterTexts) (v : Verdict) (bytes : List ℕ) : Type 0 where
+  pub past_list : v ≢ verdict.BadList
+  pub holds : (listing : List ℕ) → list_of listing ≡ Ok words
+      → IsDecided rules (record { words = listing; lexicon = texts.lexicon; game = texts.game }) v bytes
+
+-- by the words of a list that was read and of which a file that was read is the lexicon
+pub record IsDecidedByPair (rules : Rules) (words : List (List ℕ)) (text : List ℕ) (v : Verdict) (bytes : List ℕ) : Type 0 where
+  pub past_list : v ≢ verdict.BadList
+  pub past_file : v ≢ verdict.BadFile
+  pub holds : (listing lexicon : List ℕ) → list_of listing ≡ Ok words → IsLexicon words lexicon
+      → IsDecided rules (record { words = listing; lexicon = lexicon; game = text }) v bytes
 
 -- the record has this fault, which is not want of memory
 pub record IsRefused (fault : ReadFault) (v : Verdict) (bytes : List ℕ) : Type 0 where

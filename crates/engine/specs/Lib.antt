@@ -4,3 +4,6 @@ pub mod Judging
 pub mod Tidying
 pub mod Runs
 pub mod Listing
+pub mod Lexicons
+pub mod Checking
+pub mod Building

@@ -1,5 +1,5 @@
 -- The bytes of a report.
-use Rattle.std.specs.Prelude.{ℕ, ◌+◌, ◌==◌, Bool, true, false, List, [], ◌∷◌, ◌++◌, length, slice_get, Option, Some, None, Result, Ok, Err, codes, decimal, if◌then◌else◌}
+use Rattle.std.specs.Prelude.{ℕ, ◌+◌, ◌==◌, Bool, true, false, List, [], ◌∷◌, ◌++◌, length, slice_get, Option, Some, None, Result, Ok, Err, codes, decimal, if◌then◌else◌, map}
 use Rattle.std.specs.List.{list_all, flat_map, range_with_len}
 use Rattle.std.specs.Fmt.{signed_decimal}
 use Rattle.ref_tiles.specs.declared.rulebook.Rules.{Rules}
@@ -10,18 +10,18 @@ use Rattle.gcg_read.specs.declared.records.Record.{Record}
 use Rattle.gcg_read.specs.declared.faults.ReadFault.{ReadFault}
 use Rattle.lex_list.specs.declared.faults.ListFault.{ListFault}
 use Rattle.lex_list.specs.Faults as listing
-use Rattle.lex_list.specs.Lists.{list_of}
 use Rattle.lex_list.specs.Words.{is_listed}
 use Rattle.game_turns.specs.LatestEvents.{standing_words}
 use Rattle.game_turns.specs.Tallies.{tally_at}
+use Rattle.lex_file.specs.Faults as file
+use Rattle.lex_check.specs.Checks.{symbol_of}
 use Rattle.gcg_read.specs.Faults as read
-use Rattle.gcg_read.specs.Records.{record_of}
 use Rattle.gcg_read.specs.Players.{player_of}
 use Rattle.gcg_write.specs.Normal.{event_text_of}
 use Rattle.game_turns.specs.declared.faults.RuleFault.{RuleFault}
 use Rattle.game_turns.specs.declared.faults.RuleFault.TheVariants as rule
-use Rattle.engine.specs.declared.verdicts.Verdict.{Verdict}
-use Rattle.engine.specs.declared.verdicts.Verdict.TheVariants as verdict
+use Rattle.engine.specs.declared.lexicons.LexiconFault.{LexiconFault}
+use Rattle.engine.specs.declared.lexicons.LexiconFault.TheVariants as lexicon
 use Rattle.engine.specs.declared.verdicts.GameFault.{GameFault}
 use Rattle.engine.specs.declared.verdicts.GameFault.TheVariants as game
 
@@ -58,6 +58,21 @@ bad_record_line fault = codes "bad record" ++ line_text fault.line ++ codes ": "
 
 unfoldable pub bad_list_line : ListFault → List ℕ
 bad_list_line fault = codes "bad word list" ++ line_text fault.line ++ codes ": " ++ listing.name_of fault.why ++ 10 ∷ []
+
+-- the name of a fault of a lexicon, and the path of a difference
+abbrev pub lexicon_text : LexiconFault → List ℕ
+lexicon_text (lexicon.Form first) = file.name_of first
+lexicon_text (lexicon.Missing path) = codes "Missing " ++ map symbol_of path.items
+lexicon_text (lexicon.Extra path) = codes "Extra " ++ map symbol_of path.items
+lexicon_text lexicon.WordCount = codes "WordCount"
+lexicon_text lexicon.TooManyArcs = codes "TooManyArcs"
+
+unfoldable pub bad_file_line : LexiconFault → List ℕ
+bad_file_line fault = codes "bad lexicon: " ++ lexicon_text fault ++ 10 ∷ []
+
+-- the line that tells the number of the words
+unfoldable pub ok_line : ℕ → List ℕ
+ok_line words = codes "ok " ++ decimal words ++ 10 ∷ []
 
 abbrev pub legal_line : Bool → List ℕ
 legal_line true = codes "legal complete\n"
@@ -106,15 +121,3 @@ bad_list_text (Err fault) = bad_list_line fault
 abbrev pub bad_record_text : Result Record ReadFault → List ℕ
 bad_record_text (Ok r) = []
 bad_record_text (Err fault) = bad_record_line fault
-
--- The report of a verdict: its line, and of a legal game a line for each event. The verdicts that are not given yet
--- have none.
-unfoldable pub report : Rules → (words lexicon game : List ℕ) → Verdict → List ℕ
-report rules words lexicon text (verdict.Legal complete) = legal_text rules complete (list_of words) (record_of text)
-report rules words lexicon text (verdict.Illegal line fault) = illegal_line line fault
-report rules words lexicon text verdict.Unsettled = []
-report rules words lexicon text verdict.BadList = bad_list_text (list_of words)
-report rules words lexicon text verdict.BadFile = []
-report rules words lexicon text verdict.BadRecord = bad_record_text (record_of text)
-report rules words lexicon text verdict.Done = []
-report rules words lexicon text verdict.BadRack = []

@@ -6,7 +6,8 @@ use Rattle.devices.specs.Outputs.{SendsFront}
 use Rattle.engine.specs.declared.verdicts.Verdict.{Verdict}
 use Rattle.engine.specs.declared.faults.RunFault.{RunFault}
 use Rattle.engine.specs.declared.faults.RunFault.TheVariants as run
-use Rattle.engine.specs.Judging.{Texts}
+use Rattle.engine.specs.Judging.{Texts, LaterTexts}
+use Rattle.engine.specs.Lexicons.{most_file}
 
 -- the most bytes of a record
 abbrev pub most_bytes : ℕ
@@ -51,6 +52,19 @@ abbrev pub OneHasFailed : (first_old first_new second_old second_new : Device) �
 OneHasFailed first_old first_new second_old second_new =
     HasFailed first_old first_new × HasWorked second_old second_new ⊎ HasWorked first_old first_new × HasFailed second_old second_new
 
+-- of three inputs that are read one after the other, one failed
+abbrev pub OneOfThreeHasFailed : (first_old first_new second_old second_new third_old third_new : Device) → Type 0
+OneOfThreeHasFailed first_old first_new second_old second_new third_old third_new =
+    HasFailed first_old first_new × HasWorked second_old second_new × HasWorked third_old third_new
+    ⊎ HasWorked first_old first_new × OneHasFailed second_old second_new third_old third_new
+
 -- the bytes that the inputs of a game give
-abbrev pub AreGiven : (words game : Device) → Texts → Type 0
-AreGiven words game texts = IsInput most_listing words texts.words × IsInput most_bytes game texts.game
+pub record AreGiven (words lexicon game : Device) (texts : Texts) : Type 0 where
+  pub words_are : IsInput most_listing words texts.words
+  pub lexicon_is : IsInput most_file lexicon texts.lexicon
+  pub game_is : IsInput most_bytes game texts.game
+
+-- the bytes that those behind the word list give
+pub record AreGivenLater (lexicon game : Device) (texts : LaterTexts) : Type 0 where
+  pub lexicon_is : IsInput most_file lexicon texts.lexicon
+  pub game_is : IsInput most_bytes game texts.game

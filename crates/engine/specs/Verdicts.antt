@@ -12,6 +12,7 @@ use Rattle.engine.specs.declared.verdicts.Verdict.{Verdict}
 use Rattle.engine.specs.declared.verdicts.Verdict.TheVariants as verdict
 use Rattle.engine.specs.declared.verdicts.GameFault.{GameFault}
 use Rattle.engine.specs.declared.verdicts.GameFault.TheVariants as game
+use Rattle.engine.specs.Lexicons.{IsLexicon}
 
 -- the first event that is not allowed is on this line, and this is why
 abbrev pub RefusesFor : Rules → (list : List (List ℕ)) → List Event → ℕ → GameFault → Type 0
@@ -28,28 +29,36 @@ IsVerdictOn rules list r verdict.BadRecord = ⊥
 IsVerdictOn rules list r verdict.Done = ⊥
 IsVerdictOn rules list r verdict.BadRack = ⊥
 
--- the words are a list, the text is a record, and this is the verdict on it
-pub record IsOnGame (rules : Rules) (words text : List ℕ) (v : Verdict) : Type 0 where
+-- the words are a list, the file is its lexicon, the text is a record, and this is the verdict on it
+pub record IsOnGame (rules : Rules) (words lexicon text : List ℕ) (v : Verdict) : Type 0 where
   pub list : List (List ℕ)
   pub listed : list_of words ≡ Ok list
+  pub paired : IsLexicon list lexicon
   pub game : Record
   pub recorded : record_of text ≡ Ok game
   pub verdict_is : IsVerdictOn rules list game v
 
--- the words are a list, and the text is no record
-pub record IsBadRecord (words text : List ℕ) : Type 0 where
+-- the words are a list, the file is its lexicon, and the text is no record
+pub record IsBadRecord (words lexicon text : List ℕ) : Type 0 where
   pub list : List (List ℕ)
   pub listed : list_of words ≡ Ok list
+  pub paired : IsLexicon list lexicon
   pub fault : ReadFault
   pub fails : record_of text ≡ Err fault
 
--- What a verdict says. The lexicon is not read for now. No row speaks of an input below the one that decides.
+-- the words are a list, and the file is not its lexicon
+pub record IsOtherFile (words lexicon : List ℕ) : Type 0 where
+  pub list : List (List ℕ)
+  pub listed : list_of words ≡ Ok list
+  pub unlike : IsLexicon list lexicon → ⊥
+
+-- What a verdict says. No row speaks of an input below the one that decides.
 abbrev pub Judged : Rules → (words lexicon game : List ℕ) → Verdict → Type 0
-Judged rules words lexicon text (verdict.Legal complete) = IsOnGame rules words text (verdict.Legal complete)
-Judged rules words lexicon text (verdict.Illegal line fault) = IsOnGame rules words text (verdict.Illegal line fault)
+Judged rules words lexicon text (verdict.Legal complete) = IsOnGame rules words lexicon text (verdict.Legal complete)
+Judged rules words lexicon text (verdict.Illegal line fault) = IsOnGame rules words lexicon text (verdict.Illegal line fault)
 Judged rules words lexicon text verdict.Unsettled = ⊥
 Judged rules words lexicon text verdict.BadList = (fault : ListFault) × (list_of words ≡ Err fault)
-Judged rules words lexicon text verdict.BadFile = ⊥
-Judged rules words lexicon text verdict.BadRecord = IsBadRecord words text
+Judged rules words lexicon text verdict.BadFile = IsOtherFile words lexicon
+Judged rules words lexicon text verdict.BadRecord = IsBadRecord words lexicon text
 Judged rules words lexicon text verdict.Done = ⊥
 Judged rules words lexicon text verdict.BadRack = ⊥

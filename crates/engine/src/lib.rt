@@ -1,22 +1,29 @@
 //! The engine of the referee: it reads its inputs, judges the game by the rules, and writes the report.
 //!
-//! [`run`] and [`run_tidy`] are the calls that the program makes. The contract of [`run`] is the theorem of the whole,
-//! from the bytes of the inputs to the bytes of the output.
+//! [`run`], [`run_build`], [`run_check`] and [`run_tidy`] are the calls that the program makes. The contract of [`run`]
+//! is the theorem of the whole, from the bytes of the inputs to the bytes of the output.
 #![tactic(auto)]
 
+mod building;
+mod checking;
 mod decisions;
 mod event_lines;
 mod faults;
+mod lexicons;
 mod listing;
 mod reports;
 mod running;
 mod tidying;
 mod verdicts;
 
+pub use building::run_build;
+pub use checking::run_check;
 pub use faults::RunFault;
 pub use running::run;
 pub use tidying::run_tidy;
 pub use verdicts::{GameFault, Verdict};
 
+#[cfg(test)]
+mod lexicon_tests;
 #[cfg(test)]
 mod tests;

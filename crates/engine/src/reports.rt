@@ -1,14 +1,17 @@
-ghost use Rattle.std.specs.Prelude.{◌≡◌, ◌++◌, OnOk, IfOk};
+ghost use Rattle.std.specs.Prelude.{◌≡◌, ◌++◌, OnOk, IfOk, map};
 ghost use Rattle.std.specs.Fmt.{signed_decimal};
+ghost use Rattle.lex_check.specs.Checks.{symbol_of};
 ghost use Rattle.game_turns.specs.Passing.{rules_in, record_in, list_in};
 ghost use Rattle.game_turns.specs.Places.{is_finished};
-ghost use Rattle.engine.specs.Reports.{rule_text, fault_text, line_text, illegal_line, bad_record_line, bad_list_line, legal_line, legal_report};
+ghost use Rattle.engine.specs.Reports.{rule_text, line_text, illegal_line, bad_record_line, bad_list_line, lexicon_text, bad_file_line, ok_line, legal_line, legal_report};
 
 use crate::event_lines::push_event_lines;
+use crate::lexicons::LexiconFault;
 use crate::verdicts::GameFault;
 use game_turns::{Passed, RuleFault};
 use gcg_read::ReadFault;
 use itoa::Buffer;
+use lex_check::{Path, text_of};
 use lex_list::ListFault;
 use std::alloc::{AllocError, Global};
 
@@ -95,6 +98,52 @@ pub fn bad_list_line(alloc: Global, fault: &ListFault) -> Result<Vec<u8>, AllocE
     push_line(&mut text, fault.line)?;
     text.extend_from_slice(b": ")?;
     text.extend_from_slice(fault.why.name().as_bytes())?;
+    text.extend_from_slice(b"\n")?;
+    Ok(text)
+}
+
+/// Appends a name and a path.
+fn push_path(text: &mut Vec<u8>, name: &[u8], path: &Path) -> Result<(), AllocError>
+    ensures { OnOk result (text.new.items ≡ text.old.items ++ (name.now ++ map symbol_of path.now.items)) }
+{
+    let symbols = text_of(path);
+    text.extend_from_slice(name)?;
+    text.extend_from_slice(symbols.as_slice())?;
+    Ok(())
+}
+
+/// Appends the name of a fault of a lexicon, and the path of a difference.
+fn push_lexicon_fault(text: &mut Vec<u8>, fault: &LexiconFault) -> Result<(), AllocError>
+    ensures { OnOk result (text.new.items ≡ text.old.items ++ lexicon_text fault.now) }
+{
+    match fault {
+        LexiconFault::Form(first) => text.extend_from_slice(first.name().as_bytes()),
+        LexiconFault::Missing(path) => push_path(text, b"Missing ", path),
+        LexiconFault::Extra(path) => push_path(text, b"Extra ", path),
+        LexiconFault::WordCount => text.extend_from_slice(b"WordCount"),
+        LexiconFault::TooManyArcs => text.extend_from_slice(b"TooManyArcs"),
+    }
+}
+
+/// `bad lexicon: FAULT`.
+#[tactic(auto, unfolding(crate::specs::Reports::bad_file_line))]
+pub fn bad_file_line(alloc: Global, fault: &LexiconFault) -> Result<Vec<u8>, AllocError>
+    ensures { IfOk result (λ text. text.items ≡ bad_file_line fault.now) }
+{
+    let mut text = Vec::from_slice(alloc, b"bad lexicon: ")?;
+    push_lexicon_fault(&mut text, fault)?;
+    text.extend_from_slice(b"\n")?;
+    Ok(text)
+}
+
+/// `ok N`, the number of words.
+#[tactic(auto, unfolding(crate::specs::Reports::ok_line))]
+pub fn ok_line(alloc: Global, words: usize) -> Result<Vec<u8>, AllocError>
+    ensures { IfOk result (λ text. text.items ≡ ok_line words) }
+{
+    let mut buffer = Buffer::new();
+    let mut text = Vec::from_slice(alloc, b"ok ")?;
+    text.extend_from_slice(buffer.format(words).as_bytes())?;
     text.extend_from_slice(b"\n")?;
     Ok(text)
 }

@@ -2,32 +2,36 @@ ghost use Rattle.std.specs.Prelude.{◌≡◌, ◌+◌, IfOk, IfErr, OnOk};
 ghost use Rattle.std.specs.Io.KnownBytes.{Appends};
 ghost use Rattle.devices.specs.Devices.{HasRoom, HasFailed, HasWorked};
 ghost use Rattle.devices.specs.Inputs.{TakesAtMost, IsInput};
-ghost use Rattle.engine.specs.Judging.{IsJudged, IsDecidedBy, IsDecided};
-ghost use Rattle.engine.specs.Runs.{most_bytes, Answers, GivesUp, AreGiven, OneHasFailed};
+ghost use Rattle.lex_check.specs.Pairs.{list_in};
+ghost use Rattle.engine.specs.Judging.{IsJudged, IsDecidedByPair, IsDecidedByList, IsDecided};
+ghost use Rattle.engine.specs.declared.verdicts.Verdict.TheVariants.{BadList, BadFile};
+ghost use Rattle.engine.specs.Runs.{most_bytes, Answers, GivesUp, AreGiven, AreGivenLater, OneHasFailed, OneOfThreeHasFailed};
 
 use crate::decisions::{Decision, bad_record, read_text, send};
 use crate::faults::RunFault;
+use crate::lexicons::{MAX_FILE_BYTES, Paired, pair_file};
 use crate::listing::{Listed, read_list};
 use crate::reports::{illegal_line, legal_report};
 use crate::verdicts::{GameFault, Verdict};
 use devices::{Input, Output};
 use game_turns::play_through;
 use gcg_read::{MAX_BYTES, Record, read};
+use lex_check::Checked;
 use lex_list::WordList;
 use ref_tiles::Rules;
 use std::alloc::{AllocError, Global};
 
-/// The verdict on a record.
+/// The verdict on a record, by the list of a pair.
 #[tactic(auto, using(crate::proofs::Answering::judged_legal, crate::proofs::Answering::judged_illegal))]
 fn judge_record(
     alloc: Global,
     rules: &Rules,
-    list: &WordList,
+    pair: &Checked<'_>,
     game: &Record,
 ) -> Result<Decision, AllocError>
-    ensures { IfOk result (λ d. IsJudged rules.now list.now game.now d.verdict d.report.items) }
+    ensures { IfOk result (λ d. IsJudged rules.now (list_in pair.now) game.now d.verdict d.report.items) }
 {
-    match play_through(rules, game, list) {
+    match play_through(rules, game, pair.list()) {
         Ok(passed) => {
             let complete = passed.complete();
             let report = legal_report(alloc, &passed)?;
@@ -48,38 +52,38 @@ fn judge_record(
     }
 }
 
-/// The verdict on the bytes of a record.
+/// The verdict on the bytes of a record, by the list of a pair.
 fn decide(
     alloc: Global,
     rules: &Rules,
-    list: &WordList,
+    pair: &Checked<'_>,
     text: &[u8],
 ) -> Result<Decision, AllocError>
-    ensures { IfOk result (λ d. IsDecidedBy rules.now list.now text.now d.verdict d.report.items) }
+    ensures { IfOk result (λ d. IsDecidedByPair rules.now (list_in pair.now) text.now d.verdict d.report.items) }
 {
     match read(alloc, text) {
-        Ok(game) => judge_record(alloc, rules, list, &game),
+        Ok(game) => judge_record(alloc, rules, pair, &game),
         Err(fault) => bad_record(alloc, &fault),
     }
 }
 
-/// Judges a game from its record by a word list, and writes the report.
+/// Judges a game from its record by a word list and a lexicon that agree, and writes the report.
 #[tactic(auto, using(crate::proofs::Answering::answers, crate::proofs::Answering::stops_reading, crate::proofs::Answering::stops_writing))]
 fn judge_game<G: Input, O: Output>(
     alloc: Global,
     rules: &Rules,
-    list: &WordList,
+    pair: &Checked<'_>,
     game: &mut G,
     out: &mut O,
 ) -> Result<Verdict, RunFault>
     requires game { HasRoom (G.device game.old) }
     requires out { HasRoom (O.device out.old) }
 
-    ensures judged { IfOk result (λ v. Answers (IsInput most_bytes (G.device game.old)) (IsDecidedBy rules.now list.now) v
+    ensures judged { IfOk result (λ v. Answers (IsInput most_bytes (G.device game.old)) (IsDecidedByPair rules.now (list_in pair.now)) v
         (Appends (O.device out.old).bytes (O.device out.new).bytes)) }
     ensures worked { OnOk result (HasWorked (G.device game.old) (G.device game.new)
         × HasWorked (O.device out.old) (O.device out.new)) }
-    ensures gave_up { IfErr result (GivesUp (IsInput most_bytes (G.device game.old)) (IsDecidedBy rules.now list.now)
+    ensures gave_up { IfErr result (GivesUp (IsInput most_bytes (G.device game.old)) (IsDecidedByPair rules.now (list_in pair.now))
         (HasFailed (G.device game.old) (G.device game.new)) (HasWorked (G.device game.old) (G.device game.new))
         (O.device out.old) (O.device out.new)) }
     ensures game { TakesAtMost (1048576 + 1) (G.device game.old) (G.device game.new) }
@@ -88,23 +92,63 @@ fn judge_game<G: Input, O: Output>(
         Ok(text) => text,
         Err(fault) => return Err(fault),
     };
-    let Ok(decision) = decide(alloc, rules, list, &text) else {
+    let Ok(decision) = decide(alloc, rules, pair, &text) else {
         return Err(RunFault::NoMemory);
     };
     send(out, &decision)
 }
 
-/// Judges a game from its record by the words of a list, and writes the report.
+/// Reads the lexicon of a word list, judges a game from its record by both, and writes the report. Where the file is not
+/// the lexicon of the list, that is the verdict, and the record is not read.
+#[tactic(auto, using(crate::proofs::Judgements::judged_by_file, crate::proofs::Judgements::gave_up_by_file, crate::proofs::Judgements::refused_file, crate::proofs::Judgements::refused_file_stops, crate::proofs::Judgements::stops_reading_file, crate::proofs::Judgements::stops_pairing, crate::proofs::Judgements::past_file, crate::proofs::Sequences::unread_one))]
+fn judge_by_list<L: Input, G: Input, O: Output>(
+    alloc: Global,
+    rules: &Rules,
+    list: &WordList,
+    lexicon: &mut L,
+    game: &mut G,
+    out: &mut O,
+) -> Result<Verdict, RunFault>
+    requires lexicon { HasRoom (L.device lexicon.old) }
+    requires game { HasRoom (G.device game.old) }
+    requires out { HasRoom (O.device out.old) }
+
+    ensures judged { IfOk result (λ v. Answers (AreGivenLater (L.device lexicon.old) (G.device game.old)) (IsDecidedByList rules.now list.now) v
+        (Appends (O.device out.old).bytes (O.device out.new).bytes)) }
+    ensures worked { OnOk result (HasWorked (L.device lexicon.old) (L.device lexicon.new)
+        × HasWorked (G.device game.old) (G.device game.new)
+        × HasWorked (O.device out.old) (O.device out.new)) }
+    ensures gave_up { IfErr result (GivesUp (AreGivenLater (L.device lexicon.old) (G.device game.old)) (IsDecidedByList rules.now list.now)
+        (OneHasFailed (L.device lexicon.old) (L.device lexicon.new) (G.device game.old) (G.device game.new))
+        (HasWorked (L.device lexicon.old) (L.device lexicon.new) × HasWorked (G.device game.old) (G.device game.new))
+        (O.device out.old) (O.device out.new)) }
+    ensures lexicon { TakesAtMost (134217740 + 1) (L.device lexicon.old) (L.device lexicon.new) }
+    ensures game { TakesAtMost (1048576 + 1) (G.device game.old) (G.device game.new) }
+    ensures bad_file { IfOk result (λ v. v ≡ BadFile → G.device game.new ≡ G.device game.old) }
+{
+    let bytes = match read_text(alloc, lexicon, MAX_FILE_BYTES) {
+        Ok(bytes) => bytes,
+        Err(fault) => return Err(fault),
+    };
+    match pair_file(alloc, list, &bytes) {
+        Ok(Paired::Agreed(pair)) => judge_game(alloc, rules, &pair, game, out),
+        Ok(Paired::Refused(decision)) => send(out, &decision),
+        Err(_) => Err(RunFault::NoMemory),
+    }
+}
+
+/// Judges a game from its record by the words of a list and their lexicon, and writes the report.
 ///
-/// The words are read before the record, each to its end, or to one byte past its limit of 16 MiB or 1 MiB and no
-/// further; where the words are no list, the record is not read. The lexicon is not read for now. The report is made in
-/// memory before the first write.
+/// The words are read before the lexicon, and the lexicon before the record, each to its end, or to one byte past its
+/// limit of 16 MiB, 134,217,740 bytes or 1 MiB and no further. Where the words are no list, the lexicon is not read, and
+/// where the file is not the lexicon of the list, the record is not read. A lexicon over its limit has a wrong length,
+/// whatever its bytes are. The report is made in memory before the first write.
 ///
 /// # Errors
 ///
 /// `ReadFailed` and `WriteFailed` come only where that device failed, or a write took no byte; `NoMemory` where memory
 /// was refused. After `WriteFailed` a front of the report went out, after the other two nothing.
-#[tactic(auto, using(crate::proofs::Listings::judged_by_list, crate::proofs::Listings::gave_up_by_list, crate::proofs::Listings::refused_list, crate::proofs::Listings::refused_stops, crate::proofs::Listings::stops_listing))]
+#[tactic(auto, using(crate::proofs::Judgements::judged_by_list, crate::proofs::Judgements::gave_up_by_list, crate::proofs::Judgements::stops_listing, crate::proofs::Judgements::past_list, crate::proofs::Sequences::unread_one, crate::proofs::Sequences::unread_two))]
 pub fn run<W: Input, L: Input, G: Input, O: Output>(
     alloc: Global,
     words: &mut W,
@@ -118,23 +162,29 @@ pub fn run<W: Input, L: Input, G: Input, O: Output>(
     requires game { HasRoom (G.device game.old) }
     requires out { HasRoom (O.device out.old) }
 
-    ensures judged { IfOk result (λ v. Answers (AreGiven (W.device words.old) (G.device game.old)) (IsDecided rules.now) v
+    ensures judged { IfOk result (λ v. Answers (AreGiven (W.device words.old) (L.device lexicon.old) (G.device game.old)) (IsDecided rules.now) v
         (Appends (O.device out.old).bytes (O.device out.new).bytes)) }
     ensures worked { OnOk result (HasWorked (W.device words.old) (W.device words.new)
+        × HasWorked (L.device lexicon.old) (L.device lexicon.new)
         × HasWorked (G.device game.old) (G.device game.new)
         × HasWorked (O.device out.old) (O.device out.new)) }
-    ensures gave_up { IfErr result (GivesUp (AreGiven (W.device words.old) (G.device game.old)) (IsDecided rules.now)
-        (OneHasFailed (W.device words.old) (W.device words.new) (G.device game.old) (G.device game.new))
-        (HasWorked (W.device words.old) (W.device words.new) × HasWorked (G.device game.old) (G.device game.new))
+    ensures gave_up { IfErr result (GivesUp (AreGiven (W.device words.old) (L.device lexicon.old) (G.device game.old)) (IsDecided rules.now)
+        (OneOfThreeHasFailed (W.device words.old) (W.device words.new) (L.device lexicon.old) (L.device lexicon.new) (G.device game.old) (G.device game.new))
+        (HasWorked (W.device words.old) (W.device words.new) × HasWorked (L.device lexicon.old) (L.device lexicon.new)
+        × HasWorked (G.device game.old) (G.device game.new))
         (O.device out.old) (O.device out.new)) }
 
     // No input is read further than one byte past its limit.
     ensures words { TakesAtMost (16777216 + 1) (W.device words.old) (W.device words.new) }
+    ensures lexicon { TakesAtMost (134217740 + 1) (L.device lexicon.old) (L.device lexicon.new) }
     ensures game { TakesAtMost (1048576 + 1) (G.device game.old) (G.device game.new) }
-    ensures lexicon { L.device lexicon.new ≡ L.device lexicon.old }
+
+    // No input is read behind one that is bad.
+    ensures bad_list { IfOk result (λ v. v ≡ BadList → (L.device lexicon.new ≡ L.device lexicon.old) × (G.device game.new ≡ G.device game.old)) }
+    ensures bad_file { IfOk result (λ v. v ≡ BadFile → G.device game.new ≡ G.device game.old) }
 {
     match read_list(alloc, words) {
-        Ok(Listed::List(list)) => judge_game(alloc, rules, &list, game, out),
+        Ok(Listed::List(list)) => judge_by_list(alloc, rules, &list, lexicon, game, out),
         Ok(Listed::Refused(decision)) => send(out, &decision),
         Err(fault) => Err(fault),
     }

@@ -5,13 +5,15 @@ use crate::tidying::run_tidy;
 use crate::verdicts::{GameFault, Verdict};
 use devices::{FromRead, FromWrite};
 use game_turns::RuleFault;
+use lex_build::build;
+use lex_list::WordList;
 use ref_play::PlayFault;
 use ref_tiles::{Counts, Kind, Letter, Rules, english_rules};
 use std::alloc::Global;
 use std::process::Abort;
 use std::test::Fail;
 
-/// A word list, a record, and what is written of them.
+/// A word list, a record, and what is written of them. The lexicon is that of the list.
 struct Row {
     words: &'static str,
     game: &'static str,
@@ -25,8 +27,31 @@ fn judged(
     words: &[u8],
     game: &[u8],
 ) -> Result<(Verdict, Vec<u8>), RunFault> {
+    let file = lexicon_of(alloc, words)?;
+    judged_with(alloc, rules, words, &file, game)
+}
+
+/// The lexicon that is built for a word list; no bytes where the text is none.
+fn lexicon_of(alloc: Global, words: &[u8]) -> Result<Vec<u8>, RunFault> {
+    match WordList::read(alloc, words) {
+        Ok(list) => match build(alloc, &list) {
+            Ok(bytes) => Ok(bytes),
+            Err(_) => Err(RunFault::NoMemory),
+        },
+        Err(_) => Ok(Vec::new(alloc)),
+    }
+}
+
+/// Judges a record by words, a lexicon file and rules, and gives the verdict and what was written.
+fn judged_with(
+    alloc: Global,
+    rules: &Rules,
+    words: &[u8],
+    lexicon: &[u8],
+    game: &[u8],
+) -> Result<(Verdict, Vec<u8>), RunFault> {
     let mut words = FromRead::new(words);
-    let mut lexicon = FromRead::new(b"".as_slice());
+    let mut lexicon = FromRead::new(lexicon);
     let mut game = FromRead::new(game);
     let mut out = FromWrite::new(Vec::new(alloc));
     let verdict = run(alloc, &mut words, &mut lexicon, &mut game, &mut out, rules)?;

@@ -1,16 +1,16 @@
 -- Least strings and first differences, label by label.
-use Rattle.std.proofs.Common.{◌≡◌, ℕ, ◌<◌, Bool, true, false, List, [], ◌∷◌, ◌++◌, length, length-append, Option, Some, None, inl, inr, refl, sym, ap, subst, ◌∙◌, arith}
+use Rattle.std.proofs.Common.{◌≡◌, ℕ, ◌+◌, ◌<◌, ◌≤◌, Bool, true, false, List, [], ◌∷◌, ◌++◌, length, length-append, inl, inr, refl, sym, ap, subst, ◌∙◌, arith}
 use mathlib.Core.Bool.{beq, not}
 use Rattle.std.specs.Prelude.{IsTrue}
 use Rattle.std.specs.List.{list_all}
-use Rattle.std.specs.Option.{is_some}
-use Rattle.std.proofs.lemmas.Bool.{false≢true, and_parts, ltb-true}
-use Rattle.lex_file.specs.Lexicons.{is_label, NoTail, NoLonger, IsBehind, NextGives}
+use Rattle.std.proofs.lemmas.Bool.{false≢true, and_parts, ltb-true, cases_lt}
+use Rattle.lex_file.specs.Lexicons.{is_label, NoTail, NoLonger, IsBehind}
 use Rattle.lex_check.specs.Orders.{IsBefore, IsLeast}
 use Rattle.lex_check.specs.Differences.{Begins, IsMissing, IsExtra, IsFirstDifference, IsLonger}
 use Rattle.lex_check.specs.declared.differences.Difference.{Difference}
 use Rattle.lex_check.specs.declared.differences.Difference.TheVariants.{Missing, Extra}
-use Rattle.lex_check.specs.Meetings.{IsFirstUnder}
+use Rattle.lex_check.specs.Meetings.{IsFirstUnder, IsEnded}
+use Rattle.lex_check.specs.Forks.{AreSameBetween}
 use Rattle.arrayvec.specs.ArrayVec.{ArrayVec as Items}
 
 -- ---- what a look tells
@@ -19,11 +19,6 @@ pub looked_none : {N : Type 0} (tail : N → List ℕ → Bool) (node : N) (labe
     → NoTail tail node label
 looked_none tail node label ends longer [] = ends
 looked_none tail node label ends longer (after ∷ rest) = longer after rest
-
-pub looked_nothing : {N : Type 0} (is_node : N → Type 0) (tail : N → List ℕ → Bool) (height : N → ℕ) (node : N) (label : ℕ) (next : Option N)
-    → tail node (label ∷ []) ≡ false → NextGives is_node tail height node label next → is_some next ≡ false → NoTail tail node label
-looked_nothing is_node tail height node label None ends gives none = looked_none tail node label ends gives
-looked_nothing is_node tail height node label (Some next) ends gives none = absurd (false≢true (sym none))
 
 pub looked_accepts : (has : List ℕ → Bool) (label : ℕ) → has (label ∷ []) ≡ true → Begins has (label ∷ [])
 looked_accepts has label ends = record { rest = []; holds = ends }
@@ -43,11 +38,14 @@ below_begins is_node tail height node label next behind = record { rest = behind
 pub head_label : (label : ℕ) (rest : List ℕ) → IsTrue (list_all is_label (label ∷ rest)) → label < 27
 head_label label rest all = ltb-true label 27 (and_parts (is_label label) (list_all is_label rest) all).0
 
--- labels are below 27, so the least is found among these
-pub all_looked : (has : List ℕ → Bool) → has [] ≡ false → ((label : ℕ) (rest : List ℕ) → has (label ∷ rest) ≡ true → label < 27)
-    → ((label : ℕ) → label < 27 → (rest : List ℕ) → has (label ∷ rest) ≡ false) → (string : List ℕ) → has string ≡ true → ⊥
-all_looked has empty labels none [] holds = false≢true (sym empty ∙ holds)
-all_looked has empty labels none (label ∷ rest) holds = false≢true (sym (none label (labels label rest holds) rest) ∙ holds)
+-- a set that has a string has one that begins with some label
+pub some_label : (has : List ℕ → Bool) → has [] ≡ false → ((label : ℕ) → 0 ≤ label → (rest : List ℕ) → has (label ∷ rest) ≡ false)
+    → Begins has [] → ⊥
+some_label has empty none begins = by begins.rest begins.holds
+  where
+    by : (string : List ℕ) → has string ≡ true → ⊥
+    by [] holds = false≢true (sym empty ∙ holds)
+    by (label ∷ rest) holds = false≢true (sym (none label (omega arith) rest) ∙ holds)
 
 -- ---- least strings
 
@@ -90,23 +88,44 @@ pub same_under : (file list : List ℕ → Bool) (label : ℕ) → file (label �
 same_under file list label same longer [] = same
 same_under file list label same longer (after ∷ rest) = longer after rest
 
+-- nothing that begins with a label is before the label alone
+none_before_one : (file list : List ℕ → Bool) (label : ℕ) (rest : List ℕ) → IsBefore (label ∷ rest) (label ∷ []) → file (label ∷ rest) ≡ list (label ∷ rest)
+none_before_one file list label rest (inl lt) = absurd (omega arith)
+none_before_one file list label rest (inr same) = absurd same.1
+
+-- a path of one label has no shorter front
+no_shorter : (list : List ℕ → Bool) (label : ℕ) (front back : List ℕ) → label ∷ [] ≡ front ++ back → 0 < length front → 0 < length back → Begins list front
+no_shorter list label front back same some more =
+    let long : 1 ≡ length (front ++ back) = ap length same in
+    absurd (omega (arith, length-append front back))
+
+-- one of the two ends with the label, and the other does not
+pub ended_first : (file list : List ℕ → Bool) (label : ℕ) (here listed : Bool) (difference : Difference)
+    → here ≡ file (label ∷ []) → listed ≡ list (label ∷ []) → not (beq here listed) ≡ true → IsEnded label here difference
+    → IsFirstUnder label file list difference
+ended_first file list label true false (Extra path) a b apart ended = record {
+  starts = ([], ended.1);
+  differs = subst (IsExtra file list) (sym ended.1) (record { extra = inl (sym a, sym b); known = no_shorter list label });
+  agree = λ rest before. none_before_one file list label rest (subst (IsBefore (label ∷ rest)) ended.1 before);
+}
+ended_first file list label false true (Missing path) a b apart ended = record {
+  starts = ([], ended.1);
+  differs = subst (IsMissing file list) (sym ended.1) (record { absent = sym a; listed = sym b });
+  agree = λ rest before. none_before_one file list label rest (subst (IsBefore (label ∷ rest)) ended.1 before);
+}
+ended_first file list label true true difference a b apart ended = absurd (false≢true apart)
+ended_first file list label false false difference a b apart ended = absurd (false≢true apart)
+ended_first file list label true false (Missing path) a b apart ended = absurd (false≢true (sym ended.0))
+ended_first file list label false true (Extra path) a b apart ended = absurd (false≢true ended.0)
+
 -- the file goes on where no string of the list begins with the label
 pub extra_one : (file list : List ℕ → Bool) (label : ℕ) (path : Items ℕ) → path.items ≡ label ∷ [] → Begins file (label ∷ [])
     → ((rest : List ℕ) → list (label ∷ rest) ≡ false) → IsFirstUnder label file list (Extra path)
 extra_one file list label path e begins none = record {
   starts = ([], e);
-  differs = subst (IsExtra file list) (sym e) (record { extra = inr (begins, none); known = known });
-  agree = λ rest before. none_before rest (subst (IsBefore (label ∷ rest)) e before);
+  differs = subst (IsExtra file list) (sym e) (record { extra = inr (begins, none); known = no_shorter list label });
+  agree = λ rest before. none_before_one file list label rest (subst (IsBefore (label ∷ rest)) e before);
 }
-  where
-    known : (front back : List ℕ) → label ∷ [] ≡ front ++ back → 0 < length front → 0 < length back → Begins list front
-    known front back same some more =
-        let long : 1 ≡ length (front ++ back) = ap length same in
-        absurd (omega (arith, length-append front back))
-
-    none_before : (rest : List ℕ) → IsBefore (label ∷ rest) (label ∷ []) → file (label ∷ rest) ≡ list (label ∷ rest)
-    none_before rest (inl lt) = absurd (omega arith)
-    none_before rest (inr same) = absurd same.1
 
 -- the list has the label alone, and only the file goes on behind it, first with the label `next`
 pub extra_two : (file list behind : List ℕ → Bool) (label next : ℕ) (path : Items ℕ) → path.items ≡ label ∷ next ∷ []
@@ -236,8 +255,7 @@ all_behind label file list file_behind list_behind b all =
 -- ---- over all labels
 
 pub first_of_all : (label : ℕ) (file list : List ℕ → Bool) (difference : Difference) → file [] ≡ list []
-    → ((lower : ℕ) (rest : List ℕ) → lower < label → file (lower ∷ rest) ≡ list (lower ∷ rest))
-    → IsFirstUnder label file list difference → IsFirstDifference file list difference
+    → AreSameBetween file list 0 label → IsFirstUnder label file list difference → IsFirstDifference file list difference
 first_of_all label file list difference empty below under = record {
   some = rw (ap length under.starts.1) (omega arith);
   differs = under.differs;
@@ -246,7 +264,7 @@ first_of_all label file list difference empty below under = record {
   where
     agree : (string : List ℕ) → IsBefore string (label ∷ under.starts.0) → file string ≡ list string
     agree [] before = empty
-    agree (lower ∷ rest) (inl lt) = below lower rest lt
+    agree (lower ∷ rest) (inl lt) = below lower rest (omega arith) lt
     agree (lower ∷ rest) (inr before) =
         subst (λ (l : ℕ). file (l ∷ rest) ≡ list (l ∷ rest)) (sym before.0)
         (under.agree rest (subst (IsBefore (label ∷ rest)) (sym under.starts.1) (inr (refl, before.1))))
@@ -254,14 +272,13 @@ first_of_all label file list difference empty below under = record {
 pub same_of_all : (file list : List ℕ → Bool) → file [] ≡ list []
     → ((label : ℕ) (rest : List ℕ) → file (label ∷ rest) ≡ true → label < 27)
     → ((label : ℕ) (rest : List ℕ) → list (label ∷ rest) ≡ true → label < 27)
-    → ((label : ℕ) (rest : List ℕ) → label < 27 → file (label ∷ rest) ≡ list (label ∷ rest))
-    → (string : List ℕ) → file string ≡ list string
+    → AreSameBetween file list 0 27 → (string : List ℕ) → file string ≡ list string
 same_of_all file list empty of_file of_list below [] = empty
 same_of_all file list empty of_file of_list below (label ∷ rest) = by (file (label ∷ rest)) (list (label ∷ rest)) refl refl
   where
     by : (x y : Bool) → file (label ∷ rest) ≡ x → list (label ∷ rest) ≡ y → file (label ∷ rest) ≡ list (label ∷ rest)
-    by true y e h = below label rest (of_file label rest e)
-    by x true e h = below label rest (of_list label rest h)
+    by true y e h = below label rest (omega arith) (of_file label rest e)
+    by x true e h = below label rest (omega arith) (of_list label rest h)
     by false false e h = e ∙ sym h
 
 -- ---- tests
@@ -284,3 +301,19 @@ are_behind is_m tail_m height_m m is_n tail_n height_n n label next listed_next 
   of_list = listed_behind.tails;
   begins = looked_longer is_n tail_n height_n n label listed_next listed_behind;
 }
+
+-- sets that are the same up to one label are so up to a further one
+pub same_further : (file list : List ℕ → Bool) (from to : ℕ) → AreSameBetween file list 0 from → AreSameBetween file list from to → AreSameBetween file list 0 to
+same_further file list from to before behind label rest low lt = elim (cases_lt label from) [
+  | inl less ↦ before label rest low less
+  | inr le ↦ behind label rest le lt
+]
+
+pub same_next : (file list : List ℕ → Bool) (to : ℕ) → AreSameBetween file list 0 to
+    → ((rest : List ℕ) → file (to ∷ rest) ≡ list (to ∷ rest)) → AreSameBetween file list 0 (to + 1)
+same_next file list to before here label rest low lt = elim (cases_lt label to) [
+  | inl less ↦ before label rest low less
+  | inr le ↦
+      let same : label ≡ to = omega arith in
+      subst (λ (l : ℕ). file (l ∷ rest) ≡ list (l ∷ rest)) (sym same) (here rest)
+]

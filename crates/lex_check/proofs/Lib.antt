@@ -1,3 +1,4 @@
+pub mod Held
 pub mod Firsts
 pub mod Stretches
 pub mod Rotations

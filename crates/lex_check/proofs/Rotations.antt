@@ -75,6 +75,14 @@ length_of_marked : (back : List ℕ) → length (marked back) ≤ length back + 
 length_of_marked [] = omega arith
 length_of_marked (letter ∷ back) = let size = length-map (letter ∷ back) label_of in omega arith
 
+pub labels_of_path : (labels front back : List ℕ) → labels ≡ path_of front back → list_all is_ascii_uppercase front ≡ true
+    → list_all is_ascii_uppercase back ≡ true → list_all is_label labels ≡ true
+labels_of_path labels front back e capitals more =
+    ap (list_all is_label) e
+    ∙ list_all-append is_label (map label_of (reverse front)) (marked back)
+    ∙ and_true (list_all is_label (map label_of (reverse front))) (list_all is_label (marked back))
+    (labels_of_capitals (reverse front) (all_reversed is_ascii_uppercase front capitals)) (labels_of_marked back more)
+
 pub path_is : (front back : List ℕ) → list_all is_ascii_uppercase front ≡ true → list_all is_ascii_uppercase back ≡ true → 0 < length front
     → length front + length back ≤ 15 → IsPathOfLabels (path_of front back)
 path_is front back capitals more some few =
@@ -85,9 +93,7 @@ path_is front back capitals more some few =
     record {
       some = omega arith;
       few = omega arith;
-      labels = list_all-append is_label (map label_of (reverse front)) (marked back)
-          ∙ and_true (list_all is_label (map label_of (reverse front))) (list_all is_label (marked back))
-          (labels_of_capitals (reverse front) (all_reversed is_ascii_uppercase front capitals)) (labels_of_marked back more);
+      labels = labels_of_path (path_of front back) front back refl capitals more;
     }
 
 -- ---- which strings are gathered

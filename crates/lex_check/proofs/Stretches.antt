@@ -9,7 +9,7 @@ use Rattle.std.specs.declared.cmp.Ordering.TheVariants.{Less, Equal, Greater}
 use Rattle.lex_file.specs.Lexicons.{is_label, IsBehind}
 use Rattle.lex_check.specs.Orders.{IsBefore}
 use Rattle.lex_check.specs.declared.sorted.Stretch.{Stretch}
-use Rattle.lex_check.specs.Stretches.{label_at, left_at, IsStretch, IsPartWith, height_of, stretch_tail, ends_at, is_left, is_one_of, IsPathList}
+use Rattle.lex_check.specs.Stretches.{label_at, left_at, IsStretch, IsPartWith, IsPlaceFrom, IsBelow, IsPartFrom, height_of, stretch_tail, ends_at, is_left, is_one_of, IsPathList}
 use Rattle.lex_check.specs.StretchLaws.{IsLeft, tail_from, tail_to, tail_none}
 
 -- what is left of a path begins with its label at the depth
@@ -79,6 +79,38 @@ pub upper_part : (paths : List (List ℕ)) (stretch : Stretch) (label mid : ℕ)
     → (place : ℕ) → mid ≤ place → place < stretch.high → label ≤ label_at paths stretch.depth place
 upper_part paths stretch label mid is from upper place le lt = let rise = labels_rise paths stretch is mid place from le lt in omega arith
 
+-- ---- the first place with a label or a higher one
+
+pub place_empty : (paths : List (List ℕ)) (stretch : Stretch) (label : ℕ) → stretch.low ≡ stretch.high → IsPlaceFrom paths stretch label stretch.low
+place_empty paths stretch label same = record {
+  from = omega arith;
+  to = omega arith;
+  before = λ other a b. absurd (omega arith);
+  behind = λ other a b. absurd (omega arith);
+}
+
+pub place_first : (paths : List (List ℕ)) (stretch : Stretch) (label : ℕ) → IsStretch paths stretch → label ≤ label_at paths stretch.depth stretch.low
+    → IsPlaceFrom paths stretch label stretch.low
+place_first paths stretch label is le =
+    let order = is.order in
+    record {
+      from = omega arith;
+      to = order;
+      before = λ other a b. absurd (omega arith);
+      behind = λ other a b. let rise = labels_rise paths stretch is stretch.low other (omega arith) a b in omega arith;
+    }
+
+pub place_none : (paths : List (List ℕ)) (stretch : Stretch) (label : ℕ) → IsStretch paths stretch → stretch.low ≢ stretch.high
+    → label_at paths stretch.depth (stretch.high - 1) < label → IsPlaceFrom paths stretch label stretch.high
+place_none paths stretch label is some lt =
+    let order = is.order in
+    record {
+      from = order;
+      to = omega arith;
+      before = λ other a b. let rise = labels_rise paths stretch is other (stretch.high - 1) a (omega arith) (omega arith) in omega arith;
+      behind = λ other a b. absurd (omega arith);
+    }
+
 -- ---- the part with a label
 
 pub part_none : (paths : List (List ℕ)) (stretch : Stretch) (label : ℕ) → IsStretch paths stretch
@@ -93,34 +125,6 @@ part_none paths stretch label is none =
       all = λ place from to. absurd (omega arith);
       only = λ place from to same. absurd (none place from to same);
     }
-
-pub part_below : (paths : List (List ℕ)) (stretch : Stretch) (label : ℕ) → IsStretch paths stretch → stretch.low < stretch.high
-    → label < label_at paths stretch.depth stretch.low → IsPartWith paths stretch label stretch.low stretch.low
-part_below paths stretch label is some lt =
-    part_none paths stretch label is (λ place from to same.
-    let rise = labels_rise paths stretch is stretch.low place (omega arith) from to in
-    omega arith)
-
-pub part_above : (paths : List (List ℕ)) (stretch : Stretch) (label : ℕ) → IsStretch paths stretch → stretch.low < stretch.high
-    → label_at paths stretch.depth (stretch.high - 1) < label → IsPartWith paths stretch label stretch.low stretch.low
-part_above paths stretch label is some lt =
-    part_none paths stretch label is (λ place from to same.
-    let rise = labels_rise paths stretch is place (stretch.high - 1) from (omega arith) (omega arith) in
-    omega arith)
-
-pub part_whole : (paths : List (List ℕ)) (stretch : Stretch) (label : ℕ) → IsStretch paths stretch → stretch.low < stretch.high
-    → label_at paths stretch.depth stretch.low ≡ label → label_at paths stretch.depth (stretch.high - 1) ≡ label
-    → IsPartWith paths stretch label stretch.low stretch.high
-part_whole paths stretch label is some first last = record {
-  from = omega arith;
-  order = is.order;
-  to = omega arith;
-  all = λ place from to.
-      let low = labels_rise paths stretch is stretch.low place (omega arith) from to in
-      let high = labels_rise paths stretch is place (stretch.high - 1) from (omega arith) (omega arith) in
-      omega arith;
-  only = λ place from to same. (from, to);
-}
 
 pub part_between : (paths : List (List ℕ)) (stretch : Stretch) (label low high : ℕ) → IsStretch paths stretch
     → stretch.low ≤ low → low ≤ high → high ≤ stretch.high
@@ -148,6 +152,36 @@ part_between paths stretch label low high is from order to before behind before_
           | inr le ↦ let h = behind_next place le b in absurd (omega arith)
         ] in
         (above, below)
+
+-- a place that is the stretch's end has all paths before it
+pub below_all : (paths : List (List ℕ)) (stretch : Stretch) (label place : ℕ) → IsPlaceFrom paths stretch label place → place ≡ stretch.high
+    → IsBelow paths stretch label
+below_all paths stretch label place at same = λ other from to. at.before other from (omega arith)
+
+-- the part from the first place with `from` or a higher label, up to the first place with a label above the one there
+pub part_from : (paths : List (List ℕ)) (stretch : Stretch) (from label low high : ℕ) → IsStretch paths stretch → IsPlaceFrom paths stretch from low
+    → low ≢ stretch.high → label ≡ label_at paths stretch.depth low
+    → IsPlaceFrom paths (record { low = low; high = stretch.high; depth = stretch.depth }) (label + 1) high
+    → IsPartFrom paths stretch from label low high
+part_from paths stretch from label low high is start some here end =
+    let below = start.from in
+    let above = start.to in
+    let past = end.from in
+    let inside = end.to in
+    let reached = start.behind low (omega arith) (omega arith) in
+    let high_some : low < high = elim (cases_lt low high) [
+      | inl lt ↦ lt
+      | inr le ↦ let h = end.behind low (omega arith) (omega arith) in absurd (omega arith)
+    ] in
+    record {
+      with = part_between paths stretch label low high is below past inside
+          (λ place a b. let h = start.before place a b in omega arith)
+          (λ place a b. let rise = labels_rise paths stretch is low place below a b in omega arith)
+          end.before end.behind;
+      some = high_some;
+      reached = omega arith;
+      before = start.before;
+    }
 
 -- ---- the step
 
@@ -330,6 +364,36 @@ module _ (paths : List (List ℕ)) (stretch : Stretch) (label low high next : �
         );
         falls = omega arith;
       }
+
+-- ---- the branch
+
+-- no tail begins with a label that no path of the stretch has at the depth
+pub no_tail : (paths : List (List ℕ)) (stretch : Stretch) (label : ℕ) → IsStretch paths stretch
+    → ((place : ℕ) → stretch.low ≤ place → place < stretch.high → label_at paths stretch.depth place ≡ label → ⊥)
+    → (rest : List ℕ) → stretch_tail paths stretch (label ∷ rest) ≡ false
+no_tail paths stretch label is none = step_none paths stretch label stretch.low stretch.low is (part_none paths stretch label is none) refl
+
+pub branch_none : (paths : List (List ℕ)) (stretch : Stretch) (from : ℕ) → IsStretch paths stretch → IsBelow paths stretch from
+    → (label : ℕ) → from ≤ label → (rest : List ℕ) → stretch_tail paths stretch (label ∷ rest) ≡ false
+branch_none paths stretch from is below label le =
+    no_tail paths stretch label is (λ place a b same. let h = below place a b in omega arith)
+
+pub branch_passed : (paths : List (List ℕ)) (stretch : Stretch) (from found low high : ℕ) → IsStretch paths stretch
+    → IsPartFrom paths stretch from found low high
+    → (label : ℕ) → from ≤ label → label < found → (rest : List ℕ) → stretch_tail paths stretch (label ∷ rest) ≡ false
+branch_passed paths stretch from found low high is part label le lt =
+    let with = part.with in
+    let some = part.some in
+    let below = with.from in
+    let above = with.to in
+    no_tail paths stretch label is (λ place a b same.
+    elim (cases_lt place low) [
+      | inl before ↦ let h = part.before place a before in omega arith
+      | inr behind ↦
+          let rise = labels_rise paths stretch is low place below behind b in
+          let here = with.all low (omega arith) some in
+          omega arith
+    ])
 
 -- ---- the whole list
 

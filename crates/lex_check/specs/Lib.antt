@@ -1,6 +1,8 @@
 pub mod Orders
 pub mod Differences
 pub mod Meetings
+pub mod Forks
+pub mod Held
 pub mod Stretches
 pub mod StretchLaws
 pub mod Rotations

@@ -61,6 +61,24 @@ pub record IsPartWith (paths : List (List ℕ)) (stretch : Stretch) (label low h
   pub all : (place : ℕ) → low ≤ place → place < high → label_at paths stretch.depth place ≡ label
   pub only : (place : ℕ) → stretch.low ≤ place → place < stretch.high → label_at paths stretch.depth place ≡ label → (low ≤ place) × (place < high)
 
+-- the paths of a stretch have labels at the depth that are below this one
+abbrev pub IsBelow : List (List ℕ) → Stretch → ℕ → Type 0
+IsBelow paths stretch label = (place : ℕ) → stretch.low ≤ place → place < stretch.high → label_at paths stretch.depth place < label
+
+-- the first place of a stretch whose path has this label at the depth, or a higher one; the stretch's end where there is none
+pub record IsPlaceFrom (paths : List (List ℕ)) (stretch : Stretch) (label place : ℕ) : Type 0 where
+  pub from : stretch.low ≤ place
+  pub to : place ≤ stretch.high
+  pub before : (other : ℕ) → stretch.low ≤ other → other < place → label_at paths stretch.depth other < label
+  pub behind : (other : ℕ) → place ≤ other → other < stretch.high → label ≤ label_at paths stretch.depth other
+
+-- the part of a stretch with the first label from one on
+pub record IsPartFrom (paths : List (List ℕ)) (stretch : Stretch) (from label low high : ℕ) : Type 0 where
+  pub with : IsPartWith paths stretch label low high
+  pub some : low < high
+  pub reached : from ≤ label
+  pub before : (place : ℕ) → stretch.low ≤ place → place < low → label_at paths stretch.depth place < from
+
 -- whether the path at a place has no more than `depth` labels
 abbrev pub ends_at : List (List ℕ) → ℕ → ℕ → Bool
 ends_at paths depth place = length (slice_index_or paths place []) == depth

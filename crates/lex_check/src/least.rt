@@ -4,23 +4,20 @@ ghost use Rattle.lex_check.specs.Orders.{IsLeast};
 ghost use Rattle.lex_check.specs.Differences.{Begins};
 
 use crate::differences::{Path, only, with_front};
-use lex_file::{PathLex, Step};
+use lex_file::{Branch, PathLex};
 
-/// The number of labels: the mark and the letters A to Z.
-pub const LABELS: u8 = 27;
-
-/// What stands behind a label, which no tail of the node need begin with.
-pub fn look<L: PathLex>(lexicon: &L, node: L::Node, label: u8) -> Step<L::Node>
-    requires { L.is_node lexicon.now node }
-    ensures accepts { result.accepts ≡ L.tail lexicon.now node (label ∷ []) }
-    ensures next { NextGives (L.is_node lexicon.now) (L.tail lexicon.now) (L.height lexicon.now) node label result.next }
+/// The least label with which a tail of the node begins, and what stands behind it.
+fn first_branch<L: PathLex>(lexicon: &L, node: L::Node) -> Branch<L::Node>
+    requires node { L.is_node lexicon.now node }
+    requires some { Begins (L.tail lexicon.now node) [] }
+    ensures least { (label : ℕ) → label < result.label → NoTail (L.tail lexicon.now) node label }
+    ensures accepts { result.step.accepts ≡ L.tail lexicon.now node (result.label ∷ []) }
+    ensures next { NextGives (L.is_node lexicon.now) (L.tail lexicon.now) (L.height lexicon.now) node result.label result.step.next }
+    ensures found { Begins (L.tail lexicon.now node) (result.label ∷ []) }
 {
-    match lexicon.step(node, label) {
-        Some(step) => step,
-        None => Step {
-            accepts: false,
-            next: None,
-        },
+    match lexicon.branch_from(node, 0) {
+        Some(branch) => branch,
+        None => unreachable!(),
     }
 }
 
@@ -31,13 +28,7 @@ pub fn first_label<L: PathLex>(lexicon: &L, node: L::Node) -> u8
     ensures found { Begins (L.tail lexicon.now node) (result ∷ []) }
     ensures least { (label : ℕ) → label < result → NoTail (L.tail lexicon.now) node label }
 {
-    for label in 0..LABELS {
-        let step = look(lexicon, node, label);
-        if step.accepts || step.next.is_some() {
-            return label;
-        }
-    }
-    unreachable!()
+    first_branch(lexicon, node).label
 }
 
 /// The least tail of a node.
@@ -47,8 +38,7 @@ pub fn least_tail<L: PathLex>(lexicon: &L, node: L::Node) -> Path
     requires low { L.height lexicon.now node ≤ 16 }
     ensures { IsLeast (L.tail lexicon.now node) result.items }
 {
-    let label = first_label(lexicon, node);
-    let step = look(lexicon, node, label);
+    let Branch { label, step } = first_branch(lexicon, node);
     if step.accepts {
         return only(label);
     }

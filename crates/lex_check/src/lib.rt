@@ -2,10 +2,15 @@
 //!
 //! A lexicon is a set of strings of labels. Strings are ordered label by label, the mark of a rotated word first,
 //! and a string stands before all that it begins.
+//!
+//! Two lexicons are walked together, from each label that one of them has to the next. That of a word list is the list
+//! of its rotated paths in order: a node is a stretch of them without their first labels, and a step costs a search
+//! only where they go on with more than one label.
 #![tactic(auto)]
 
 mod checks;
 mod differences;
+mod forks;
 mod least;
 mod meetings;
 mod pairing;

@@ -1,8 +1,10 @@
 ghost use Rattle.std.specs.Prelude.{◌≡◌, ◌≤◌, ◌<◌, ◌+◌, length};
 ghost use Rattle.lex_check.specs.Meetings.{MeetingGives, IsShort, IsEnded};
+ghost use Rattle.lex_check.specs.Forks.{StandsBehind};
 
 use crate::differences::{Difference, only, with_front};
-use crate::least::{first_label, least_tail, look};
+use crate::forks::Fork;
+use crate::least::{first_label, least_tail};
 use lex_file::PathLex;
 
 /// How the tails of two nodes that begin with one label compare.
@@ -27,22 +29,27 @@ fn ended(label: u8, in_file: bool) -> Difference
     }
 }
 
-/// Compares the tails of two nodes that begin with a label, as far as one step tells.
+/// Compares the tails of two nodes that begin with the label of a fork, as far as one step tells.
 pub fn meet<A: PathLex, B: PathLex>(
     file: &A,
     list: &B,
     of_file: A::Node,
     of_list: B::Node,
-    label: u8,
+    fork: Fork<A::Node, B::Node>,
 ) -> Meeting<A::Node, B::Node>
     requires file { A.is_node file.now of_file }
     requires list { B.is_node list.now of_list }
     requires low { B.height list.now of_list ≤ 16 }
-    ensures gives { MeetingGives (A.is_node file.now) (A.tail file.now) (A.height file.now) of_file (B.is_node list.now) (B.tail list.now) (B.height list.now) of_list label result }
+    requires here { StandsBehind (A.is_node file.now) (A.tail file.now) (A.height file.now) of_file fork.label fork.here }
+    requires listed { StandsBehind (B.is_node list.now) (B.tail list.now) (B.height list.now) of_list fork.label fork.listed }
+    ensures gives { MeetingGives (A.is_node file.now) (A.tail file.now) (A.height file.now) of_file (B.is_node list.now) (B.tail list.now) (B.height list.now) of_list fork.label result }
     ensures short { IsShort (B.height list.now of_list + 1) result }
 {
-    let here = look(file, of_file, label);
-    let listed = look(list, of_list, label);
+    let Fork {
+        label,
+        here,
+        listed,
+    } = fork;
     if here.accepts != listed.accepts {
         return Meeting::Differ(ended(label, here.accepts));
     }

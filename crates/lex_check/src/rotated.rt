@@ -1,6 +1,10 @@
-ghost use Rattle.std.specs.Prelude.{◌≡◌, ◌≤◌, ◌<◌, Some, refl, length, nat_eq};
+ghost use Rattle.std.specs.Prelude.{◌≡◌, ◌≤◌, ◌<◌, ◌==◌, Some, refl, IsTrue, length, nat_eq, slice_index};
 ghost use Rattle.std.specs.Cmp.Lexicographic.{pointwise, slice_cmp};
+ghost use Rattle.std.specs.Int.{w128, from_be_bytes};
+ghost use Rattle.std.specs.List.{list_all};
 ghost use Rattle.std.specs.Ordering.{nat_cmp};
+ghost use Rattle.lex_file.specs.Lexicons.{is_label};
+ghost use Rattle.lex_check.specs.Held.{held};
 
 use std::cmp::Ordering;
 use std::marker::Model;
@@ -10,42 +14,66 @@ pub const MOST_LABELS: usize = 16;
 
 /// A rotated path: at most 16 labels, ordered label by label, and a path before all that it begins. Contracts see the
 /// list of them.
+///
+/// Each label is held as the number above it, and zeros follow the last one. So the order of paths is that of the
+/// numbers that their 16 bytes spell, the first byte the highest.
 #[derive(Debug, Drop)]
 pub struct Rotated {
-    labels: [u8; MOST_LABELS],
-    len: u8,
+    bytes: [u8; MOST_LABELS],
 }
 
 impl Model for Rotated {
-    ghost use Rattle.std.specs.Prelude.{◌≡◌, List, ℕ, take, ◌≤◌, length};
+    ghost use Rattle.std.specs.Prelude.{List, ℕ};
+    ghost use Rattle.lex_check.specs.Held.{path_in, IsHeld};
 
     ghost Value = { List ℕ };
 
-    ghost view = { λ r. take r.len r.labels };
+    ghost view = { λ r. path_in r.bytes };
 
-    ghost invariant = { λ r. (r.len ≤ 16) × (length r.labels ≡ 16) };
+    ghost invariant = { λ r. IsHeld r.bytes };
 }
 
 impl Rotated {
     /// The path with these labels.
+    #[tactic(auto, using(crate::proofs::Held::held_more, crate::proofs::Held::label_low))]
     pub fn of_labels(path: &[u8]) -> Rotated
-        requires { length path.now ≤ 16 }
+        requires few { length path.now ≤ 16 }
+        requires labels { IsTrue (list_all is_label path.now) }
         ensures { result ≡ path.now }
     {
-        let mut labels = [0; MOST_LABELS];
-        labels[..path.len()].copy_from_slice(path);
-        Rotated {
-            labels,
-            len: path.len() as u8,
+        let mut bytes = [0; MOST_LABELS];
+        for (place, label) in path.iter().enumerate() {
+            bytes[place] = label + 1;
         }
+        Rotated { bytes }
     }
 
-    /// The labels of the path, at most 16.
-    pub fn as_slice(&self) -> &[u8]
-        ensures labels { result.now ≡ self.now }
-        ensures few { length result.now ≤ 16 }
+    /// The label at a depth, from 0.
+    #[tactic(auto, using(crate::proofs::Held::byte_at, crate::proofs::Held::row_length))]
+    pub fn label(&self, depth: usize) -> u8
+        requires { depth < length self.now }
+        ensures { result ≡ slice_index self.now depth }
     {
-        &self.labels[..self.len as usize]
+        self.bytes[depth] - 1
+    }
+
+    /// Whether the path ends at a depth that it reaches.
+    #[tactic(auto, using(crate::proofs::Held::ends_full, crate::proofs::Held::ends_zero, crate::proofs::Held::row_length))]
+    pub fn ends_at(&self, depth: usize) -> bool
+        requires { depth ≤ length self.now }
+        ensures { result ≡ (length self.now == depth) }
+    {
+        depth == MOST_LABELS || self.bytes[depth] == 0
+    }
+
+    /// The number that the bytes of the path spell.
+    #[tactic(auto, using(crate::proofs::Held::number_of_row))]
+    fn number(&self) -> u128
+        ensures number { result ≡ from_be_bytes w128 (held 16 self.now) }
+        ensures few { length self.now ≤ 16 }
+        ensures labels { IsTrue (list_all is_label self.now) }
+    {
+        u128::from_be_bytes(self.bytes)
     }
 }
 
@@ -57,8 +85,9 @@ impl PartialEq for Rotated {
 
     ghost laws = { partial_equiv_from_equiv nat_list_eq_equiv };
 
+    #[tactic(auto, using(crate::proofs::Held::same_numbers))]
     fn eq(&self, other: &Rotated) -> bool {
-        self.as_slice() == other.as_slice()
+        self.number() == other.number()
     }
 }
 
@@ -93,7 +122,8 @@ impl Ord for Rotated {
 
     ghost matches_eq = { lists_ties nat_cmp unsigned_ties };
 
+    #[tactic(auto, using(crate::proofs::Held::number_order))]
     fn cmp(&self, other: &Rotated) -> Ordering {
-        self.as_slice().cmp(other.as_slice())
+        self.number().cmp(&other.number())
     }
 }

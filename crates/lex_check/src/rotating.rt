@@ -45,19 +45,30 @@ fn push_labels(labels: &mut ArrayVec<u8, MOST_LABELS>, back: &[u8])
     }
 }
 
-/// The rotated path of a word that is split into a front and a back.
-fn rotated(front: &[u8], back: &[u8]) -> Rotated
+/// The labels of the rotated path of a word that is split into a front and a back.
+fn labels_of(front: &[u8], back: &[u8]) -> ArrayVec<u8, MOST_LABELS>
     requires front { IsTrue (list_all is_ascii_uppercase front.now) }
     requires back { IsTrue (list_all is_ascii_uppercase back.now) }
     requires few { length front.now + length back.now ≤ 15 }
-    ensures { result ≡ path_of front.now back.now }
+    ensures { result.items ≡ path_of front.now back.now }
 {
     let mut labels = labels_back(front);
     if !back.is_empty() {
         labels.push(MARK);
         push_labels(&mut labels, back);
     }
-    Rotated::of_labels(&labels)
+    labels
+}
+
+/// The rotated path of a word that is split into a front and a back.
+#[tactic(auto, using(crate::proofs::Rotations::labels_of_path))]
+fn rotated(front: &[u8], back: &[u8]) -> Rotated
+    requires front { IsTrue (list_all is_ascii_uppercase front.now) }
+    requires back { IsTrue (list_all is_ascii_uppercase back.now) }
+    requires few { length front.now + length back.now ≤ 15 }
+    ensures { result ≡ path_of front.now back.now }
+{
+    Rotated::of_labels(&labels_of(front, back))
 }
 
 /// Appends the rotated paths of a word, one for each front that is not empty.
@@ -72,11 +83,20 @@ fn push_paths(paths: &mut Vec<Rotated>, word: &[u8]) -> Result<(), AllocError>
     Ok(())
 }
 
+/// The number of letters of all words, which is that of their paths: each letter ends one front.
+fn letter_count(list: &WordList) -> usize {
+    let mut count = 0usize;
+    for place in 0..list.len() {
+        count = count.saturating_add(list.word(place).len());
+    }
+    count
+}
+
 /// The rotated paths of the words of a list, word by word.
 pub fn gather(alloc: Global, list: &WordList) -> Result<Vec<Rotated>, AllocError>
     ensures { IfOk result (λ paths. paths.items ≡ gathered list.now (length list.now)) }
 {
-    let mut paths = Vec::new(alloc);
+    let mut paths = Vec::with_capacity(alloc, letter_count(list))?;
     for place in 0..list.len() {
         push_paths(&mut paths, list.word(place))?;
     }

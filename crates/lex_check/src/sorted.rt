@@ -1,10 +1,10 @@
 ghost use Rattle.std.specs.Prelude.{◌≡◌, ◌≤◌, ◌<◌, ℕ, [], ◌∷◌, false, length, slice_index_or, IfNone, IfSome, IsSome};
 ghost use Rattle.lex_file.specs.Lexicons.{NoTail, NextGives};
-ghost use Rattle.lex_check.specs.Stretches.{label_at, ends_at, stretch_tail, height_of, IsStretch, IsPartWith};
+ghost use Rattle.lex_check.specs.Stretches.{label_at, ends_at, stretch_tail, height_of, IsStretch, IsPartWith, IsPlaceFrom, IsBelow, IsPartFrom};
 
 use crate::rotated::Rotated;
 use crate::rotating::gather;
-use lex_file::{PathLex, Step, law_of_paths};
+use lex_file::{Branch, PathLex, Step, law_of_paths};
 use lex_list::WordList;
 use std::alloc::{AllocError as NoMemory, Global};
 use std::marker::Model;
@@ -34,9 +34,10 @@ impl Model for SortedPaths {
     ghost invariant = { λ a. IsPathList a.paths.items };
 }
 
-/// The part of a stretch from one place up to another.
+/// The paths of a stretch that have one label at its depth: those from one place up to another.
 #[derive(Clone, Copy)]
 struct Part {
+    label: u8,
     low: usize,
     high: usize,
 }
@@ -47,15 +48,14 @@ fn label_at(paths: &[Rotated], place: usize, depth: usize) -> u8
     requires depth { depth < length (slice_index_or paths.now place []) }
     ensures { result ≡ label_at paths.now depth place }
 {
-    paths[place].as_slice()[depth]
+    paths[place].label(depth)
 }
 
-/// The first place of a stretch whose path has, at the stretch's depth, that label or a higher one.
-fn first_from(paths: &[Rotated], stretch: Stretch, label: u8) -> usize
+/// The first place of a stretch whose path has, at the stretch's depth, that label or a higher one, by halves.
+#[inline(never)]
+fn search_from(paths: &[Rotated], stretch: Stretch, label: u8) -> usize
     requires { IsStretch paths.now stretch }
-    ensures inside { (stretch.low ≤ result) × (result ≤ stretch.high) }
-    ensures before { (place : ℕ) → stretch.low ≤ place → place < result → label_at paths.now stretch.depth place < label }
-    ensures behind { (place : ℕ) → result ≤ place → place < stretch.high → label ≤ label_at paths.now stretch.depth place }
+    ensures { IsPlaceFrom paths.now stretch label result }
 {
     let mut low = stretch.low;
     let mut high = stretch.high;
@@ -70,50 +70,106 @@ fn first_from(paths: &[Rotated], stretch: Stretch, label: u8) -> usize
     low
 }
 
-/// The part of a stretch whose paths have the label at the stretch's depth. The first and the last path of the stretch
-/// tell it at once where all of them have one label, or where the label is not between theirs.
-#[tactic(auto, using(crate::proofs::Stretches::part_none, crate::proofs::Stretches::part_below, crate::proofs::Stretches::part_above, crate::proofs::Stretches::part_whole, crate::proofs::Stretches::part_between, crate::proofs::Stretches::part_is, crate::proofs::Stretches::label_below))]
-fn part_with(paths: &[Rotated], stretch: Stretch, label: u8) -> Part
+/// The first place of a stretch whose path has, at the stretch's depth, that label or a higher one. The first and the
+/// last path of the stretch tell it at once where it is the first or none.
+#[tactic(auto, using(crate::proofs::Stretches::place_empty, crate::proofs::Stretches::place_first))]
+#[inline(always)]
+fn first_from(paths: &[Rotated], stretch: Stretch, label: u8) -> usize
     requires { IsStretch paths.now stretch }
-    ensures { IsPartWith paths.now stretch label result.low result.high }
+    ensures { IsPlaceFrom paths.now stretch label result }
 {
     let Stretch { low, high, depth } = stretch;
     if low == high {
-        return Part { low, high: low };
+        return low;
     }
-    let first = label_at(paths, low, depth);
-    let last = label_at(paths, high - 1, depth);
-    if label < first {
-        return Part { low, high: low };
+    if label_at(paths, low, depth) >= label {
+        return low;
     }
-    if last < label {
-        return Part { low, high: low };
+    if label_at(paths, high - 1, depth) < label {
+        return high;
     }
-    if first == last {
-        return Part { low, high };
+    search_from(paths, stretch, label)
+}
+
+/// The part of a stretch with the first label from `from` on.
+#[tactic(auto, using(crate::proofs::Stretches::label_below, crate::proofs::Stretches::part_is, crate::proofs::Stretches::below_all))]
+#[inline(always)]
+fn part_from(paths: &[Rotated], stretch: Stretch, from: u8) -> Option<Part>
+    requires { IsStretch paths.now stretch }
+    ensures none { IfNone result (IsBelow paths.now stretch from) }
+    ensures part { IfSome result (λ part. IsPartFrom paths.now stretch from part.label part.low part.high) }
+{
+    let low = first_from(paths, stretch, from);
+    if low == stretch.high {
+        return None;
     }
-    let start = first_from(paths, stretch, label);
-    let end = first_from(
-        paths,
-        Stretch {
-            low: start,
-            high,
+    let label = label_at(paths, low, stretch.depth);
+    let rest = Stretch {
+        low,
+        high: stretch.high,
+        depth: stretch.depth,
+    };
+    let high = first_from(paths, rest, label + 1);
+    Some(Part { label, low, high })
+}
+
+/// Whether the path at a place ends at a depth that it reaches.
+fn ends_at(paths: &[Rotated], depth: usize, place: usize) -> bool
+    requires place { place < length paths.now }
+    requires depth { depth ≤ length (slice_index_or paths.now place []) }
+    ensures { result ≡ ends_at paths.now depth place }
+{
+    paths[place].ends_at(depth)
+}
+
+/// What stands behind the label of a part of a stretch.
+#[inline(always)]
+fn step_behind(paths: &[Rotated], stretch: Stretch, part: Part) -> Step<Stretch>
+    requires stretch { IsStretch paths.now stretch }
+    requires part { IsPartWith paths.now stretch part.label part.low part.high }
+    requires some { part.low < part.high }
+    ensures accepts { result.accepts ≡ stretch_tail paths.now stretch (part.label ∷ []) }
+    ensures next { NextGives (IsStretch paths.now) (stretch_tail paths.now) height_of stretch part.label result.next }
+    ensures alive { result.accepts ≡ false → IsSome result.next }
+{
+    let depth = stretch.depth + 1;
+    let accepts = ends_at(paths, depth, part.low);
+    let low = if accepts { part.low + 1 } else { part.low };
+    if low == part.high {
+        return Step {
+            accepts,
+            next: None,
+        };
+    }
+    Step {
+        accepts,
+        next: Some(Stretch {
+            low,
+            high: part.high,
             depth,
-        },
-        label + 1,
-    );
-    Part {
-        low: start,
-        high: end,
+        }),
     }
 }
 
-/// Whether the path at a place has this number of labels.
-fn ends_at(paths: &[Rotated], depth: usize, place: usize) -> bool
-    requires { place < length paths.now }
-    ensures { result ≡ ends_at paths.now depth place }
+/// The first label from `from` on with which a path of a stretch goes on, and what stands behind it.
+#[tactic(auto, using(crate::proofs::Stretches::branch_none))]
+#[inline(always)]
+fn branch_in(paths: &[Rotated], stretch: Stretch, from: u8) -> Option<Branch<Stretch>>
+    requires { IsStretch paths.now stretch }
+    ensures none { IfNone result ((label : ℕ) → from ≤ label → NoTail (stretch_tail paths.now) stretch label) }
+    ensures reached { IfSome result (λ branch. from ≤ branch.label) }
+    ensures passed { IfSome result (λ branch. (label : ℕ) → from ≤ label → label < branch.label → NoTail (stretch_tail paths.now) stretch label) }
+    ensures accepts { IfSome result (λ branch. branch.step.accepts ≡ stretch_tail paths.now stretch (branch.label ∷ [])) }
+    ensures next { IfSome result (λ branch. NextGives (IsStretch paths.now) (stretch_tail paths.now) height_of stretch branch.label branch.step.next) }
+    ensures alive { IfSome result (λ branch. branch.step.accepts ≡ false → IsSome branch.step.next) }
 {
-    paths[place].as_slice().len() == depth
+    let Some(part) = part_from(paths, stretch, from) else {
+        return None;
+    };
+    Some(Branch {
+        label: part.label,
+        step: step_behind(paths, stretch, part),
+    })
 }
 
 /// What stands behind a label in a stretch.
@@ -124,27 +180,13 @@ fn step_in(paths: &[Rotated], stretch: Stretch, label: u8) -> Option<Step<Stretc
     ensures next { IfSome result (λ step. NextGives (IsStretch paths.now) (stretch_tail paths.now) height_of stretch label step.next) }
     ensures alive { IfSome result (λ step. step.accepts ≡ false → IsSome step.next) }
 {
-    let part = part_with(paths, stretch, label);
-    if part.low == part.high {
+    let Some(branch) = branch_in(paths, stretch, label) else {
+        return None;
+    };
+    if branch.label != label {
         return None;
     }
-    let depth = stretch.depth + 1;
-    let accepts = ends_at(paths, depth, part.low);
-    let low = if accepts { part.low + 1 } else { part.low };
-    if low == part.high {
-        return Some(Step {
-            accepts,
-            next: None,
-        });
-    }
-    Some(Step {
-        accepts,
-        next: Some(Stretch {
-            low,
-            high: part.high,
-            depth,
-        }),
-    })
+    Some(branch.step)
 }
 
 impl PathLex for SortedPaths {
@@ -175,6 +217,11 @@ impl PathLex for SortedPaths {
         step_in(&self.paths, node, label)
     }
 
+    #[inline(always)]
+    fn branch_from(&self, node: Stretch, from: u8) -> Option<Branch<Stretch>> {
+        branch_in(&self.paths, node, from)
+    }
+
     ghost nonempty = { stretch_nonempty };
 
     ghost labels = { stretch_labels };
@@ -183,7 +230,8 @@ impl PathLex for SortedPaths {
 }
 
 impl SortedPaths {
-    ghost use Rattle.std.specs.Prelude.{◌≡◌, List, ℕ, IfOk};
+    ghost use Rattle.std.specs.Prelude.{◌≡◌, List, ℕ, length, IfOk};
+    ghost use Rattle.lex_check.specs.Stretches.{IsPathList};
     ghost use Rattle.lex_file.specs.RotatedPaths.{is_path};
 
     /// The rotated paths of the words of a list.
@@ -196,5 +244,13 @@ impl SortedPaths {
         paths.sort_unstable();
         paths.dedup();
         Ok(SortedPaths { paths })
+    }
+
+    /// The number of paths, which are in order, each once.
+    pub fn len(&self) -> usize
+        ensures number { result ≡ length self.now }
+        ensures proper { IsPathList self.now }
+    {
+        self.paths.len()
     }
 }

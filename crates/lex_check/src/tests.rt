@@ -191,3 +191,124 @@ fn sorted_paths_are_walked(rt: HostRuntime) {
     assert!(rt; matches!(step, Some(_)));
     assert!(rt; check_paths(&paths, &paths).is_ok());
 }
+
+/// The sorted paths of the words of a text; none where it is refused.
+fn paths_of(alloc: Global, words: &[u8]) -> Option<SortedPaths> {
+    let list = WordList::read(alloc, words).ok()?;
+    SortedPaths::new(alloc, &list).ok()
+}
+
+/// The words of a text, a label from which on the next one is looked for behind some labels, and the first one.
+struct Ahead {
+    words: &'static [u8],
+    behind: &'static [u8],
+    from: u8,
+    label: Option<u8>,
+}
+
+const AHEAD: [Ahead; 13] = [
+    Ahead {
+        words: b"",
+        behind: &[],
+        from: 0,
+        label: None,
+    },
+    Ahead {
+        words: b"AT\nIT",
+        behind: &[],
+        from: 0,
+        label: Some(1),
+    },
+    Ahead {
+        words: b"AT\nIT",
+        behind: &[],
+        from: 1,
+        label: Some(1),
+    },
+    Ahead {
+        words: b"AT\nIT",
+        behind: &[],
+        from: 2,
+        label: Some(9),
+    },
+    Ahead {
+        words: b"AT\nIT",
+        behind: &[],
+        from: 10,
+        label: Some(20),
+    },
+    Ahead {
+        words: b"AT\nIT",
+        behind: &[],
+        from: 20,
+        label: Some(20),
+    },
+    Ahead {
+        words: b"AT\nIT",
+        behind: &[],
+        from: 21,
+        label: None,
+    },
+    Ahead {
+        words: b"AT\nIT",
+        behind: &[],
+        from: 255,
+        label: None,
+    },
+    Ahead {
+        words: b"AT\nIT",
+        behind: &[1],
+        from: 0,
+        label: Some(0),
+    },
+    Ahead {
+        words: b"AT\nIT",
+        behind: &[1],
+        from: 1,
+        label: None,
+    },
+    Ahead {
+        words: b"AT\nIT",
+        behind: &[20],
+        from: 2,
+        label: Some(9),
+    },
+    Ahead {
+        words: b"AT\nATE",
+        behind: &[20, 1],
+        from: 0,
+        label: Some(0),
+    },
+    Ahead {
+        words: b"AT\nATE",
+        behind: &[20, 1],
+        from: 1,
+        label: None,
+    },
+];
+
+/// The first label from one on with which a tail of the node behind some labels begins.
+fn label_behind(paths: &SortedPaths, behind: &[u8], from: u8) -> Option<u8> {
+    let mut node = paths.root();
+    for label in behind {
+        node = paths.step(node, *label)?.next?;
+    }
+    let branch = paths.branch_from(node, from)?;
+    Some(branch.label)
+}
+
+#[test]
+fn labels_ahead(rt: HostRuntime) {
+    for row in &AHEAD {
+        let Some(paths) = paths_of(rt.alloc(), row.words) else {
+            panic!(rt; "no paths");
+        };
+        let here = label_behind(&paths, row.behind, row.from);
+        assert_eq!(rt;
+            here,
+            row.label,
+            "{:?} {:?} {}",
+            row.words, row.behind, row.from
+        );
+    }
+}

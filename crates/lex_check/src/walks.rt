@@ -2,7 +2,7 @@ ghost use Rattle.std.specs.Prelude.{◌≡◌, ◌≤◌, ◌+◌, ℕ, List, On
 ghost use Rattle.lex_check.specs.Differences.{path_of, IsFirstDifference};
 
 use crate::differences::{Difference, longer};
-use crate::least::LABELS;
+use crate::forks::fork_from;
 use crate::meetings::{Meeting, meet};
 use lex_file::PathLex;
 
@@ -30,8 +30,10 @@ fn compare<A: PathLex, B: PathLex>(
     ensures first { IfErr result (λ difference. IsFirstDifference (A.tail file.now of_file) (B.tail list.now of_list) difference) }
     ensures short { IfErr result (λ difference. length (path_of difference) ≤ B.height list.now of_list + 1) }
 {
-    for label in 0..LABELS {
-        match meet(file, list, of_file, of_list, label) {
+    let mut from = 0;
+    while let Some(fork) = fork_from(file, list, of_file, of_list, from) {
+        let label = fork.label;
+        match meet(file, list, of_file, of_list, fork) {
             Meeting::Agree => {}
             Meeting::Differ(difference) => return Err(difference),
             Meeting::Deeper(next, listed_next) => {
@@ -41,6 +43,7 @@ fn compare<A: PathLex, B: PathLex>(
                 }
             }
         }
+        from = label + 1;
     }
     Ok(())
 }

@@ -1,12 +1,12 @@
 -- Words of a file as the code reads them.
 use Rattle.std.proofs.Common.{◌≡◌, ℕ, zero, suc, ◌+◌, ◌*◌, ◌-◌, ◌/◌, ◌<◌, ◌≤◌, arith, List, [], ◌∷◌, length, get_or, drop, drop-cons, eq-eqb, ◌%◌, ◌≢◌, add-one, refl, ap, ◌∙◌, true, false, eqb, Some, None}
-use Rattle.std.proofs.Common.{inl, inr, eqb, ltb}
+use Rattle.std.proofs.Common.{inl, inr, eqb, ltb, leb, le-leb}
 use Rattle.std.proofs.Math.ListN.{drop_of_length-le}
-use Rattle.std.proofs.lemmas.Bool.{ltb-true, and_parts}
+use Rattle.std.proofs.lemmas.Bool.{ltb-true, lt-leb, and_parts}
 use Rattle.std.proofs.lemmas.Bool.Decides.{eqb_tells}
 use Rattle.byteorder.specs.Endian.{little_number}
 use Rattle.lex_file.specs.FileWords.{words_in}
-use Rattle.lex_file.specs.Arcs.{arc_of, is_last, arc_with}
+use Rattle.lex_file.specs.Arcs.{arc_of, is_last, arc_with, arc_from}
 use Rattle.lex_file.specs.Nodes.{run_of, node_at, is_node, begins}
 
 -- how many words there are: four bytes each
@@ -71,6 +71,37 @@ ends words place label lt e last =
 pub past : (words : List ℕ) (place label : ℕ) → length words ≤ place → arc_with label (run_of (drop place words)) ≡ None
 unfolding run_of
 past words place label le = rw (drop_of_length-le words le) refl
+
+-- ---- going over them up to a label
+
+pub node_starts_from : (words : List ℕ) (node label : ℕ) → 0 < node → arc_from label (node_at words node) ≡ arc_from label (run_of (drop (node - 1) words))
+node_starts_from words zero label lt = absurd (omega arith)
+node_starts_from words (suc place) label lt = let e : suc place - 1 ≡ place = omega arith in rw e refl
+
+pub here_from : (words : List ℕ) (place label : ℕ) → place < length words → label ≤ (arc_of (get_or words place 0)).label
+    → arc_from label (run_of (drop place words)) ≡ Some (arc_of (get_or words place 0))
+unfolding run_of
+here_from words place label lt le =
+    let t : leb label (get_or words place 0 % 32) ≡ true = le-leb label (get_or words place 0 % 32) le in
+    rw (drop-cons words place 0) (rw t refl)
+
+pub further_from : (words : List ℕ) (place label : ℕ) → place < length words → (arc_of (get_or words place 0)).label < label
+    → is_last (get_or words place 0) ≡ false → arc_from label (run_of (drop place words)) ≡ arc_from label (run_of (drop (place + 1) words))
+unfolding run_of
+further_from words place label lt less last =
+    let t : leb label (get_or words place 0 % 32) ≡ false = lt-leb label (get_or words place 0 % 32) less in
+    rw (drop-cons words place 0) (rw (t, last, add-one) refl)
+
+pub ends_from : (words : List ℕ) (place label : ℕ) → place < length words → (arc_of (get_or words place 0)).label < label
+    → is_last (get_or words place 0) ≡ true → arc_from label (run_of (drop place words)) ≡ None
+unfolding run_of
+ends_from words place label lt less last =
+    let t : leb label (get_or words place 0 % 32) ≡ false = lt-leb label (get_or words place 0 % 32) less in
+    rw (drop-cons words place 0) (rw (t, last) refl)
+
+pub past_from : (words : List ℕ) (place label : ℕ) → length words ≤ place → arc_from label (run_of (drop place words)) ≡ None
+unfolding run_of
+past_from words place label le = rw (drop_of_length-le words le) refl
 
 pub inside_node : (words : List ℕ) (node : ℕ) → is_node words node ≡ true → 0 < node → node ≤ length words
 inside_node words zero is lt = absurd (omega arith)

@@ -1,5 +1,5 @@
 -- Arcs of a compiled lexicon, whatever the format that stores them.
-use Rattle.std.specs.Prelude.{ℕ, ◌/◌, ◌%◌, Bool, false, ◌==◌, List, Option, Some, None}
+use Rattle.std.specs.Prelude.{ℕ, ◌/◌, ◌%◌, Bool, false, ◌==◌, nat_le, List, Option, Some, None}
 use Rattle.std.specs.List.{find}
 use Rattle.lex_file.specs.declared.arcs.Arc.{Arc}
 
@@ -17,6 +17,13 @@ has_label label arc = arc.label == label
 -- the first of some arcs with a label
 abbrev pub arc_with : ℕ → List Arc → Option Arc
 arc_with label arcs = find (has_label label) arcs
+
+abbrev pub reaches : ℕ → Arc → Bool
+reaches label arc = nat_le label arc.label
+
+-- the first of some arcs with this label or a higher one
+abbrev pub arc_from : ℕ → List Arc → Option Arc
+arc_from label arcs = find (reaches label) arcs
 
 -- whether the string that ends with this arc is in the set
 abbrev pub accepts_of : Option Arc → Bool

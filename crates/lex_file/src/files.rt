@@ -1,10 +1,11 @@
 ghost use Rattle.std.specs.Prelude.{IsTrue, is_none};
 ghost use Rattle.lex_file.specs.Shapes.{fault_of};
 
+use crate::arcs::Arc;
 use crate::faults::FileFault;
-use crate::lexicons::{PathLex, Step};
+use crate::lexicons::{Branch, PathLex, Step};
 use crate::opening::{HEADER_BYTES, check_form};
-use crate::reading::{arc_with, word_at, word_count};
+use crate::reading::{arc_from, arc_with, word_at, word_count};
 
 /// A node of a compiled lexicon, given by its file.
 #[derive(Clone, Copy, Debug, PartialEq, Eq)]
@@ -20,9 +21,14 @@ pub struct LexFile<'a> {
 }
 
 impl<'a> LexFile<'a> {
-    ghost use Rattle.std.specs.Prelude.{◌≡◌, IfOk, drop};
+    ghost use Rattle.std.specs.Prelude.{◌≡◌, ℕ, List, [], ◌∷◌, false, Some, IfOk, IsSome, IsTrue, drop};
+    ghost use Rattle.lex_file.specs.Arcs.{arc_with};
     ghost use Rattle.lex_file.specs.Faults.{Refuses};
-    ghost use Rattle.lex_file.specs.Shapes.{word_count_of, arc_count_of};
+    ghost use Rattle.lex_file.specs.FileWords.{body_of};
+    ghost use Rattle.lex_file.specs.Languages.{file_tail};
+    ghost use Rattle.lex_file.specs.Lexicons.{NextGives};
+    ghost use Rattle.lex_file.specs.Nodes.{node_at};
+    ghost use Rattle.lex_file.specs.Shapes.{word_count_of, arc_count_of, is_file_node};
     ghost use Rattle.lex_file.specs.Files.{bytes_of};
 
     /// Opens a compiled lexicon. It is refused exactly where it has not the shape of one, with its first fault: the
@@ -59,6 +65,26 @@ impl<'a> LexFile<'a> {
     {
         &self.bytes[HEADER_BYTES..]
     }
+
+    /// What stands behind an arc of a node.
+    #[tactic(auto, using(crate::proofs::Walks::step_accepts, crate::proofs::Walks::step_ends))]
+    fn step_over(&self, node: Node, arc: Arc) -> Step<Node>
+        requires node { IsTrue (is_file_node (bytes_of self.now) node.first) }
+        requires arc { arc_with arc.label (node_at (body_of (bytes_of self.now)) node.first) ≡ Some arc }
+        ensures accepts { result.accepts ≡ file_tail (bytes_of self.now) node.first (arc.label ∷ []) }
+        ensures next { NextGives (λ (n : Node). IsTrue (is_file_node (bytes_of self.now) n.first)) (λ (n : Node) (string : List ℕ). file_tail (bytes_of self.now) n.first string) (λ (n : Node). n.first) node arc.label result.next }
+        ensures alive { result.accepts ≡ false → IsSome result.next }
+    {
+        let next = if arc.target == 0 {
+            None
+        } else {
+            Some(Node { first: arc.target })
+        };
+        Step {
+            accepts: arc.accepts,
+            next,
+        }
+    }
 }
 
 impl<'a> PathLex for LexFile<'a> {
@@ -84,17 +110,20 @@ impl<'a> PathLex for LexFile<'a> {
         }
     }
 
-    #[tactic(auto, using(crate::proofs::Views::node_is, crate::proofs::Walks::step_none, crate::proofs::Walks::step_accepts, crate::proofs::Walks::step_ends))]
+    #[tactic(auto, using(crate::proofs::Views::node_is, crate::proofs::Walks::step_none, crate::proofs::Walks::arc_label, crate::proofs::Walks::arc_itself))]
     fn step(&self, node: Node, label: u8) -> Option<Step<Node>> {
         let arc = arc_with(self.arcs(), node.first, label)?;
-        let next = if arc.target == 0 {
-            None
-        } else {
-            Some(Node { first: arc.target })
+        Some(self.step_over(node, arc))
+    }
+
+    #[tactic(auto, using(crate::proofs::Views::node_is, crate::proofs::Walks::branch_none, crate::proofs::Walks::branch_reached, crate::proofs::Walks::first_itself))]
+    fn branch_from(&self, node: Node, from: u8) -> Option<Branch<Node>> {
+        let Some(arc) = arc_from(self.arcs(), node.first, from) else {
+            return None;
         };
-        Some(Step {
-            accepts: arc.accepts,
-            next,
+        Some(Branch {
+            label: arc.label,
+            step: self.step_over(node, arc),
         })
     }
 

@@ -11,6 +11,15 @@ pub struct Step<N> {
     pub next: Option<N>,
 }
 
+/// A label with which some tail of a node begins, and what stands behind it.
+#[derive(Clone, Copy, Debug, PartialEq, Eq)]
+pub struct Branch<N> {
+    /// The label.
+    pub label: u8,
+    /// What stands behind it.
+    pub step: Step<N>,
+}
+
 /// A finite set of strings of labels, none of them empty, that is walked label by label.
 ///
 /// Each node has a set of tails; those of the root are the set. A whole number of the node, its height, falls with
@@ -45,6 +54,17 @@ pub trait PathLex {
         ensures accepts { IfSome result (λ step. step.accepts ≡ tail self.now node (label ∷ [])) }
         ensures next { IfSome result (λ step. NextGives (is_node self.now) (tail self.now) (height self.now) node label step.next) }
         ensures alive { IfSome result (λ step. step.accepts ≡ false → IsSome step.next) };
+
+    /// The first label from `from` on with which some tail of the node begins, and what stands behind it, or None
+    /// where there is no such label. The node is one that this lexicon gave.
+    fn branch_from(&self, node: Self::Node, from: u8) -> Option<Branch<Self::Node>>
+        requires { is_node self.now node }
+        ensures none { IfNone result ((label : ℕ) → from ≤ label → NoTail (tail self.now) node label) }
+        ensures reached { IfSome result (λ branch. from ≤ branch.label) }
+        ensures passed { IfSome result (λ branch. (label : ℕ) → from ≤ label → label < branch.label → NoTail (tail self.now) node label) }
+        ensures accepts { IfSome result (λ branch. branch.step.accepts ≡ tail self.now node (branch.label ∷ [])) }
+        ensures next { IfSome result (λ branch. NextGives (is_node self.now) (tail self.now) (height self.now) node branch.label branch.step.next) }
+        ensures alive { IfSome result (λ branch. branch.step.accepts ≡ false → IsSome branch.step.next) };
 
     // No tail is empty.
     ghost nonempty: { (lexicon : Self) (node : Self.Node) → is_node lexicon node → tail lexicon node [] ≡ false };

@@ -15,6 +15,10 @@
 //!
 //! A node is a run of arcs up to the first that is last, and is named by its first arc. Its labels rise, and a target
 //! is a node that ends before the arc's own node begins, so every walk ends. Nodes that no walk reaches are allowed.
+//!
+//! [`PathLex`] is what a lexicon promises that is walked label by label: its root, what stands behind a label of a
+//! node, and the first label from one on with which a tail of a node begins. By the last of these a walk goes from
+//! label to label, and tries none that is not there.
 #![tactic(auto)]
 
 mod arcs;
@@ -29,7 +33,7 @@ pub use arcs::Arc;
 pub use faults::FileFault;
 pub use files::{LexFile, Node};
 pub use laws::{law_of_language, law_of_nodes, law_of_paths};
-pub use lexicons::{PathLex, Step};
+pub use lexicons::{Branch, PathLex, Step};
 
 #[cfg(test)]
 mod tests;

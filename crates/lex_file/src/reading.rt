@@ -1,6 +1,6 @@
 ghost use Rattle.std.specs.Prelude.{◌≡◌, ◌+◌, ◌*◌, ◌^◌, ◌<◌, ◌≤◌, IsTrue, length, slice_index};
 ghost use Rattle.lex_file.specs.FileWords.{words_in};
-ghost use Rattle.lex_file.specs.Arcs.{arc_with, is_last};
+ghost use Rattle.lex_file.specs.Arcs.{arc_with, arc_from, is_last};
 ghost use Rattle.lex_file.specs.Nodes.{begins, is_first, is_node, node_at};
 
 use crate::arcs::Arc;
@@ -73,6 +73,28 @@ pub fn arc_with(arcs: &[u8], node: u32, label: u8) -> Option<Arc>
         let word = word_at(arcs, place);
         let arc = Arc::of_word(word);
         if arc.label == label {
+            return Some(arc);
+        }
+        if is_last(word) {
+            return None;
+        }
+    }
+    None
+}
+
+/// The first arc of a node whose label is this one or a higher one.
+#[tactic(auto, using(crate::proofs::Runs::node_starts_from, crate::proofs::Runs::here_from, crate::proofs::Runs::further_from, crate::proofs::Runs::ends_from, crate::proofs::Runs::past_from, crate::proofs::Runs::inside_node))]
+pub fn arc_from(arcs: &[u8], node: u32, label: u8) -> Option<Arc>
+    requires { IsTrue (is_node (words_in arcs.now) node) }
+    ensures { result ≡ arc_from label (node_at (words_in arcs.now) node) }
+{
+    if node == 0 {
+        return None;
+    }
+    for place in node as usize - 1..word_count(arcs) {
+        let word = word_at(arcs, place);
+        let arc = Arc::of_word(word);
+        if arc.label >= label {
             return Some(arc);
         }
         if is_last(word) {

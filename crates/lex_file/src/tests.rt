@@ -303,6 +303,101 @@ fn walks(rt: HostRuntime) -> Result<(), Fail> {
     Ok(())
 }
 
+/// A label from which on the next one is looked for at the root, and the first of the word AT, and of AT and IT.
+struct Ahead {
+    from: u8,
+    at: Option<u8>,
+    at_it: Option<u8>,
+}
+
+const AHEAD: [Ahead; 9] = [
+    Ahead {
+        from: 0,
+        at: Some(1),
+        at_it: Some(1),
+    },
+    Ahead {
+        from: 1,
+        at: Some(1),
+        at_it: Some(1),
+    },
+    Ahead {
+        from: 2,
+        at: Some(20),
+        at_it: Some(9),
+    },
+    Ahead {
+        from: 9,
+        at: Some(20),
+        at_it: Some(9),
+    },
+    Ahead {
+        from: 10,
+        at: Some(20),
+        at_it: Some(20),
+    },
+    Ahead {
+        from: 20,
+        at: Some(20),
+        at_it: Some(20),
+    },
+    Ahead {
+        from: 21,
+        at: None,
+        at_it: None,
+    },
+    Ahead {
+        from: 27,
+        at: None,
+        at_it: None,
+    },
+    Ahead {
+        from: 255,
+        at: None,
+        at_it: None,
+    },
+];
+
+/// The first label from one on with which a tail of the root begins.
+fn label_from(file: &LexFile<'_>, from: u8) -> Option<u8> {
+    let branch = file.branch_from(file.root(), from)?;
+    Some(branch.label)
+}
+
+#[test]
+fn labels_ahead(rt: HostRuntime) -> Result<(), Fail> {
+    let at = LexFile::open(&AT).ok().ok_or("a file")?;
+    let at_it = LexFile::open(&AT_IT).ok().ok_or("a file")?;
+    let empty = LexFile::open(&EMPTY).ok().ok_or("a file")?;
+    for row in &AHEAD {
+        assert_eq!(rt; label_from(&at, row.from), row.at, "{}", row.from);
+        assert_eq!(rt; label_from(&at_it, row.from), row.at_it, "{}", row.from);
+        assert_eq!(rt; label_from(&empty, row.from), None, "{}", row.from);
+    }
+    Ok(())
+}
+
+#[test]
+fn branches(rt: HostRuntime) -> Result<(), Fail> {
+    let file = LexFile::open(&AT).ok().ok_or("a file")?;
+    let letter = file.branch_from(file.root(), 2).ok_or("a branch")?;
+    assert_eq!(rt; letter.label, 20);
+    assert!(rt; !letter.step.accepts);
+    let node = letter.step.next.ok_or("a node")?;
+    assert_eq!(rt;
+        file.branch_from(node, 0),
+        Some(Branch {
+            label: 1,
+            step: Step {
+                accepts: true,
+                next: None
+            }
+        })
+    );
+    assert_eq!(rt; file.branch_from(node, 2), None);
+    Ok(())
+}
+
 #[test]
 fn steps(rt: HostRuntime) -> Result<(), Fail> {
     let file = LexFile::open(&AT).ok().ok_or("a file")?;

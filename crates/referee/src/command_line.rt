@@ -2,16 +2,26 @@ use clap::error::ErrorKind;
 use clap::{Arg, ArgMatches, Command, Error};
 use std::alloc::{AllocError, Global};
 
-/// What the command line asks for.
+/// What the command line asks for. Files are told by their names.
 #[derive(Clone, Copy)]
 pub enum Request<'a> {
-    /// To judge the game of a record by a word list and its lexicon, all three named by their files.
+    /// To judge the game of a record by a word list and its lexicon.
     Judge {
         words: &'a str,
         lexicon: &'a str,
         game: &'a str,
     },
-    /// To write the normal form of a record, named by its file.
+    /// To write the lexicon of a word list to the file `out`.
+    Build {
+        words: &'a str,
+        out: &'a str,
+    },
+    /// To compare a lexicon with a word list.
+    Check {
+        words: &'a str,
+        lexicon: &'a str,
+    },
+    /// To write the normal form of a record.
     Tidy {
         game: &'a str,
     },
@@ -45,9 +55,11 @@ pub fn mistake(alloc: Global, text: &str) -> Error {
 /// The commands that the program knows.
 fn command<'a>(alloc: Global) -> Result<Command<'a>, AllocError> {
     Command::new(alloc, "referee")
-        .about("Judges a game of Scrabble from its record, or tidies the record")
+        .about("Judges a game of Scrabble from its record, and keeps the lexicon of a word list")
         .subcommand_required(true)
         .subcommand(judge_command(alloc)?)?
+        .subcommand(build_command(alloc)?)?
+        .subcommand(check_command(alloc)?)?
         .subcommand(tidy_command(alloc)?)
 }
 
@@ -55,44 +67,58 @@ fn command<'a>(alloc: Global) -> Result<Command<'a>, AllocError> {
 fn judge_command<'a>(alloc: Global) -> Result<Command<'a>, AllocError> {
     Command::new(alloc, "judge")
         .about("Says whether the game is legal, and the best play of each turn with a full rack")
-        .arg(
-            Arg::new(alloc, "WORDS")
-                .required(true)
-                .help("the word list"),
-        )?
-        .arg(
-            Arg::new(alloc, "LEXICON")
-                .required(true)
-                .help("the lexicon file"),
-        )?
-        .arg(
-            Arg::new(alloc, "GAME")
-                .required(true)
-                .help("the GCG record"),
-        )
+        .arg(name(alloc, "WORDS", "the word list"))?
+        .arg(name(alloc, "LEXICON", "the lexicon file of the words"))?
+        .arg(name(alloc, "GAME", "the GCG record"))
+}
+
+/// `build WORDS OUT`.
+fn build_command<'a>(alloc: Global) -> Result<Command<'a>, AllocError> {
+    Command::new(alloc, "build")
+        .about("Writes the lexicon file of a word list")
+        .arg(name(alloc, "WORDS", "the word list"))?
+        .arg(name(alloc, "OUT", "the lexicon file to be written, or emptied first"))
+}
+
+/// `check WORDS LEXICON`.
+fn check_command<'a>(alloc: Global) -> Result<Command<'a>, AllocError> {
+    Command::new(alloc, "check")
+        .about("Says whether a lexicon file is that of a word list, or where it first differs")
+        .arg(name(alloc, "WORDS", "the word list"))?
+        .arg(name(alloc, "LEXICON", "the lexicon file"))
 }
 
 /// `tidy GAME`.
 fn tidy_command<'a>(alloc: Global) -> Result<Command<'a>, AllocError> {
     Command::new(alloc, "tidy")
         .about("Writes the normal form of a record, or its first fault")
-        .arg(
-            Arg::new(alloc, "GAME")
-                .required(true)
-                .help("the GCG record"),
-        )
+        .arg(name(alloc, "GAME", "the GCG record"))
+}
+
+/// The name of a file, which the command needs.
+fn name<'a>(alloc: Global, name: &'a str, help: &'a str) -> Arg<'a> {
+    Arg::new(alloc, name).required(true).help(help)
 }
 
 /// What the matches of a parse ask for: there is always something, since every name is required.
 fn request_of<'a>(matches: &ArgMatches<'a>) -> Option<Request<'a>> {
     let (command, names) = matches.subcommand()?;
-    let game = names.get_str("GAME")?;
-    if command == "tidy" {
-        return Some(Request::Tidy { game });
+    match command {
+        "judge" => Some(Request::Judge {
+            words: names.get_str("WORDS")?,
+            lexicon: names.get_str("LEXICON")?,
+            game: names.get_str("GAME")?,
+        }),
+        "build" => Some(Request::Build {
+            words: names.get_str("WORDS")?,
+            out: names.get_str("OUT")?,
+        }),
+        "check" => Some(Request::Check {
+            words: names.get_str("WORDS")?,
+            lexicon: names.get_str("LEXICON")?,
+        }),
+        _ => Some(Request::Tidy {
+            game: names.get_str("GAME")?,
+        }),
     }
-    Some(Request::Judge {
-        words: names.get_str("WORDS")?,
-        lexicon: names.get_str("LEXICON")?,
-        game,
-    })
 }

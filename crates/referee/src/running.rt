@@ -3,14 +3,11 @@ use crate::exits::{Exit, Trouble};
 use clap::Error;
 use clap::error::ErrorKind;
 use devices::{FromRead, FromWrite};
-use engine::{Verdict, run, run_tidy};
+use engine::{Verdict, run, run_build, run_check, run_tidy};
 use ref_tiles::english_rules;
 use std::alloc::AllocError;
 use std::rt::{Files, Runtime};
 use std::{env, fs, io};
-
-/// The bytes of an input that is not read yet.
-const NOTHING: &[u8] = &[];
 
 /// Runs the program on the words of its command line. What keeps it from its end is told on standard error.
 pub fn run_program<R: Runtime + AllocGlobal>(rt: &R) -> Exit {
@@ -51,7 +48,13 @@ fn give_up<R: Runtime>(rt: &R, trouble: Trouble<'_>) -> Exit {
 /// Does what was asked for.
 fn answer<R: Runtime + AllocGlobal>(rt: &R, request: Request<'_>) -> Exit {
     let outcome = match request {
-        Request::Judge { words, game, .. } => judge(rt, words, game),
+        Request::Judge {
+            words,
+            lexicon,
+            game,
+        } => judge(rt, words, lexicon, game),
+        Request::Build { words, out } => build(rt, words, out),
+        Request::Check { words, lexicon } => check(rt, words, lexicon),
         Request::Tidy { game } => tidy(rt, game),
     };
     match outcome {
@@ -60,15 +63,16 @@ fn answer<R: Runtime + AllocGlobal>(rt: &R, request: Request<'_>) -> Exit {
     }
 }
 
-/// Judges the game of a file by the words of another. The report goes to standard output.
+/// Judges the game of a file by a word list and its lexicon. The report goes to standard output.
 fn judge<'a, R: Runtime + AllocGlobal>(
     rt: &R,
     words: &'a str,
+    lexicon: &'a str,
     game: &'a str,
 ) -> Result<Verdict, Trouble<'a>> {
     let mut words = FromRead::new(open(rt, words)?);
+    let mut lexicon = FromRead::new(open(rt, lexicon)?);
     let mut game = FromRead::new(open(rt, game)?);
-    let mut lexicon = FromRead::new(NOTHING);
     let mut out = FromWrite::new(io::writer(rt));
     let verdict = run(
         rt.alloc(),
@@ -78,6 +82,31 @@ fn judge<'a, R: Runtime + AllocGlobal>(
         &mut out,
         &english_rules(),
     )?;
+    Ok(verdict)
+}
+
+/// Writes the lexicon of a word list, or the line of the list's fault, to the file `out`.
+fn build<'a, R: Runtime + AllocGlobal>(
+    rt: &R,
+    words: &'a str,
+    out: &'a str,
+) -> Result<Verdict, Trouble<'a>> {
+    let mut words = FromRead::new(open(rt, words)?);
+    let mut out = FromWrite::new(create(rt, out)?);
+    let verdict = run_build(rt.alloc(), &mut words, &mut out)?;
+    Ok(verdict)
+}
+
+/// Compares a lexicon with a word list. What was found goes to standard output.
+fn check<'a, R: Runtime + AllocGlobal>(
+    rt: &R,
+    words: &'a str,
+    lexicon: &'a str,
+) -> Result<Verdict, Trouble<'a>> {
+    let mut words = FromRead::new(open(rt, words)?);
+    let mut lexicon = FromRead::new(open(rt, lexicon)?);
+    let mut out = FromWrite::new(io::writer(rt));
+    let verdict = run_check(rt.alloc(), &mut words, &mut lexicon, &mut out)?;
     Ok(verdict)
 }
 
@@ -91,7 +120,17 @@ fn tidy<'a, R: Runtime + AllocGlobal>(rt: &R, game: &'a str) -> Result<Verdict, 
 
 /// Opens a file to be read.
 fn open<'a, R: Files>(rt: &R, name: &'a str) -> Result<R::File, Trouble<'a>> {
-    match fs::open(rt, name) {
+    opened(name, fs::open(rt, name))
+}
+
+/// Opens a file to be written; it is created, or emptied.
+fn create<'a, R: Files>(rt: &R, name: &'a str) -> Result<R::File, Trouble<'a>> {
+    opened(name, fs::create(rt, name))
+}
+
+/// The file of this name, or what kept it from being opened.
+fn opened<'a, F>(name: &'a str, file: io::Result<F>) -> Result<F, Trouble<'a>> {
+    match file {
         Ok(file) => Ok(file),
         Err(error) if error.kind() == io::ErrorKind::OutOfMemory => Err(Trouble::NoMemory),
         Err(_) => Err(Trouble::CannotOpen(name)),

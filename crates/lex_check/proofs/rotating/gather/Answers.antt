@@ -4,7 +4,7 @@ use Rattle.lex_check.proofs.Rotations.{gathered_none, gathered_more}
 use Rattle.lex_check.proofs.rotating.gather.Goals as goal
 
 pub loop-place-init : goal.loop-place-init
-loop-place-init c = c.new-paths.ensures.items ∙ sym (gathered_none c.args.list.now)
+loop-place-init c = c.in_ok-paths.ensures.items ∙ sym (gathered_none c.args.list.now)
 
 pub loop-place-preserved : goal.loop-place-preserved
 loop-place-preserved c =

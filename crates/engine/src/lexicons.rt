@@ -1,0 +1,92 @@
+ghost use Rattle.std.specs.Prelude.{◌≡◌, IfOk};
+ghost use Rattle.lex_file.specs.Faults.{Refuses};
+ghost use Rattle.lex_file.specs.Files.{bytes_of};
+ghost use Rattle.engine.specs.Lexicons.{file_fault, IsPaired, IsRefusedFile, IsRefusedPair};
+
+use crate::decisions::Decision;
+use crate::reports::bad_file_line;
+use crate::verdicts::Verdict;
+use lex_check::{Checked, Mismatch, Path, pair};
+use lex_file::{FileFault, LexFile};
+use lex_list::WordList;
+use std::alloc::{AllocError, Global};
+
+/// The most bytes of a lexicon file: a header of 16 bytes and 33,554,431 arcs of 4.
+pub const MAX_FILE_BYTES: usize = 134_217_740;
+
+/// What is wrong with a lexicon.
+#[derive(Debug, Drop, PartialEq, Eq)]
+pub enum LexiconFault {
+    /// The file has not the form of a lexicon.
+    Form(FileFault),
+    /// This rotated path of a listed word is not in the file.
+    Missing(Path),
+    /// The file has this string, or one that it begins, and the list has no such path.
+    Extra(Path),
+    /// The file states another number of words.
+    WordCount,
+    /// The lexicon of the list has more arcs than a file can number.
+    TooManyArcs,
+}
+
+/// What the comparing of a lexicon file with a word list came to.
+#[derive(Drop)]
+pub enum Paired<'a> {
+    /// The list and the lexicon, which agree.
+    Agreed(Checked<'a>),
+    /// The verdict that the file is not the lexicon of the list.
+    Refused(Decision),
+}
+
+/// Opens a lexicon file. One that has too many bytes is told as such before all else.
+#[tactic(auto, unfolding(crate::specs::Lexicons::file_fault))]
+fn open_within(bytes: &[u8]) -> Result<LexFile<'_>, FileFault>
+    ensures form { Refuses result (file_fault bytes.now) }
+    ensures bytes { IfOk result (λ file. bytes_of file ≡ bytes.now) }
+{
+    if bytes.len() > MAX_FILE_BYTES {
+        return Err(FileFault::Length);
+    }
+    LexFile::open(bytes)
+}
+
+/// The verdict that tells a fault.
+pub fn bad_file(alloc: Global, fault: &LexiconFault) -> Result<Decision, AllocError>
+    ensures { IfOk result (λ d. IsRefusedFile fault.now d) }
+{
+    let report = bad_file_line(alloc, fault)?;
+    Ok(Decision {
+        verdict: Verdict::BadFile,
+        report,
+    })
+}
+
+/// The verdict that tells a fault, in place of a list and a lexicon.
+fn refused<'a>(alloc: Global, fault: &LexiconFault) -> Result<Paired<'a>, AllocError>
+    ensures { IfOk result (λ paired. IsRefusedPair fault.now paired) }
+{
+    let decision = bad_file(alloc, fault)?;
+    Ok(Paired::Refused(decision))
+}
+
+/// The word list and the lexicon of a file, or the verdict that the file is not the lexicon of the list.
+#[tactic(auto, using(crate::proofs::Pairings::bad_form, crate::proofs::Pairings::is_missing, crate::proofs::Pairings::is_extra, crate::proofs::Pairings::is_miscounted, crate::proofs::Pairings::is_agreed))]
+pub fn pair_file<'a>(
+    alloc: Global,
+    list: &'a WordList,
+    bytes: &'a [u8],
+) -> Result<Paired<'a>, AllocError>
+    ensures { IfOk result (λ paired. IsPaired list.now bytes.now paired) }
+{
+    let file = match open_within(bytes) {
+        Ok(file) => file,
+        Err(first) => return refused(alloc, &LexiconFault::Form(first)),
+    };
+    match pair(alloc, list, file) {
+        Ok(checked) => Ok(Paired::Agreed(checked)),
+        Err(Mismatch::Missing(path)) => refused(alloc, &LexiconFault::Missing(path)),
+        Err(Mismatch::Extra(path)) => refused(alloc, &LexiconFault::Extra(path)),
+        Err(Mismatch::WordCount) => refused(alloc, &LexiconFault::WordCount),
+        Err(Mismatch::NoMemory) => Err(AllocError),
+    }
+}

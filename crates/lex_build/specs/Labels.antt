@@ -1,0 +1,20 @@
+-- How many labels the strings of a set have together, of which each counts once.
+use Rattle.std.specs.Prelude.{◌≡◌, ℕ, ◌≤◌, nat_lt, Bool, true, false, ◌&&◌, List, [], ◌∷◌, length}
+use Rattle.std.specs.List.{Contains, sum_by}
+
+-- no string stands twice
+abbrev pub AreApart : List (List ℕ) → Type 0
+AreApart [] = Unit {0}
+AreApart (string ∷ strings) = (Contains strings string → ⊥) × AreApart strings
+
+-- some strings of the set, each once, have together so many labels or more
+pub record HasLabels (has : List ℕ → Bool) (count : ℕ) : Type 0 where
+  pub strings : List (List ℕ)
+  pub each : (string : List ℕ) → Contains strings string → has string ≡ true
+  pub once : AreApart strings
+  pub enough : count ≤ sum_by length strings
+
+-- the strings of the set whose first label is below one
+abbrev pub has_below : (List ℕ → Bool) → ℕ → List ℕ → Bool
+has_below has bound [] = false
+has_below has bound (label ∷ rest) = nat_lt label bound && has (label ∷ rest)

@@ -1,0 +1,5 @@
+pub mod Builds
+pub mod Bodies
+pub mod Labels
+pub mod Walks
+pub mod Headers
