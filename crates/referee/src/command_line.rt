@@ -77,7 +77,11 @@ fn build_command<'a>(alloc: Global) -> Result<Command<'a>, AllocError> {
     Command::new(alloc, "build")
         .about("Writes the lexicon file of a word list")
         .arg(name(alloc, "WORDS", "the word list"))?
-        .arg(name(alloc, "OUT", "the lexicon file to be written, or emptied first"))
+        .arg(name(
+            alloc,
+            "OUT",
+            "the lexicon file to be written, or emptied first",
+        ))
 }
 
 /// `check WORDS LEXICON`.
