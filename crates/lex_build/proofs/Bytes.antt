@@ -1,9 +1,10 @@
 -- Words and their bytes.
-use Rattle.std.proofs.Common.{◌≡◌, ℕ, zero, suc, ◌+◌, ◌-◌, ◌*◌, ◌/◌, ◌%◌, ◌^◌, ◌<◌, ◌≤◌, false, List, [], ◌∷◌, ◌++◌, length, get_or, take, drop, refl, sym, ap, subst, ◌∙◌, arith, append_assoc, append-nil}
+use Rattle.std.proofs.Common.{◌≡◌, ℕ, zero, suc, ◌+◌, ◌*◌, ◌/◌, ◌%◌, ◌^◌, ◌<◌, ◌≤◌, false, List, [], ◌∷◌, ◌++◌, length, get_or, take, drop, refl, sym, ap, subst, ◌∙◌, arith, append_assoc, append-nil}
 use Rattle.std.proofs.lemmas.List.{length-append, drop-append-le, take_more}
 use Rattle.std.proofs.lemmas.Bool.{eqb-false}
 use Rattle.std.proofs.Math.ListN.{length-drop, drop_of_length-le}
 use Rattle.std.proofs.Math.Seq.{get_or-append_seam}
+use Rattle.std.specs.List.{IsLastAndRest}
 use Rattle.byteorder.specs.Endian.{little_number, little_bytes}
 use Rattle.byteorder.specs.Numbers.{little_from-bytes}
 use Rattle.lex_file.specs.Arcs.{is_last}
@@ -73,10 +74,16 @@ pub more_appended : (old mid new words : List ℕ) (place : ℕ) → HasAppended
 more_appended old mid new words place before lt here =
     record { whole = here.whole; body = here.body ∙ ap (λ (xs : List ℕ). xs ++ get_or words place 0 ∷ []) before.body ∙ append_assoc (body_of old) (take place words) (get_or words place 0 ∷ []) ∙ ap (λ (xs : List ℕ). body_of old ++ xs) (sym (take_more words place 0 lt)) }
 
-pub run_appended : (old mid new arcs inner : List ℕ) (last : ℕ) → arcs ≡ inner ++ last ∷ [] → HasAppended old mid inner → HasAppended mid new ((last + 64) ∷ [])
-    → HasAppended old new (run_with arcs)
-run_appended old mid new arcs inner last e before here =
-    record { whole = here.whole; body = here.body ∙ ap (λ (xs : List ℕ). xs ++ (last + 64) ∷ []) before.body ∙ append_assoc (body_of old) inner ((last + 64) ∷ []) ∙ ap (λ (xs : List ℕ). body_of old ++ xs) (sym (run_of_one arcs inner last e)) }
+pub run_appended : (old mid new arcs inner : List ℕ) (last word : ℕ) → IsLastAndRest arcs last inner → HasAppended old mid inner → HasAppended mid new (word ∷ [])
+    → word ≡ last + 64 → HasAppended old new (run_with arcs)
+run_appended old mid new arcs inner last word split before here marked = record {
+  whole = here.whole;
+  body = here.body
+      ∙ ap (λ (xs : List ℕ). xs ++ word ∷ []) before.body
+      ∙ append_assoc (body_of old) inner (word ∷ [])
+      ∙ ap (λ (n : ℕ). body_of old ++ (inner ++ n ∷ [])) marked
+      ∙ ap (λ (xs : List ℕ). body_of old ++ xs) (sym (run_of_one arcs inner last split.0));
+}
 
 pub take_all : (xs : List ℕ) (n : ℕ) → length xs ≤ n → take n xs ≡ xs
 take_all [] zero le = refl

@@ -1,4 +1,4 @@
-ghost use Rattle.std.specs.Prelude.{◌≡◌, ◌≤◌, false};
+ghost use Rattle.std.specs.Prelude.{◌≡◌, ◌+◌, ◌≤◌, false};
 ghost use Rattle.lex_file.specs.Arcs.{arc_of, is_last};
 ghost use Rattle.lex_build.specs.Builds.{most_arcs};
 
@@ -14,7 +14,7 @@ pub const MOST_ARCS: usize = 33_554_431;
 const ACCEPTS: u32 = 32;
 
 /// The bit of an arc that says that it is the last of its node.
-pub const LAST_ARC: u32 = 64;
+const LAST_ARC: u32 = 64;
 
 /// What the number of an arc's target counts in its word.
 const TARGET: u32 = 128;
@@ -30,4 +30,13 @@ pub fn arc_word(label: u8, accepts: bool, target: u32) -> u32
 {
     let accepting = if accepts { ACCEPTS } else { 0 };
     TARGET * target + accepting + label as u32
+}
+
+/// The word of an arc that is the last of its node.
+#[tactic(auto, using(crate::proofs::Bytes::markable))]
+pub fn last_arc_word(word: u32) -> u32
+    requires { is_last word ≡ false }
+    ensures { result ≡ word + 64 }
+{
+    word + LAST_ARC
 }

@@ -1,5 +1,3 @@
-ghost use Rattle.std.specs.Prelude.{◌<◌, ◌≤◌};
-
 use super::*;
 use lex_check::{Mismatch, check};
 use lex_file::LexFile;
@@ -133,17 +131,18 @@ fn next(state: u32) -> u32 {
     state.wrapping_mul(1_664_525).wrapping_add(1_013_904_223)
 }
 
-/// Lines with words of 2 to 15 letters out of the first ones of the alphabet.
-fn many_words(alloc: Global, letters: u8) -> Result<Vec<u8>, AllocError>
-    requires few { letters ≤ 26 }
-    requires some { 0 < letters }
-{
+/// 5,000 lines with a word each: four letters that spell the number of the word, and 0 to 11 of the letters A to E behind
+/// them.
+fn many_words(alloc: Global) -> Result<Vec<u8>, AllocError> {
     let mut text = Vec::new(alloc);
-    let mut state = letters as u32;
-    for _ in 0..2500 {
-        for _ in 0..2 + state / 65536 % 14 {
+    let mut state = 1;
+    for number in 0..5000_u32 {
+        for digit in [17_576, 676, 26, 1] {
+            text.push(b'A' + (number / digit % 26) as u8)?;
+        }
+        for _ in 0..state / 65536 % 12 {
             state = next(state);
-            text.push(b'A' + (state / 65536 % letters as u32) as u8)?;
+            text.push(b'A' + (state / 65536 % 5) as u8)?;
         }
         text.push(b'\n')?;
         state = next(state);
@@ -153,10 +152,12 @@ fn many_words(alloc: Global, letters: u8) -> Result<Vec<u8>, AllocError>
 
 #[test]
 fn many(rt: HostRuntime) {
-    for letters in [3, 26] {
-        match many_words(rt.alloc(), letters) {
-            Ok(text) => assert_eq!(rt; rebuild(rt.alloc(), &text), Outcome::Same),
-            Err(_) => panic!(rt; "no memory for {letters} letters"),
-        }
+    let Ok(text) = many_words(rt.alloc()) else {
+        panic!(rt; "no memory for the words");
+    };
+    match WordList::read(rt.alloc(), &text) {
+        Ok(list) => assert_eq!(rt; list.len(), 5000),
+        Err(_) => panic!(rt; "the words are no list"),
     }
+    assert_eq!(rt; rebuild(rt.alloc(), &text), Outcome::Same);
 }

@@ -4,7 +4,7 @@ ghost use Rattle.lex_file.specs.FileWords.{body_of};
 ghost use Rattle.lex_build.specs.Headers.{header_of};
 ghost use Rattle.lex_build.specs.Bodies.{IsWhole, HasAppended, IsArcList, IsKept, IsPlaced, IsUnplaced, run_with, number_in};
 
-use crate::arcs::{Arcs, LAST_ARC, MOST_ARCS};
+use crate::arcs::{Arcs, MOST_ARCS, last_arc_word};
 use crate::faults::BuildFault;
 use byteorder::{ByteOrder, LittleEndian};
 use indexmap::IndexMap;
@@ -130,7 +130,7 @@ fn push_words(bytes: &mut Vec<u8>, words: &[u32]) -> Result<(), AllocError>
 }
 
 /// Appends the words of the arcs of a node, the last with the bit that says so.
-#[tactic(auto, using(crate::proofs::Bytes::none_appended, crate::proofs::Bytes::last_of, crate::proofs::Bytes::markable))]
+#[tactic(auto, using(crate::proofs::Bytes::none_appended, crate::proofs::Bytes::last_of))]
 fn push_arcs(bytes: &mut Vec<u8>, arcs: &[u32]) -> Result<(), AllocError>
     requires whole { IsWhole bytes.old.items }
     requires unmarked { (place : ℕ) → place < length arcs.now → is_last (slice_index arcs.now place) ≡ false }
@@ -140,7 +140,7 @@ fn push_arcs(bytes: &mut Vec<u8>, arcs: &[u32]) -> Result<(), AllocError>
         return Ok(());
     };
     push_words(bytes, inner)?;
-    push_word(bytes, *last + LAST_ARC)?;
+    push_word(bytes, last_arc_word(*last))?;
     Ok(())
 }
 

@@ -185,6 +185,7 @@ fn sorted_paths_are_walked(rt: HostRuntime) {
     let Ok(paths) = SortedPaths::new(rt.alloc(), &list) else {
         panic!(rt; "no paths");
     };
+    assert_eq!(rt; paths.len(), 2);
     let root = paths.root();
     assert!(rt; paths.step(root, 2).is_none());
     let step = paths.step(root, 20);
