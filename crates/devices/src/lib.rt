@@ -7,8 +7,6 @@ mod from_read;
 mod from_write;
 mod inputs;
 mod outputs;
-#[cfg(test)]
-mod tests;
 
 pub use failing::{DeviceFailed, ReadGaveUp, WriteGaveUp};
 pub use from_read::FromRead;

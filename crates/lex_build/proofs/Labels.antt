@@ -7,10 +7,11 @@ use Rattle.std.proofs.lemmas.List.Elements.{Contains-append_left, Contains-appen
 use Rattle.std.proofs.lemmas.List.Sums.{sum_by-cons, sum_by-append}
 use Rattle.lex_file.specs.Lexicons.{IsBehind}
 use Rattle.lex_build.specs.Labels.{AreApart, HasLabels, has_below}
-use Rattle.lex_file.specs.RotatedPaths.{is_path}
+use Rattle.lex_list.specs.RotatedPaths.{StandsFor}
 use Rattle.lex_check.specs.Stretches.{IsPathList, is_one_of}
 use Rattle.lex_check.specs.StretchLaws.{left_from, left_to}
-use Rattle.lex_build.specs.Builds.{most_arcs, HasManyLabels}
+use Rattle.lex_build.specs.Builds.{HasManyLabels}
+use Rattle.lex_file.specs.Formats.{most_arcs}
 use Rattle.std.proofs.lemmas.List.{get_or_default}
 
 -- ---- places of strings
@@ -239,7 +240,7 @@ among_is paths string there =
     left_from paths 0 string 0 (length paths)
     (record { place = there.0; from = omega arith; to = omega (arith, lt); left = sym (sym (read_at paths there.0 string lt) ∙ there.2) })
 
-pub many_labels : (words paths : List (List ℕ)) → IsPathList paths → ((string : List ℕ) → is_one_of paths string ≡ is_path words string)
+pub many_labels : (words paths : List (List ℕ)) → IsPathList paths → StandsFor (is_one_of paths) words
     → (count : ℕ) → HasLabels (λ string. is_one_of paths string) count → most_arcs < count → HasManyLabels words
 many_labels words paths is same count seen many =
     let within = labels_within (λ string. is_one_of paths string) count seen paths (is_among paths) in

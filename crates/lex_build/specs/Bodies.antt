@@ -8,7 +8,7 @@ use Rattle.std.specs.List.{Contains}
 use Rattle.std.specs.Map.{lookup}
 use Rattle.lex_file.specs.FileWords.{body_of}
 use Rattle.smallvec.specs.SmallVec.{SmallVec}
-use Rattle.lex_build.specs.Builds.{most_arcs}
+use Rattle.lex_file.specs.Formats.{header_bytes, most_arcs}
 use Rattle.lex_build.specs.declared.faults.BuildFault.{BuildFault}
 use Rattle.lex_build.specs.declared.faults.BuildFault.TheVariants as why
 
@@ -53,7 +53,7 @@ pub record IsNodeWith (words arcs : List ℕ) (n : ℕ) : Type 0 where
 
 -- The header and the words behind it: four bytes each, and no byte is left over.
 abbrev pub IsWhole : List ℕ → Type 0
-IsWhole bytes = length bytes ≡ 16 + 4 * length (body_of bytes)
+IsWhole bytes = length bytes ≡ header_bytes + 4 * length (body_of bytes)
 
 -- the bytes have these words behind those of the old ones
 pub record HasAppended (old new words : List ℕ) : Type 0 where

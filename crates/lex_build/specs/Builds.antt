@@ -1,24 +1,20 @@
 -- What the building of a compiled lexicon comes to.
-use Rattle.std.specs.Prelude.{◌≡◌, ℕ, ◌<◌, List, length, IsTrue, ◌↔◌, None, sum_by}
+use Rattle.std.specs.Prelude.{◌≡◌, ℕ, ◌<◌, List, length, IsTrue, ◌↔◌, Some, sum_by}
 use Rattle.std.specs.Cmp.Lexicographic.{slice_cmp}
 use Rattle.std.specs.List.{Contains}
 use Rattle.std.specs.List.Sorted.{IsStrictlySortedBy}
 use Rattle.std.specs.Ordering.{nat_cmp}
-use Rattle.lex_file.specs.RotatedPaths.{is_path}
-use Rattle.lex_file.specs.Shapes.{fault_of}
-use Rattle.lex_check.specs.Checks.{IsAgreed}
+use Rattle.lex_list.specs.RotatedPaths.{is_path}
+use Rattle.lex_file.specs.Formats.{most_arcs}
+use Rattle.lex_file.specs.Shapes.{Gad1, format_of}
+pub use Rattle.lex_check.specs.Checks.{IsLexiconOf}
 use Rattle.lex_build.specs.declared.faults.BuildFault.{BuildFault}
 use Rattle.lex_build.specs.declared.faults.BuildFault.TheVariants as why
 
--- the most arcs of a file
-abbrev pub most_arcs : ℕ
-most_arcs = 33554431
-
--- Bytes are the compiled lexicon of a list of words: they have the shape of one, its language is the rotated paths of
--- the words, and it states their number.
-pub record IsLexiconOf (words : List (List ℕ)) (bytes : List ℕ) : Type 0 where
-  pub shape : fault_of bytes ≡ None
-  pub agreed : IsAgreed words bytes
+-- Bytes are the GAD1 file that is built for a list of words: of this format, and the compiled lexicon of the words.
+pub record IsBuiltOf (words : List (List ℕ)) (bytes : List ℕ) : Type 0 where
+  pub format : format_of bytes ≡ Some Gad1
+  pub lexicon : IsLexiconOf words bytes
 
 -- All rotated paths of the words, each once, have together more labels than a file has arcs.
 pub record HasManyLabels (words : List (List ℕ)) : Type 0 where

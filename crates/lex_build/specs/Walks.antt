@@ -4,7 +4,7 @@ use Rattle.lex_file.specs.declared.arcs.Arc.{Arc}
 use Rattle.lex_file.specs.Arcs.{arc_of, arc_with, accepts_of, target_of}
 use Rattle.lex_file.specs.Nodes.{node_at}
 use Rattle.lex_file.specs.Languages.{tail_in}
-use Rattle.lex_build.specs.Builds.{most_arcs}
+use Rattle.lex_file.specs.Formats.{most_arcs}
 use Rattle.lex_build.specs.Bodies.{IsGrown, is_target, IsArcList}
 use Rattle.lex_build.specs.Labels.{HasLabels, has_below}
 use Rattle.lex_build.specs.declared.faults.BuildFault.{BuildFault}

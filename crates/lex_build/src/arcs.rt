@@ -1,14 +1,11 @@
 ghost use Rattle.std.specs.Prelude.{◌≡◌, ◌+◌, ◌≤◌, false};
 ghost use Rattle.lex_file.specs.Arcs.{arc_of, is_last};
-ghost use Rattle.lex_build.specs.Builds.{most_arcs};
+ghost use Rattle.lex_file.specs.Formats.{greatest_label, most_arcs};
 
 use smallvec::SmallVec;
 
 /// The arcs of a node, in rising order of their labels: the words of a file, without the bit of a last arc.
 pub type Arcs = SmallVec<u32, 4>;
-
-/// The most arcs of a file.
-pub const MOST_ARCS: usize = 33_554_431;
 
 /// The bit of an arc that says that the string which ends with it is in the set.
 const ACCEPTS: u32 = 32;
@@ -21,7 +18,7 @@ const TARGET: u32 = 128;
 
 /// The word of an arc, without the bit of a last arc.
 pub fn arc_word(label: u8, accepts: bool, target: u32) -> u32
-    requires label { label ≤ 26 }
+    requires label { label ≤ greatest_label }
     requires target { target ≤ most_arcs }
     ensures label { (arc_of result).label ≡ label }
     ensures accepts { (arc_of result).accepts ≡ accepts }

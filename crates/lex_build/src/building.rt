@@ -1,5 +1,5 @@
 ghost use Rattle.std.specs.Prelude.{[], MatchResult};
-ghost use Rattle.lex_build.specs.Builds.{IsLexiconOf, IsUnbuilt};
+ghost use Rattle.lex_build.specs.Builds.{IsBuiltOf, IsUnbuilt};
 ghost use Rattle.lex_build.specs.Headers.{IsFileOf};
 ghost use Rattle.lex_build.specs.Walks.{IsUnwritten};
 
@@ -26,7 +26,7 @@ fn write_lexicon<L: PathLex>(alloc: Global, lexicon: &L, words: u32) -> Result<V
     }
 }
 
-/// Builds the compiled lexicon of a word list: the bytes of a file whose strings are the rotated paths of the words.
+/// Builds the compiled lexicon of a word list: the bytes of a GAD1 file whose strings are the rotated paths of the words.
 ///
 /// The nodes are written in the order of a walk from the root that visits labels in rising order: a node when it is
 /// left, after all its targets, unless one with the same arcs was written before. The contract says what the bytes
@@ -38,7 +38,7 @@ fn write_lexicon<L: PathLex>(alloc: Global, lexicon: &L, words: u32) -> Result<V
 /// ran out.
 #[tactic(auto, using(crate::proofs::Headers::built_file, crate::proofs::Headers::built_fault), unfolding(lex_list::specs::Words::most_words))]
 pub fn build(alloc: Global, list: &WordList) -> Result<Vec<u8>, BuildFault>
-    ensures { MatchResult result (λ bytes. IsLexiconOf list.now bytes.items) (λ why. IsUnbuilt list.now why) }
+    ensures { MatchResult result (λ bytes. IsBuiltOf list.now bytes.items) (λ why. IsUnbuilt list.now why) }
 {
     let paths = match SortedPaths::new(alloc, list) {
         Ok(paths) => paths,

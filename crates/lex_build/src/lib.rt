@@ -12,6 +12,3 @@ mod writing;
 
 pub use building::build;
 pub use faults::BuildFault;
-
-#[cfg(test)]
-mod tests;

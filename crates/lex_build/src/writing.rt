@@ -1,17 +1,16 @@
 ghost use Rattle.std.specs.Prelude.{◌≡◌, ◌+◌, ◌<◌, ◌≤◌, ℕ, [], ◌∷◌, ◌++◌, false, None, length, drop, slice_index, OnOk, IfOk, IfErr};
 ghost use Rattle.lex_file.specs.Arcs.{is_last};
 ghost use Rattle.lex_file.specs.FileWords.{body_of};
+ghost use Rattle.lex_file.specs.Formats.{header_bytes};
 ghost use Rattle.lex_build.specs.Headers.{header_of};
 ghost use Rattle.lex_build.specs.Bodies.{IsWhole, HasAppended, IsArcList, IsKept, IsPlaced, IsUnplaced, run_with, number_in};
 
-use crate::arcs::{Arcs, MOST_ARCS, last_arc_word};
+use crate::arcs::{Arcs, last_arc_word};
 use crate::faults::BuildFault;
 use byteorder::{ByteOrder, LittleEndian};
 use indexmap::IndexMap;
+use lex_file::{HEADER_BYTES, MAGIC, MAX_ARCS};
 use std::alloc::{AllocError, Global};
-
-/// The bytes of the header.
-pub const HEADER_BYTES: usize = 16;
 
 /// A file that is being written.
 #[derive(Drop)]
@@ -79,7 +78,7 @@ impl Writer {
         ensures fault { IfErr result (λ why. IsUnplaced (body_of self.old.bytes.items) arcs.items why) }
     {
         let before = self.arc_count();
-        if arcs.len() > MOST_ARCS - before {
+        if arcs.len() > MAX_ARCS as usize - before {
             return Err(BuildFault::TooManyArcs);
         }
         let Ok(()) = push_arcs(&mut self.bytes, arcs.as_slice()) else {
@@ -96,7 +95,7 @@ impl Writer {
     #[tactic(auto, using(crate::proofs::Headers::written_back, crate::proofs::Headers::filled, crate::proofs::Headers::header_size))]
     pub fn finish(self, root: u32, words: u32) -> Vec<u8>
         requires { IsKept self.bytes.items self.nodes.entries }
-        ensures { result.items ≡ header_of (length (body_of self.bytes.items)) root words ++ drop 16 self.bytes.items }
+        ensures { result.items ≡ header_of (length (body_of self.bytes.items)) root words ++ drop header_bytes self.bytes.items }
     {
         let arcs = self.arc_count() as u32;
         let Writer { mut bytes, .. } = self;
@@ -146,10 +145,10 @@ fn push_arcs(bytes: &mut Vec<u8>, arcs: &[u32]) -> Result<(), AllocError>
 
 /// Fills in the header of a file.
 fn fill_header(bytes: &mut [u8], arcs: u32, root: u32, words: u32)
-    requires { 16 ≤ length bytes.old }
-    ensures { bytes.new ≡ header_of arcs root words ++ drop 16 bytes.old }
+    requires { header_bytes ≤ length bytes.old }
+    ensures { bytes.new ≡ header_of arcs root words ++ drop header_bytes bytes.old }
 {
-    bytes[..4].copy_from_slice(b"GAD1");
+    bytes[..4].copy_from_slice(&MAGIC);
     LittleEndian::write_u32(&mut bytes[4..], arcs);
     LittleEndian::write_u32(&mut bytes[8..], root);
     LittleEndian::write_u32(&mut bytes[12..], words);

@@ -16,9 +16,10 @@ use Rattle.std.proofs.lemmas.List.Kept.{IsStrictlySortedBy-dedup, Contains-dedup
 use Rattle.std.proofs.lemmas.List.Sorted.{Contains-permutation, IsPermutation-sym}
 use Rattle.std.proofs.lemmas.Slice.Eq.{bytes_eq-Decides}
 use Rattle.lex_list.specs.Words.{is_word, has_word_length}
-use Rattle.lex_file.specs.Laws.{PathsAreTested}
+use Rattle.lex_list.proofs.RotatedPaths.{capitals_in}
+use Rattle.lex_list.specs.Laws.{PathsAreTested}
 use Rattle.lex_file.specs.Lexicons.{is_label}
-use Rattle.lex_file.specs.RotatedPaths.{label_of, marked, path_of, IsPath, is_path, has_capitals_alone}
+use Rattle.lex_list.specs.RotatedPaths.{label_of, marked, path_of, IsPath, StandsFor}
 use Rattle.lex_check.specs.Stretches.{IsPathOfLabels, IsPathList, is_one_of}
 use Rattle.lex_check.specs.StretchLaws.{left_from, left_to}
 use Rattle.lex_check.proofs.Stretches.{same_tests}
@@ -181,13 +182,6 @@ word_at [] all place lt = absurd (omega arith)
 word_at (word ∷ words) all zero lt = (and_parts (is_word word) (list_all is_word words) all).0
 word_at (word ∷ words) all (suc place) lt = word_at words (and_parts (is_word word) (list_all is_word words) all).1 place (omega arith)
 
-pub capitals_alone : (words : List (List ℕ)) → list_all is_word words ≡ true → has_capitals_alone words ≡ true
-capitals_alone [] all = refl
-capitals_alone (word ∷ words) all =
-    let parts = and_parts (is_word word) (list_all is_word words) all in
-    and_true (list_all is_ascii_uppercase word) (has_capitals_alone words) (and_parts (list_all is_ascii_uppercase word) (has_word_length word) parts.0).0
-    (capitals_alone words parts.1)
-
 gathered_path : (words : List (List ℕ)) (string : List ℕ) → list_all is_word words ≡ true → IsGathered words (length words) string → IsPathOfLabels string
 gathered_path words string all at =
     let word = get_or words at.place [] in
@@ -259,7 +253,7 @@ kept_list words paths sorted kept all e o = record {
 }
 
 pub kept_paths : (words paths sorted kept : List (List ℕ)) → list_all is_word words ≡ true → paths ≡ gathered words (length words) → IsInOrder paths sorted kept
-    → PathsAreTested → (string : List ℕ) → is_one_of kept string ≡ is_path words string
+    → PathsAreTested → StandsFor (is_one_of kept) words
 kept_paths words paths sorted kept all e o tested string =
     same_tests _ _
     (λ h.
@@ -267,11 +261,11 @@ kept_paths words paths sorted kept all e o tested string =
     let to = at.to in
     let lt : at.place < length kept = omega arith in
     let has : Contains kept string = (at.place, lt, read_at kept at.place string lt ∙ sym at.left) in
-    (tested words (capitals_alone words all) string).1
+    (tested words (capitals_in words all) string).1
     (gathered_split words string
     (gathered_to words (length words) string (subst (λ (xs : List (List ℕ)). Contains xs string) e (kept_to paths sorted kept string o has)))))
     (λ h.
-    let path = (tested words (capitals_alone words all) string).0 h in
+    let path = (tested words (capitals_in words all) string).0 h in
     let has = kept_from paths sorted kept string o
     (subst (λ (xs : List (List ℕ)). Contains xs string) (sym e) (gathered_from words (length words) string (split_gathered words string path))) in
     let lt = has.1 in

@@ -8,3 +8,4 @@ pub mod StretchLaws
 pub mod Rotations
 pub mod Checks
 pub mod Pairs
+pub mod Laws

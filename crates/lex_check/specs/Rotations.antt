@@ -1,6 +1,6 @@
 -- The rotated paths of words, one after the other.
 use Rattle.std.specs.Prelude.{ℕ, zero, suc, List, [], ◌∷◌, ◌++◌, length, take, drop, slice_index_or}
-use Rattle.lex_file.specs.RotatedPaths.{path_of}
+use Rattle.lex_list.specs.RotatedPaths.{path_of}
 
 -- the paths of a word for the fronts of 1 to `count` letters
 unfoldable pub paths_of : List ℕ → ℕ → List (List ℕ)

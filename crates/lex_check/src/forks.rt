@@ -1,10 +1,7 @@
 ghost use Rattle.std.specs.Prelude.{◌≡◌, ◌≤◌, ◌<◌, IfNone, IfSome};
 ghost use Rattle.lex_check.specs.Forks.{label_or_end, step_at, StandsBehind, AreSameBetween};
 
-use lex_file::{Branch, PathLex, Step};
-
-/// The number of labels: the mark and the letters A to Z.
-const LABELS: u8 = 27;
+use lex_file::{Branch, LABELS, PathLex, Step};
 
 /// A label with which a tail of one of two nodes begins, and what stands behind it in each.
 #[derive(Clone, Copy)]

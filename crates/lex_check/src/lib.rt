@@ -11,6 +11,7 @@
 mod checks;
 mod differences;
 mod forks;
+mod laws;
 mod least;
 mod meetings;
 mod pairing;
@@ -22,11 +23,9 @@ mod walks;
 
 pub use checks::{Mismatch, check, text_of};
 pub use differences::{Difference, Path};
+pub use laws::law_of_lexicons;
 pub use pairing::pair;
 pub use pairs::Checked;
 pub use sorted::{SortedPaths, Stretch};
 pub use std::alloc::AllocError as NoMemory;
 pub use walks::check_paths;
-
-#[cfg(test)]
-mod tests;

@@ -10,7 +10,7 @@ use std::cmp::Ordering;
 use std::marker::Model;
 
 /// The most labels of a rotated path: the letters of a word, and the mark.
-pub const MOST_LABELS: usize = 16;
+pub const MAX_LABELS: usize = 16;
 
 /// A rotated path: at most 16 labels, ordered label by label, and a path before all that it begins. Contracts see the
 /// list of them.
@@ -19,7 +19,7 @@ pub const MOST_LABELS: usize = 16;
 /// numbers that their 16 bytes spell, the first byte the highest.
 #[derive(Debug, Drop)]
 pub struct Rotated {
-    bytes: [u8; MOST_LABELS],
+    bytes: [u8; MAX_LABELS],
 }
 
 impl Model for Rotated {
@@ -41,7 +41,7 @@ impl Rotated {
         requires labels { IsTrue (list_all is_label path.now) }
         ensures { result ≡ path.now }
     {
-        let mut bytes = [0; MOST_LABELS];
+        let mut bytes = [0; MAX_LABELS];
         for (place, label) in path.iter().enumerate() {
             bytes[place] = label + 1;
         }
@@ -63,7 +63,7 @@ impl Rotated {
         requires { depth ≤ length self.now }
         ensures { result ≡ (length self.now == depth) }
     {
-        depth == MOST_LABELS || self.bytes[depth] == 0
+        depth == MAX_LABELS || self.bytes[depth] == 0
     }
 
     /// The number that the bytes of the path spell.

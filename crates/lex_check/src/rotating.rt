@@ -2,10 +2,10 @@ ghost use Rattle.std.specs.Prelude.{◌≡◌, ◌+◌, ◌≤◌, ◌<◌, ◌+
 ghost use Rattle.std.specs.Char.{is_ascii_uppercase};
 ghost use Rattle.std.specs.List.{list_all};
 ghost use Rattle.lex_list.specs.Words.{is_word};
-ghost use Rattle.lex_file.specs.RotatedPaths.{label_of, path_of};
+ghost use Rattle.lex_list.specs.RotatedPaths.{label_of, path_of};
 ghost use Rattle.lex_check.specs.Rotations.{paths_of, gathered};
 
-use crate::rotated::{MOST_LABELS, Rotated};
+use crate::rotated::{MAX_LABELS, Rotated};
 use arrayvec::ArrayVec;
 use lex_list::WordList;
 use std::alloc::{AllocError, Global};
@@ -22,7 +22,7 @@ fn label_of(letter: u8) -> u8
 }
 
 /// The labels of the front of a word, from the last letter to the first.
-fn labels_back(front: &[u8]) -> ArrayVec<u8, MOST_LABELS>
+fn labels_back(front: &[u8]) -> ArrayVec<u8, MAX_LABELS>
     requires capitals { IsTrue (list_all is_ascii_uppercase front.now) }
     requires few { length front.now ≤ 15 }
     ensures { result.items ≡ map label_of (reverse front.now) }
@@ -35,7 +35,7 @@ fn labels_back(front: &[u8]) -> ArrayVec<u8, MOST_LABELS>
 }
 
 /// Appends the labels of the back of a word.
-fn push_labels(labels: &mut ArrayVec<u8, MOST_LABELS>, back: &[u8])
+fn push_labels(labels: &mut ArrayVec<u8, MAX_LABELS>, back: &[u8])
     requires capitals { IsTrue (list_all is_ascii_uppercase back.now) }
     requires few { length labels.old.items + length back.now ≤ 16 }
     ensures { labels.new.items ≡ labels.old.items ++ map label_of back.now }
@@ -46,7 +46,7 @@ fn push_labels(labels: &mut ArrayVec<u8, MOST_LABELS>, back: &[u8])
 }
 
 /// The labels of the rotated path of a word that is split into a front and a back.
-fn labels_of(front: &[u8], back: &[u8]) -> ArrayVec<u8, MOST_LABELS>
+fn labels_of(front: &[u8], back: &[u8]) -> ArrayVec<u8, MAX_LABELS>
     requires front { IsTrue (list_all is_ascii_uppercase front.now) }
     requires back { IsTrue (list_all is_ascii_uppercase back.now) }
     requires few { length front.now + length back.now ≤ 15 }

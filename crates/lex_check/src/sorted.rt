@@ -4,8 +4,8 @@ ghost use Rattle.lex_check.specs.Stretches.{label_at, ends_at, stretch_tail, hei
 
 use crate::rotated::Rotated;
 use crate::rotating::gather;
-use lex_file::{Branch, PathLex, Step, law_of_paths};
-use lex_list::WordList;
+use lex_file::{Branch, PathLex, Step};
+use lex_list::{WordList, law_of_paths};
 use std::alloc::{AllocError as NoMemory, Global};
 use std::marker::Model;
 
@@ -232,13 +232,14 @@ impl PathLex for SortedPaths {
 impl SortedPaths {
     ghost use Rattle.std.specs.Prelude.{◌≡◌, List, ℕ, length, IfOk};
     ghost use Rattle.lex_check.specs.Stretches.{IsPathList};
-    ghost use Rattle.lex_file.specs.RotatedPaths.{is_path};
+    ghost use Rattle.lex_list.specs.RotatedPaths.{StandsFor};
 
     /// The rotated paths of the words of a list.
     pub fn new(alloc: Global, list: &WordList) -> Result<SortedPaths, NoMemory>
-        ensures { IfOk result (λ paths. (string : List ℕ) → ⟦<SortedPaths as PathLex>⟧.language paths string ≡ is_path list.now string) }
+        ensures { IfOk result (λ paths. StandsFor (⟦<SortedPaths as PathLex>⟧.language paths) list.now) }
     {
         law_of_paths();
+        // From here on it is known that the words are a word list.
         let _words = list.len();
         let mut paths = gather(alloc, list)?;
         paths.sort_unstable();

@@ -1,16 +1,15 @@
 -- Files, their languages and their faults as the definitions give them, computed.
 use Rattle.std.proofs.Common.{◌≡◌, ℕ, Bool, true, false, List, [], ◌∷◌, ◌++◌, Some, None, map, take, drop, refl}
-use Rattle.std.specs.Prelude.{codes, ◌==◌, if◌then◌else◌}
+use Rattle.std.specs.Prelude.{codes, ◌-◌, ◌==◌, if◌then◌else◌}
 use Rattle.lex_file.specs.declared.faults.FileFault.TheVariants as why
 use Rattle.lex_file.specs.FileWords.{words_in}
 use Rattle.lex_file.specs.Nodes.{run_of, start_at}
 use Rattle.lex_file.specs.Shapes.{arc_fault, arcs_fault, body_fault, header_fault, form_fault, fault_of, file_node, arc_count_of, word_count_of}
 use Rattle.lex_file.specs.Languages.{tail_in, language_of}
-use Rattle.lex_file.specs.RotatedPaths.{label_of, mark, path_of, is_path_behind, is_path}
 
--- the labels of a text, where + stands for the mark
+-- the labels of a text, where + stands for the mark: 0, and 1 for A
 abbrev labels : List ℕ → List ℕ
-labels text = map (λ byte. if byte == 43 then mark else label_of byte) text
+labels text = map (λ byte. if byte == 43 then 0 else byte - 64) text
 
 -- a word of 32 bits of which the two high bytes are 0
 abbrev word : ℕ → ℕ → List ℕ
@@ -131,20 +130,3 @@ dead_arc = refl
 open_run : fault_of (take 32 at_file ++ word 0x94 1) ≡ Some why.OpenRun
 unfolding fault_of form_fault header_fault body_fault arcs_fault arc_fault words_in start_at
 open_run = refl
-
--- ---- paths
-
-paths_of_at : map (is_path (codes "AT" ∷ [])) (map labels (codes "A+T" ∷ codes "TA" ∷ codes "" ∷ codes "AT" ∷ codes "TA+" ∷ codes "+AT" ∷ codes "A+T+" ∷ []))
-    ≡ true ∷ true ∷ false ∷ false ∷ false ∷ false ∷ false ∷ []
-unfolding is_path_behind
-paths_of_at = refl
-
--- the four paths of a word of four letters
-splits : path_of (codes "C") (codes "ARE") ∷ path_of (codes "CA") (codes "RE") ∷ path_of (codes "CAR") (codes "E") ∷ path_of (codes "CARE") [] ∷ []
-    ≡ map labels (codes "C+ARE" ∷ codes "AC+RE" ∷ codes "RAC+E" ∷ codes "ERAC" ∷ [])
-splits = refl
-
-paths_of_care : map (is_path (codes "CARE" ∷ codes "AT" ∷ [])) (map labels (codes "C+ARE" ∷ codes "AC+RE" ∷ codes "RAC+E" ∷ codes "ERAC" ∷ codes "TA" ∷ codes "CA+RE" ∷ codes "CARE" ∷ []))
-    ≡ true ∷ true ∷ true ∷ true ∷ true ∷ false ∷ false ∷ []
-unfolding is_path_behind
-paths_of_care = refl

@@ -1,8 +1,8 @@
 pub mod Runs
+pub mod Views
 pub mod Checks
 pub mod NodeLaws
-pub mod Rotations
 pub mod Spellings
 pub mod Walks
-pub mod Views
+pub mod Trials
 mod Examples

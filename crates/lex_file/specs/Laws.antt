@@ -3,7 +3,6 @@ use Rattle.std.specs.Prelude.{◌≡◌, ◌⊎◌, ℕ, ◌+◌, ◌<◌, ◌�
 use Rattle.lex_file.specs.Nodes.{node_at, is_first, start_at}
 use Rattle.lex_file.specs.Shapes.{leads_back, fault_of, file_node, is_file_node}
 use Rattle.lex_file.specs.Languages.{IsSpelt, IsInLanguage, file_tail, language_of}
-use Rattle.lex_file.specs.RotatedPaths.{IsPath, is_path, has_capitals_alone}
 
 -- the language of a file, by the recursion and by arcs
 abbrev pub LanguageIsSpelt : Type 0
@@ -35,7 +34,3 @@ abbrev pub TargetsEndBefore : Type 0
 TargetsEndBefore =
     (words : List ℕ) (start target : ℕ) → IsTrue (is_first words start)
     → IsTrue (leads_back words start target) ↔ ((target ≡ 0) ⊎ EndsBefore words target start)
-
--- the rotated paths of words, by the test and by splits
-abbrev pub PathsAreTested : Type 0
-PathsAreTested = (words : List (List ℕ)) → IsTrue (has_capitals_alone words) → (string : List ℕ) → IsTrue (is_path words string) ↔ IsPath words string

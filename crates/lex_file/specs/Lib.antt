@@ -1,3 +1,4 @@
+pub mod Formats
 pub mod FileWords
 pub mod Arcs
 pub mod Faults
@@ -5,7 +6,6 @@ pub mod Nodes
 pub mod Shapes
 pub mod Languages
 pub mod Lexicons
-pub mod RotatedPaths
 pub mod SoundNodes
 pub mod Files
 pub mod Laws

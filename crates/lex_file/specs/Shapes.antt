@@ -1,5 +1,5 @@
 -- The shape of a compiled lexicon: the checks of its form, in order.
-use Rattle.std.specs.Prelude.{ℕ, zero, suc, ◌+◌, ◌*◌, Bool, ◌&&◌, ◌||◌, ◌==◌, nat_lt, nat_le, eqb, List, [], ◌∷◌, length, slice_index, Option, Some, None, if◌then◌else◌, codes}
+use Rattle.std.specs.Prelude.{ℕ, zero, suc, ◌+◌, ◌*◌, Bool, ◌&&◌, ◌||◌, ◌==◌, nat_lt, nat_le, eqb, List, [], ◌∷◌, length, slice_index, Option, Some, None, if◌then◌else◌}
 use Rattle.std.specs.List.{starts_with}
 use Rattle.std.specs.Option.{option_or}
 use Rattle.lex_file.specs.declared.faults.FileFault.{FileFault}
@@ -7,6 +7,7 @@ use Rattle.lex_file.specs.declared.faults.FileFault.TheVariants as why
 use Rattle.lex_file.specs.declared.arcs.Arc.{Arc}
 use Rattle.lex_file.specs.Arcs.{arc_of}
 use Rattle.lex_file.specs.Faults.{check, first_fault}
+use Rattle.lex_file.specs.Formats.{header_bytes, gad1_magic, greatest_label, most_arcs}
 use Rattle.lex_file.specs.FileWords.{words_in, body_of}
 use Rattle.lex_file.specs.Nodes.{node_at, begins, is_first, is_node, start_at}
 
@@ -30,7 +31,7 @@ pub data Format : Type 0 where
 
 -- the format of a file, by its first four bytes
 abbrev pub format_of : List ℕ → Option Format
-format_of bytes = if starts_with eqb bytes (codes "GAD1") then Some Gad1 else None
+format_of bytes = if starts_with eqb bytes gad1_magic then Some Gad1 else None
 
 -- ---- GAD1
 
@@ -49,7 +50,7 @@ unfoldable pub arc_fault : List ℕ → ℕ → Option FileFault
 arc_fault words place =
     let arc = arc_of (slice_index words place) in
     first_fault
-    (check (nat_le arc.label 26) why.Label
+    (check (nat_le arc.label greatest_label) why.Label
     ∷ check (begins words place || nat_lt (label_before words place) arc.label) why.Order
     ∷ check (leads_back words (start_at words place) arc.target) why.Target
     ∷ check (arc.accepts || nat_lt 0 arc.target) why.DeadArc
@@ -68,7 +69,7 @@ body_fault words = option_or (arcs_fault words (length words)) (check (begins wo
 unfoldable pub header_fault : List ℕ → Option FileFault
 header_fault bytes =
     first_fault
-    (check (nat_le (count_of bytes) 33554431 && length bytes == 16 + 4 * count_of bytes) why.Length
+    (check (nat_le (count_of bytes) most_arcs && length bytes == header_bytes + 4 * count_of bytes) why.Length
     ∷ check (is_node (body_of bytes) (root_of bytes)) why.Root
     ∷ [])
 
@@ -81,7 +82,7 @@ form_fault (Some Gad1) bytes = option_or (header_fault bytes) (body_fault (body_
 
 -- The first fault of a file. A file has the shape of a compiled lexicon where there is none.
 unfoldable pub fault_of : List ℕ → Option FileFault
-fault_of bytes = if nat_lt (length bytes) 16 then Some why.Short else form_fault (format_of bytes) bytes
+fault_of bytes = if nat_lt (length bytes) header_bytes then Some why.Short else form_fault (format_of bytes) bytes
 
 -- the arcs of a node, by the format
 abbrev pub nodes_by : Option Format → List ℕ → ℕ → List Arc

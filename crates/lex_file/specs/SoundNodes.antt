@@ -11,6 +11,7 @@ use Rattle.lex_file.specs.declared.faults.FileFault.TheVariants as why
 use Rattle.lex_file.specs.Arcs.{arc_of, is_last, has_label, arc_with, accepts_of, target_of}
 use Rattle.lex_file.specs.Faults.{check, first_fault}
 use Rattle.lex_file.specs.FileWords.{body_of}
+use Rattle.lex_file.specs.Formats.{header_bytes, greatest_label, most_arcs}
 use Rattle.lex_file.specs.Nodes.{run_of, node_at, begins, is_first, is_node, start_at}
 use Rattle.lex_file.specs.Shapes.{Format, Gad1, format_of, label_before, leads_back, arc_fault, arcs_fault, body_fault, header_fault, form_fault, fault_of, root_of, count_of, nodes_by, names_node, file_node, is_file_node}
 use Rattle.lex_file.specs.Lexicons.{is_label}
@@ -20,7 +21,7 @@ use Rattle.lex_file.specs.Languages.{tail_in, file_tail}
 
 -- an arc whose node has its first arc at `start`
 pub record IsFineArc (words : List ℕ) (start : ℕ) (arc : Arc) : Type 0 where
-  pub label : arc.label ≤ 26
+  pub label : arc.label ≤ greatest_label
   pub target : leads_back words start arc.target ≡ true
   pub alive : (arc.accepts || ltb 0 arc.target) ≡ true
 
@@ -48,11 +49,11 @@ pub arc_facts : (words : List ℕ) (place : ℕ) → arc_fault words place ≡ N
     × ((begins words place || ltb (label_before words place) (arc_of (get_or words place 0)).label) ≡ true)
 unfolding arc_fault
 arc_facts words place e =
-    let label = checked (leb (arc_of (get_or words place 0)).label 26) why.Label _ e in
+    let label = checked (leb (arc_of (get_or words place 0)).label greatest_label) why.Label _ e in
     let order = checked (begins words place || ltb (label_before words place) (arc_of (get_or words place 0)).label) why.Order _ label.1 in
     let target = checked (leads_back words (start_at words place) (arc_of (get_or words place 0)).target) why.Target _ order.1 in
     let alive = checked ((arc_of (get_or words place 0)).accepts || ltb 0 (arc_of (get_or words place 0)).target) why.DeadArc _ target.1 in
-    (record { label = leb-true (arc_of (get_or words place 0)).label 26 label.0; target = target.0; alive = alive.0 }, order.0)
+    (record { label = leb-true (arc_of (get_or words place 0)).label greatest_label label.0; target = target.0; alive = alive.0 }, order.0)
 
 -- ---- the arcs of a node
 
@@ -101,7 +102,7 @@ start_of_first words (suc place) is =
 pub record IsArcOf (words : List ℕ) (n label : ℕ) (arc : Arc) : Type 0 where
   pub stored : 0 < n
   pub label_is : arc.label ≡ label
-  pub small : label ≤ 26
+  pub small : label ≤ greatest_label
   pub leads : (arc.target ≡ 0) ⊎ ((arc.target < n) × (is_first words arc.target ≡ true))
   pub alive : (arc.accepts || ltb 0 arc.target) ≡ true
 
@@ -202,9 +203,9 @@ labels_at words fine n (label ∷ after ∷ rest) is t =
 -- what a file without a fault is
 pub record IsSound (bytes : List ℕ) : Type 0 where
   pub format : format_of bytes ≡ Some Gad1
-  pub long : 16 ≤ length bytes
-  pub few : count_of bytes ≤ 33554431
-  pub size : length bytes ≡ 16 + 4 * count_of bytes
+  pub long : header_bytes ≤ length bytes
+  pub few : count_of bytes ≤ most_arcs
+  pub size : length bytes ≡ header_bytes + 4 * count_of bytes
   pub root : is_node (body_of bytes) (root_of bytes) ≡ true
   pub fine : arcs_fault (body_of bytes) (length (body_of bytes)) ≡ None
 
@@ -214,28 +215,28 @@ not_some (Some fault) e = absurd (false≢true e)
 
 pub sound : (bytes : List ℕ) → IsTrue (is_none (fault_of bytes)) → IsSound bytes
 unfolding fault_of form_fault header_fault body_fault
-sound bytes e = short (ltb (length bytes) 16) refl (not_some (fault_of bytes) e)
+sound bytes e = short (ltb (length bytes) header_bytes) refl (not_some (fault_of bytes) e)
   where
-    formed : (format : Option Format) → format_of bytes ≡ format → 16 ≤ length bytes → form_fault format bytes ≡ None → IsSound bytes
+    formed : (format : Option Format) → format_of bytes ≡ format → header_bytes ≤ length bytes → form_fault format bytes ≡ None → IsSound bytes
     formed None is long h = absurd cc
     formed (Some Gad1) is long h =
         let parts = or_none (header_fault bytes) (body_fault (body_of bytes)) h in
-        let size = checked (leb (count_of bytes) 33554431 && eqb (length bytes) (16 + 4 * count_of bytes)) why.Length _ parts.0 in
+        let size = checked (leb (count_of bytes) most_arcs && eqb (length bytes) (header_bytes + 4 * count_of bytes)) why.Length _ parts.0 in
         let root = checked (is_node (body_of bytes) (root_of bytes)) why.Root _ size.1 in
         let arcs = or_none (arcs_fault (body_of bytes) (length (body_of bytes))) (check (begins (body_of bytes) (length (body_of bytes))) why.OpenRun) parts.1 in
-        let sizes = and_parts (leb (count_of bytes) 33554431) (eqb (length bytes) (16 + 4 * count_of bytes)) size.0 in
+        let sizes = and_parts (leb (count_of bytes) most_arcs) (eqb (length bytes) (header_bytes + 4 * count_of bytes)) size.0 in
         record {
           format = is;
           long = long;
-          few = leb-true (count_of bytes) 33554431 sizes.0;
-          size = eqb-true (length bytes) (16 + 4 * count_of bytes) sizes.1;
+          few = leb-true (count_of bytes) most_arcs sizes.0;
+          size = eqb-true (length bytes) (header_bytes + 4 * count_of bytes) sizes.1;
           root = root.0;
           fine = arcs.0;
         }
 
-    short : (under : Bool) → ltb (length bytes) 16 ≡ under → cond under (Some why.Short) (form_fault (format_of bytes) bytes) ≡ None → IsSound bytes
+    short : (under : Bool) → ltb (length bytes) header_bytes ≡ under → cond under (Some why.Short) (form_fault (format_of bytes) bytes) ≡ None → IsSound bytes
     short true is h = absurd cc
-    short false is h = formed (format_of bytes) refl (ltb-false (length bytes) 16 is) h
+    short false is h = formed (format_of bytes) refl (ltb-false (length bytes) header_bytes is) h
 
 -- ---- the laws, of files
 

@@ -17,7 +17,7 @@ pub struct Node {
 #[derive(Clone, Copy, Debug)]
 pub struct LexFile<'a> {
     bytes: &'a [u8],
-    ghost shape: { IsTrue (is_none (fault_of bytes.now)) },
+    pub ghost shape: { IsTrue (is_none (fault_of bytes.now)) },
 }
 
 impl<'a> LexFile<'a> {
@@ -30,6 +30,7 @@ impl<'a> LexFile<'a> {
     ghost use Rattle.lex_file.specs.Nodes.{node_at};
     ghost use Rattle.lex_file.specs.Shapes.{word_count_of, arc_count_of, is_file_node};
     ghost use Rattle.lex_file.specs.Files.{bytes_of};
+    ghost use Rattle.lex_file.specs.Formats.{header_bytes};
 
     /// Opens a compiled lexicon. It is refused exactly where it has not the shape of one, with its first fault: the
     /// header's first, in the order of [`FileFault`], then that of the first arc with one, and then the open run.
@@ -61,7 +62,7 @@ impl<'a> LexFile<'a> {
     /// The bytes of the arcs.
     #[tactic(auto, using(crate::proofs::Views::long))]
     fn arcs(&self) -> &'a [u8]
-        ensures { result.now ≡ drop 16 (bytes_of self.now) }
+        ensures { result.now ≡ drop header_bytes (bytes_of self.now) }
     {
         &self.bytes[HEADER_BYTES..]
     }

@@ -1,6 +1,5 @@
-//! Laws about the definitions that the contracts of files and lists cite. The functions do nothing: their contracts
-//! are the laws.
-ghost use Rattle.lex_file.specs.Laws.{LanguageIsSpelt, TailsAreSpelt, NodesHoldArcs, TargetsEndBefore, PathsAreTested};
+//! Laws about the definitions that the contracts of files cite. The functions do nothing: their contracts are the laws.
+ghost use Rattle.lex_file.specs.Laws.{LanguageIsSpelt, TailsAreSpelt, NodesHoldArcs, TargetsEndBefore};
 
 /// The language of a compiled lexicon is the set of the strings of labels for which there are arcs with these
 /// labels, the first in the root's node, each next one in the node that the arc before targets, the last accepting.
@@ -16,10 +15,4 @@ pub fn law_of_language()
 pub fn law_of_nodes()
     ensures own { NodesHoldArcs }
     ensures targets { TargetsEndBefore }
-{}
-
-/// Where words are of capitals alone, a string is a rotated path of one of them exactly where it passes the test that
-/// cuts it at its first mark and reads the word back.
-pub fn law_of_paths()
-    ensures { PathsAreTested }
 {}

@@ -2,6 +2,9 @@ ghost use Rattle.std.specs.Prelude.{◌≡◌, ◌<◌, ◌≤◌, ℕ, List, []
 ghost use Rattle.std.specs.List.{list_all};
 ghost use Rattle.lex_file.specs.Lexicons.{is_label, NoTail, NextGives};
 
+/// The number of labels: the mark and the letters A to Z.
+pub const LABELS: u8 = 27;
+
 /// What a lexicon gives at a label.
 #[derive(Clone, Copy, Debug, PartialEq, Eq)]
 pub struct Step<N> {
@@ -21,6 +24,8 @@ pub struct Branch<N> {
 }
 
 /// A finite set of strings of labels, none of them empty, that is walked label by label.
+///
+/// `root` and `step` make a lexicon; `branch_from` tries the labels one by one unless a lexicon has a faster way.
 ///
 /// Each node has a set of tails; those of the root are the set. A whole number of the node, its height, falls with
 /// each step, so every walk ends. Labels are below 27, and a tail has no more labels than the height of its node, so
@@ -64,7 +69,15 @@ pub trait PathLex {
         ensures passed { IfSome result (λ branch. (label : ℕ) → from ≤ label → label < branch.label → NoTail (tail self.now) node label) }
         ensures accepts { IfSome result (λ branch. branch.step.accepts ≡ tail self.now node (branch.label ∷ [])) }
         ensures next { IfSome result (λ branch. NextGives (is_node self.now) (tail self.now) (height self.now) node branch.label branch.step.next) }
-        ensures alive { IfSome result (λ branch. branch.step.accepts ≡ false → IsSome branch.step.next) };
+        ensures alive { IfSome result (λ branch. branch.step.accepts ≡ false → IsSome branch.step.next) }
+    {
+        for label in from..LABELS {
+            if let Some(step) = self.step(node, label) {
+                return Some(Branch { label, step });
+            }
+        }
+        None
+    }
 
     // No tail is empty.
     ghost nonempty: { (lexicon : Self) (node : Self.Node) → is_node lexicon node → tail lexicon node [] ≡ false };

@@ -32,8 +32,6 @@ mod reading;
 pub use arcs::Arc;
 pub use faults::FileFault;
 pub use files::{LexFile, Node};
-pub use laws::{law_of_language, law_of_nodes, law_of_paths};
-pub use lexicons::{Branch, PathLex, Step};
-
-#[cfg(test)]
-mod tests;
+pub use laws::{law_of_language, law_of_nodes};
+pub use lexicons::{Branch, LABELS, PathLex, Step};
+pub use opening::{HEADER_BYTES, MAGIC, MAX_ARCS};

@@ -1,5 +1,6 @@
 ghost use Rattle.std.specs.Prelude.{◌≡◌, ◌≤◌, ◌<◌, length, slice_index};
 ghost use Rattle.lex_file.specs.FileWords.{words_in};
+ghost use Rattle.lex_file.specs.Formats.{header_bytes};
 ghost use Rattle.lex_file.specs.Faults.{Refuses};
 ghost use Rattle.lex_file.specs.Nodes.{start_at};
 ghost use Rattle.lex_file.specs.Shapes.{label_before, leads_back, arc_fault, body_fault, header_fault, fault_of};
@@ -11,11 +12,14 @@ use crate::reading::{begins, is_first, is_last, is_node, word_at, word_count};
 /// The bytes of the header.
 pub const HEADER_BYTES: usize = 16;
 
+/// The first bytes of a GAD1 file.
+pub const MAGIC: [u8; 4] = *b"GAD1";
+
 /// The most arcs of a file.
-const MOST_ARCS: u32 = 33_554_431;
+pub const MAX_ARCS: u32 = 33_554_431;
 
 /// The greatest label, that of Z.
-const GREATEST_LABEL: u8 = 26;
+const MAX_LABEL: u8 = 26;
 
 /// Looks for the first fault of a file, in one pass over its arcs.
 #[tactic(auto, unfolding(crate::specs::Shapes::fault_of, crate::specs::Shapes::form_fault))]
@@ -25,7 +29,7 @@ pub fn check_form(bytes: &[u8]) -> Result<(), FileFault>
     if bytes.len() < HEADER_BYTES {
         return Err(FileFault::Short);
     }
-    if !bytes.starts_with(b"GAD1") {
+    if !bytes.starts_with(&MAGIC) {
         return Err(FileFault::Magic);
     }
     check_header(bytes)?;
@@ -35,11 +39,11 @@ pub fn check_form(bytes: &[u8]) -> Result<(), FileFault>
 /// Looks for the first fault of a header.
 #[tactic(auto, using(crate::proofs::Runs::header_words), unfolding(crate::specs::Shapes::header_fault))]
 fn check_header(bytes: &[u8]) -> Result<(), FileFault>
-    requires { 16 ≤ length bytes.now }
+    requires { header_bytes ≤ length bytes.now }
     ensures { Refuses result (header_fault bytes.now) }
 {
     let count = word_at(bytes, 1);
-    if count > MOST_ARCS || bytes.len() != HEADER_BYTES + 4 * count as usize {
+    if count > MAX_ARCS || bytes.len() != HEADER_BYTES + 4 * count as usize {
         return Err(FileFault::Length);
     }
     let root = word_at(bytes, 2);
@@ -76,7 +80,7 @@ fn check_arc(arcs: &[u8], place: usize, start: usize) -> Result<(), FileFault>
     ensures { Refuses result (arc_fault (words_in arcs.now) place) }
 {
     let arc = Arc::of_word(word_at(arcs, place));
-    if arc.label > GREATEST_LABEL {
+    if arc.label > MAX_LABEL {
         return Err(FileFault::Label);
     }
     if !begins(arcs, place) && arc.label <= label_before(arcs, place) {

@@ -1,4 +1,5 @@
 pub mod Orders
 pub mod Steps
-pub mod Laws
-pub mod Examples
+pub mod Meanings
+pub mod RotatedPaths
+mod Examples

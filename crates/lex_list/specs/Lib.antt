@@ -2,3 +2,5 @@ pub mod Lines
 pub mod Faults
 pub mod Words
 pub mod Lists
+pub mod RotatedPaths
+pub mod Laws

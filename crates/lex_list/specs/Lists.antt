@@ -13,8 +13,8 @@ use Rattle.lex_list.specs.Lines.{lines_of}
 use Rattle.lex_list.specs.Words.{most_words, has_word_length, word_order}
 
 -- the most bytes of a text: 16 MiB
-unfoldable pub most_bytes : ℕ
-most_bytes = 16777216
+abbrev pub most_list_bytes : ℕ
+most_list_bytes = 16777216
 
 -- the letters of a line as capitals
 abbrev pub capitals : List ℕ → List ℕ
@@ -69,7 +69,7 @@ list_in lines = or_fault (first_fault [] lines) (words_in lines)
 
 -- the words of a text that is not too long, or its first fault
 unfoldable pub list_of : List ℕ → Result (List (List ℕ)) ListFault
-list_of text = if nat_lt most_bytes (length text) then Err (at_line 0 why.TooLong) else list_in (lines_of text)
+list_of text = if nat_lt most_list_bytes (length text) then Err (at_line 0 why.TooLong) else list_in (lines_of text)
 
 -- ---- what that says in other words
 
@@ -97,7 +97,7 @@ pub record IsFirstFault (lines : List (List ℕ)) (fault : ListFault) : Type 0 w
 abbrev pub IsFaultOf : List ℕ → ListFault → Type 0
 IsFaultOf text fault =
     (fault ≡ no_memory)
-    ⊎ (((most_bytes < length text) × (fault ≡ at_line 0 why.TooLong)) ⊎ ((length text ≤ most_bytes) × IsFirstFault (lines_of text) fault))
+    ⊎ (((most_list_bytes < length text) × (fault ≡ at_line 0 why.TooLong)) ⊎ ((length text ≤ most_list_bytes) × IsFirstFault (lines_of text) fault))
 
 -- ---- what the reader answers
 

@@ -11,13 +11,24 @@ use Rattle.std.specs.declared.cmp.Ordering.{Ordering}
 unfoldable pub most_words : ℕ
 most_words = 400000
 
+-- the fewest and the most letters of a word
+abbrev pub fewest_letters : ℕ
+fewest_letters = 2
+
+abbrev pub most_letters : ℕ
+most_letters = 15
+
 -- a word has 2 to 15 letters
 abbrev pub has_word_length : List ℕ → Bool
-has_word_length word = nat_le 2 (length word) && nat_le (length word) 15
+has_word_length word = nat_le fewest_letters (length word) && nat_le (length word) most_letters
 
 -- 2 to 15 capitals
 abbrev pub is_word : List ℕ → Bool
 is_word word = list_all is_ascii_uppercase word && has_word_length word
+
+-- words of capitals alone
+abbrev pub has_capitals_alone : List (List ℕ) → Bool
+has_capitals_alone words = list_all (list_all is_ascii_uppercase) words
 
 -- the order of words: byte by byte, and a word before all that it begins
 abbrev pub word_order : List ℕ → List ℕ → Ordering

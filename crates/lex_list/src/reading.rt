@@ -3,12 +3,12 @@ ghost use Rattle.std.specs.Char.{is_ascii_alphabetic};
 ghost use Rattle.std.specs.List.{list_all};
 ghost use Rattle.lex_list.specs.Faults.{Gives};
 ghost use Rattle.lex_list.specs.Lines.{lines_in, lines_of};
-ghost use Rattle.lex_list.specs.Lists.{most_bytes, list_in, list_of, line_in, HoldsWordsOf, IsFaultOf, Reads, Makes, IsWordIn};
+ghost use Rattle.lex_list.specs.Lists.{most_list_bytes, list_in, list_of, line_in, HoldsWordsOf, IsFaultOf, Reads, Makes, IsWordIn};
 ghost use Rattle.lex_list.specs.Words.{has_word_length};
 
 use crate::faults::{ListFault, ListWhy};
 use crate::lists::WordList;
-use crate::words::{MOST_LETTERS, Word};
+use crate::words::{MAX_LETTERS, Word};
 use std::alloc::Global;
 use std::collections::BTreeSet;
 use text_lines::{cut_line, without_mark};
@@ -20,7 +20,7 @@ pub const MAX_BYTES: usize = 16_777_216;
 pub const MAX_WORDS: usize = 400_000;
 
 /// The fewest letters of a word.
-const FEWEST_LETTERS: usize = 2;
+const MIN_LETTERS: usize = 2;
 
 impl WordList {
     /// Reads a word list, and gives the set of the words of its lines, or its first fault: the first by line,
@@ -28,7 +28,7 @@ impl WordList {
     ///
     /// `TooMany` is on the line of the 400,001st distinct word; a repeat of a word is none. `TooLong` comes before
     /// all else.
-    #[tactic(auto, using(crate::proofs::Laws::list_proper, crate::proofs::Laws::list_holds, crate::proofs::Laws::text_fault), unfolding(crate::specs::Lists::list_of, crate::specs::Lists::most_bytes))]
+    #[tactic(auto, using(crate::proofs::Meanings::list_proper, crate::proofs::Meanings::list_holds, crate::proofs::Meanings::text_fault), unfolding(crate::specs::Lists::list_of))]
     pub fn read(alloc: Global, bytes: &[u8]) -> Result<WordList, ListFault>
         ensures meaning { Gives result (list_of bytes.now) }
         ensures words { IfOk result (λ list. HoldsWordsOf list (lines_of bytes.now)) }
@@ -49,7 +49,7 @@ impl WordList {
 /// Reads the lines of a text.
 #[tactic(auto, using(crate::proofs::Steps::progress_empty))]
 fn read_lines(alloc: Global, text: &[u8]) -> Result<BTreeSet<Word>, ListFault>
-    requires { length text.now ≤ 16_777_216 }
+    requires { length text.now ≤ most_list_bytes }
     ensures { Reads result (list_in (lines_in text.now)) }
 {
     let mut words = BTreeSet::new(alloc);
@@ -111,5 +111,5 @@ fn has_letters_alone(line: &[u8]) -> bool
 fn has_word_length(line: &[u8]) -> bool
     ensures { result ≡ has_word_length line.now }
 {
-    FEWEST_LETTERS <= line.len() && line.len() <= MOST_LETTERS
+    MIN_LETTERS <= line.len() && line.len() <= MAX_LETTERS
 }

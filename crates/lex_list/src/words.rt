@@ -2,40 +2,42 @@ ghost use Rattle.std.specs.Prelude.{◌≡◌, ◌≤◌, ◌<◌, Some, refl, I
 ghost use Rattle.std.specs.Cmp.Lexicographic.{pointwise, slice_cmp};
 ghost use Rattle.std.specs.Ordering.{nat_cmp};
 ghost use Rattle.lex_list.specs.Lists.{capitals};
+ghost use Rattle.lex_list.specs.Words.{most_letters};
 
 use std::cmp::Ordering;
 use std::marker::Model;
 
 /// The most letters of a word.
-pub const MOST_LETTERS: usize = 15;
+pub const MAX_LETTERS: usize = 15;
 
 /// At most 15 bytes in 16, ordered as bytes. Contracts see the list of them.
 #[derive(Debug, Drop)]
 pub struct Word {
-    letters: [u8; MOST_LETTERS],
+    letters: [u8; MAX_LETTERS],
     len: u8,
 }
 
 impl Model for Word {
     ghost use Rattle.std.specs.Prelude.{◌≡◌, List, ℕ, take, ◌≤◌, length};
+    ghost use Rattle.lex_list.specs.Words.{most_letters};
 
     ghost Value = { List ℕ };
 
     ghost view = { λ w. take w.len w.letters };
 
-    ghost invariant = { λ w. (w.len ≤ 15) × (length w.letters ≡ 15) };
+    ghost invariant = { λ w. (w.len ≤ most_letters) × (length w.letters ≡ most_letters) };
 }
 
 impl Word {
     /// The word with these bytes; none where there are more than 15.
     pub fn of_bytes(bytes: &[u8]) -> Option<Word>
-        ensures none { IfNone result (15 < length bytes.now) }
+        ensures none { IfNone result (most_letters < length bytes.now) }
         ensures word { IfSome result (λ word. word ≡ bytes.now) }
     {
-        if bytes.len() > MOST_LETTERS {
+        if bytes.len() > MAX_LETTERS {
             return None;
         }
-        let mut letters = [0; MOST_LETTERS];
+        let mut letters = [0; MAX_LETTERS];
         letters[..bytes.len()].copy_from_slice(bytes);
         Some(Word {
             letters,
@@ -45,10 +47,10 @@ impl Word {
 
     /// The word with the letters of a line as capitals.
     pub fn of_line(line: &[u8]) -> Word
-        requires { length line.now ≤ 15 }
+        requires { length line.now ≤ most_letters }
         ensures { result ≡ capitals line.now }
     {
-        let mut letters = [0; MOST_LETTERS];
+        let mut letters = [0; MAX_LETTERS];
         for (place, byte) in line.iter().enumerate() {
             letters[place] = byte.to_ascii_uppercase();
         }
@@ -61,7 +63,7 @@ impl Word {
     /// The bytes of the word, at most 15.
     pub fn as_slice(&self) -> &[u8]
         ensures bytes { result.now ≡ self.now }
-        ensures few { length result.now ≤ 15 }
+        ensures few { length result.now ≤ most_letters }
     {
         &self.letters[..self.len as usize]
     }

@@ -9,6 +9,3 @@ mod lines;
 
 pub use fields::{Field, find_blank, find_filled, next_field};
 pub use lines::{Cut, cut_line, without_mark};
-
-#[cfg(test)]
-mod tests;

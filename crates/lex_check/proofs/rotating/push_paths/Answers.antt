@@ -1,5 +1,5 @@
 use Rattle.std.proofs.Common.{◌≡◌, ◌+◌, ◌++◌, ◌∷◌, [], List, ℕ, take, drop, append-nil, sym, ap, ◌∙◌}
-use Rattle.lex_file.specs.RotatedPaths.{path_of}
+use Rattle.lex_list.specs.RotatedPaths.{path_of}
 use Rattle.lex_check.proofs.Rotations.{paths_none, paths_more}
 use Rattle.lex_check.proofs.rotating.push_paths.Goals as goal
 

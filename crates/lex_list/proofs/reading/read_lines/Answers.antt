@@ -1,5 +1,6 @@
 use Rattle.std.proofs.lemmas.Result.{err_from_is_err_and}
 use Rattle.lex_list.specs.Lines.{lines_in, lines_behind}
+use Rattle.lex_list.specs.Lists.{most_list_bytes}
 use Rattle.lex_list.proofs.Steps.{progress_more, progress_fails, progress_done, room_more}
 use Rattle.lex_list.proofs.reading.read_lines.Goals as goal
 
@@ -12,7 +13,7 @@ returns-in_err-take_line c =
 
 pub loop-left-preserved : goal.loop-left-preserved
 loop-left-preserved c =
-    let room = room_more c.loop-left.left c.cut_line-cut.result.after c.in-Some.rest c.loop-left.line 16777216 c.in-Some.is c.loop-left.invariant.room c.cut_line-cut.ensures.shorter in
+    let room = room_more c.loop-left.left c.cut_line-cut.result.after c.in-Some.rest c.loop-left.line most_list_bytes c.in-Some.is c.loop-left.invariant.room c.cut_line-cut.ensures.shorter in
     record {
       so_far = progress_more (lines_in c.args.text.now) c.loop-left.words.keys c.take_line.new.words.keys c.loop-left.line c.loop-left.left c.in-Some.rest c.cut_line-cut.result.line.now
           (lines_behind c.cut_line-cut.result.after)

@@ -13,4 +13,4 @@ returns c =
     kept_paths c.args.list.now c.in_ok-paths.paths.items c.sort_unstable.new.self.items c.dedup.new.self.items c.len-words.ensures.proper.each
     c.in_ok-paths.ensures
     (record { moved = c.sort_unstable.ensures.permutation; ordered = c.sort_unstable.ensures.sorted; once = dedup_is _ _ _ c.dedup.ensures.filtered })
-    c.law_of_paths.ensures
+    c.law_of_paths.ensures.tested

@@ -1,5 +1,5 @@
 use Rattle.lex_list.specs.Lines.{lines_in}
-use Rattle.lex_list.proofs.Laws.{list_holds}
+use Rattle.lex_list.proofs.Meanings.{list_holds}
 use Rattle.lex_list.proofs.lists.WordList.read.Goals as goal
 
 pub returns-clause-words : goal.returns-clause-words
