@@ -62,6 +62,10 @@ text_score rules board dir at word = pos (score_of rules board (placement_of boa
 unfoldable pub points_in : Rules → List ℕ → ℕ
 points_in rules tiles = sum_by (λ k. slice_index tiles k * slice_index rules.points k) (range_with_len 0 26)
 
+-- tiles have no more points: 26 letters, 255 tiles of each, 99 points a tile
+abbrev pub most_points : ℕ
+most_points = 656370
+
 -- whether an amount is the bonus for 1, 2 or more words, up to a number of them
 abbrev pub is_bonus_for : ℕ → ℕ → ℕ → Bool
 is_bonus_for unit words amount = list_any (λ n. amount == unit * n) (range_with_len 1 words)

@@ -2,15 +2,9 @@
 use Rattle.std.specs.Prelude.{ℕ, ℤ, pos, Bool, true, false, Option, Some, None}
 use Rattle.gcg_read.specs.declared.events.Seat.{Seat}
 use Rattle.gcg_read.specs.declared.events.Seat.TheVariants.{First, Second}
+pub use Rattle.gcg_read.specs.Players.{same_seat}
 use Rattle.game_turns.specs.declared.sides.Side.{Side}
 use Rattle.game_turns.specs.declared.sides.Sides.{Sides}
-
--- whether both are the same player
-abbrev pub same_seat : Seat → Seat → Bool
-same_seat First First = true
-same_seat First Second = false
-same_seat Second First = false
-same_seat Second Second = true
 
 -- whether the next turn may be the player's: before the first turn it is either player's
 abbrev pub may_move : Option Seat → Seat → Bool

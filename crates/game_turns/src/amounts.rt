@@ -1,6 +1,6 @@
 ghost use Rattle.std.specs.Prelude.{◌≡◌, ◌<◌, ◌≤◌, pos};
 ghost use Rattle.gcg_read.specs.Numerals.{IsPoints};
-ghost use Rattle.game_turns.specs.Checks.{points_in, is_bonus, is_bonus_for, is_penalty};
+ghost use Rattle.game_turns.specs.Checks.{most_points, points_in, is_bonus, is_bonus_for, is_penalty};
 
 use ref_tiles::{Counts, Kind, Letter, Rules};
 
@@ -8,7 +8,7 @@ use ref_tiles::{Counts, Kind, Letter, Rules};
 #[tactic(auto, unfolding(crate::specs::Checks::points_in))]
 pub fn points_in(rules: &Rules, tiles: &Counts) -> u32
     ensures points { result ≡ points_in rules.now tiles.now }
-    ensures limit { result ≤ 656370 }
+    ensures limit { result ≤ most_points }
 {
     let mut points = 0;
     for index in 0..26 {

@@ -4,7 +4,7 @@ ghost use Rattle.ref_play.specs.Texts.{placement_of};
 ghost use Rattle.game_turns.specs.Answers.{Tells};
 ghost use Rattle.game_turns.specs.Seats.{side_of, same_seat};
 ghost use Rattle.game_turns.specs.Tallies.{latest_play};
-ghost use Rattle.game_turns.specs.Checks.{is_over, may_idle, play_fault, total_after, check_score, check_total, check_turn, check_play, check_pass, check_exchange, check_time, check_withdraw, check_challenge, check_other_rack, check_own_rack, check_last_rack, is_stale};
+ghost use Rattle.game_turns.specs.Checks.{most_points, is_over, may_idle, play_fault, total_after, check_score, check_total, check_turn, check_play, check_pass, check_exchange, check_time, check_withdraw, check_challenge, check_other_rack, check_own_rack, check_last_rack, is_stale};
 ghost use Rattle.game_turns.specs.LatestEvents.{play_of, latest_of, IsAwaited};
 
 use crate::amounts::{is_bonus, is_penalty, points_in};
@@ -12,8 +12,8 @@ use crate::faults::RuleFault;
 use crate::latest::{Laid, LatestEvent};
 use crate::listing::{all_listed, any_listed, listed_in};
 use crate::machine::Machine;
-use crate::seats::{may_move, same_seat};
-use gcg_read::{Event, Points, Seat};
+use crate::seats::may_move;
+use gcg_read::{Event, Points, Seat, same_seat};
 use lex_list::WordList;
 use ref_board::{Board, Dir, Square};
 use ref_play::{Play, PlayFault, from_text, judge, score, words};
@@ -290,7 +290,7 @@ impl Machine {
 
 /// What the other player's last rack gives.
 fn doubled(points: u32) -> i32
-    requires { points ≤ 656370 }
+    requires { points ≤ most_points }
     ensures { result ≡ pos (2 * points) }
 {
     (2 * points) as i32
@@ -298,7 +298,7 @@ fn doubled(points: u32) -> i32
 
 /// What the own last rack costs.
 fn lost(points: u32) -> i32
-    requires { points ≤ 656370 }
+    requires { points ≤ most_points }
     ensures { result ≡ neg_ℤ (pos points) }
 {
     -(points as i32)

@@ -86,6 +86,13 @@ impl Machine {
         self.complete
     }
 
+    /// The player who is out: whose play emptied the rack while the bag was empty.
+    pub fn out(&self) -> Option<Seat>
+        ensures { result ≡ (state_of self.now).out }
+    {
+        self.out
+    }
+
     /// The new tiles of the latest event where it is a play, and those that it took back where it is a
     /// withdrawal.
     pub fn last_play(&self) -> Option<&Play>

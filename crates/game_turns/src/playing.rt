@@ -1,4 +1,5 @@
-ghost use Rattle.std.specs.Prelude.{◌≡◌, ◌↔◌, length, IsOk, IfOk, OnOk, IfErr};
+ghost use Rattle.std.specs.Prelude.{◌≡◌, ◌↔◌, ◌+◌, ◌<◌, length, slice_get, IsOk, IfOk, OnOk, IfErr};
+ghost use Rattle.std.specs.Option.{option_copied};
 ghost use Rattle.game_turns.specs.Tallies.{tally_at};
 ghost use Rattle.game_turns.specs.Places.{AreAllowed, IsFirstRefusal};
 ghost use Rattle.game_turns.specs.Machines.{state_of};
@@ -21,6 +22,27 @@ pub struct Refusal {
     pub fault: RuleFault,
 }
 
+impl Refusal {
+    /// The refusal of an event by this check.
+    fn of(event: &Event, fault: RuleFault) -> Refusal
+        ensures { result ≡ record { line = event.now.line; fault = fault } }
+    {
+        Refusal {
+            line: event.line,
+            fault,
+        }
+    }
+}
+
+/// The event behind a place of a record, where there is one.
+#[tactic(auto, using(crate::proofs::PlaceLaws::copied_get))]
+pub(crate) fn event_behind(events: &[Event], place: usize) -> Option<&Event>
+    requires { place < length events.now }
+    ensures { option_copied result ≡ slice_get events.now (place + 1) }
+{
+    events.get(place + 1)
+}
+
 /// The machine behind all of the events, or the first event that the rules do not allow.
 fn play_events(rules: &Rules, events: &[Event], list: &WordList) -> Result<Machine, Refusal>
     ensures state { IfOk result (λ machine.
@@ -31,11 +53,8 @@ fn play_events(rules: &Rules, events: &[Event], list: &WordList) -> Result<Machi
     law_of_tallies();
     let mut machine = Machine::new(rules);
     for (place, event) in events.iter().enumerate() {
-        if let Err(fault) = machine.step(event, events.get(place + 1), list) {
-            return Err(Refusal {
-                line: event.line,
-                fault,
-            });
+        if let Err(fault) = machine.step(event, event_behind(events, place), list) {
+            return Err(Refusal::of(event, fault));
         }
     }
     Ok(machine)

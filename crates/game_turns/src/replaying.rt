@@ -5,6 +5,7 @@ ghost use Rattle.game_turns.specs.Tallies.{tally_at};
 use crate::laws::law_of_tallies;
 use crate::machine::Machine;
 use crate::passed::Passed;
+use crate::playing::event_behind;
 
 impl Passed<'_> {
     ghost use Rattle.game_turns.specs.Passing.{rules_in, record_in, list_in};
@@ -19,7 +20,7 @@ impl Passed<'_> {
     {
         law_of_tallies();
         let events = self.record.events.as_slice();
-        let Ok(_) = machine.step(&events[place], events.get(place + 1), self.list) else {
+        let Ok(_) = machine.step(&events[place], event_behind(events, place), self.list) else {
             unreachable!()
         };
     }

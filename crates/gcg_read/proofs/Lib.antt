@@ -3,4 +3,6 @@ pub mod Lists
 pub mod Tallies
 pub mod Cuts
 pub mod Steps
+pub mod FirstFaults
+pub mod LinesRise
 pub mod Examples

@@ -9,3 +9,5 @@ pub mod Codes
 pub mod EventLines
 pub mod Pragmas
 pub mod Records
+pub mod FirstFaults
+pub mod Laws

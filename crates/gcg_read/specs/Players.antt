@@ -1,5 +1,5 @@
 -- The two players, and how nicknames are given to them.
-use Rattle.std.specs.Prelude.{ℕ, Bool, ◌==◌, List, [], length, Option, Some, None, if◌then◌else◌}
+use Rattle.std.specs.Prelude.{ℕ, Bool, true, false, ◌==◌, List, [], length, Option, Some, None, if◌then◌else◌}
 use Rattle.std.specs.Str.{bytes_eq}
 use Rattle.gcg_read.specs.declared.players.Player.{Player}
 use Rattle.gcg_read.specs.declared.players.Players.{Players}
@@ -23,6 +23,13 @@ player_of players Second = players.second
 abbrev pub other_seat : Seat → Seat
 other_seat First = Second
 other_seat Second = First
+
+-- whether both seats are one
+abbrev pub same_seat : Seat → Seat → Bool
+same_seat First First = true
+same_seat First Second = false
+same_seat Second First = false
+same_seat Second Second = true
 
 -- the players with this one in a seat
 abbrev pub with_player : Players → Seat → Player → Players

@@ -15,6 +15,14 @@ use Rattle.gcg_read.specs.Players.{no_players, player_of, other_seat, with_playe
 use Rattle.gcg_read.specs.Pragmas.{Naming, naming_of}
 use Rattle.gcg_read.specs.EventLines.{event_of}
 
+-- the most bytes of a text: 1 MiB
+abbrev pub most_bytes : ℕ
+most_bytes = 1048576
+
+-- the most events of a record
+abbrev pub most_events : ℕ
+most_events = 1000
+
 -- a record without names and events
 abbrev pub no_record : Record
 no_record = record { players = no_players; events = [] }
@@ -24,11 +32,11 @@ pub record NamedEvent : Type 0 where
   pub nick : List ℕ
   pub event : Event
 
--- The event of a line, behind its '>': a record has 1,000 events at most, a nickname stands before the first
+-- The event of a line, behind its '>': a record has so many events at most, a nickname stands before the first
 -- colon and is that of one of two players, and the fields behind it say the event.
 unfoldable pub entry_of : Record → ℕ → List ℕ → Result NamedEvent Why
 entry_of so_far line text =
-    if nat_le 1000 (length so_far.events) then Err why.TooManyEvents
+    if nat_le most_events (length so_far.events) then Err why.TooManyEvents
     else (do
       head ← ok_or (head_of text) why.NoColon
       player ← ok_or (seat_for so_far.players head.nick) why.ThirdPlayer
@@ -76,10 +84,10 @@ record_from so_far line (text ∷ rest) = do
   next ← with_line so_far line text
   record_from next (line + 1) rest
 
--- The record of a text of 1,048,576 bytes at most: that of all its lines, numbered from 1.
+-- The record of a text that is not too long: that of all its lines, numbered from 1.
 unfoldable pub record_of : List ℕ → Result Record ReadFault
 record_of bytes =
-    if nat_lt 1048576 (length bytes) then Err (record { line = 0; why = why.TooLong })
+    if nat_lt most_bytes (length bytes) then Err (record { line = 0; why = why.TooLong })
     else record_from no_record 1 (lines_of bytes)
 
 -- ---- what the reader answers for a line

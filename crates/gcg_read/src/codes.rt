@@ -3,7 +3,7 @@ ghost use Rattle.gcg_read.specs.Codes.{unknown_of, dashed_of, bracketed_of, code
 
 use crate::events::EventKind;
 use crate::numerals::numeral;
-use crate::racks::{MOST_TILES, read_rack};
+use crate::racks::{MAX_TILES, read_rack};
 
 /// What the code of an event says that is no play; none for bytes that are no code.
 ///
@@ -60,7 +60,7 @@ fn read_number(digit: &[u8]) -> Option<u8>
     ensures { result ≡ unknown_of digit.now }
 {
     let number = numeral(1, digit)? as usize;
-    if 1 <= number && number <= MOST_TILES {
+    if 1 <= number && number <= MAX_TILES {
         Some(number as u8)
     } else {
         None

@@ -1,4 +1,5 @@
 ghost use Rattle.std.specs.Prelude.{◌≡◌, [], ◌∷◌, ◌++◌, ◌↔◌, length, IsTrue, OnOk, OnErr};
+ghost use Rattle.gcg_read.specs.Players.{same_seat};
 
 use crate::points::Points;
 use crate::texts::Text;
@@ -27,6 +28,16 @@ impl Seat {
             Seat::First => Seat::Second,
             Seat::Second => Seat::First,
         }
+    }
+}
+
+/// Whether both are the same player.
+pub fn same_seat(seat: Seat, other: Seat) -> bool
+    ensures { result ≡ same_seat seat other }
+{
+    match (seat, other) {
+        (Seat::First, Seat::First) | (Seat::Second, Seat::Second) => true,
+        (Seat::First, Seat::Second) | (Seat::Second, Seat::First) => false,
     }
 }
 

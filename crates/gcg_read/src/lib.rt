@@ -11,6 +11,7 @@ mod cutting;
 mod event_lines;
 mod events;
 mod faults;
+mod laws;
 mod names;
 mod numerals;
 mod players;
@@ -22,14 +23,12 @@ mod reading;
 mod records;
 mod texts;
 
-pub use events::{Event, EventKind, Events, Seat};
+pub use events::{Event, EventKind, Events, Seat, same_seat};
 pub use faults::{ReadFault, Why};
+pub use laws::{law_of_faults, law_of_lines};
 pub use names::Name;
 pub use players::{Player, Players};
 pub use points::Points;
 pub use reading::{MAX_BYTES, MAX_EVENTS, read};
 pub use records::Record;
 pub use texts::Text;
-
-#[cfg(test)]
-mod tests;

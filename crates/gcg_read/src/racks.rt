@@ -4,7 +4,7 @@ ghost use Rattle.gcg_read.specs.Racks.{kind_of, rack_of};
 use ref_tiles::{Counts, Kind, Letter};
 
 /// The most tiles of a rack.
-pub const MOST_TILES: usize = 7;
+pub const MAX_TILES: usize = 7;
 
 /// The tile that a byte of a rack writes, A to Z or `?` for a blank; none for any other byte.
 fn kind(byte: u8) -> Option<Kind>
@@ -21,7 +21,7 @@ fn kind(byte: u8) -> Option<Kind>
 pub fn read_rack(bytes: &[u8]) -> Option<Counts>
     ensures { result ≡ rack_of bytes.now }
 {
-    if bytes.is_empty() || bytes.len() > MOST_TILES {
+    if bytes.is_empty() || bytes.len() > MAX_TILES {
         return None;
     }
     let mut counts = Counts::new();

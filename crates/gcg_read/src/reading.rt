@@ -1,7 +1,7 @@
 ghost use Rattle.std.specs.Prelude.{◌≡◌, ◌≤◌, ◌<◌, length};
 ghost use Rattle.gcg_read.specs.Faults.{Gives, Makes};
 ghost use Rattle.gcg_read.specs.Cutting.{lines_in};
-ghost use Rattle.gcg_read.specs.Records.{no_record, with_event, with_pragma, with_line, record_from, record_of, entry_of, IsEntry};
+ghost use Rattle.gcg_read.specs.Records.{most_bytes, no_record, with_event, with_pragma, with_line, record_from, record_of, entry_of, IsEntry};
 
 use crate::cutting::read_head;
 use crate::event_lines::{Heading, read_event};
@@ -47,7 +47,7 @@ pub fn read(alloc: Global, bytes: &[u8]) -> Result<Record, ReadFault>
 /// Reads the lines of a text.
 #[tactic(auto, using(crate::proofs::Steps::steps), unfolding(crate::specs::Records::record_from))]
 fn read_lines(alloc: Global, text: &[u8]) -> Result<Record, ReadFault>
-    requires { length text.now ≤ 1_048_576 }
+    requires { length text.now ≤ most_bytes }
     ensures { Gives result (record_from no_record 1 (lines_in text.now)) }
 {
     let mut record = Record::empty(alloc);

@@ -13,6 +13,3 @@ mod writing;
 
 pub use laws::law_of_round_trip;
 pub use writing::{NoMemory, event_text, write};
-
-#[cfg(test)]
-mod tests;

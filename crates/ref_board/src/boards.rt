@@ -70,7 +70,7 @@ impl Board {
     pub fn is_empty(&self) -> bool
         ensures { IsTrue result ↔ HasNoTile self.now }
     {
-        is_blank(&self.cells)
+        has_no_tile(&self.cells)
     }
 
     /// How many squares the board has: always 225.
@@ -80,6 +80,14 @@ impl Board {
     {
         let cells: &[Option<Tile>] = &self.cells;
         cells.len()
+    }
+
+    /// The contents of the squares, in the order of their numbers.
+    pub fn cells(&self) -> &[Option<Tile>]
+        ensures cells { result.now ≡ self.now }
+        ensures size { length self.now ≡ 225 }
+    {
+        &self.cells
     }
 
     /// The run through a square that has a tile: the maximal stretch of tiles in a direction, as its first
@@ -131,7 +139,7 @@ impl Board {
 }
 
 /// Whether no cell has a tile.
-fn is_blank(cells: &[Option<Tile>]) -> bool
+fn has_no_tile(cells: &[Option<Tile>]) -> bool
     ensures { IsTrue result ↔ HasNoTile cells.now }
 {
     for cell in cells {

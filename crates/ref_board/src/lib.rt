@@ -4,8 +4,6 @@
 mod boards;
 mod directions;
 mod squares;
-#[cfg(test)]
-mod tests;
 
 pub use boards::Board;
 pub use directions::Dir;

@@ -19,7 +19,7 @@ use Rattle.ref_play.specs.declared.faults.PlayFault.TheVariants as fault
 use Rattle.ref_play.specs.Placements.{with_tiles}
 use Rattle.ref_play.specs.Formed.{stretches_on, runs_along}
 use Rattle.ref_play.specs.Words.{words_formed, letters_of}
-use Rattle.ref_play.specs.Legality.{fault_of, check, overlaps, has_gap, is_blank, misses_centre, is_too_short, is_apart}
+use Rattle.ref_play.specs.Legality.{fault_of, check, overlaps, has_gap, has_no_tile, misses_centre, is_too_short, is_apart}
 use Rattle.ref_play.specs.Texts.{text_cells, placement_of, text_fault, mismatches, is_open_ended}
 use Rattle.ref_play.specs.Scores.{score_of, letters_score, words_factor}
 
@@ -105,27 +105,27 @@ back_of_a_word = refl
 
 -- the faults of plays
 word_is_legal : play_fails empty_board Across 109 (codes "WORD") ≡ None
-unfolding fault_of check empty_board overlaps has_gap is_blank misses_centre is_too_short is_apart runs_along stretches_on text_cells placement_of letter_at
+unfolding fault_of check empty_board overlaps has_gap has_no_tile misses_centre is_too_short is_apart runs_along stretches_on text_cells placement_of letter_at
 word_is_legal = refl
 
 beside_the_centre : play_fails empty_board Across 108 (codes "WORD") ≡ Some fault.MissesCentre
-unfolding fault_of check empty_board overlaps has_gap is_blank misses_centre is_too_short is_apart runs_along stretches_on text_cells placement_of letter_at
+unfolding fault_of check empty_board overlaps has_gap has_no_tile misses_centre is_too_short is_apart runs_along stretches_on text_cells placement_of letter_at
 beside_the_centre = refl
 
 in_a_corner : play_fails empty_board Across 224 (codes "A") ≡ Some fault.MissesCentre
-unfolding fault_of check empty_board overlaps has_gap is_blank misses_centre is_too_short is_apart runs_along stretches_on text_cells placement_of letter_at
+unfolding fault_of check empty_board overlaps has_gap has_no_tile misses_centre is_too_short is_apart runs_along stretches_on text_cells placement_of letter_at
 in_a_corner = refl
 
 one_letter : play_fails empty_board Across 112 (codes "A") ≡ Some fault.TooShort
-unfolding fault_of check empty_board overlaps has_gap is_blank misses_centre is_too_short is_apart runs_along stretches_on text_cells placement_of letter_at
+unfolding fault_of check empty_board overlaps has_gap has_no_tile misses_centre is_too_short is_apart runs_along stretches_on text_cells placement_of letter_at
 one_letter = refl
 
 far_away : play_fails after_word Across 0 (codes "AT") ≡ Some fault.Apart
-unfolding fault_of check empty_board overlaps has_gap is_blank misses_centre is_too_short is_apart runs_along stretches_on text_cells placement_of letter_at
+unfolding fault_of check empty_board overlaps has_gap has_no_tile misses_centre is_too_short is_apart runs_along stretches_on text_cells placement_of letter_at
 far_away = refl
 
 below_a_word : play_fails after_word Across 126 (codes "AT") ≡ None
-unfolding fault_of check empty_board overlaps has_gap is_blank misses_centre is_too_short is_apart runs_along stretches_on text_cells placement_of letter_at
+unfolding fault_of check empty_board overlaps has_gap has_no_tile misses_centre is_too_short is_apart runs_along stretches_on text_cells placement_of letter_at
 below_a_word = refl
 
 -- the words, that of the direction first

@@ -15,7 +15,7 @@ use Rattle.ref_play.specs.declared.runs.Run.{Run}
 use Rattle.ref_play.specs.declared.faults.PlayFault.{PlayFault}
 use Rattle.ref_play.specs.Placements.{are_rising, are_in_line, is_play, with_tiles, covers}
 use Rattle.ref_play.specs.Formed.{MeetsRun, runs_formed}
-use Rattle.ref_play.specs.Legality.{centre, AreBeside, HasNoGap, IsLegal, follows_tile, precedes_tile, touches, last_square, overlaps, has_gap, is_blank, misses_centre, is_too_short, is_apart, check, fault_of, Refuses}
+use Rattle.ref_play.specs.Legality.{centre, AreBeside, HasNoGap, IsLegal, follows_tile, precedes_tile, touches, last_square, overlaps, has_gap, has_no_tile, misses_centre, is_too_short, is_apart, check, fault_of, Refuses}
 use Rattle.ref_play.proofs.RangeLaws.{list_any-found, list_any-in, list_any-none, Contains-here, some_element, not_empty}
 use Rattle.ref_play.proofs.LineLaws.{line_of-square_at, place_of-square_at, square_at-of, line_below, place_below, same_square, place_rises, list_all_at, list_all_from}
 use Rattle.ref_play.proofs.RunLaws.{runs_formed-meet}
@@ -139,13 +139,13 @@ all_none-from [] h = refl
 all_none-from (tile ∷ board) h =
     and_from (is_none tile) (list_all is_none board) (ap is_none (h 0)) (all_none-from board (λ square. h (suc square)))
 
-blank-true : (board : List (Option Tile)) → is_blank board ≡ true → HasNoTile board
-unfolding is_blank
-blank-true board e = all_none-at board e
+empty-true : (board : List (Option Tile)) → has_no_tile board ≡ true → HasNoTile board
+unfolding has_no_tile
+empty-true board e = all_none-at board e
 
-blank-from : (board : List (Option Tile)) → HasNoTile board → is_blank board ≡ true
-unfolding is_blank
-blank-from board h = all_none-from board h
+empty-from : (board : List (Option Tile)) → HasNoTile board → has_no_tile board ≡ true
+unfolding has_no_tile
+empty-from board h = all_none-from board h
 
 -- a tile orthogonally beside a square
 follows-beside : (d : Dir) (board : List (Option Tile)) (a : ℕ) → a < 225 → follows_tile d board a ≡ true → (b : ℕ) × AreBeside a b × (holds board b ≡ true)
@@ -231,34 +231,34 @@ anchored-from : (board : List (Option Tile)) (ps : List Placed) → list_all (λ
 unfolding misses_centre is_apart Anchored
 anchored-from board ps within centre_free apart_free =
     ⊎_elim
-    (λ (blank : is_blank board ≡ true).
+    (λ (empty : has_no_tile board ≡ true).
     ⊎_elim
-    (λ (s : is_blank board ≡ false). absurd (both_ways (is_blank board) s blank))
-    (λ (s : not (covers ps centre) ≡ false). inl (blank-true board blank, not-false (covers ps centre) s))
-    (and_cases (is_blank board) (not (covers ps centre)) centre_free))
-    (λ (old : is_blank board ≡ false).
+    (λ (s : has_no_tile board ≡ false). absurd (both_ways (has_no_tile board) s empty))
+    (λ (s : not (covers ps centre) ≡ false). inl (empty-true board empty, not-false (covers ps centre) s))
+    (and_cases (has_no_tile board) (not (covers ps centre)) centre_free))
+    (λ (old : has_no_tile board ≡ false).
     ⊎_elim
-    (λ (s : not (is_blank board) ≡ false). absurd (both_ways (is_blank board) old (not-false (is_blank board) s)))
+    (λ (s : not (has_no_tile board) ≡ false). absurd (both_ways (has_no_tile board) old (not-false (has_no_tile board) s)))
     (λ (s : not (list_any (λ (p : Placed). touches board p.square) ps) ≡ false).
     let found = list_any-found (λ (p : Placed). touches board p.square) ps (not-false (list_any (λ (p : Placed). touches board p.square) ps) s) in
     let beside = touches-beside board (found.0).square (on_board ps found.0 within found.1) found.2 in
     inr (found.0, beside.0, found.1, beside.1, beside.2))
-    (and_cases (not (is_blank board)) (not (list_any (λ (p : Placed). touches board p.square) ps)) apart_free))
-    (cases_Bool (is_blank board))
+    (and_cases (not (has_no_tile board)) (not (list_any (λ (p : Placed). touches board p.square) ps)) apart_free))
+    (cases_Bool (has_no_tile board))
 
 misses_centre-from : (board : List (Option Tile)) (ps : List Placed) → Anchored board ps → misses_centre board ps ≡ false
 unfolding misses_centre Anchored
-misses_centre-from board ps (inl h) = and_right (is_blank board) (not (covers ps centre)) (not_from_true (covers ps centre) h.1)
+misses_centre-from board ps (inl h) = and_right (has_no_tile board) (not (covers ps centre)) (not_from_true (covers ps centre) h.1)
 misses_centre-from board ps (inr h) =
-    and_left (is_blank board) (not (covers ps centre))
-    (false_from_ne_true (is_blank board) (λ blank. both_ways (holds board h.1) (ap is_some (blank-true board blank h.1)) h.4))
+    and_left (has_no_tile board) (not (covers ps centre))
+    (false_from_ne_true (has_no_tile board) (λ empty. both_ways (holds board h.1) (ap is_some (empty-true board empty h.1)) h.4))
 
 is_apart-from : (board : List (Option Tile)) (ps : List Placed) → length board ≡ 225 → Anchored board ps → is_apart board ps ≡ false
 unfolding is_apart Anchored
 is_apart-from board ps size (inl h) =
-    and_left (not (is_blank board)) (not (list_any (λ (p : Placed). touches board p.square) ps)) (not_from_true (is_blank board) (blank-from board h.0))
+    and_left (not (has_no_tile board)) (not (list_any (λ (p : Placed). touches board p.square) ps)) (not_from_true (has_no_tile board) (empty-from board h.0))
 is_apart-from board ps size (inr h) =
-    and_right (not (is_blank board)) (not (list_any (λ (p : Placed). touches board p.square) ps))
+    and_right (not (has_no_tile board)) (not (list_any (λ (p : Placed). touches board p.square) ps))
     (not_from_true (list_any (λ (p : Placed). touches board p.square) ps)
     (list_any-in (λ (p : Placed). touches board p.square) ps h.0 h.2 (beside-touches board (h.0).square h.1 size h.3 h.4)))
 

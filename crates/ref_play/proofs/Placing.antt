@@ -10,7 +10,7 @@ use Rattle.ref_tiles.specs.declared.tiles.Tile.{Tile}
 use Rattle.ref_board.specs.Cells.{tile_at, holds, with_tile, HasNoTile}
 use Rattle.ref_play.specs.declared.placed.Placed.{Placed}
 use Rattle.ref_play.specs.Placements.{with_tiles, are_rising}
-use Rattle.ref_play.specs.Legality.{overlaps, last_square, is_blank}
+use Rattle.ref_play.specs.Legality.{overlaps, last_square, has_no_tile}
 
 -- no content means no tile
 none_some : (q : Placed) → None ≡ Some q → ⊥
@@ -70,20 +70,20 @@ none_from_true : (o : Option Tile) → is_none o ≡ true → o ≡ None
 none_from_true None e = refl
 none_from_true (Some t) e = absurd (false≢true e)
 
-blank_cells : (board : List (Option Tile)) → is_blank board ≡ true → (square : ℕ) → tile_at board square ≡ None
-unfolding is_blank
-blank_cells [] e square = refl
-blank_cells (o ∷ board) e zero = none_from_true o (and_parts (is_none o) (list_all is_none board) e).0
-blank_cells (o ∷ board) e (suc square) = blank_cells board (and_parts (is_none o) (list_all is_none board) e).1 square
+empty_cells : (board : List (Option Tile)) → has_no_tile board ≡ true → (square : ℕ) → tile_at board square ≡ None
+unfolding has_no_tile
+empty_cells [] e square = refl
+empty_cells (o ∷ board) e zero = none_from_true o (and_parts (is_none o) (list_all is_none board) e).0
+empty_cells (o ∷ board) e (suc square) = empty_cells board (and_parts (is_none o) (list_all is_none board) e).1 square
 
-cells_blank : (board : List (Option Tile)) → ((square : ℕ) → tile_at board square ≡ None) → is_blank board ≡ true
-unfolding is_blank
-cells_blank [] h = refl
-cells_blank (o ∷ board) h = and_from (is_none o) (list_all is_none board) (ap is_none (h 0)) (cells_blank board (λ square. h (suc square)))
+cells_empty : (board : List (Option Tile)) → ((square : ℕ) → tile_at board square ≡ None) → has_no_tile board ≡ true
+unfolding has_no_tile
+cells_empty [] h = refl
+cells_empty (o ∷ board) h = and_from (is_none o) (list_all is_none board) (ap is_none (h 0)) (cells_empty board (λ square. h (suc square)))
 
 -- the test of the blank board says that no square has a tile
-pub blank_decides : (board : List (Option Tile)) → Decides (is_blank board) (HasNoTile board)
-blank_decides board = (blank_cells board, cells_blank board)
+pub empty_decides : (board : List (Option Tile)) → Decides (has_no_tile board) (HasNoTile board)
+empty_decides board = (empty_cells board, cells_empty board)
 
-pub blank_is : (board : List (Option Tile)) (b : Bool) → ((b ≡ true → HasNoTile board) × (HasNoTile board → b ≡ true)) → b ≡ is_blank board
-blank_is board b h = same_from_decides b (is_blank board) h (blank_decides board)
+pub empty_is : (board : List (Option Tile)) (b : Bool) → ((b ≡ true → HasNoTile board) × (HasNoTile board → b ≡ true)) → b ≡ has_no_tile board
+empty_is board b h = same_from_decides b (has_no_tile board) h (empty_decides board)

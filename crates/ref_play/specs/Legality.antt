@@ -74,17 +74,17 @@ has_gap d after [] = false
 has_gap d after (p ∷ ps) =
     not (list_all (occupied_on d after (line_of d p.square)) (range_with_len (place_of d p.square) (place_of d (last_square p ps) - place_of d p.square)))
 
-unfoldable pub is_blank : List (Option Tile) → Bool
-is_blank board = list_all is_none board
+unfoldable pub has_no_tile : List (Option Tile) → Bool
+has_no_tile board = list_all is_none board
 
 unfoldable pub misses_centre : List (Option Tile) → List Placed → Bool
-misses_centre board ps = is_blank board && not (covers ps centre)
+misses_centre board ps = has_no_tile board && not (covers ps centre)
 
 unfoldable pub is_too_short : Dir → List (Option Tile) → List Placed → Bool
 is_too_short d after ps = length (runs_formed d after ps) == 0
 
 unfoldable pub is_apart : List (Option Tile) → List Placed → Bool
-is_apart board ps = not (is_blank board) && not (list_any (λ p. touches board p.square) ps)
+is_apart board ps = not (has_no_tile board) && not (list_any (λ p. touches board p.square) ps)
 
 -- the fault of a test that holds, else that of the rest
 unfoldable pub check : Bool → PlayFault → Option PlayFault → Option PlayFault

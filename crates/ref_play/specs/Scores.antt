@@ -20,10 +20,13 @@ abbrev pub points_on : Rules → Option Tile → ℕ
 points_on rules None = 0
 points_on rules (Some tile) = points_of rules tile.kind
 
+-- by what the points of the tile on a square are multiplied: the letter premium under a new tile, and 1 under an old one
+abbrev pub factor_on : Rules → List Placed → ℕ → ℕ
+factor_on rules ps square = if covers ps square then letter_factor (premium_at rules square) else 1
+
 -- what a square adds to a word: the points of its tile, a new tile's times its letter premium
 abbrev pub square_points : Rules → List (Option Tile) → List Placed → ℕ → ℕ
-square_points rules after ps square =
-    points_on rules (tile_at after square) * (if covers ps square then letter_factor (premium_at rules square) else 1)
+square_points rules after ps square = points_on rules (tile_at after square) * factor_on rules ps square
 
 -- by what a new tile multiplies a run: its word premium where it lies on the run
 abbrev pub factor_in : Rules → Run → Placed → ℕ

@@ -1,7 +1,7 @@
 ghost use Rattle.std.specs.Prelude.{◌≡◌, ◌-◌, ◌<◌, ◌≤◌, true, false, length};
 ghost use Rattle.ref_board.specs.Cells.{holds, occupied_on};
 ghost use Rattle.ref_play.specs.Placements.{with_tiles, are_rising, covers};
-ghost use Rattle.ref_play.specs.Legality.{overlaps, has_gap, is_blank, misses_centre, is_apart, touches, follows_tile, precedes_tile, last_square};
+ghost use Rattle.ref_play.specs.Legality.{overlaps, has_gap, has_no_tile, misses_centre, is_apart, touches, follows_tile, precedes_tile, last_square};
 ghost use Rattle.std.specs.List.{list_all, list_any, range_with_len};
 
 use crate::placed::Placed;
@@ -74,8 +74,8 @@ pub fn covers(tiles: &[Placed], square: Square) -> bool
 }
 
 /// Whether no square has a tile.
-fn is_blank(board: &Board) -> bool
-    ensures { result ≡ is_blank board.now }
+fn has_no_tile(board: &Board) -> bool
+    ensures { result ≡ has_no_tile board.now }
 {
     board.is_empty()
 }
@@ -85,7 +85,7 @@ fn is_blank(board: &Board) -> bool
 pub fn misses_centre(board: &Board, tiles: &[Placed]) -> bool
     ensures { result ≡ misses_centre board.now tiles.now }
 {
-    is_blank(board) && !covers(tiles, Square::on_line(Dir::Across, 7, 7))
+    has_no_tile(board) && !covers(tiles, Square::on_line(Dir::Across, 7, 7))
 }
 
 /// Whether the square before this one on its line has a tile.
@@ -129,5 +129,5 @@ fn touches_any(board: &Board, tiles: &[Placed]) -> bool
 pub fn is_apart(board: &Board, tiles: &[Placed]) -> bool
     ensures { result ≡ is_apart board.now tiles.now }
 {
-    !is_blank(board) && !touches_any(board, tiles)
+    !has_no_tile(board) && !touches_any(board, tiles)
 }

@@ -10,8 +10,6 @@ mod plays;
 mod runs;
 mod scoring;
 mod spelling;
-#[cfg(test)]
-mod tests;
 mod texts;
 
 pub use faults::PlayFault;

@@ -2,7 +2,7 @@ ghost use Rattle.std.specs.Prelude.{◌≡◌, ◌+◌, ◌*◌, ◌<◌, ◌≤
 ghost use Rattle.ref_play.specs.Formed.{is_on};
 ghost use Rattle.ref_play.specs.Legality.{IsLegal};
 ghost use Rattle.ref_play.specs.Words.{IsWithin};
-ghost use Rattle.ref_play.specs.Scores.{square_points, factor_in, letters_score, words_factor, run_score, bonus_score, score_of};
+ghost use Rattle.ref_play.specs.Scores.{points_on, factor_on, square_points, factor_in, letters_score, words_factor, run_score, bonus_score, score_of};
 
 use crate::judging::formed;
 use crate::legality::covers;
@@ -11,22 +11,38 @@ use crate::plays::{Play, RACK};
 use crate::runs::Run;
 use crate::texts::along;
 use ref_board::{Board, Square};
-use ref_tiles::Rules;
+use ref_tiles::{Rules, Tile};
+
+/// The points of what lies on a square; a blank has none.
+fn points_on(rules: &Rules, cell: Option<Tile>) -> u8
+    ensures points { result ≡ points_on rules.now cell }
+    ensures limit { result ≤ 99 }
+{
+    match cell {
+        None => 0,
+        Some(tile) => rules.points_of(tile.kind),
+    }
+}
+
+/// By what the points of the tile on a square are multiplied: the letter premium under a new tile, and 1 under an old one.
+fn factor_on(rules: &Rules, tiles: &[Placed], square: Square) -> u8
+    ensures factor { result ≡ factor_on rules.now tiles.now square }
+    ensures limit { result ≤ 3 }
+{
+    if covers(tiles, square) {
+        rules.premium(square.number()).letter_factor()
+    } else {
+        1
+    }
+}
 
 /// What a square adds to a word: the points of its tile, a new tile's times the letter premium under it.
 fn square_points(rules: &Rules, after: &Board, tiles: &[Placed], square: Square) -> u32
     ensures points { result ≡ square_points rules.now after.now tiles.now square }
     ensures limit { result ≤ 297 }
 {
-    let points = match after.at(square) {
-        None => 0,
-        Some(tile) => rules.points_of(tile.kind),
-    };
-    let factor = if covers(tiles, square) {
-        rules.premium(square.number()).letter_factor()
-    } else {
-        1
-    };
+    let points = points_on(rules, after.at(square));
+    let factor = factor_on(rules, tiles, square);
     points as u32 * factor as u32
 }
 

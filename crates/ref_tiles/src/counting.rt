@@ -1,4 +1,4 @@
-ghost use Rattle.std.specs.Prelude.{◌≡◌, ◌+◌, ◌-◌, ◌<◌, ◌↔◌, IsTrue, IsSome, OnSome, IfNone, length, sum};
+ghost use Rattle.std.specs.Prelude.{◌≡◌, ◌+◌, ◌-◌, ◌<◌, ◌↔◌, ℕ, IsTrue, IsSome, OnSome, IfNone, length, sum, slice_index};
 ghost use Rattle.ref_tiles.specs.Counting.{no_tiles, count_of, with_count, IsContainedIn};
 
 use crate::kinds::Kind;
@@ -25,6 +25,13 @@ impl Model for Counts {
     ghost inverse = { λ numbers. record { numbers = numbers } };
 }
 
+/// Each of these numbers is below 256.
+fn are_bytes(numbers: &[u8])
+    ensures { (k : ℕ) → k < length numbers.now → slice_index numbers.now k < 256 }
+{
+    let _count = numbers.len();
+}
+
 impl Counts {
     /// The tiles of the English game, 100 in all.
     pub const ENGLISH: Counts = Counts {
@@ -41,6 +48,24 @@ impl Counts {
         Counts {
             numbers: [0; KINDS],
         }
+    }
+
+    /// So many tiles of each kind, A to Z and then blanks.
+    pub fn of(numbers: [u8; KINDS]) -> Counts
+        ensures { result ≡ numbers }
+    {
+        Counts { numbers }
+    }
+
+    /// How many tiles of each kind there are, A to Z and then blanks.
+    pub fn numbers(&self) -> [u8; KINDS]
+        ensures numbers { result ≡ self.now }
+        ensures kinds { length self.now ≡ 27 }
+        ensures small { (k : ℕ) → k < 27 → slice_index self.now k < 256 }
+    {
+        are_bytes(&self.numbers);
+        let numbers = self.numbers;
+        numbers
     }
 
     /// How many tiles of a kind there are.

@@ -10,8 +10,6 @@ mod parts;
 mod premiums;
 mod rulebook;
 mod symbols;
-#[cfg(test)]
-mod tests;
 mod tiles;
 
 pub use counting::{Counts, KINDS};

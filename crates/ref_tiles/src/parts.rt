@@ -8,16 +8,16 @@ use crate::premiums::Premium;
 use crate::rulebook::{Rules, SQUARES};
 
 /// The fewest tiles of a game: two full racks.
-const FEWEST_TILES: usize = 14;
+const MIN_TILES: usize = 14;
 
 /// The most tiles of a game.
-const MOST_TILES: usize = 100;
+const MAX_TILES: usize = 100;
 
 /// The most points of a letter.
-const MOST_POINTS: u8 = 99;
+const MAX_POINTS: u8 = 99;
 
 /// The greatest bonus of a play of seven tiles.
-const MOST_BONUS: u16 = 999;
+const MAX_BONUS: u16 = 999;
 
 /// The parts of [`Rules`], within their limits or not.
 #[derive(Clone, Copy, Debug, PartialEq, Eq)]
@@ -46,14 +46,14 @@ fn is_tile_set(counts: &Counts) -> bool
     ensures { result ≡ is_tile_set counts.now }
 {
     let total = counts.total();
-    FEWEST_TILES <= total && total <= MOST_TILES
+    MIN_TILES <= total && total <= MAX_TILES
 }
 
 /// Whether each letter has at most 99 points.
 fn are_points(points: &[u8]) -> bool
     ensures { result ≡ are_points points.now }
 {
-    points.iter().all(|points| *points <= MOST_POINTS)
+    points.iter().all(|points| *points <= MAX_POINTS)
 }
 
 /// Whether one of the four small numbers is within its limits.
@@ -80,7 +80,7 @@ impl Rules {
             challenge_unit,
             time_step,
         } = parts;
-        if !is_tile_set(&counts) || !are_points(&points) || bonus > MOST_BONUS {
+        if !is_tile_set(&counts) || !are_points(&points) || bonus > MAX_BONUS {
             return None;
         }
         if !is_parameter(exchange_min)

@@ -1,9 +1,10 @@
-use Rattle.std.proofs.Common.{◌≡◌, ◌+◌, ◌<◌, length, refl, ◌∙◌, arith, Some, None}
+use Rattle.std.proofs.Common.{◌≡◌, ◌+◌, ◌<◌, length, refl, sym, ap, ◌∙◌, arith, Some, None}
 use Rattle.std.specs.Option.{option_copied}
 use Rattle.std.proofs.lemmas.Option.{slice_get_read}
+use Rattle.game_turns.specs.declared.playing.Refusal.{Refusal}
 use Rattle.game_turns.specs.Machines.{rules_of, state_of}
 use Rattle.game_turns.specs.Places.{fault_at}
-use Rattle.game_turns.proofs.PlaceLaws.{start_tally, allowed_more, fault_told, state_left, copied_get}
+use Rattle.game_turns.proofs.PlaceLaws.{start_tally, allowed_more, fault_told, state_left}
 use Rattle.game_turns.proofs.playing.play_events.Goals as goal
 
 pub loop-place-init : goal.loop-place-init
@@ -24,9 +25,11 @@ returns-in-Err-clause-refused c =
       place = place;
       event = event;
       stands = is;
-      on_line = omega arith;
-      fails = fault_told rules list events place event (rules_of machine) (state_of machine) (Some c.in-Err.fault) is c.loop-place.invariant.rules c.loop-place.invariant.state
-          c.in-Err.ensures.told;
+      on_line = sym (ap (λ (r : Refusal). r.line) c.of.ensures);
+      fails =
+          fault_told rules list events place event (rules_of machine) (state_of machine) (Some c.in-Err.fault) is c.loop-place.invariant.rules c.loop-place.invariant.state
+          c.in-Err.ensures.told
+          ∙ sym (ap (λ (r : Refusal). Some r.fault) c.of.ensures);
       earlier = c.loop-place.invariant.allowed;
     }
 
@@ -42,10 +45,9 @@ loop-place-preserved c =
     let is = slice_get_read events (length events) place event refl within c.index-events-place.is in
     let here : fault_at rules list events place ≡ None = fault_told rules list events place event (rules_of machine) (state_of machine) None is c.loop-place.invariant.rules c.loop-place.invariant.state c.in_default.ensures.told in
     let allowed = allowed_more rules list events place c.loop-place.invariant.allowed here in
-    let next = copied_get events (place + 1) c.get.result c.get.ensures.lookup.0 c.get.ensures.lookup.1 in
     record {
       rules = c.in_default.ensures.rules ∙ c.loop-place.invariant.rules;
-      state = state_left c.law_of_tallies.ensures rules list events place event (rules_of machine) (state_of machine) (state_of c.step.new.self) (option_copied c.get.result) is
-          c.loop-place.invariant.rules c.loop-place.invariant.state next allowed c.in_default.ensures.state;
+      state = state_left c.law_of_tallies.ensures rules list events place event (rules_of machine) (state_of machine) (state_of c.step.new.self) (option_copied c.event_behind.result) is
+          c.loop-place.invariant.rules c.loop-place.invariant.state c.event_behind.ensures allowed c.in_default.ensures.state;
       allowed = allowed;
     }

@@ -3,7 +3,7 @@ use Rattle.std.specs.Option.{option_copied}
 use Rattle.std.proofs.lemmas.Option.{slice_get_read}
 use Rattle.game_turns.specs.declared.faults.RuleFault.{RuleFault}
 use Rattle.game_turns.specs.Machines.{rules_of, state_of}
-use Rattle.game_turns.proofs.PlaceLaws.{fault_told, state_left, copied_get}
+use Rattle.game_turns.proofs.PlaceLaws.{fault_told, state_left}
 use Rattle.game_turns.proofs.passed.Passed.take_event.Goals as goal
 
 no_fault : (why : RuleFault) → Some why ≡ None → ⊥
@@ -31,6 +31,5 @@ returns-clause-state c =
     let machine = c.args.machine.now in
     let within : place < length events = rw c.as_slice-events.ensures c.requires.place in
     let is = slice_get_read events (length events) place event refl within c.index-events-place.is in
-    let next = copied_get events (place + 1) c.get.result c.get.ensures.lookup.0 c.get.ensures.lookup.1 in
-    rw (sym c.as_slice-events.ensures) (state_left c.law_of_tallies.ensures passed.rules.now passed.list.now events place event (rules_of machine) (state_of machine) (state_of c.step.new.self) (option_copied c.get.result) is
-    c.requires.rules (rw c.as_slice-events.ensures c.requires.state) next (λ k below. rw c.as_slice-events.ensures (passed.allowed k (omega arith))) c.in-Ok.ensures.state)
+    rw (sym c.as_slice-events.ensures) (state_left c.law_of_tallies.ensures passed.rules.now passed.list.now events place event (rules_of machine) (state_of machine) (state_of c.step.new.self) (option_copied c.event_behind.result) is
+    c.requires.rules (rw c.as_slice-events.ensures c.requires.state) c.event_behind.ensures (λ k below. rw c.as_slice-events.ensures (passed.allowed k (omega arith))) c.in-Ok.ensures.state)
