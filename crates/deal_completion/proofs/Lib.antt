@@ -1,0 +1,12 @@
+pub mod WantLaws
+pub mod Demand
+pub mod PickLaws
+pub mod PickLoops
+pub mod DealStates
+pub mod DealLaws
+pub mod DealLoops
+pub mod OnTime
+pub mod Starting
+pub mod ReadySteps
+pub mod PlainDeals
+pub mod Examples

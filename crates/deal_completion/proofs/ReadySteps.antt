@@ -1,0 +1,448 @@
+-- Every step of a game without exchanges leaves the bag and the racks ready for the steps to come.
+use Rattle.std.proofs.Common.{◌≡◌, ◌<◌, ◌≤◌, ℕ, ◌+◌, ◌-◌, Bool, true, false, leb, List, [], ◌∷◌, ◌++◌, replicate, get_or, sum, length, refl, sym, ap, ◌∙◌, subst, arith, zero, suc}
+use Rattle.std.specs.Prelude.{if◌then◌else◌}
+use Rattle.std.specs.List.{list_all, range_with_len}
+use Rattle.std.proofs.lemmas.Bool.{and_from, le-leb}
+use Rattle.ref_tiles.specs.Counting.{no_tiles}
+use Rattle.ref_tiles.specs.declared.rulebook.Rules.{Rules}
+use Rattle.gcg_read.specs.declared.events.Seat.{Seat}
+use Rattle.gcg_read.specs.declared.events.Seat.TheVariants.{First, Second}
+use Rattle.gcg_read.specs.Players.{same_seat}
+use Rattle.deal_steps.specs.declared.steps.Motion.{Motion}
+use Rattle.deal_steps.specs.declared.steps.Motion.TheVariants as motion
+use Rattle.deal_steps.specs.declared.steps.Act.{Act}
+use Rattle.deal_steps.specs.declared.steps.Act.TheVariants as act
+use Rattle.deal_steps.specs.declared.steps.Step.{Step}
+use Rattle.deal_steps.specs.declared.deals.Racks.{Racks}
+use Rattle.deal_steps.specs.Piles.{kinds, joined, without, greater}
+use Rattle.deal_steps.specs.Steps.{left_by, of_act, left_in, ends_epoch, needed, needed_of}
+use Rattle.deal_steps.specs.Fitting.{rack_of}
+use Rattle.deal_steps.specs.Bounds.{gone}
+use Rattle.deal_steps.specs.Runs.{Course, none_waiting, waits, size_in, with_size, MayTurn, MayAct, turn_course, act_course, IsRunFrom, HasKinds}
+use Rattle.deal_steps.proofs.PileLaws.{get-joined, get-without, get-greater, get-no_tiles, length-without, sum_of_sums, sum_is, sum-joined, sum_kinds_same, zero_kinds}
+use Rattle.deal_completion.specs.declared.picking.Pick.{Pick}
+use Rattle.deal_completion.specs.declared.hands.Hands.{Hands}
+use Rattle.deal_completion.specs.Completion.{lacking, with_gone, wanted, want_list, pick, take_off, put_on, drawn, draw, throws, acted, is_within, is_met}
+use Rattle.deal_completion.specs.Plain.{swaps_by, swaps, IsPlain}
+use Rattle.deal_completion.proofs.WantLaws.{lacks_from}
+use Rattle.deal_completion.proofs.Demand.{demand}
+use Rattle.deal_completion.proofs.PickLaws.{AreKinds, IsOf, picks, sum_left}
+use Rattle.deal_completion.proofs.DealStates.{IsWhole}
+use Rattle.deal_completion.proofs.DealLaws.{within_test}
+use Rattle.deal_completion.proofs.OnTime.{drawn_by, drawn_at, drawn_in, to_come, IsOnTime, on_time_after, on_time_drawn, IsCovered, covers_pick, room_for_pick, covered_drawn, covered_after}
+use Rattle.deal_completion.proofs.Starting.{known_if_plain}
+
+-- ---- want lists are of kinds
+
+kinds_append : (xs ys : List ℕ) → AreKinds xs → AreKinds ys → AreKinds (xs ++ ys)
+kinds_append [] ys a b = b
+kinds_append (x ∷ xs) ys a b = (a.0, kinds_append xs ys a.1 b)
+
+kinds_replicate : (n k : ℕ) → k < 27 → AreKinds (replicate n k)
+kinds_replicate zero k h = tt
+kinds_replicate (suc n) k h = (h, kinds_replicate n k h)
+
+kinds_from : (f : ℕ → ℕ) (a n : ℕ) → a + n ≤ 27 → AreKinds (lacks_from f a n)
+kinds_from f a zero h = tt
+kinds_from f a (suc n) h =
+    kinds_append (replicate (f a) a) (lacks_from f (a + 1) n) (kinds_replicate (f a) a (omega arith)) (kinds_from f (a + 1) n (omega arith))
+
+are_lacking : (asked have : List ℕ) → AreKinds (lacking asked have)
+unfolding lacking kinds
+are_lacking asked have = kinds_from (λ k. get_or asked k 0 - get_or have k 0) 0 27 (omega arith)
+
+kinds_unless : (b : Bool) (xs : List ℕ) → AreKinds xs → AreKinds (if b then [] else xs)
+kinds_unless true xs are = tt
+kinds_unless false xs are = are
+
+pub are_wanted : (seat : Seat) (steps : List Step) (gone have : List ℕ) → AreKinds (wanted seat steps gone have)
+are_wanted seat [] gone have = tt
+are_wanted seat (s ∷ steps) gone have =
+    let rest = wanted seat steps (joined gone (left_in seat s)) (greater have (with_gone gone (needed seat s))) in
+    kinds_append (lacking (with_gone gone (needed seat s)) have) (if ends_epoch seat s then [] else rest)
+    (are_lacking (with_gone gone (needed seat s)) have)
+    (kinds_unless (ends_epoch seat s) rest (are_wanted seat steps (joined gone (left_in seat s)) (greater have (with_gone gone (needed seat s)))))
+
+-- ---- sums
+
+pub sum-without : (a b : List ℕ) → length a ≡ 27 → length b ≡ 27 → ((k : ℕ) → k < 27 → get_or b k 0 ≤ get_or a k 0) → sum (without a b) + sum b ≡ sum a
+sum-without a b la lb le =
+    let x = sum_is a la in
+    let y = sum_is b lb in
+    let z = sum_is (without a b) (length-without a b) in
+    let both = sum_of_sums (λ k. get_or (without a b) k 0) (λ k. get_or b k 0) kinds in
+    let same = sum_kinds_same (λ k. get_or (without a b) k 0 + get_or b k 0) (λ k. get_or a k 0)
+    (λ k h. let w = get-without a b k h in let l = le k h in omega arith) in
+    omega arith
+
+-- tiles that are on a rack of no more tiles are all of it
+pub all_there : (tiles rack : List ℕ) → length tiles ≡ 27 → length rack ≡ 27 → sum tiles ≡ sum rack → ((k : ℕ) → k < 27 → get_or tiles k 0 ≤ get_or rack k 0)
+    → (k : ℕ) → k < 27 → get_or rack k 0 ≤ get_or tiles k 0
+all_there tiles rack long rack_long same le k h =
+    let more = sum-without rack tiles rack_long long le in
+    let z = sum_is (without rack tiles) (length-without rack tiles) in
+    let none = zero_kinds (λ k. get_or (without rack tiles) k 0) (omega arith) k h in
+    let w = get-without rack tiles k h in
+    omega arith
+
+-- ---- tests
+
+all_range : (test : ℕ → Bool) (a n : ℕ) → ((k : ℕ) → k < a + n → test k ≡ true) → list_all test (range_with_len a n) ≡ true
+all_range test a zero all = refl
+all_range test a (suc n) all =
+    and_from (test a) (list_all test (range_with_len (a + 1) n)) (all a (omega arith)) (all_range test (a + 1) n (λ k h. all k (omega arith)))
+
+pub within_is : (tiles others : List ℕ) → ((k : ℕ) → k < 27 → get_or tiles k 0 ≤ get_or others k 0) → is_within tiles others ≡ true
+unfolding kinds
+within_is tiles others le =
+    all_range (λ k. leb (get_or tiles k 0) (get_or others k 0)) 0 27 (λ k h. le-leb (get_or tiles k 0) (get_or others k 0) (le k (omega arith)))
+
+-- what a turn shows and what it uses is on the rack, where the moment is met
+pub shown_there : (shown used rack : List ℕ) → is_within (greater shown used) rack ≡ true → (k : ℕ) → k < 27
+    → (get_or shown k 0 ≤ get_or rack k 0) × (get_or used k 0 ≤ get_or rack k 0)
+shown_there shown used rack met k h =
+    let w = within_test (greater shown used) rack met k h in
+    let g = get-greater shown used k h in
+    (omega arith, omega arith)
+
+-- ---- racks with the same numbers
+
+-- on time with another rack of the same numbers
+pub on_time_same : (seat : Seat) (steps : List Step) (rack new : List ℕ) (due : ℕ) → IsOnTime seat steps rack due → ((k : ℕ) → k < 27 → get_or new k 0 ≡ get_or rack k 0) → IsOnTime seat steps new due
+on_time_same seat steps rack new due on same = record {
+  on_time = λ before s after tiles parts asks.
+      let all = on.on_time before s after tiles parts asks in
+      let e = sum_kinds_same (λ k. demand seat (before ++ s ∷ []) k - get_or new k 0) (λ k. demand seat (before ++ s ∷ []) k - get_or rack k 0)
+      (λ k h. ap (λ (n : ℕ). demand seat (before ++ s ∷ []) k - n) (same k h)) in
+      omega arith;
+}
+
+pub covered_same : (mine others : ℕ → ℕ) (rack new other_rack other_new bag : List ℕ) → IsCovered mine others rack other_rack bag
+    → ((k : ℕ) → k < 27 → get_or new k 0 ≡ get_or rack k 0) → ((k : ℕ) → k < 27 → get_or other_new k 0 ≡ get_or other_rack k 0)
+    → IsCovered mine others new other_new bag
+covered_same mine others rack new other_rack other_new bag is same other_same = record {
+  covered = λ k h.
+      let c = is.covered k h in
+      let a = same k h in
+      let b = other_same k h in
+      subst (λ (n : ℕ). (mine k - n) + (others k - get_or other_new k 0) ≤ get_or bag k 0) (sym a)
+      (subst (λ (n : ℕ). (mine k - get_or rack k 0) + (others k - n) ≤ get_or bag k 0) (sym b) c);
+}
+
+pub covered_swapped : (mine others : ℕ → ℕ) (rack other_rack bag : List ℕ) → IsCovered mine others rack other_rack bag → IsCovered others mine other_rack rack bag
+covered_swapped mine others rack other_rack bag is = record { covered = λ k h. let c = is.covered k h in omega arith }
+
+-- with no tiles that wait
+pub with_none : (rack waiting : List ℕ) → waiting ≡ no_tiles → (k : ℕ) → k < 27 → get_or rack k 0 ≡ get_or (joined rack waiting) k 0
+with_none rack waiting none k h =
+    let j = get-joined rack waiting k h in
+    let e = ap (λ (l : List ℕ). get_or l k 0) none in
+    let z = get-no_tiles k h in
+    omega arith
+
+-- ---- the bag lasts
+
+pub drawn_split : (player : Seat) (n : ℕ) → (if same_seat player First then n else 0) + (if same_seat player Second then n else 0) ≡ n
+drawn_split First n = omega arith
+drawn_split Second n = omega arith
+
+size_bag : (c : Course) (seat : Seat) (n : ℕ) → (with_size c seat n).bag ≡ c.bag
+size_bag c First n = refl
+size_bag c Second n = refl
+
+bag_after_turn : (c : Course) (seat : Seat) (what : Motion) → MayTurn c seat what → swaps_by what ≡ false → (turn_course c seat what).bag + drawn_by what ≡ c.bag
+bag_after_turn c seat motion.Keeps may plain = omega arith
+bag_after_turn c seat (motion.Lays used drawn) may plain = let e = may.0 in omega arith
+bag_after_turn c seat (motion.Tries used) may plain = let e = size_bag c seat (size_in c seat - sum used) in omega arith
+bag_after_turn c seat (motion.Throws tiles) may plain = absurd (cc)
+bag_after_turn c seat (motion.ThrowsUnknown n) may plain = absurd (cc)
+
+bag_after_act : (c : Course) (seat : Seat) (what : Act) → MayAct c seat what → swaps what ≡ false → (act_course c seat what).bag + drawn_at what ≡ c.bag
+bag_after_act c seat (act.Turns shown what) may plain = bag_after_turn c seat what may.1 plain
+bag_after_act c seat (act.TakesBack used) may plain = let e = size_bag c seat (size_in c seat + sum used) in omega arith
+bag_after_act c seat (act.Ends holder tiles) may plain = omega arith
+bag_after_act c seat act.Rests may plain = omega arith
+
+pub bag_lasts : (c : Course) (steps : List Step) → IsRunFrom c steps → IsPlain steps → to_come First steps + to_come Second steps ≤ c.bag
+bag_lasts c [] run plain = omega arith
+bag_lasts c (s ∷ steps) run plain =
+    let rest = bag_lasts (act_course c s.player s.act) steps run.1 plain.1 in
+    let bag = bag_after_act c s.player s.act run.0.may plain.0 in
+    let both = drawn_split s.player (drawn_at s.act) in
+    omega arith
+
+-- ---- a draw
+
+-- What a player draws comes in time, and the bag still has what both want.
+pub record DrawsWell (seat other : Seat) (steps : List Step) (rack other_rack bag : List ℕ) (number : ℕ) (q : Pick) : Type 0 where
+  pub is_of : IsOf bag q
+  pub all : sum q.taken ≡ number
+  pub left : sum q.left + number ≡ sum bag
+  pub on : IsOnTime seat steps (joined rack q.taken) 0
+  pub covered : IsCovered (demand seat steps) (demand other steps) (joined rack q.taken) other_rack q.left
+
+pub draws_well : (seat other : Seat) (steps : List Step) (rack other_rack bag : List ℕ) (number due : ℕ) → IsPlain steps → length bag ≡ 27
+    → IsOnTime seat steps rack number → IsOnTime other steps other_rack due → IsCovered (demand seat steps) (demand other steps) rack other_rack bag
+    → due + to_come other steps + number ≤ sum bag
+    → DrawsWell seat other steps rack other_rack bag number (pick (want_list seat steps rack) (want_list other steps other_rack) number bag)
+draws_well seat other steps rack other_rack bag number due plain long on other_on covered room =
+    let known = known_if_plain seat steps plain in
+    let other_known = known_if_plain other steps plain in
+    let q = pick (want_list seat steps rack) (want_list other steps other_rack) number bag in
+    let p = picks (want_list seat steps rack) (want_list other steps other_rack) bag number (are_wanted seat steps no_tiles rack) long
+    (covers_pick seat other steps rack other_rack bag known other_known covered)
+    (room_for_pick other steps other_rack bag number due other_known other_on room) in
+    let all = p.all in
+    let both = sum_left bag q p.is_of long in
+    let enough : number ≡ number + 0 = omega arith in
+    record {
+      is_of = p.is_of;
+      all = all;
+      left = omega arith;
+      on = on_time_drawn seat steps rack (want_list other steps other_rack) bag number 0 q known (subst (λ (n : ℕ). IsOnTime seat steps rack n) enough on) p;
+      covered = covered_drawn seat other steps rack other_rack bag number q known other_known p;
+    }
+
+-- ---- ready
+
+-- Between two steps of a game without exchanges: the sizes are right, what is asked for comes in time, and the bag has it.
+pub record IsReady (c : Course) (steps : List Step) (h : Hands) : Type 0 where
+  pub first_size : sum h.racks.first ≡ c.first
+  pub second_size : sum h.racks.second ≡ c.second
+  pub bag_size : sum h.bag ≡ c.bag
+  pub first_on : IsOnTime First steps (joined h.racks.first c.waiting.first) 0
+  pub second_on : IsOnTime Second steps (joined h.racks.second c.waiting.second) 0
+  pub covered : IsCovered (demand First steps) (demand Second steps) (joined h.racks.first c.waiting.first) (joined h.racks.second c.waiting.second) h.bag
+
+-- a player from whose rack nothing leaves, and who draws nothing
+on_time_rests : (seat : Seat) (s : Step) (rest : List Step) (rack : List ℕ) → IsOnTime seat (s ∷ rest) rack 0 → left_in seat s ≡ no_tiles → drawn_in seat s ≡ 0
+    → IsOnTime seat rest rack 0
+on_time_rests seat s rest rack on left none =
+    let nothing : (k : ℕ) → k < 27 → get_or (left_in seat s) k 0 ≡ 0 = λ k h. ap (λ (l : List ℕ). get_or l k 0) left ∙ get-no_tiles k h in
+    let after = on_time_after seat s rest rack on (λ k h. let z = nothing k h in omega arith) in
+    on_time_same seat rest (without rack (left_in seat s)) rack 0 (subst (λ (n : ℕ). IsOnTime seat rest (without rack (left_in seat s)) n) none after)
+    (λ k h. let z = nothing k h in let w = get-without rack (left_in seat s) k h in omega arith)
+
+covered_rests : (s : Step) (rest : List Step) (rack other_rack bag : List ℕ) → IsCovered (demand First (s ∷ rest)) (demand Second (s ∷ rest)) rack other_rack bag
+    → IsCovered (demand First rest) (demand Second rest) rack other_rack bag
+covered_rests s rest rack other_rack bag is = record { covered = λ k h. let c = is.covered k h in omega arith }
+
+ready_rests : (c : Course) (s : Step) (rest : List Step) (h : Hands) → IsReady c (s ∷ rest) h → left_in First s ≡ no_tiles → left_in Second s ≡ no_tiles
+    → drawn_in First s ≡ 0 → drawn_in Second s ≡ 0 → IsReady c rest h
+ready_rests c s rest h ready left second_left none second_none = record {
+  first_size = ready.first_size;
+  second_size = ready.second_size;
+  bag_size = ready.bag_size;
+  first_on = on_time_rests First s rest (joined h.racks.first c.waiting.first) ready.first_on left none;
+  second_on = on_time_rests Second s rest (joined h.racks.second c.waiting.second) ready.second_on second_left second_none;
+  covered = covered_rests s rest (joined h.racks.first c.waiting.first) (joined h.racks.second c.waiting.second) h.bag ready.covered;
+}
+
+-- tiles that move between a rack and a play that waits
+ready_moved : (c new : Course) (rest : List Step) (h after : Hands) → IsReady c rest h → sum after.racks.first ≡ new.first → sum after.racks.second ≡ new.second
+    → new.bag ≡ c.bag → after.bag ≡ h.bag
+    → ((k : ℕ) → k < 27 → get_or (joined after.racks.first new.waiting.first) k 0 ≡ get_or (joined h.racks.first c.waiting.first) k 0)
+    → ((k : ℕ) → k < 27 → get_or (joined after.racks.second new.waiting.second) k 0 ≡ get_or (joined h.racks.second c.waiting.second) k 0)
+    → IsReady new rest after
+ready_moved c new rest h after ready first second bag same_bag first_same second_same = record {
+  first_size = first;
+  second_size = second;
+  bag_size = ap sum same_bag ∙ ready.bag_size ∙ sym bag;
+  first_on = on_time_same First rest (joined h.racks.first c.waiting.first) (joined after.racks.first new.waiting.first) 0 ready.first_on first_same;
+  second_on = on_time_same Second rest (joined h.racks.second c.waiting.second) (joined after.racks.second new.waiting.second) 0 ready.second_on second_same;
+  covered = subst (λ (b : List ℕ). IsCovered (demand First rest) (demand Second rest) (joined after.racks.first new.waiting.first) (joined after.racks.second new.waiting.second) b) (sym same_bag)
+      (covered_same (demand First rest) (demand Second rest) (joined h.racks.first c.waiting.first) (joined after.racks.first new.waiting.first)
+      (joined h.racks.second c.waiting.second) (joined after.racks.second new.waiting.second) h.bag ready.covered first_same second_same);
+}
+
+-- ---- a play that stands
+
+-- a player lays tiles that are on the rack, and draws
+player_draws : (seat other : Seat) (s : Step) (rest : List Step) (rack other_rack bag used : List ℕ) (number : ℕ)
+    → IsOnTime seat (s ∷ rest) rack 0 → IsOnTime other (s ∷ rest) other_rack 0 → IsCovered (demand seat (s ∷ rest)) (demand other (s ∷ rest)) rack other_rack bag
+    → left_in seat s ≡ used → left_in other s ≡ no_tiles → drawn_in seat s ≡ number → drawn_in other s ≡ 0 → length bag ≡ 27
+    → ((k : ℕ) → k < 27 → get_or used k 0 ≤ get_or rack k 0) → IsPlain rest → number + to_come other rest ≤ sum bag
+    → DrawsWell seat other rest (without rack used) other_rack bag number (pick (want_list seat rest (without rack used)) (want_list other rest other_rack) number bag)
+player_draws seat other s rest rack other_rack bag used number on other_on covered left other_left draws other_draws long there plain room =
+    let there_left : (k : ℕ) → k < 27 → get_or (left_in seat s) k 0 ≤ get_or rack k 0 =
+    λ k h. subst (λ (l : List ℕ). get_or l k 0 ≤ get_or rack k 0) (sym left) (there k h) in
+    let after = subst (λ (l : List ℕ). IsOnTime seat rest (without rack l) (drawn_in seat s)) left (on_time_after seat s rest rack on there_left) in
+    let on_rest = subst (λ (n : ℕ). IsOnTime seat rest (without rack used) n) draws after in
+    let covered_rest = subst (λ (l : List ℕ). IsCovered (demand seat rest) (demand other rest) (without rack l) other_rack bag) left
+    (covered_after seat other s rest rack other_rack bag covered there_left) in
+    draws_well seat other rest (without rack used) other_rack bag number 0 plain long on_rest (on_time_rests other s rest other_rack other_on other_left other_draws) covered_rest (omega arith)
+
+pub first_draws : (c : Course) (s : Step) (rest : List Step) (h : Hands) (used : List ℕ) (number : ℕ) → IsReady c (s ∷ rest) h → c.waiting ≡ none_waiting
+    → left_in First s ≡ used → left_in Second s ≡ no_tiles → drawn_in First s ≡ number → drawn_in Second s ≡ 0 → length used ≡ 27 → length h.racks.first ≡ 27 → length h.bag ≡ 27
+    → ((k : ℕ) → k < 27 → get_or used k 0 ≤ get_or h.racks.first k 0) → IsPlain rest → number + to_come Second rest ≤ c.bag
+    → IsReady (turn_course c First (motion.Lays used number)) rest (draw First number rest (take_off First used h))
+unfolding draw
+first_draws c s rest h used number ready waiting left second_left draws second_draws long rack_long bag_long there plain room =
+    let rack = h.racks.first in
+    let other_rack = h.racks.second in
+    let none = with_none rack c.waiting.first (ap (λ (w : Racks). w.first) waiting) in
+    let other_none = with_none other_rack c.waiting.second (ap (λ (w : Racks). w.second) waiting) in
+    let on = on_time_same First (s ∷ rest) (joined rack c.waiting.first) rack 0 ready.first_on none in
+    let other_on = on_time_same Second (s ∷ rest) (joined other_rack c.waiting.second) other_rack 0 ready.second_on other_none in
+    let covered = covered_same (demand First (s ∷ rest)) (demand Second (s ∷ rest)) (joined rack c.waiting.first) rack (joined other_rack c.waiting.second) other_rack h.bag ready.covered none other_none in
+    let bag_size = ready.bag_size in
+    let well = player_draws First Second s rest rack other_rack h.bag used number on other_on covered left second_left draws second_draws bag_long there plain (omega arith) in
+    let q = pick (want_list First rest (without rack used)) (want_list Second rest other_rack) number h.bag in
+    let new = joined (without rack used) q.taken in
+    let new_none = with_none new c.waiting.first (ap (λ (w : Racks). w.first) waiting) in
+    let size = ready.first_size in
+    let less = sum-without rack used rack_long long there in
+    let more = sum-joined (without rack used) q.taken (length-without rack used) well.is_of.long in
+    let all = well.all in
+    let bag_left = well.left in
+    record {
+      first_size = omega arith;
+      second_size = ready.second_size;
+      bag_size = omega arith;
+      first_on = on_time_same First rest new (joined new c.waiting.first) 0 well.on (λ k h. sym (new_none k h));
+      second_on = on_time_rests Second s rest (joined other_rack c.waiting.second) ready.second_on second_left second_draws;
+      covered = covered_same (demand First rest) (demand Second rest) new (joined new c.waiting.first) other_rack (joined other_rack c.waiting.second) q.left well.covered
+          (λ k h. sym (new_none k h)) (λ k h. sym (other_none k h));
+    }
+
+pub second_draws : (c : Course) (s : Step) (rest : List Step) (h : Hands) (used : List ℕ) (number : ℕ) → IsReady c (s ∷ rest) h → c.waiting ≡ none_waiting
+    → left_in Second s ≡ used → left_in First s ≡ no_tiles → drawn_in Second s ≡ number → drawn_in First s ≡ 0 → length used ≡ 27 → length h.racks.second ≡ 27 → length h.bag ≡ 27
+    → ((k : ℕ) → k < 27 → get_or used k 0 ≤ get_or h.racks.second k 0) → IsPlain rest → number + to_come First rest ≤ c.bag
+    → IsReady (turn_course c Second (motion.Lays used number)) rest (draw Second number rest (take_off Second used h))
+unfolding draw
+second_draws c s rest h used number ready waiting left first_left draws first_none long rack_long bag_long there plain room =
+    let rack = h.racks.second in
+    let other_rack = h.racks.first in
+    let none = with_none rack c.waiting.second (ap (λ (w : Racks). w.second) waiting) in
+    let other_none = with_none other_rack c.waiting.first (ap (λ (w : Racks). w.first) waiting) in
+    let on = on_time_same Second (s ∷ rest) (joined rack c.waiting.second) rack 0 ready.second_on none in
+    let other_on = on_time_same First (s ∷ rest) (joined other_rack c.waiting.first) other_rack 0 ready.first_on other_none in
+    let covered = covered_swapped (demand First (s ∷ rest)) (demand Second (s ∷ rest)) other_rack rack h.bag
+    (covered_same (demand First (s ∷ rest)) (demand Second (s ∷ rest)) (joined other_rack c.waiting.first) other_rack (joined rack c.waiting.second) rack h.bag ready.covered other_none none) in
+    let bag_size = ready.bag_size in
+    let well = player_draws Second First s rest rack other_rack h.bag used number on other_on covered left first_left draws first_none bag_long there plain (omega arith) in
+    let q = pick (want_list Second rest (without rack used)) (want_list First rest other_rack) number h.bag in
+    let new = joined (without rack used) q.taken in
+    let new_none = with_none new c.waiting.second (ap (λ (w : Racks). w.second) waiting) in
+    let size = ready.second_size in
+    let less = sum-without rack used rack_long long there in
+    let more = sum-joined (without rack used) q.taken (length-without rack used) well.is_of.long in
+    let all = well.all in
+    let bag_left = well.left in
+    record {
+      first_size = ready.first_size;
+      second_size = omega arith;
+      bag_size = omega arith;
+      first_on = on_time_rests First s rest (joined other_rack c.waiting.first) ready.first_on first_left first_none;
+      second_on = on_time_same Second rest new (joined new c.waiting.second) 0 well.on (λ k h. sym (new_none k h));
+      covered = covered_same (demand First rest) (demand Second rest) other_rack (joined other_rack c.waiting.first) new (joined new c.waiting.second) q.left
+          (covered_swapped (demand Second rest) (demand First rest) new other_rack q.left well.covered) (λ k h. sym (other_none k h)) (λ k h. sym (new_none k h));
+    }
+
+-- ---- a play that is taken back
+
+tries_moved : (rack used waiting : List ℕ) → waiting ≡ no_tiles → ((k : ℕ) → k < 27 → get_or used k 0 ≤ get_or rack k 0) → (k : ℕ) → k < 27
+    → get_or (joined (without rack used) used) k 0 ≡ get_or (joined rack waiting) k 0
+tries_moved rack used waiting none there k h =
+    let a = get-joined (without rack used) used k h in
+    let b = get-without rack used k h in
+    let c = with_none rack waiting none k h in
+    let t = there k h in
+    omega arith
+
+same_none : (rack waiting : List ℕ) → waiting ≡ no_tiles → (k : ℕ) → k < 27 → get_or (joined rack no_tiles) k 0 ≡ get_or (joined rack waiting) k 0
+same_none rack waiting none k h = ap (λ (l : List ℕ). get_or (joined rack l) k 0) (sym none)
+
+back_moved : (rack used waiting : List ℕ) → waiting ≡ used → (k : ℕ) → k < 27 → get_or (joined (joined rack used) no_tiles) k 0 ≡ get_or (joined rack waiting) k 0
+back_moved rack used waiting is k h =
+    sym (with_none (joined rack used) no_tiles refl k h) ∙ ap (λ (l : List ℕ). get_or (joined rack l) k 0) (sym is)
+
+tries_ready : (rules : Rules) (player : Seat) (used : List ℕ) (c : Course) (rest : List Step) (h : Hands) → IsReady c rest h → IsWhole rules c h
+    → c.waiting ≡ none_waiting → length used ≡ 27 → ((k : ℕ) → k < 27 → get_or used k 0 ≤ get_or (rack_of h.racks player) k 0)
+    → IsReady (turn_course c player (motion.Tries used)) rest (take_off player used h)
+tries_ready rules First used c rest h ready whole waiting long there =
+    let size = ready.first_size in
+    let less = sum-without h.racks.first used whole.first_long long there in
+    ready_moved c (turn_course c First (motion.Tries used)) rest h (take_off First used h) ready (omega arith) ready.second_size refl refl
+    (tries_moved h.racks.first used c.waiting.first (ap (λ (w : Racks). w.first) waiting) there)
+    (same_none h.racks.second c.waiting.second (ap (λ (w : Racks). w.second) waiting))
+tries_ready rules Second used c rest h ready whole waiting long there =
+    let size = ready.second_size in
+    let less = sum-without h.racks.second used whole.second_long long there in
+    ready_moved c (turn_course c Second (motion.Tries used)) rest h (take_off Second used h) ready ready.first_size (omega arith) refl refl
+    (same_none h.racks.first c.waiting.first (ap (λ (w : Racks). w.first) waiting))
+    (tries_moved h.racks.second used c.waiting.second (ap (λ (w : Racks). w.second) waiting) there)
+
+back_ready : (rules : Rules) (player : Seat) (used : List ℕ) (c : Course) (rest : List Step) (h : Hands) → IsReady c rest h → IsWhole rules c h
+    → c.waiting ≡ waits player used → length used ≡ 27
+    → IsReady (act_course c player (act.TakesBack used)) rest (put_on player used h)
+back_ready rules First used c rest h ready whole waiting long =
+    let size = ready.first_size in
+    let more = sum-joined h.racks.first used whole.first_long long in
+    ready_moved c (act_course c First (act.TakesBack used)) rest h (put_on First used h) ready (omega arith) ready.second_size refl refl
+    (back_moved h.racks.first used c.waiting.first (ap (λ (w : Racks). w.first) waiting))
+    (same_none h.racks.second c.waiting.second (ap (λ (w : Racks). w.second) waiting))
+back_ready rules Second used c rest h ready whole waiting long =
+    let size = ready.second_size in
+    let more = sum-joined h.racks.second used whole.second_long long in
+    ready_moved c (act_course c Second (act.TakesBack used)) rest h (put_on Second used h) ready ready.first_size (omega arith) refl refl
+    (same_none h.racks.first c.waiting.first (ap (λ (w : Racks). w.first) waiting))
+    (back_moved h.racks.second used c.waiting.second (ap (λ (w : Racks). w.second) waiting))
+
+-- ---- every step keeps ready
+
+-- what leaves, what is drawn and what is asked for at a step, by its player and its act
+pub left_is : (seat : Seat) (s : Step) (player : Seat) (what : Act) → s.player ≡ player → s.act ≡ what
+    → left_in seat s ≡ (if same_seat player seat then of_act left_by what else no_tiles)
+left_is seat s player what by is =
+    ap (λ (p : Seat). if same_seat p seat then of_act left_by s.act else no_tiles) by ∙ ap (λ (a : Act). if same_seat player seat then of_act left_by a else no_tiles) is
+
+drawn_is : (seat : Seat) (s : Step) (player : Seat) (what : Act) → s.player ≡ player → s.act ≡ what
+    → drawn_in seat s ≡ (if same_seat player seat then drawn_at what else 0)
+drawn_is seat s player what by is =
+    ap (λ (p : Seat). if same_seat p seat then drawn_at s.act else 0) by ∙ ap (λ (a : Act). if same_seat player seat then drawn_at a else 0) is
+
+pub needed_is : (seat : Seat) (s : Step) (player : Seat) (what : Act) → s.player ≡ player → s.act ≡ what → needed seat s ≡ needed_of seat player what
+needed_is seat s player what by is = ap (λ (p : Seat). needed_of seat p s.act) by ∙ ap (λ (a : Act). needed_of seat player a) is
+
+pub either_same : {A : Type 0} → (b : Bool) (x : A) → (if b then x else x) ≡ x
+either_same true x = refl
+either_same false x = refl
+
+-- a step at which nothing leaves a rack and nothing is drawn
+ready_same : (player : Seat) (what : Act) (c : Course) (s : Step) (rest : List Step) (h : Hands) → s.player ≡ player → s.act ≡ what → IsReady c (s ∷ rest) h
+    → of_act left_by what ≡ no_tiles → drawn_at what ≡ 0 → IsReady c rest h
+ready_same player what c s rest h by is ready left none =
+    let left_none : (seat : Seat) → left_in seat s ≡ no_tiles =
+    λ seat. left_is seat s player what by is ∙ ap (λ (l : List ℕ). if same_seat player seat then l else no_tiles) left ∙ either_same (same_seat player seat) no_tiles in
+    let drawn_none : (seat : Seat) → drawn_in seat s ≡ 0 =
+    λ seat. drawn_is seat s player what by is ∙ ap (λ (n : ℕ). if same_seat player seat then n else 0) none ∙ either_same (same_seat player seat) 0 in
+    ready_rests c s rest h ready (left_none First) (left_none Second) (drawn_none First) (drawn_none Second)
+
+pub ready_by : (rules : Rules) (player : Seat) (what : Act) (c : Course) (s : Step) (rest : List Step) (h : Hands) → s.player ≡ player → s.act ≡ what → IsReady c (s ∷ rest) h → IsWhole rules c h
+    → MayAct c player what → HasKinds what → swaps what ≡ false → IsPlain rest → is_met player what h.racks ≡ true
+    → drawn_at what + to_come First rest + to_come Second rest ≤ c.bag
+    → IsReady (act_course c player what) rest (acted player what (throws player what rest h.racks) rest h)
+ready_by rules player (act.Turns shown motion.Keeps) c s rest h by is ready whole may are plain rest_plain met room =
+    ready_same player (act.Turns shown motion.Keeps) c s rest h by is ready refl refl
+ready_by rules First (act.Turns shown (motion.Lays used drawn)) c s rest h by is ready whole may are plain rest_plain met room =
+    let what = act.Turns shown (motion.Lays used drawn) in
+    first_draws c s rest h used drawn ready may.0 (left_is First s First what by is) (left_is Second s First what by is)
+    (drawn_is First s First what by is) (drawn_is Second s First what by is) are.1 whole.first_long whole.bag_long
+    (λ k h. (shown_there shown used _ met k h).1) rest_plain (omega arith)
+ready_by rules Second (act.Turns shown (motion.Lays used drawn)) c s rest h by is ready whole may are plain rest_plain met room =
+    let what = act.Turns shown (motion.Lays used drawn) in
+    second_draws c s rest h used drawn ready may.0 (left_is Second s Second what by is) (left_is First s Second what by is)
+    (drawn_is Second s Second what by is) (drawn_is First s Second what by is) are.1 whole.second_long whole.bag_long
+    (λ k h. (shown_there shown used _ met k h).1) rest_plain (omega arith)
+ready_by rules player (act.Turns shown (motion.Tries used)) c s rest h by is ready whole may are plain rest_plain met room =
+    tries_ready rules player used c rest h (ready_same player (act.Turns shown (motion.Tries used)) c s rest h by is ready refl refl) whole may.0 are.1
+    (λ k below. (shown_there shown used (rack_of h.racks player) met k below).1)
+ready_by rules player (act.Turns shown (motion.Throws tiles)) c s rest h by is ready whole may are plain rest_plain met room = absurd (cc)
+ready_by rules player (act.Turns shown (motion.ThrowsUnknown n)) c s rest h by is ready whole may are plain rest_plain met room = absurd (cc)
+ready_by rules player (act.TakesBack used) c s rest h by is ready whole may are plain rest_plain met room =
+    back_ready rules player used c rest h (ready_same player (act.TakesBack used) c s rest h by is ready refl refl) whole may are
+ready_by rules player (act.Ends holder tiles) c s rest h by is ready whole may are plain rest_plain met room =
+    ready_same player (act.Ends holder tiles) c s rest h by is ready refl refl
+ready_by rules player act.Rests c s rest h by is ready whole may are plain rest_plain met room =
+    ready_same player act.Rests c s rest h by is ready refl refl

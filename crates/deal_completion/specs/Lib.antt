@@ -1,0 +1,3 @@
+pub mod Completion
+pub mod Taking
+pub mod Plain

@@ -1,0 +1,75 @@
+//! Draws from the bag, and what a player throws whose tiles are not known.
+ghost use Rattle.std.specs.Prelude.{◌≡◌, ℕ, ◌≤◌, ◌<◌, slice_index, IfOk};
+ghost use Rattle.deal_steps.specs.Fitting.{rack_of};
+ghost use Rattle.deal_completion.specs.Completion.{draw, exchange, chosen};
+ghost use Rattle.deal_completion.specs.Taking.{HasRoomToDraw};
+
+use crate::hands::Hands;
+use crate::picking::pick_tiles;
+use crate::wanting::want_list;
+use deal_steps::{Step, are_small, joined};
+use gcg_read::Seat;
+use ref_tiles::Counts;
+use std::alloc::{AllocError, Global};
+
+/// A player draws so many tiles before the steps to come.
+#[tactic(auto, using(crate::proofs::DealLaws::drawn_room), unfolding(crate::specs::Completion::draw))]
+pub fn draw(
+    alloc: Global,
+    seat: Seat,
+    number: usize,
+    steps: &[Step],
+    hands: &Hands,
+) -> Result<Hands, AllocError>
+    requires { HasRoomToDraw seat hands.now }
+    ensures { IfOk result (λ after. after ≡ draw seat number steps.now hands.now) }
+{
+    are_small(&hands.bag);
+    let other = seat.other();
+    let list = want_list(alloc, seat, steps, hands.racks.of(seat))?;
+    let reserved = want_list(alloc, other, steps, hands.racks.of(other))?;
+    let pick = pick_tiles(&list, &reserved, number, &hands.bag);
+    let after = Hands {
+        bag: pick.left,
+        racks: hands.racks,
+    };
+    Ok(after.with_tiles(seat, &pick.taken))
+}
+
+/// An exchange of these tiles before the steps to come.
+#[tactic(auto, using(crate::proofs::DealLaws::off_room, crate::proofs::DealLaws::bag_room), unfolding(crate::specs::Completion::exchange))]
+pub fn exchange(
+    alloc: Global,
+    seat: Seat,
+    thrown: &Counts,
+    steps: &[Step],
+    hands: &Hands,
+) -> Result<Hands, AllocError>
+    requires room { HasRoomToDraw seat hands.now }
+    requires there { (k : ℕ) → k < 27 → slice_index thrown.now k ≤ slice_index (rack_of hands.now.racks seat) k }
+    ensures { IfOk result (λ after. after ≡ exchange seat thrown.now steps.now hands.now) }
+{
+    are_small(&hands.bag);
+    let off = hands.without_tiles(seat, thrown);
+    let after = draw(alloc, seat, thrown.total(), steps, &off)?;
+    Ok(Hands {
+        bag: joined(&after.bag, thrown),
+        racks: after.racks,
+    })
+}
+
+/// The tiles that a player throws who throws so many, before the steps to come.
+#[tactic(auto, unfolding(crate::specs::Completion::chosen))]
+pub fn chosen(
+    alloc: Global,
+    seat: Seat,
+    number: usize,
+    steps: &[Step],
+    rack: &Counts,
+) -> Result<Counts, AllocError>
+    ensures { IfOk result (λ thrown. thrown ≡ chosen seat number steps.now rack.now) }
+{
+    let list = want_list(alloc, seat, steps, &Counts::new())?;
+    let kept = rack.total().saturating_sub(number);
+    Ok(pick_tiles(&list, &[], kept, rack).left)
+}

@@ -1,0 +1,69 @@
+//! The bag and the racks, and tiles that move between them.
+ghost use Rattle.std.specs.Prelude.{◌≡◌, ℕ, ◌+◌, ◌<◌, slice_index};
+ghost use Rattle.deal_steps.specs.Fitting.{rack_of};
+ghost use Rattle.deal_completion.specs.Completion.{with_rack, take_off, put_on, undealt};
+
+use deal_steps::{Racks, joined, without};
+use gcg_read::Seat;
+use ref_tiles::{Counts, Rules};
+
+/// The bag and the racks.
+#[derive(Clone, Copy)]
+pub struct Hands {
+    /// The tiles in the bag.
+    pub bag: Counts,
+    /// The tiles of the players.
+    pub racks: Racks,
+}
+
+/// The racks with another one for a player.
+fn with_rack(racks: &Racks, seat: Seat, rack: Counts) -> Racks
+    ensures { result ≡ with_rack racks.now seat rack }
+{
+    match seat {
+        Seat::First => Racks {
+            first: rack,
+            second: racks.second,
+        },
+        Seat::Second => Racks {
+            first: racks.first,
+            second: rack,
+        },
+    }
+}
+
+impl Hands {
+    /// All tiles are in the bag.
+    pub fn new(rules: &Rules) -> Hands
+        ensures { result ≡ undealt rules.now }
+    {
+        Hands {
+            bag: rules.counts,
+            racks: Racks {
+                first: Counts::new(),
+                second: Counts::new(),
+            },
+        }
+    }
+
+    /// The hands with tiles off a player's rack.
+    pub fn without_tiles(&self, seat: Seat, tiles: &Counts) -> Hands
+        ensures { result ≡ take_off seat tiles.now self.now }
+    {
+        Hands {
+            bag: self.bag,
+            racks: with_rack(&self.racks, seat, without(self.racks.of(seat), tiles)),
+        }
+    }
+
+    /// The hands with tiles put on a player's rack.
+    pub fn with_tiles(&self, seat: Seat, tiles: &Counts) -> Hands
+        requires { (k : ℕ) → k < 27 → slice_index (rack_of self.now.racks seat) k + slice_index tiles.now k < 256 }
+        ensures { result ≡ put_on seat tiles.now self.now }
+    {
+        Hands {
+            bag: self.bag,
+            racks: with_rack(&self.racks, seat, joined(self.racks.of(seat), tiles)),
+        }
+    }
+}

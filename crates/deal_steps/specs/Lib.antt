@@ -1,0 +1,9 @@
+pub mod Piles
+pub mod Steps
+pub mod Fitting
+pub mod Bounds
+pub mod Knowing
+pub mod Runs
+pub mod Laws
+pub use Rattle.gcg_read.specs.Players
+pub use Rattle.ref_tiles.specs.Counting

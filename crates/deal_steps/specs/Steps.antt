@@ -1,0 +1,98 @@
+-- What the steps of a record say.
+use Rattle.std.specs.Prelude.{ℕ, ◌&&◌, Bool, true, false, List, Option, Some, None, if◌then◌else◌}
+use Rattle.ref_tiles.specs.Counting.{no_tiles}
+use Rattle.gcg_read.specs.Players.{same_seat}
+use Rattle.gcg_read.specs.declared.events.Seat.{Seat}
+use Rattle.gcg_read.specs.declared.events.Seat.TheVariants.{First, Second}
+use Rattle.deal_steps.specs.declared.steps.Motion.{Motion}
+use Rattle.deal_steps.specs.declared.steps.Motion.TheVariants as motion
+use Rattle.deal_steps.specs.declared.steps.Act.{Act}
+use Rattle.deal_steps.specs.declared.steps.Act.TheVariants as act
+use Rattle.deal_steps.specs.declared.steps.Step.{Step}
+use Rattle.deal_steps.specs.Piles.{greater}
+
+-- the tiles that a turn uses, where they are known
+abbrev pub used_by : Motion → List ℕ
+used_by motion.Keeps = no_tiles
+used_by (motion.Lays used drawn) = used
+used_by (motion.Tries used) = used
+used_by (motion.Throws tiles) = tiles
+used_by (motion.ThrowsUnknown n) = no_tiles
+
+-- the tiles of a play that stands
+abbrev pub laid_by : Motion → List ℕ
+laid_by motion.Keeps = no_tiles
+laid_by (motion.Lays used drawn) = used
+laid_by (motion.Tries used) = no_tiles
+laid_by (motion.Throws tiles) = no_tiles
+laid_by (motion.ThrowsUnknown n) = no_tiles
+
+-- the tiles of an exchange, where they are known
+abbrev pub thrown_by : Motion → List ℕ
+thrown_by motion.Keeps = no_tiles
+thrown_by (motion.Lays used drawn) = no_tiles
+thrown_by (motion.Tries used) = no_tiles
+thrown_by (motion.Throws tiles) = tiles
+thrown_by (motion.ThrowsUnknown n) = no_tiles
+
+-- the known tiles that leave a rack for good: those of a play that stands, and of an exchange
+abbrev pub left_by : Motion → List ℕ
+left_by motion.Keeps = no_tiles
+left_by (motion.Lays used drawn) = used
+left_by (motion.Tries used) = no_tiles
+left_by (motion.Throws tiles) = tiles
+left_by (motion.ThrowsUnknown n) = no_tiles
+
+abbrev pub is_unknown : Motion → Bool
+is_unknown motion.Keeps = false
+is_unknown (motion.Lays used drawn) = false
+is_unknown (motion.Tries used) = false
+is_unknown (motion.Throws tiles) = false
+is_unknown (motion.ThrowsUnknown n) = true
+
+-- the same of an act
+abbrev pub of_act : (Motion → List ℕ) → Act → List ℕ
+of_act f (act.Turns shown what) = f what
+of_act f (act.TakesBack used) = no_tiles
+of_act f (act.Ends holder tiles) = no_tiles
+of_act f act.Rests = no_tiles
+
+abbrev pub throws_unknown : Act → Bool
+throws_unknown (act.Turns shown what) = is_unknown what
+throws_unknown (act.TakesBack used) = false
+throws_unknown (act.Ends holder tiles) = false
+throws_unknown act.Rests = false
+
+-- whether the step is a player's
+abbrev pub is_by : Seat → Step → Bool
+is_by seat s = same_seat s.player seat
+
+-- the tiles of a player that a step lays, throws, or takes off the rack for good
+abbrev pub laid_in : Seat → Step → List ℕ
+laid_in seat s = if is_by seat s then of_act laid_by s.act else no_tiles
+
+abbrev pub thrown_in : Seat → Step → List ℕ
+thrown_in seat s = if is_by seat s then of_act thrown_by s.act else no_tiles
+
+abbrev pub left_in : Seat → Step → List ℕ
+left_in seat s = if is_by seat s then of_act left_by s.act else no_tiles
+
+-- a player's epoch ends with each exchange of unknown tiles by that player
+abbrev pub ends_epoch : Seat → Step → Bool
+ends_epoch seat s = is_by seat s && throws_unknown s.act
+
+-- What a moment shows of a rack: of each kind the greater of the stated number and the used one, or the last rack.
+abbrev pub needed_of : Seat → (player : Seat) → Act → Option (List ℕ)
+needed_of seat player (act.Turns shown what) = if same_seat player seat then Some (greater shown (used_by what)) else None
+needed_of seat player (act.TakesBack used) = None
+needed_of seat player (act.Ends holder tiles) = if same_seat holder seat then Some tiles else None
+needed_of seat player act.Rests = None
+
+-- what a player's rack must have at a step, where it is a moment of that player
+abbrev pub needed : Seat → Step → Option (List ℕ)
+needed seat s = needed_of seat s.player s.act
+
+-- how many tiles a player has before a step
+abbrev pub size_of : Step → Seat → ℕ
+size_of s First = s.first
+size_of s Second = s.second

@@ -1,0 +1,53 @@
+//! Tiles by kind: both together, the first without the others, and of each kind the greater number.
+ghost use Rattle.std.specs.Prelude.{◌≡◌, ◌+◌, ◌<◌, ℕ, length, slice_index};
+ghost use Rattle.deal_steps.specs.Piles.{joined, without, greater};
+
+use ref_tiles::{Counts, KINDS};
+
+/// Both together, of which there are few enough.
+#[tactic(auto, using(crate::proofs::PileLaws::joined_is))]
+pub fn joined(tiles: &Counts, others: &Counts) -> Counts
+    requires { (k : ℕ) → k < 27 → slice_index tiles.now k + slice_index others.now k < 256 }
+    ensures { result ≡ joined tiles.now others.now }
+{
+    let mut numbers = tiles.numbers();
+    let more = others.numbers();
+    for kind in 0..KINDS {
+        numbers[kind] += more[kind];
+    }
+    Counts::of(numbers)
+}
+
+/// The first without the others, as far as they go.
+#[tactic(auto, using(crate::proofs::PileLaws::without_is))]
+pub fn without(tiles: &Counts, others: &Counts) -> Counts
+    ensures { result ≡ without tiles.now others.now }
+{
+    let mut numbers = tiles.numbers();
+    let gone = others.numbers();
+    for kind in 0..KINDS {
+        numbers[kind] = numbers[kind].saturating_sub(gone[kind]);
+    }
+    Counts::of(numbers)
+}
+
+/// Of each kind the greater number.
+#[tactic(auto, using(crate::proofs::PileLaws::greater_is))]
+pub fn greater(tiles: &Counts, others: &Counts) -> Counts
+    ensures { result ≡ greater tiles.now others.now }
+{
+    let mut numbers = tiles.numbers();
+    let other = others.numbers();
+    for kind in 0..KINDS {
+        numbers[kind] = numbers[kind].max(other[kind]);
+    }
+    Counts::of(numbers)
+}
+
+/// There is a number for each kind, and each is below 256.
+pub fn are_small(tiles: &Counts)
+    ensures kinds { length tiles.now ≡ 27 }
+    ensures small { (k : ℕ) → k < 27 → slice_index tiles.now k < 256 }
+{
+    let _numbers = tiles.numbers();
+}

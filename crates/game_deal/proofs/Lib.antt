@@ -1,0 +1,10 @@
+pub mod BoardLaws
+pub mod PlacedLaws
+pub mod CheckLaws
+pub mod CourseLaws
+pub mod RecordRuns
+pub mod AllTiles
+pub mod StepLaws
+pub mod RecordWalks
+pub mod CountedTiles
+pub mod PlainRecords

@@ -1,0 +1,6 @@
+pub mod Recorded
+pub mod Plain
+pub mod Judged
+pub mod Bounded
+pub mod Needing
+pub mod Laws
