@@ -8,11 +8,6 @@ use Rattle.gcg_read.specs.Records.{record_of}
 use Rattle.devices.specs.Devices.{Device, HasFailed, HasWorked}
 use Rattle.lex_list.specs.Lists.{list_of}
 use Rattle.devices.specs.Outputs.{SendsFront}
-use Rattle.game_turns.specs.declared.faults.RuleFault.{RuleFault}
-use Rattle.game_turns.specs.declared.passed.Passed.{Passed}
-use Rattle.game_turns.specs.Passing.{rules_in, record_in, list_in}
-use Rattle.game_turns.specs.Places.{AreAllowed, IsFirstRefusal, is_finished}
-use Rattle.engine.specs.declared.verdicts.GameFault.TheVariants as game
 use Rattle.engine.specs.declared.verdicts.Verdict.{Verdict}
 use Rattle.engine.specs.declared.verdicts.Verdict.TheVariants as verdict
 use Rattle.engine.specs.declared.faults.RunFault.{RunFault}
@@ -22,24 +17,7 @@ use Rattle.engine.specs.Verdicts.{IsVerdictOn}
 use Rattle.engine.specs.Judging.{IsJudged, IsDecided, IsDecidedByPair, IsRefused, report_on}
 use Rattle.engine.specs.Lexicons.{IsLexicon}
 use Rattle.engine.specs.Tidying.{IsTidied}
-use Rattle.engine.specs.Reports.{legal_report, legal_text, illegal_line, bad_record_line, bad_record_text}
-
--- a record that was played through
-pub judged_legal : (rules : Rules) (words : List (List ℕ)) (r : Record) (passed : Passed) (complete : Bool) (bytes : List ℕ) → rules_in passed ≡ rules → record_in passed ≡ r → list_in passed ≡ words
-    → AreAllowed rules words r.events → complete ≡ is_finished (rules_in passed) (record_in passed).events
-    → bytes ≡ legal_report (rules_in passed) (list_in passed) (is_finished (rules_in passed) (record_in passed).events) (record_in passed)
-    → IsJudged rules words r (verdict.Legal complete) bytes
-judged_legal rules words r passed complete bytes same_rules same_record same_list allowed done told =
-    let finished : complete ≡ is_finished rules r.events =
-    done ∙ ap (λ q. is_finished q (record_in passed).events) same_rules ∙ ap (λ (q : Record). is_finished rules q.events) same_record in
-    let report : bytes ≡ legal_report rules words complete r =
-    told ∙ ap (λ b. legal_report (rules_in passed) (list_in passed) b (record_in passed)) (sym done) ∙ ap (λ q. legal_report q (list_in passed) complete (record_in passed)) same_rules
-    ∙ ap (λ q. legal_report rules q complete (record_in passed)) same_list ∙ ap (legal_report rules words complete) same_record in
-    record { verdict_is = (allowed, finished); told = report }
-
-pub judged_illegal : (rules : Rules) (words : List (List ℕ)) (r : Record) (line : ℕ) (why : RuleFault) (bytes : List ℕ) → IsFirstRefusal rules words r.events line why
-    → bytes ≡ illegal_line line (game.Rule why) → IsJudged rules words r (verdict.Illegal line (game.Rule why)) bytes
-judged_illegal rules words r line why bytes refused told = record { verdict_is = refused; told = told }
+use Rattle.engine.specs.Reports.{legal_report, legal_text, bad_record_line, bad_record_text}
 
 -- the verdict on a record, by the words of a list and their lexicon
 decided_on : (rules : Rules) (words : List (List ℕ)) (listing lexicon text : List ℕ) (r : Record) (v : Verdict) (bytes : List ℕ) → list_of listing ≡ Ok words → IsLexicon words lexicon
@@ -51,7 +29,8 @@ decided_on rules words listing lexicon text r (verdict.Legal complete) bytes l p
     }
 decided_on rules words listing lexicon text r (verdict.Illegal line fault) bytes l p e is told =
     record { judged = record { list = words; listed = l; paired = p; game = r; recorded = e; verdict_is = is }; told = told }
-decided_on rules words listing lexicon text r verdict.Unsettled bytes l p e is told = absurd is
+decided_on rules words listing lexicon text r verdict.Unsettled bytes l p e is told =
+    record { judged = record { list = words; listed = l; paired = p; game = r; recorded = e; verdict_is = is }; told = told }
 decided_on rules words listing lexicon text r verdict.BadList bytes l p e is told = absurd is
 decided_on rules words listing lexicon text r verdict.BadFile bytes l p e is told = absurd is
 decided_on rules words listing lexicon text r verdict.BadRecord bytes l p e is told = absurd is

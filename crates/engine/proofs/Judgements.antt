@@ -15,17 +15,17 @@ use Rattle.engine.specs.declared.lexicons.Paired.TheVariants as paired
 use Rattle.engine.specs.declared.verdicts.Verdict.{Verdict}
 use Rattle.engine.specs.declared.verdicts.Verdict.TheVariants as verdict
 use Rattle.engine.specs.Judging.{Texts, LaterTexts, IsDecided, IsDecidedByList, IsDecidedByPair}
-use Rattle.engine.specs.Lexicons.{most_file, IsLexicon, IsNoLexicon, IsPaired}
-use Rattle.engine.specs.Listing.{IsNoList}
+use Rattle.engine.specs.Lexicons.{most_lexicon_bytes, IsLexicon, IsNoLexicon, IsPaired}
+use Rattle.engine.specs.WordLists.{IsNoList}
 use Rattle.engine.specs.Reports.{bad_list_text}
-use Rattle.engine.specs.Runs.{most_bytes, most_listing, Answers, HasStopped, ReadGivesUp, GivesUp, OneHasFailed, OneOfThreeHasFailed, AreGiven, AreGivenLater}
+use Rattle.engine.specs.Runs.{most_record_bytes, most_list_bytes, Answers, HasStopped, ReadGivesUp, GivesUp, OneHasFailed, OneOfThreeHasFailed, AreGiven, AreGivenLater}
 use Rattle.engine.proofs.Answering.{answers, stops_writing}
 use Rattle.engine.proofs.Sequences.{Extends, given_of, some_input, untouched, extended_ok, extended_err, stops_first}
 
 -- ---- a game that is judged by a list and its lexicon
 
-by_file : (rules : Rules) (words : List (List ℕ)) (bytes : List ℕ) (file_in game_in : Device) → IsInput most_file file_in bytes → IsLexicon words bytes
-    → Extends (IsInput most_bytes game_in) (IsDecidedByPair rules words) (AreGivenLater file_in game_in) (IsDecidedByList rules words)
+by_file : (rules : Rules) (words : List (List ℕ)) (bytes : List ℕ) (file_in game_in : Device) → IsInput most_lexicon_bytes file_in bytes → IsLexicon words bytes
+    → Extends (IsInput most_record_bytes game_in) (IsDecidedByPair rules words) (AreGivenLater file_in game_in) (IsDecidedByList rules words)
 by_file rules words bytes file_in game_in given is =
     record {
       whole = λ text. record { lexicon = bytes; game = text };
@@ -38,28 +38,28 @@ agreed_is : (words : List (List ℕ)) (bytes : List ℕ) (p : Paired) (pair : Ch
 agreed_is words bytes p pair is h = subst (IsPaired words bytes) is h
 
 pub judged_by_file : (rules : Rules) (words : List (List ℕ)) (bytes shown : List ℕ) (p : Paired) (pair : Checked) (file_in game_in : Device) (r : Result Verdict RunFault) (P : List ℕ → Type 0)
-    → p ≡ paired.Agreed pair → IsPaired words shown p → shown ≡ bytes → IsInput most_file file_in bytes → IfOk r (λ v. Answers (IsInput most_bytes game_in) (IsDecidedByPair rules (list_in pair)) v P)
+    → p ≡ paired.Agreed pair → IsPaired words shown p → shown ≡ bytes → IsInput most_lexicon_bytes file_in bytes → IfOk r (λ v. Answers (IsInput most_record_bytes game_in) (IsDecidedByPair rules (list_in pair)) v P)
     → IfOk r (λ v. Answers (AreGivenLater file_in game_in) (IsDecidedByList rules words) v P)
 judged_by_file rules words bytes shown p pair file_in game_in r P is paired_is same given h =
     let agreed = agreed_is words shown p pair is paired_is in
-    extended_ok (IsInput most_bytes game_in) (IsDecidedByPair rules words) (AreGivenLater file_in game_in) (IsDecidedByList rules words) r P
+    extended_ok (IsInput most_record_bytes game_in) (IsDecidedByPair rules words) (AreGivenLater file_in game_in) (IsDecidedByList rules words) r P
     (by_file rules words bytes file_in game_in given (subst (IsLexicon words) same agreed.0))
-    (subst (λ ws. IfOk r (λ v. Answers (IsInput most_bytes game_in) (IsDecidedByPair rules ws) v P)) agreed.1 h)
+    (subst (λ ws. IfOk r (λ v. Answers (IsInput most_record_bytes game_in) (IsDecidedByPair rules ws) v P)) agreed.1 h)
 
 pub gave_up_by_file : (rules : Rules) (words : List (List ℕ)) (bytes shown : List ℕ) (p : Paired) (pair : Checked) (file_old file_new game_old game_new out_old out_new : Device) (r : Result Verdict RunFault)
-    → p ≡ paired.Agreed pair → IsPaired words shown p → shown ≡ bytes → IsInput most_file file_old bytes → HasWorked file_old file_new
-    → IfErr r (GivesUp (IsInput most_bytes game_old) (IsDecidedByPair rules (list_in pair)) (HasFailed game_old game_new) (HasWorked game_old game_new) out_old out_new)
+    → p ≡ paired.Agreed pair → IsPaired words shown p → shown ≡ bytes → IsInput most_lexicon_bytes file_old bytes → HasWorked file_old file_new
+    → IfErr r (GivesUp (IsInput most_record_bytes game_old) (IsDecidedByPair rules (list_in pair)) (HasFailed game_old game_new) (HasWorked game_old game_new) out_old out_new)
     → IfErr r (GivesUp (AreGivenLater file_old game_old) (IsDecidedByList rules words) (OneHasFailed file_old file_new game_old game_new) (HasWorked file_old file_new × HasWorked game_old game_new) out_old out_new)
 gave_up_by_file rules words bytes shown p pair file_old file_new game_old game_new out_old out_new r is paired_is same given worked h =
     let agreed = agreed_is words shown p pair is paired_is in
-    extended_err (IsInput most_bytes game_old) (IsDecidedByPair rules words) (AreGivenLater file_old game_old) (IsDecidedByList rules words)
+    extended_err (IsInput most_record_bytes game_old) (IsDecidedByPair rules words) (AreGivenLater file_old game_old) (IsDecidedByList rules words)
     (HasFailed game_old game_new) (HasWorked game_old game_new) (OneHasFailed file_old file_new game_old game_new) (HasWorked file_old file_new × HasWorked game_old game_new)
     out_old out_new r (by_file rules words bytes file_old game_old given (subst (IsLexicon words) same agreed.0)) (λ failed. inr (worked, failed)) (λ work. (worked, work))
-    (subst (λ ws. IfErr r (GivesUp (IsInput most_bytes game_old) (IsDecidedByPair rules ws) (HasFailed game_old game_new) (HasWorked game_old game_new) out_old out_new)) agreed.1 h)
+    (subst (λ ws. IfErr r (GivesUp (IsInput most_record_bytes game_old) (IsDecidedByPair rules ws) (HasFailed game_old game_new) (HasWorked game_old game_new) out_old out_new)) agreed.1 h)
 
 -- then the verdict is not on the file
 pub past_file : (rules : Rules) (words : List (List ℕ)) (game_in : Device) (r : Result Verdict RunFault) (P : List ℕ → Type 0) (A : Type 0)
-    → IfOk r (λ v. Answers (IsInput most_bytes game_in) (IsDecidedByPair rules words) v P) → IfOk r (λ v. v ≡ verdict.BadFile → A)
+    → IfOk r (λ v. Answers (IsInput most_record_bytes game_in) (IsDecidedByPair rules words) v P) → IfOk r (λ v. v ≡ verdict.BadFile → A)
 past_file rules words game_in (Ok v) P A h = λ same. absurd (h.answer.past_file same)
 past_file rules words game_in (Err fault) P A h = tt
 
@@ -81,26 +81,26 @@ other_file rules words bytes game d none =
     })
 
 pub refused_file : (rules : Rules) (words : List (List ℕ)) (bytes shown : List ℕ) (p : Paired) (d : Decision) (file_in game_in : Device) (r : Result Verdict RunFault) (P : List ℕ → Type 0)
-    → p ≡ paired.Refused d → IsPaired words shown p → shown ≡ bytes → IsInput most_file file_in bytes → IfOk r (λ v. v ≡ d.verdict) → OnOk r (P d.report.items)
+    → p ≡ paired.Refused d → IsPaired words shown p → shown ≡ bytes → IsInput most_lexicon_bytes file_in bytes → IfOk r (λ v. v ≡ d.verdict) → OnOk r (P d.report.items)
     → IfOk r (λ v. Answers (AreGivenLater file_in game_in) (IsDecidedByList rules words) v P)
 refused_file rules words bytes shown p d file_in game_in r P is paired_is shows given same told =
     let none = refused_is words shown p d is paired_is in
-    let texts : LaterTexts = record { lexicon = bytes; game = given_of most_bytes game_in.bytes } in
+    let texts : LaterTexts = record { lexicon = bytes; game = given_of most_record_bytes game_in.bytes } in
     answers (AreGivenLater file_in game_in) (IsDecidedByList rules words) P r texts texts d.verdict d.report.items
-    (record { lexicon_is = given; game_is = some_input most_bytes game_in }) refl
-    (other_file rules words bytes (given_of most_bytes game_in.bytes) d (subst (λ b. IsNoLexicon words b d) shows none)) same told
+    (record { lexicon_is = given; game_is = some_input most_record_bytes game_in }) refl
+    (other_file rules words bytes (given_of most_record_bytes game_in.bytes) d (subst (λ b. IsNoLexicon words b d) shows none)) same told
 
 pub refused_file_stops : (rules : Rules) (words : List (List ℕ)) (bytes shown : List ℕ) (p : Paired) (d : Decision) (file_old file_new game_in : Device) (r : Result Verdict RunFault) (out_old out_new : Device)
-    → p ≡ paired.Refused d → IsPaired words shown p → shown ≡ bytes → IsInput most_file file_old bytes → HasWorked file_old file_new
+    → p ≡ paired.Refused d → IsPaired words shown p → shown ≡ bytes → IsInput most_lexicon_bytes file_old bytes → HasWorked file_old file_new
     → IfErr r (λ fault. fault ≡ run.WriteFailed) → OnErr r (HasStopped out_old out_new) → OnErr r (SendsFront out_old out_new d.report.items)
     → IfErr r (GivesUp (AreGivenLater file_old game_in) (IsDecidedByList rules words) (OneHasFailed file_old file_new game_in game_in) (HasWorked file_old file_new × HasWorked game_in game_in) out_old out_new)
 refused_file_stops rules words bytes shown p d file_old file_new game_in r out_old out_new is paired_is shows given worked why stopped front =
     let none = refused_is words shown p d is paired_is in
-    let texts : LaterTexts = record { lexicon = bytes; game = given_of most_bytes game_in.bytes } in
+    let texts : LaterTexts = record { lexicon = bytes; game = given_of most_record_bytes game_in.bytes } in
     stops_writing (AreGivenLater file_old game_in) (IsDecidedByList rules words) r texts texts d.verdict d.report.items
     (OneHasFailed file_old file_new game_in game_in) (HasWorked file_old file_new × HasWorked game_in game_in) out_old out_new (worked, untouched game_in)
-    (record { lexicon_is = given; game_is = some_input most_bytes game_in }) refl
-    (other_file rules words bytes (given_of most_bytes game_in.bytes) d (subst (λ b. IsNoLexicon words b d) shows none)) why stopped front
+    (record { lexicon_is = given; game_is = some_input most_record_bytes game_in }) refl
+    (other_file rules words bytes (given_of most_record_bytes game_in.bytes) d (subst (λ b. IsNoLexicon words b d) shows none)) why stopped front
 
 pub stops_reading_file : (rules : Rules) (words : List (List ℕ)) (fault : RunFault) (file_old file_new game out : Device) → ReadGivesUp fault file_old file_new
     → GivesUp (AreGivenLater file_old game) (IsDecidedByList rules words) (OneHasFailed file_old file_new game game) (HasWorked file_old file_new × HasWorked game game) out out fault
@@ -114,7 +114,7 @@ stops_pairing rules words file_old file_new game out worked = ((worked, untouche
 
 -- ---- a game that is judged by a list
 
-by_list : (rules : Rules) (words : List (List ℕ)) (listing : List ℕ) (words_in file_in game_in : Device) → IsInput most_listing words_in listing → list_of listing ≡ Ok words
+by_list : (rules : Rules) (words : List (List ℕ)) (listing : List ℕ) (words_in file_in game_in : Device) → IsInput most_list_bytes words_in listing → list_of listing ≡ Ok words
     → Extends (AreGivenLater file_in game_in) (IsDecidedByList rules words) (AreGiven words_in file_in game_in) (IsDecided rules)
 by_list rules words listing words_in file_in game_in given listed =
     record {
@@ -124,14 +124,14 @@ by_list rules words listing words_in file_in game_in given listed =
     }
 
 pub judged_by_list : (rules : Rules) (words : List (List ℕ)) (listing : List ℕ) (words_in file_in game_in : Device) (r : Result Verdict RunFault) (P : List ℕ → Type 0)
-    → IsInput most_listing words_in listing → list_of listing ≡ Ok words → IfOk r (λ v. Answers (AreGivenLater file_in game_in) (IsDecidedByList rules words) v P)
+    → IsInput most_list_bytes words_in listing → list_of listing ≡ Ok words → IfOk r (λ v. Answers (AreGivenLater file_in game_in) (IsDecidedByList rules words) v P)
     → IfOk r (λ v. Answers (AreGiven words_in file_in game_in) (IsDecided rules) v P)
 judged_by_list rules words listing words_in file_in game_in r P given listed h =
     extended_ok (AreGivenLater file_in game_in) (IsDecidedByList rules words) (AreGiven words_in file_in game_in) (IsDecided rules) r P
     (by_list rules words listing words_in file_in game_in given listed) h
 
 pub gave_up_by_list : (rules : Rules) (words : List (List ℕ)) (listing : List ℕ) (words_old words_new file_old file_new game_old game_new out_old out_new : Device) (r : Result Verdict RunFault)
-    → IsInput most_listing words_old listing → list_of listing ≡ Ok words → HasWorked words_old words_new
+    → IsInput most_list_bytes words_old listing → list_of listing ≡ Ok words → HasWorked words_old words_new
     → IfErr r (GivesUp (AreGivenLater file_old game_old) (IsDecidedByList rules words) (OneHasFailed file_old file_new game_old game_new) (HasWorked file_old file_new × HasWorked game_old game_new) out_old out_new)
     → IfErr r (GivesUp (AreGiven words_old file_old game_old) (IsDecided rules) (OneOfThreeHasFailed words_old words_new file_old file_new game_old game_new)
     (HasWorked words_old words_new × HasWorked file_old file_new × HasWorked game_old game_new) out_old out_new)
@@ -157,26 +157,26 @@ no_list rules listing lexicon game d none =
     })
 
 pub refused_list : (rules : Rules) (listing : List ℕ) (words_in file_in game_in : Device) (d : Decision) (r : Result Verdict RunFault) (P : List ℕ → Type 0)
-    → IsInput most_listing words_in listing → IsNoList listing d → IfOk r (λ v. v ≡ d.verdict) → OnOk r (P d.report.items)
+    → IsInput most_list_bytes words_in listing → IsNoList listing d → IfOk r (λ v. v ≡ d.verdict) → OnOk r (P d.report.items)
     → IfOk r (λ v. Answers (AreGiven words_in file_in game_in) (IsDecided rules) v P)
 refused_list rules listing words_in file_in game_in d r P given none same told =
-    let texts : Texts = record { words = listing; lexicon = given_of most_file file_in.bytes; game = given_of most_bytes game_in.bytes } in
+    let texts : Texts = record { words = listing; lexicon = given_of most_lexicon_bytes file_in.bytes; game = given_of most_record_bytes game_in.bytes } in
     answers (AreGiven words_in file_in game_in) (IsDecided rules) P r texts texts d.verdict d.report.items
-    (record { words_are = given; lexicon_is = some_input most_file file_in; game_is = some_input most_bytes game_in }) refl
-    (no_list rules listing (given_of most_file file_in.bytes) (given_of most_bytes game_in.bytes) d none) same told
+    (record { words_are = given; lexicon_is = some_input most_lexicon_bytes file_in; game_is = some_input most_record_bytes game_in }) refl
+    (no_list rules listing (given_of most_lexicon_bytes file_in.bytes) (given_of most_record_bytes game_in.bytes) d none) same told
 
 pub refused_list_stops : (rules : Rules) (listing : List ℕ) (words_old words_new file_in game_in : Device) (d : Decision) (r : Result Verdict RunFault) (out_old out_new : Device)
-    → IsInput most_listing words_old listing → IsNoList listing d → HasWorked words_old words_new
+    → IsInput most_list_bytes words_old listing → IsNoList listing d → HasWorked words_old words_new
     → IfErr r (λ fault. fault ≡ run.WriteFailed) → OnErr r (HasStopped out_old out_new) → OnErr r (SendsFront out_old out_new d.report.items)
     → IfErr r (GivesUp (AreGiven words_old file_in game_in) (IsDecided rules) (OneOfThreeHasFailed words_old words_new file_in file_in game_in game_in)
     (HasWorked words_old words_new × HasWorked file_in file_in × HasWorked game_in game_in) out_old out_new)
 refused_list_stops rules listing words_old words_new file_in game_in d r out_old out_new given none worked why stopped front =
-    let texts : Texts = record { words = listing; lexicon = given_of most_file file_in.bytes; game = given_of most_bytes game_in.bytes } in
+    let texts : Texts = record { words = listing; lexicon = given_of most_lexicon_bytes file_in.bytes; game = given_of most_record_bytes game_in.bytes } in
     stops_writing (AreGiven words_old file_in game_in) (IsDecided rules) r texts texts d.verdict d.report.items
     (OneOfThreeHasFailed words_old words_new file_in file_in game_in game_in) (HasWorked words_old words_new × HasWorked file_in file_in × HasWorked game_in game_in) out_old out_new
     (worked, untouched file_in, untouched game_in)
-    (record { words_are = given; lexicon_is = some_input most_file file_in; game_is = some_input most_bytes game_in }) refl
-    (no_list rules listing (given_of most_file file_in.bytes) (given_of most_bytes game_in.bytes) d none) why stopped front
+    (record { words_are = given; lexicon_is = some_input most_lexicon_bytes file_in; game_is = some_input most_record_bytes game_in }) refl
+    (no_list rules listing (given_of most_lexicon_bytes file_in.bytes) (given_of most_record_bytes game_in.bytes) d none) why stopped front
 
 pub stops_listing : (rules : Rules) (fault : RunFault) (words_old words_new file game out : Device) → ReadGivesUp fault words_old words_new
     → GivesUp (AreGiven words_old file game) (IsDecided rules) (OneOfThreeHasFailed words_old words_new file file game game)

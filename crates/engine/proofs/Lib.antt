@@ -1,7 +1,8 @@
+pub mod Deals
 pub mod Answering
 pub mod Sequences
 pub mod Judgements
-pub mod Listings
+pub mod WordListLaws
 pub mod Pairings
 pub mod CheckedFiles
 pub mod ReportLines

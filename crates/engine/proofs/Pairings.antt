@@ -6,10 +6,10 @@ use Rattle.lex_file.specs.declared.faults.FileFault.{FileFault}
 use Rattle.lex_file.specs.declared.files.LexFile.{LexFile}
 use Rattle.lex_file.specs.Files.{bytes_of}
 use Rattle.lex_file.specs.Languages.{language_of}
-use Rattle.lex_file.specs.RotatedPaths.{is_path}
+use Rattle.lex_list.specs.RotatedPaths.{is_path, StandsFor}
 use Rattle.lex_check.specs.declared.checks.Mismatch.TheVariants as why
 use Rattle.lex_check.specs.declared.pairs.Checked.{Checked}
-use Rattle.lex_check.specs.Checks.{HasPathsOf, IsAgreed, IsMismatch}
+use Rattle.lex_check.specs.Checks.{IsAgreed, IsMismatch}
 use Rattle.lex_check.specs.Differences.{IsMissing, IsExtra, Begins, BeginsNone}
 use Rattle.lex_check.specs.Pairs.{file_in, list_in}
 use Rattle.engine.specs.declared.lexicons.LexiconFault.{LexiconFault}
@@ -20,10 +20,10 @@ use Rattle.engine.specs.Lexicons.{file_fault, IsLexicon, IsFaultOf, IsPaired, Is
 
 -- ---- a fault says that the bytes are no lexicon of the words
 
-missing_differs : (words : List (List ℕ)) (bytes path : List ℕ) → IsMissing (language_of bytes) (is_path words) path → HasPathsOf words bytes → ⊥
+missing_differs : (words : List (List ℕ)) (bytes path : List ℕ) → IsMissing (language_of bytes) (is_path words) path → StandsFor (language_of bytes) words → ⊥
 missing_differs words bytes path missing same = false≢true (sym missing.absent ∙ same path ∙ missing.listed)
 
-extra_differs : (words : List (List ℕ)) (bytes path : List ℕ) → IsExtra (language_of bytes) (is_path words) path → HasPathsOf words bytes → ⊥
+extra_differs : (words : List (List ℕ)) (bytes path : List ℕ) → IsExtra (language_of bytes) (is_path words) path → StandsFor (language_of bytes) words → ⊥
 extra_differs words bytes path extra same =
     ⊎_elim
     (λ (alone : (language_of bytes path ≡ true) × (is_path words path ≡ false)). false≢true (sym alone.1 ∙ sym (same path) ∙ alone.0))

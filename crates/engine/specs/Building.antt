@@ -5,10 +5,10 @@ use Rattle.lex_list.specs.Lists.{list_of}
 use Rattle.lex_build.specs.Builds.{IsLexiconOf, HasManyLabels}
 use Rattle.engine.specs.declared.decisions.Decision.{Decision}
 use Rattle.engine.specs.declared.lexicons.LexiconFault.TheVariants as fault
-use Rattle.engine.specs.declared.listing.Listed.{Listed}
+use Rattle.engine.specs.declared.word_lists.Listed.{Listed}
 use Rattle.engine.specs.declared.verdicts.Verdict.{Verdict}
 use Rattle.engine.specs.declared.verdicts.Verdict.TheVariants as verdict
-use Rattle.engine.specs.Listing.{IsListed}
+use Rattle.engine.specs.WordLists.{IsListed}
 use Rattle.engine.specs.Reports.{bad_list_line, bad_file_line}
 
 -- the words are a list, and these bytes are its lexicon

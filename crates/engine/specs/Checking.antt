@@ -6,9 +6,9 @@ use Rattle.lex_list.specs.declared.faults.ListFault.{ListFault}
 use Rattle.lex_list.specs.Lists.{list_of}
 use Rattle.engine.specs.declared.verdicts.Verdict.{Verdict}
 use Rattle.engine.specs.declared.verdicts.Verdict.TheVariants as verdict
-use Rattle.engine.specs.Lexicons.{most_file, IsLexicon, IsWrongFile}
+use Rattle.engine.specs.Lexicons.{most_lexicon_bytes, IsLexicon, IsWrongFile}
 use Rattle.engine.specs.Reports.{bad_list_line, ok_line}
-use Rattle.engine.specs.Runs.{most_listing}
+use Rattle.engine.specs.Runs.{most_list_bytes}
 
 -- the bytes of a word list and of a lexicon file
 pub record Sources : Type 0 where
@@ -17,7 +17,7 @@ pub record Sources : Type 0 where
 
 -- the bytes that the two inputs give
 abbrev pub AreSources : (words lexicon : Device) → Sources → Type 0
-AreSources words lexicon texts = IsInput most_listing words texts.words × IsInput most_file lexicon texts.lexicon
+AreSources words lexicon texts = IsInput most_list_bytes words texts.words × IsInput most_lexicon_bytes lexicon texts.lexicon
 
 -- the words are a list, the file is its lexicon, and this tells their number
 pub record IsGoodFile (texts : Sources) (report : List ℕ) : Type 0 where

@@ -3,6 +3,7 @@ use Rattle.std.specs.Prelude.{◌≡◌, ℕ, List, length, nat_lt, Option, Some
 use Rattle.lex_file.specs.declared.faults.FileFault.{FileFault}
 use Rattle.lex_file.specs.declared.faults.FileFault.TheVariants as form
 use Rattle.lex_file.specs.Files.{bytes_of}
+use Rattle.lex_file.specs.Formats.{most_file_bytes}
 use Rattle.lex_file.specs.Shapes.{fault_of}
 use Rattle.lex_list.specs.Lists.{list_of}
 use Rattle.lex_check.specs.declared.checks.Mismatch.TheVariants as why
@@ -16,13 +17,13 @@ use Rattle.engine.specs.declared.lexicons.Paired.TheVariants as paired
 use Rattle.engine.specs.declared.verdicts.Verdict.TheVariants as verdict
 use Rattle.engine.specs.Reports.{bad_file_line}
 
--- the most bytes of a lexicon file: a header of 16 bytes and 33,554,431 arcs of 4
-abbrev pub most_file : ℕ
-most_file = 134217740
+-- the most bytes of a lexicon file
+abbrev pub most_lexicon_bytes : ℕ
+most_lexicon_bytes = most_file_bytes
 
 -- the first fault of the form of a file; that it has too many bytes is told before all others
 unfoldable pub file_fault : List ℕ → Option FileFault
-file_fault bytes = if nat_lt most_file (length bytes) then Some form.Length else fault_of bytes
+file_fault bytes = if nat_lt most_lexicon_bytes (length bytes) then Some form.Length else fault_of bytes
 
 -- the bytes are a lexicon of the words: they have the form of one, its language is the rotated paths of the words, and
 -- it states their number

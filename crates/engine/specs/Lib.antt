@@ -3,7 +3,7 @@ pub mod Reports
 pub mod Judging
 pub mod Tidying
 pub mod Runs
-pub mod Listing
+pub mod WordLists
 pub mod Lexicons
 pub mod Checking
 pub mod Building

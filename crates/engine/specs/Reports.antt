@@ -3,6 +3,8 @@ use Rattle.std.specs.Prelude.{ℕ, ◌+◌, ◌==◌, Bool, true, false, List, [
 use Rattle.std.specs.List.{list_all, flat_map, range_with_len}
 use Rattle.std.specs.Fmt.{signed_decimal}
 use Rattle.ref_tiles.specs.declared.rulebook.Rules.{Rules}
+use Rattle.ref_tiles.specs.declared.kinds.Kind.{Kind}
+use Rattle.ref_tiles.specs.declared.kinds.Kind.TheVariants as kind
 use Rattle.ref_play.specs.Faults as play
 use Rattle.gcg_read.specs.declared.events.Event.{Event}
 use Rattle.gcg_read.specs.declared.players.Players.{Players}
@@ -43,8 +45,15 @@ rule_text rule.LastRackSize = codes "LastRackSize"
 rule_text rule.BadTime = codes "BadTime"
 rule_text rule.TooManyUsed = codes "TooManyUsed"
 
+-- the byte of a kind in a text: a capital, or '?' (63) for a blank
+abbrev pub kind_byte : Kind → ℕ
+kind_byte (kind.Letter l) = 65 + l.index
+kind_byte kind.Blank = 63
+
 abbrev pub fault_text : GameFault → List ℕ
 fault_text (game.Rule why) = rule_text why
+fault_text game.RackTooBig = codes "RackTooBig"
+fault_text (game.TilesShort k) = codes "TilesShort " ++ kind_byte k ∷ []
 
 -- the line of a fault, missing where it is 0
 abbrev pub line_text : ℕ → List ℕ
@@ -52,6 +61,10 @@ line_text line = if line == 0 then [] else codes " line " ++ decimal line
 
 unfoldable pub illegal_line : ℕ → GameFault → List ℕ
 illegal_line line fault = codes "illegal line " ++ decimal line ++ codes ": " ++ fault_text fault ++ 10 ∷ []
+
+-- the line of a game of which no deal was found
+unfoldable pub unsettled_line : List ℕ
+unsettled_line = codes "unsettled\n"
 
 unfoldable pub bad_record_line : ReadFault → List ℕ
 bad_record_line fault = codes "bad record" ++ line_text fault.line ++ codes ": " ++ read.name_of fault.why ++ 10 ∷ []

@@ -7,15 +7,13 @@ use Rattle.engine.specs.declared.verdicts.Verdict.{Verdict}
 use Rattle.engine.specs.declared.faults.RunFault.{RunFault}
 use Rattle.engine.specs.declared.faults.RunFault.TheVariants as run
 use Rattle.engine.specs.Judging.{Texts, LaterTexts}
-use Rattle.engine.specs.Lexicons.{most_file}
+use Rattle.gcg_read.specs.Records.{most_bytes}
+pub use Rattle.lex_list.specs.Lists.{most_list_bytes}
+use Rattle.engine.specs.Lexicons.{most_lexicon_bytes}
 
 -- the most bytes of a record
-abbrev pub most_bytes : ℕ
-most_bytes = 1048576
-
--- the most bytes of a word list
-abbrev pub most_listing : ℕ
-most_listing = 16777216
+abbrev pub most_record_bytes : ℕ
+most_record_bytes = most_bytes
 
 -- For some bytes that the inputs give, this verdict and a report of it are an answer, and the report has the property.
 pub record Answers {X : Type 0} (IsGiven : X → Type 0) (IsAnswer : X → Verdict → List ℕ → Type 0) (v : Verdict) (P : List ℕ → Type 0) : Type 0 where
@@ -60,11 +58,11 @@ OneOfThreeHasFailed first_old first_new second_old second_new third_old third_ne
 
 -- the bytes that the inputs of a game give
 pub record AreGiven (words lexicon game : Device) (texts : Texts) : Type 0 where
-  pub words_are : IsInput most_listing words texts.words
-  pub lexicon_is : IsInput most_file lexicon texts.lexicon
-  pub game_is : IsInput most_bytes game texts.game
+  pub words_are : IsInput most_list_bytes words texts.words
+  pub lexicon_is : IsInput most_lexicon_bytes lexicon texts.lexicon
+  pub game_is : IsInput most_record_bytes game texts.game
 
 -- the bytes that those behind the word list give
 pub record AreGivenLater (lexicon game : Device) (texts : LaterTexts) : Type 0 where
-  pub lexicon_is : IsInput most_file lexicon texts.lexicon
-  pub game_is : IsInput most_bytes game texts.game
+  pub lexicon_is : IsInput most_lexicon_bytes lexicon texts.lexicon
+  pub game_is : IsInput most_record_bytes game texts.game

@@ -3,13 +3,14 @@ ghost use Rattle.std.specs.Io.KnownBytes.{Appends};
 ghost use Rattle.devices.specs.Devices.{HasRoom, HasFailed, HasWorked};
 ghost use Rattle.devices.specs.Inputs.{TakesAtMost, IsInput};
 ghost use Rattle.engine.specs.Building.{IsBuilt, IsBuiltBy, IsBuiltFrom};
-ghost use Rattle.engine.specs.Runs.{most_listing, Answers, GivesUp};
+ghost use Rattle.engine.specs.Runs.{most_list_bytes, Answers, GivesUp};
 
-use crate::decisions::{Decision, send};
+use crate::decisions::Decision;
 use crate::faults::RunFault;
 use crate::lexicons::{LexiconFault, bad_file};
-use crate::listing::{Listed, read_list};
+use crate::transfers::send;
 use crate::verdicts::Verdict;
+use crate::word_lists::{Listed, read_list};
 use devices::{Input, Output};
 use lex_build::{BuildFault, build};
 use lex_list::WordList;
@@ -32,7 +33,7 @@ fn build_list(alloc: Global, list: &WordList) -> Result<Decision, AllocError>
 
 /// The lexicon of what was read as a word list, or the verdict that there is none.
 #[tactic(auto, using(crate::proofs::BuiltFiles::from_list, crate::proofs::BuiltFiles::from_none))]
-fn decide(alloc: Global, listed: Listed) -> Result<Decision, AllocError>
+fn build_listed(alloc: Global, listed: Listed) -> Result<Decision, AllocError>
     ensures { IfOk result (λ d. IsBuiltFrom listed d) }
 {
     match listed {
@@ -59,22 +60,22 @@ pub fn run_build<W: Input, O: Output>(
     requires words { HasRoom (W.device words.old) }
     requires out { HasRoom (O.device out.old) }
 
-    ensures built { IfOk result (λ v. Answers (IsInput most_listing (W.device words.old)) IsBuilt v
+    ensures built { IfOk result (λ v. Answers (IsInput most_list_bytes (W.device words.old)) IsBuilt v
         (Appends (O.device out.old).bytes (O.device out.new).bytes)) }
     ensures worked { OnOk result (HasWorked (W.device words.old) (W.device words.new)
         × HasWorked (O.device out.old) (O.device out.new)) }
-    ensures gave_up { IfErr result (GivesUp (IsInput most_listing (W.device words.old)) IsBuilt
+    ensures gave_up { IfErr result (GivesUp (IsInput most_list_bytes (W.device words.old)) IsBuilt
         (HasFailed (W.device words.old) (W.device words.new)) (HasWorked (W.device words.old) (W.device words.new))
         (O.device out.old) (O.device out.new)) }
 
     // The input is not read further than one byte past its limit.
-    ensures words { TakesAtMost (16777216 + 1) (W.device words.old) (W.device words.new) }
+    ensures words { TakesAtMost (most_list_bytes + 1) (W.device words.old) (W.device words.new) }
 {
     let listed = match read_list(alloc, words) {
         Ok(listed) => listed,
         Err(fault) => return Err(fault),
     };
-    let Ok(decision) = decide(alloc, listed) else {
+    let Ok(decision) = build_listed(alloc, listed) else {
         return Err(RunFault::NoMemory);
     };
     send(out, &decision)

@@ -4,22 +4,23 @@ ghost use Rattle.devices.specs.Devices.{HasRoom, HasFailed, HasWorked};
 ghost use Rattle.devices.specs.Inputs.{TakesAtMost, IsInput};
 ghost use Rattle.engine.specs.Checking.{AreSources, IsChecked, IsCheckedBy};
 ghost use Rattle.engine.specs.declared.verdicts.Verdict.TheVariants.{BadList};
-ghost use Rattle.engine.specs.Lexicons.{most_file};
-ghost use Rattle.engine.specs.Runs.{Answers, GivesUp, OneHasFailed};
+ghost use Rattle.engine.specs.Lexicons.{most_lexicon_bytes};
+ghost use Rattle.engine.specs.Runs.{most_list_bytes, Answers, GivesUp, OneHasFailed};
 
-use crate::decisions::{Decision, read_text, send};
+use crate::decisions::Decision;
 use crate::faults::RunFault;
 use crate::lexicons::{MAX_FILE_BYTES, Paired, pair_file};
-use crate::listing::{Listed, read_list};
 use crate::reports::ok_line;
+use crate::transfers::{read_text, send};
 use crate::verdicts::Verdict;
+use crate::word_lists::{Listed, read_list};
 use devices::{Input, Output};
 use lex_list::WordList;
 use std::alloc::{AllocError, Global};
 
 /// The number of words of a list, where the bytes of a file are its lexicon; else what is wrong with them.
 #[tactic(auto, using(crate::proofs::CheckedFiles::checked_good, crate::proofs::CheckedFiles::checked_wrong))]
-fn decide(alloc: Global, list: &WordList, bytes: &[u8]) -> Result<Decision, AllocError>
+fn check_bytes(alloc: Global, list: &WordList, bytes: &[u8]) -> Result<Decision, AllocError>
     ensures { IfOk result (λ d. IsCheckedBy list.now bytes.now d.verdict d.report.items) }
 {
     match pair_file(alloc, list, bytes) {
@@ -46,20 +47,20 @@ fn check_file<L: Input, O: Output>(
     requires lexicon { HasRoom (L.device lexicon.old) }
     requires out { HasRoom (O.device out.old) }
 
-    ensures checked { IfOk result (λ v. Answers (IsInput most_file (L.device lexicon.old)) (IsCheckedBy list.now) v
+    ensures checked { IfOk result (λ v. Answers (IsInput most_lexicon_bytes (L.device lexicon.old)) (IsCheckedBy list.now) v
         (Appends (O.device out.old).bytes (O.device out.new).bytes)) }
     ensures worked { OnOk result (HasWorked (L.device lexicon.old) (L.device lexicon.new)
         × HasWorked (O.device out.old) (O.device out.new)) }
-    ensures gave_up { IfErr result (GivesUp (IsInput most_file (L.device lexicon.old)) (IsCheckedBy list.now)
+    ensures gave_up { IfErr result (GivesUp (IsInput most_lexicon_bytes (L.device lexicon.old)) (IsCheckedBy list.now)
         (HasFailed (L.device lexicon.old) (L.device lexicon.new)) (HasWorked (L.device lexicon.old) (L.device lexicon.new))
         (O.device out.old) (O.device out.new)) }
-    ensures lexicon { TakesAtMost (134217740 + 1) (L.device lexicon.old) (L.device lexicon.new) }
+    ensures lexicon { TakesAtMost (most_lexicon_bytes + 1) (L.device lexicon.old) (L.device lexicon.new) }
 {
     let bytes = match read_text(alloc, lexicon, MAX_FILE_BYTES) {
         Ok(bytes) => bytes,
         Err(fault) => return Err(fault),
     };
-    let Ok(decision) = decide(alloc, list, &bytes) else {
+    let Ok(decision) = check_bytes(alloc, list, &bytes) else {
         return Err(RunFault::NoMemory);
     };
     send(out, &decision)
@@ -97,8 +98,8 @@ pub fn run_check<W: Input, L: Input, O: Output>(
         (O.device out.old) (O.device out.new)) }
 
     // No input is read further than one byte past its limit.
-    ensures words { TakesAtMost (16777216 + 1) (W.device words.old) (W.device words.new) }
-    ensures lexicon { TakesAtMost (134217740 + 1) (L.device lexicon.old) (L.device lexicon.new) }
+    ensures words { TakesAtMost (most_list_bytes + 1) (W.device words.old) (W.device words.new) }
+    ensures lexicon { TakesAtMost (most_lexicon_bytes + 1) (L.device lexicon.old) (L.device lexicon.new) }
 
     // The lexicon is not read behind a list that is bad.
     ensures bad_list { IfOk result (λ v. v ≡ BadList → L.device lexicon.new ≡ L.device lexicon.old) }

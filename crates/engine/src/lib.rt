@@ -9,12 +9,14 @@ mod checking;
 mod decisions;
 mod event_lines;
 mod faults;
+mod judging;
 mod lexicons;
-mod listing;
 mod reports;
 mod running;
 mod tidying;
+mod transfers;
 mod verdicts;
+mod word_lists;
 
 pub use building::run_build;
 pub use checking::run_check;
@@ -22,8 +24,3 @@ pub use faults::RunFault;
 pub use running::run;
 pub use tidying::run_tidy;
 pub use verdicts::{GameFault, Verdict};
-
-#[cfg(test)]
-mod lexicon_tests;
-#[cfg(test)]
-mod tests;

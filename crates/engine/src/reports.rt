@@ -1,9 +1,9 @@
-ghost use Rattle.std.specs.Prelude.{◌≡◌, ◌++◌, OnOk, IfOk, map};
+ghost use Rattle.std.specs.Prelude.{◌≡◌, ◌++◌, ◌∷◌, [], OnOk, IfOk, codes, map};
 ghost use Rattle.std.specs.Fmt.{signed_decimal};
 ghost use Rattle.lex_check.specs.Checks.{symbol_of};
 ghost use Rattle.game_turns.specs.Passing.{rules_in, record_in, list_in};
 ghost use Rattle.game_turns.specs.Places.{is_finished};
-ghost use Rattle.engine.specs.Reports.{rule_text, line_text, illegal_line, bad_record_line, bad_list_line, lexicon_text, bad_file_line, ok_line, legal_line, legal_report};
+ghost use Rattle.engine.specs.Reports.{rule_text, kind_byte, fault_text, line_text, illegal_line, unsettled_line, bad_record_line, bad_list_line, lexicon_text, bad_file_line, ok_line, legal_line, legal_report};
 
 use crate::event_lines::push_event_lines;
 use crate::lexicons::LexiconFault;
@@ -13,6 +13,7 @@ use gcg_read::ReadFault;
 use itoa::Buffer;
 use lex_check::{Path, text_of};
 use lex_list::ListFault;
+use ref_tiles::Kind;
 use std::alloc::{AllocError, Global};
 
 /// Appends a name and a number.
@@ -48,6 +49,36 @@ fn push_rule(text: &mut Vec<u8>, fault: &RuleFault) -> Result<(), AllocError>
     }
 }
 
+/// The byte of a kind: a capital, or `?` for a blank.
+fn kind_byte(kind: &Kind) -> u8
+    ensures { result ≡ kind_byte kind.now }
+{
+    match kind {
+        Kind::Letter(letter) => letter.capital(),
+        Kind::Blank => b'?',
+    }
+}
+
+/// Appends the name of a fault and the kind that is short.
+fn push_short(text: &mut Vec<u8>, kind: &Kind) -> Result<(), AllocError>
+    ensures { OnOk result (text.new.items ≡ text.old.items ++ (codes "TilesShort " ++ kind_byte kind.now ∷ [])) }
+{
+    text.extend_from_slice(b"TilesShort ")?;
+    text.push(kind_byte(kind))?;
+    Ok(())
+}
+
+/// Appends the name of a fault of a game.
+fn push_fault(text: &mut Vec<u8>, fault: &GameFault) -> Result<(), AllocError>
+    ensures { OnOk result (text.new.items ≡ text.old.items ++ fault_text fault.now) }
+{
+    match fault {
+        GameFault::Rule(rule) => push_rule(text, rule),
+        GameFault::RackTooBig => text.extend_from_slice(b"RackTooBig"),
+        GameFault::TilesShort(kind) => push_short(text, kind),
+    }
+}
+
 /// Appends ` line N`, or nothing where the line is 0.
 fn push_line(text: &mut Vec<u8>, line: u32) -> Result<(), AllocError>
     ensures { OnOk result (text.new.items ≡ text.old.items ++ line_text line) }
@@ -66,14 +97,21 @@ fn push_line(text: &mut Vec<u8>, line: u32) -> Result<(), AllocError>
 pub fn illegal_line(alloc: Global, line: u32, fault: &GameFault) -> Result<Vec<u8>, AllocError>
     ensures { IfOk result (λ text. text.items ≡ illegal_line line fault.now) }
 {
-    let GameFault::Rule(rule) = fault;
     let mut buffer = Buffer::new();
     let mut text = Vec::from_slice(alloc, b"illegal line ")?;
     text.extend_from_slice(buffer.format(line).as_bytes())?;
     text.extend_from_slice(b": ")?;
-    push_rule(&mut text, rule)?;
+    push_fault(&mut text, fault)?;
     text.extend_from_slice(b"\n")?;
     Ok(text)
+}
+
+/// `unsettled`.
+#[tactic(auto, unfolding(crate::specs::Reports::unsettled_line))]
+pub fn unsettled_line(alloc: Global) -> Result<Vec<u8>, AllocError>
+    ensures { IfOk result (λ text. text.items ≡ unsettled_line) }
+{
+    Vec::from_slice(alloc, b"unsettled\n")
 }
 
 /// `bad record line N: WHY`, without ` line N` where the fault lies on no line.

@@ -3,57 +3,27 @@ ghost use Rattle.std.specs.Io.KnownBytes.{Appends};
 ghost use Rattle.devices.specs.Devices.{HasRoom, HasFailed, HasWorked};
 ghost use Rattle.devices.specs.Inputs.{TakesAtMost, IsInput};
 ghost use Rattle.lex_check.specs.Pairs.{list_in};
-ghost use Rattle.engine.specs.Judging.{IsJudged, IsDecidedByPair, IsDecidedByList, IsDecided};
+ghost use Rattle.engine.specs.Judging.{IsDecidedByPair, IsDecidedByList, IsDecided};
 ghost use Rattle.engine.specs.declared.verdicts.Verdict.TheVariants.{BadList, BadFile};
-ghost use Rattle.engine.specs.Runs.{most_bytes, Answers, GivesUp, AreGiven, AreGivenLater, OneHasFailed, OneOfThreeHasFailed};
+ghost use Rattle.engine.specs.Lexicons.{most_lexicon_bytes};
+ghost use Rattle.engine.specs.Runs.{most_record_bytes, most_list_bytes, Answers, GivesUp, AreGiven, AreGivenLater, OneHasFailed, OneOfThreeHasFailed};
 
-use crate::decisions::{Decision, bad_record, read_text, send};
+use crate::decisions::{Decision, bad_record};
 use crate::faults::RunFault;
+use crate::judging::judge_record;
 use crate::lexicons::{MAX_FILE_BYTES, Paired, pair_file};
-use crate::listing::{Listed, read_list};
-use crate::reports::{illegal_line, legal_report};
-use crate::verdicts::{GameFault, Verdict};
+use crate::transfers::{read_text, send};
+use crate::verdicts::Verdict;
+use crate::word_lists::{Listed, read_list};
 use devices::{Input, Output};
-use game_turns::play_through;
-use gcg_read::{MAX_BYTES, Record, read};
+use gcg_read::{MAX_BYTES, read};
 use lex_check::Checked;
 use lex_list::WordList;
 use ref_tiles::Rules;
 use std::alloc::{AllocError, Global};
 
-/// The verdict on a record, by the list of a pair.
-#[tactic(auto, using(crate::proofs::Answering::judged_legal, crate::proofs::Answering::judged_illegal))]
-fn judge_record(
-    alloc: Global,
-    rules: &Rules,
-    pair: &Checked<'_>,
-    game: &Record,
-) -> Result<Decision, AllocError>
-    ensures { IfOk result (λ d. IsJudged rules.now (list_in pair.now) game.now d.verdict d.report.items) }
-{
-    match play_through(rules, game, pair.list()) {
-        Ok(passed) => {
-            let complete = passed.complete();
-            let report = legal_report(alloc, &passed)?;
-            Ok(Decision {
-                verdict: Verdict::Legal { complete },
-                report,
-            })
-        }
-        Err(refusal) => {
-            let line = refusal.line;
-            let fault = GameFault::Rule(refusal.fault);
-            let report = illegal_line(alloc, line, &fault)?;
-            Ok(Decision {
-                verdict: Verdict::Illegal { line, fault },
-                report,
-            })
-        }
-    }
-}
-
 /// The verdict on the bytes of a record, by the list of a pair.
-fn decide(
+fn judge_text(
     alloc: Global,
     rules: &Rules,
     pair: &Checked<'_>,
@@ -79,20 +49,20 @@ fn judge_game<G: Input, O: Output>(
     requires game { HasRoom (G.device game.old) }
     requires out { HasRoom (O.device out.old) }
 
-    ensures judged { IfOk result (λ v. Answers (IsInput most_bytes (G.device game.old)) (IsDecidedByPair rules.now (list_in pair.now)) v
+    ensures judged { IfOk result (λ v. Answers (IsInput most_record_bytes (G.device game.old)) (IsDecidedByPair rules.now (list_in pair.now)) v
         (Appends (O.device out.old).bytes (O.device out.new).bytes)) }
     ensures worked { OnOk result (HasWorked (G.device game.old) (G.device game.new)
         × HasWorked (O.device out.old) (O.device out.new)) }
-    ensures gave_up { IfErr result (GivesUp (IsInput most_bytes (G.device game.old)) (IsDecidedByPair rules.now (list_in pair.now))
+    ensures gave_up { IfErr result (GivesUp (IsInput most_record_bytes (G.device game.old)) (IsDecidedByPair rules.now (list_in pair.now))
         (HasFailed (G.device game.old) (G.device game.new)) (HasWorked (G.device game.old) (G.device game.new))
         (O.device out.old) (O.device out.new)) }
-    ensures game { TakesAtMost (1048576 + 1) (G.device game.old) (G.device game.new) }
+    ensures game { TakesAtMost (most_record_bytes + 1) (G.device game.old) (G.device game.new) }
 {
     let text = match read_text(alloc, game, MAX_BYTES) {
         Ok(text) => text,
         Err(fault) => return Err(fault),
     };
-    let Ok(decision) = decide(alloc, rules, pair, &text) else {
+    let Ok(decision) = judge_text(alloc, rules, pair, &text) else {
         return Err(RunFault::NoMemory);
     };
     send(out, &decision)
@@ -122,8 +92,8 @@ fn judge_by_list<L: Input, G: Input, O: Output>(
         (OneHasFailed (L.device lexicon.old) (L.device lexicon.new) (G.device game.old) (G.device game.new))
         (HasWorked (L.device lexicon.old) (L.device lexicon.new) × HasWorked (G.device game.old) (G.device game.new))
         (O.device out.old) (O.device out.new)) }
-    ensures lexicon { TakesAtMost (134217740 + 1) (L.device lexicon.old) (L.device lexicon.new) }
-    ensures game { TakesAtMost (1048576 + 1) (G.device game.old) (G.device game.new) }
+    ensures lexicon { TakesAtMost (most_lexicon_bytes + 1) (L.device lexicon.old) (L.device lexicon.new) }
+    ensures game { TakesAtMost (most_record_bytes + 1) (G.device game.old) (G.device game.new) }
     ensures bad_file { IfOk result (λ v. v ≡ BadFile → G.device game.new ≡ G.device game.old) }
 {
     let bytes = match read_text(alloc, lexicon, MAX_FILE_BYTES) {
@@ -175,9 +145,9 @@ pub fn run<W: Input, L: Input, G: Input, O: Output>(
         (O.device out.old) (O.device out.new)) }
 
     // No input is read further than one byte past its limit.
-    ensures words { TakesAtMost (16777216 + 1) (W.device words.old) (W.device words.new) }
-    ensures lexicon { TakesAtMost (134217740 + 1) (L.device lexicon.old) (L.device lexicon.new) }
-    ensures game { TakesAtMost (1048576 + 1) (G.device game.old) (G.device game.new) }
+    ensures words { TakesAtMost (most_list_bytes + 1) (W.device words.old) (W.device words.new) }
+    ensures lexicon { TakesAtMost (most_lexicon_bytes + 1) (L.device lexicon.old) (L.device lexicon.new) }
+    ensures game { TakesAtMost (most_record_bytes + 1) (G.device game.old) (G.device game.new) }
 
     // No input is read behind one that is bad.
     ensures bad_list { IfOk result (λ v. v ≡ BadList → (L.device lexicon.new ≡ L.device lexicon.old) × (G.device game.new ≡ G.device game.old)) }

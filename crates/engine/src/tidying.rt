@@ -4,10 +4,11 @@ ghost use Rattle.devices.specs.Devices.{HasRoom, HasFailed, HasWorked};
 ghost use Rattle.devices.specs.Inputs.{TakesAtMost, IsInput};
 ghost use Rattle.gcg_write.specs.Normal.{normal_of};
 ghost use Rattle.engine.specs.Tidying.{IsTidied};
-ghost use Rattle.engine.specs.Runs.{most_bytes, Answers, GivesUp};
+ghost use Rattle.engine.specs.Runs.{most_record_bytes, Answers, GivesUp};
 
-use crate::decisions::{Decision, bad_record, read_text, send};
+use crate::decisions::{Decision, bad_record};
 use crate::faults::RunFault;
+use crate::transfers::{read_text, send};
 use crate::verdicts::Verdict;
 use devices::{Input, Output};
 use gcg_read::{MAX_BYTES, Record, read};
@@ -57,16 +58,16 @@ pub fn run_tidy<G: Input, O: Output>(
     requires game { HasRoom (G.device game.old) }
     requires out { HasRoom (O.device out.old) }
 
-    ensures tidied { IfOk result (λ v. Answers (IsInput most_bytes (G.device game.old)) IsTidied v
+    ensures tidied { IfOk result (λ v. Answers (IsInput most_record_bytes (G.device game.old)) IsTidied v
         (Appends (O.device out.old).bytes (O.device out.new).bytes)) }
     ensures worked { OnOk result (HasWorked (G.device game.old) (G.device game.new)
         × HasWorked (O.device out.old) (O.device out.new)) }
-    ensures gave_up { IfErr result (GivesUp (IsInput most_bytes (G.device game.old)) IsTidied
+    ensures gave_up { IfErr result (GivesUp (IsInput most_record_bytes (G.device game.old)) IsTidied
         (HasFailed (G.device game.old) (G.device game.new)) (HasWorked (G.device game.old) (G.device game.new))
         (O.device out.old) (O.device out.new)) }
 
     // The input is not read further than one byte past its limit.
-    ensures game { TakesAtMost (1048576 + 1) (G.device game.old) (G.device game.new) }
+    ensures game { TakesAtMost (most_record_bytes + 1) (G.device game.old) (G.device game.new) }
 {
     let text = match read_text(alloc, game, MAX_BYTES) {
         Ok(text) => text,

@@ -1,28 +1,33 @@
 use game_turns::RuleFault;
+use ref_tiles::Kind;
 
 /// Why a game is not legal.
 #[derive(Clone, Copy, Debug, PartialEq, Eq)]
 pub enum GameFault {
     /// The rules do not allow the event.
     Rule(RuleFault),
+    /// By this line a player has shown more tiles than came to the rack.
+    RackTooBig,
+    /// By this line the players have shown more tiles of this kind than the game has.
+    TilesShort(Kind),
 }
 
 /// What the referee answers.
 #[derive(Clone, Copy, Debug, PartialEq, Eq)]
 pub enum Verdict {
-    /// Every event is allowed.
+    /// Every event is allowed, and some deal of the tiles yields every rack.
     Legal {
         /// Whether the game has ended.
         complete: bool,
     },
-    /// Some event is not allowed, or no deal of the tiles yields the racks.
+    /// Some event is not allowed, or no deal of the tiles yields every rack.
     Illegal {
-        /// The line of the first such event.
+        /// The line of the first such event, or by which the racks are too many.
         line: u32,
-        /// Why it is not allowed.
+        /// Why.
         fault: GameFault,
     },
-    /// Whether some deal yields the racks was not found out.
+    /// Every event is allowed, and whether some deal yields every rack was not found out.
     Unsettled,
     /// The word list has a fault.
     BadList,

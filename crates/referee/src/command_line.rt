@@ -27,14 +27,14 @@ pub enum Request<'a> {
     },
 }
 
-/// Reads the words of a command line, the program's name first.
+/// Parses the arguments of a command line, the program's name first.
 ///
 /// # Errors
 ///
-/// `OutOfMemory` where memory was refused. Each other kind is a mistake in the words or a request for help, with
+/// `OutOfMemory` where memory was refused. Each other kind is a mistake in the arguments or a request for help, with
 /// its text.
-pub fn read_words<'a>(alloc: Global, words: &'a [String]) -> Result<Request<'a>, Error> {
-    let matches = command(alloc)?.try_get_matches_from(words)?;
+pub fn parse_arguments<'a>(alloc: Global, arguments: &'a [String]) -> Result<Request<'a>, Error> {
+    let matches = command(alloc)?.try_get_matches_from(arguments)?;
     match request_of(&matches) {
         Some(request) => Ok(request),
         None => Err(mistake(alloc, "a command with its names is needed")),
@@ -66,7 +66,9 @@ fn command<'a>(alloc: Global) -> Result<Command<'a>, AllocError> {
 /// `judge WORDS LEXICON GAME`.
 fn judge_command<'a>(alloc: Global) -> Result<Command<'a>, AllocError> {
     Command::new(alloc, "judge")
-        .about("Says whether the game is legal, and the best play of each turn with a full rack")
+        .about(
+            "Says whether the game is legal, or which line is the first that does not stand and why",
+        )
         .arg(name(alloc, "WORDS", "the word list"))?
         .arg(name(alloc, "LEXICON", "the lexicon file of the words"))?
         .arg(name(alloc, "GAME", "the GCG record"))

@@ -1,4 +1,4 @@
-use crate::command_line::{Request, mistake, read_words};
+use crate::command_line::{Request, mistake, parse_arguments};
 use crate::exits::{Exit, Trouble};
 use clap::Error;
 use clap::error::ErrorKind;
@@ -9,20 +9,20 @@ use std::alloc::AllocError;
 use std::rt::{Files, Runtime};
 use std::{env, fs, io};
 
-/// Runs the program on the words of its command line. What keeps it from its end is told on standard error.
+/// Runs the program on the arguments of its command line. What keeps it from its end is told on standard error.
 pub fn run_program<R: Runtime + AllocGlobal>(rt: &R) -> Exit {
-    let words = match words_of(rt) {
-        Ok(words) => words,
+    let arguments = match arguments_of(rt) {
+        Ok(arguments) => arguments,
         Err(error) => return refuse(rt, &error),
     };
-    match read_words(rt.alloc(), words.as_slice()) {
+    match parse_arguments(rt.alloc(), arguments.as_slice()) {
         Ok(request) => answer(rt, request),
         Err(error) => refuse(rt, &error),
     }
 }
 
-/// The words of the command line, the program's name first.
-fn words_of<R: Runtime + AllocGlobal>(rt: &R) -> Result<Vec<String>, Error> {
+/// The arguments of the command line, the program's name first.
+fn arguments_of<R: Runtime + AllocGlobal>(rt: &R) -> Result<Vec<String>, Error> {
     match env::args(rt) {
         Ok(args) => Ok(args.collect(rt.alloc())?),
         Err(error) if error.kind() == io::ErrorKind::OutOfMemory => Err(Error::from(AllocError)),

@@ -1,6 +1,6 @@
 use Rattle.std.specs.Io.KnownBytes.{Appends}
 use Rattle.engine.proofs.CheckedFiles.{refused_list, refused_list_stops}
-use Rattle.engine.proofs.Listings.{refused_is}
+use Rattle.engine.proofs.WordListLaws.{refused_is}
 use Rattle.engine.proofs.checking.run_check.Goals as goal
 
 pub returns-in-Ok-Refused-clause-checked : goal.returns-in-Ok-Refused-clause-checked

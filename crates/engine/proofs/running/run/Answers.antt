@@ -1,6 +1,6 @@
 use Rattle.std.specs.Io.KnownBytes.{Appends}
 use Rattle.engine.proofs.Judgements.{refused_list, refused_list_stops}
-use Rattle.engine.proofs.Listings.{refused_is}
+use Rattle.engine.proofs.WordListLaws.{refused_is}
 use Rattle.engine.proofs.running.run.Goals as goal
 
 pub returns-in-Ok-Refused-clause-judged : goal.returns-in-Ok-Refused-clause-judged

@@ -2,7 +2,7 @@ use Rattle.std.proofs.lemmas.Result.{IfOk-weaker}
 use Rattle.lex_check.specs.Pairs.{list_in}
 use Rattle.engine.specs.Judging.{IsJudged, IsRefused, IsDecidedByPair}
 use Rattle.engine.proofs.Answering.{decided_by_events, decided_by_fault}
-use Rattle.engine.proofs.running.decide.Goals as goal
+use Rattle.engine.proofs.running.judge_text.Goals as goal
 
 pub returns-in-Ok : goal.returns-in-Ok
 returns-in-Ok c =

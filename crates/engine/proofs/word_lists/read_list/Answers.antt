@@ -1,5 +1,5 @@
-use Rattle.engine.proofs.Listings.{listed_from}
-use Rattle.engine.proofs.listing.read_list.Goals as goal
+use Rattle.engine.proofs.WordListLaws.{listed_from}
+use Rattle.engine.proofs.word_lists.read_list.Goals as goal
 
 pub returns-in-Ok-list_from-clause-listed : goal.returns-in-Ok-list_from-clause-listed
 returns-in-Ok-list_from-clause-listed g c =

@@ -1,0 +1,128 @@
+ghost use Rattle.std.specs.Prelude.{◌≡◌, ◌↔◌, IsTrue, IfOk, None};
+ghost use Rattle.game_turns.specs.Passing.{rules_in, record_in, list_in};
+ghost use Rattle.game_turns.specs.Places.{AreAllowed, is_finished};
+ghost use Rattle.deal_steps.specs.Bounds.{first_bound};
+ghost use Rattle.game_deal.specs.Needing.{passed_in};
+ghost use Rattle.game_deal.specs.Plain.{HaveNoExchange};
+ghost use Rattle.game_deal.specs.Recorded.{steps_of};
+ghost use Rattle.lex_check.specs.Pairs as pairs;
+ghost use Rattle.engine.specs.declared.verdicts.Verdict.TheVariants as verdict;
+ghost use Rattle.engine.specs.Judging.{IsJudged, IsTold, IsToldBound};
+ghost use Rattle.engine.specs.Reports as reports;
+ghost use Rattle.engine.specs.Verdicts.{IsDealt};
+
+use crate::decisions::Decision;
+use crate::reports::{illegal_line, legal_report, unsettled_line};
+use crate::verdicts::{GameFault, Verdict};
+use game_deal::{DealFault, Needs, bounds, complete, fits, law_of_bounds};
+use game_turns::{Passed, play_through};
+use gcg_read::Record;
+use lex_check::Checked;
+use ref_tiles::Rules;
+use std::alloc::{AllocError, Global};
+
+/// The verdict that a game is illegal.
+fn illegal(alloc: Global, line: u32, fault: GameFault) -> Result<Decision, AllocError>
+    ensures { IfOk result (λ d. IsTold (verdict.Illegal line fault) (reports.illegal_line line fault) d.verdict d.report.items) }
+{
+    let report = illegal_line(alloc, line, &fault)?;
+    Ok(Decision {
+        verdict: Verdict::Illegal { line, fault },
+        report,
+    })
+}
+
+/// The verdict that a game is legal.
+fn legal(alloc: Global, passed: &Passed<'_>) -> Result<Decision, AllocError>
+    ensures { IfOk result (λ d. IsTold (verdict.Legal (is_finished (rules_in passed.now) (record_in passed.now).events))
+        (reports.legal_report (rules_in passed.now) (list_in passed.now) (is_finished (rules_in passed.now) (record_in passed.now).events) (record_in passed.now))
+        d.verdict d.report.items) }
+{
+    let complete = passed.complete();
+    let report = legal_report(alloc, passed)?;
+    Ok(Decision {
+        verdict: Verdict::Legal { complete },
+        report,
+    })
+}
+
+/// The verdict that no deal was found, and that none is ruled out.
+fn unsettled(alloc: Global) -> Result<Decision, AllocError>
+    ensures { IfOk result (λ d. IsTold verdict.Unsettled reports.unsettled_line d.verdict d.report.items) }
+{
+    let report = unsettled_line(alloc)?;
+    Ok(Decision {
+        verdict: Verdict::Unsettled,
+        report,
+    })
+}
+
+/// Whether the rule of completion gives a deal, and it fits.
+#[tactic(auto, using(crate::proofs::Deals::deal_fits, crate::proofs::Deals::no_deal_fits, crate::proofs::Deals::plain_fits))]
+fn is_dealt(alloc: Global, passed: &Passed<'_>, needs: &Needs<'_>) -> Result<bool, AllocError>
+    requires { passed_in needs.now ≡ passed.now }
+    ensures same { IfOk result (λ b. IsTrue b ↔ IsDealt (rules_in passed.now) (record_in passed.now).events) }
+    ensures plain { IfOk result (λ b. HaveNoExchange (record_in passed.now).events → IsTrue b) }
+{
+    match complete(alloc, needs)? {
+        Some(deal) => Ok(fits(passed, &deal)),
+        None => Ok(false),
+    }
+}
+
+/// The verdict on a record that exceeds no bound, by the deal that it is tried with.
+#[tactic(auto, using(crate::proofs::Deals::judged_dealt, crate::proofs::Deals::judged_undealt))]
+fn settle(alloc: Global, passed: &Passed<'_>, needs: &Needs<'_>) -> Result<Decision, AllocError>
+    requires needs { passed_in needs.now ≡ passed.now }
+    requires bounded { first_bound (rules_in passed.now) (steps_of (rules_in passed.now) (record_in passed.now).events) ≡ None }
+    requires allowed { AreAllowed (rules_in passed.now) (list_in passed.now) (record_in passed.now).events }
+    ensures { IfOk result (λ d. IsJudged (rules_in passed.now) (list_in passed.now) (record_in passed.now) d.verdict d.report.items) }
+{
+    if is_dealt(alloc, passed, needs)? {
+        legal(alloc, passed)
+    } else {
+        unsettled(alloc)
+    }
+}
+
+/// The verdict that a bound is exceeded; want of memory is none.
+fn exceeded(alloc: Global, bound: &DealFault) -> Result<Decision, AllocError>
+    ensures { IfOk result (λ d. IsToldBound bound.now d.verdict d.report.items) }
+{
+    match bound {
+        DealFault::RackTooBig { line } => illegal(alloc, *line, GameFault::RackTooBig),
+        DealFault::TilesShort { line, kind } => {
+            illegal(alloc, *line, GameFault::TilesShort(*kind))
+        }
+        DealFault::NoMemory => Err(AllocError),
+    }
+}
+
+/// The verdict on a record of which every event is allowed, by the bounds of its racks and by a deal.
+#[tactic(auto, using(crate::proofs::Deals::judged_bound))]
+fn judge_passed(alloc: Global, passed: &Passed<'_>) -> Result<Decision, AllocError>
+    requires { AreAllowed (rules_in passed.now) (list_in passed.now) (record_in passed.now).events }
+    ensures { IfOk result (λ d. IsJudged (rules_in passed.now) (list_in passed.now) (record_in passed.now) d.verdict d.report.items) }
+{
+    law_of_bounds();
+    match bounds(alloc, &*passed) {
+        Ok(needs) => settle(alloc, passed, &needs),
+        Err(bound) => exceeded(alloc, &bound),
+    }
+}
+
+/// The verdict on a record, by the list of a pair.
+#[tactic(auto, using(crate::proofs::Deals::judged_refused))]
+pub fn judge_record(
+    alloc: Global,
+    rules: &Rules,
+    pair: &Checked<'_>,
+    game: &Record,
+) -> Result<Decision, AllocError>
+    ensures { IfOk result (λ d. IsJudged rules.now (pairs.list_in pair.now) game.now d.verdict d.report.items) }
+{
+    match play_through(rules, game, pair.list()) {
+        Ok(passed) => judge_passed(alloc, &passed),
+        Err(refusal) => illegal(alloc, refusal.line, GameFault::Rule(refusal.fault)),
+    }
+}
