@@ -1,0 +1,401 @@
+ghost use Rattle.std.specs.Prelude.{◌≡◌};
+
+use crate::samples::{AT, AT_IT, EMPTY};
+use lex_file::{Branch, FileFault, LexFile, PathLex, Step, law_of_language, law_of_nodes};
+use std::process::Abort;
+use std::test::Fail;
+
+/// A change of one word of the file of AT, and the fault that it makes.
+struct Change {
+    place: usize,
+    word: [u8; 4],
+    fault: Option<FileFault>,
+}
+
+const CHANGES: [Change; 20] = [
+    Change {
+        place: 0,
+        word: [0x48, 0x41, 0x44, 0x31],
+        fault: Some(FileFault::Magic),
+    },
+    Change {
+        place: 0,
+        word: [0x47, 0x41, 0x44, 0x32],
+        fault: Some(FileFault::Magic),
+    },
+    Change {
+        place: 1,
+        word: [0x04, 0x00, 0x00, 0x00],
+        fault: Some(FileFault::Length),
+    },
+    Change {
+        place: 1,
+        word: [0x06, 0x00, 0x00, 0x00],
+        fault: Some(FileFault::Length),
+    },
+    Change {
+        place: 1,
+        word: [0x05, 0x00, 0x00, 0x40],
+        fault: Some(FileFault::Length),
+    },
+    Change {
+        place: 2,
+        word: [0x05, 0x00, 0x00, 0x00],
+        fault: Some(FileFault::Root),
+    },
+    Change {
+        place: 2,
+        word: [0x00, 0x00, 0x00, 0x00],
+        fault: Some(FileFault::Root),
+    },
+    Change {
+        place: 2,
+        word: [0x06, 0x00, 0x00, 0x00],
+        fault: Some(FileFault::Root),
+    },
+    Change {
+        place: 2,
+        word: [0xff, 0xff, 0xff, 0xff],
+        fault: Some(FileFault::Root),
+    },
+    Change {
+        place: 4,
+        word: [0x7b, 0x00, 0x00, 0x00],
+        fault: Some(FileFault::Label),
+    },
+    Change {
+        place: 8,
+        word: [0xc1, 0x01, 0x00, 0x00],
+        fault: Some(FileFault::Order),
+    },
+    Change {
+        place: 5,
+        word: [0x40, 0x01, 0x00, 0x00],
+        fault: Some(FileFault::Target),
+    },
+    Change {
+        place: 8,
+        word: [0x54, 0x02, 0x00, 0x00],
+        fault: Some(FileFault::Target),
+    },
+    Change {
+        place: 8,
+        word: [0xd4, 0x02, 0x00, 0x00],
+        fault: Some(FileFault::Target),
+    },
+    Change {
+        place: 4,
+        word: [0x54, 0x00, 0x00, 0x00],
+        fault: Some(FileFault::DeadArc),
+    },
+    Change {
+        place: 8,
+        word: [0x94, 0x01, 0x00, 0x00],
+        fault: Some(FileFault::OpenRun),
+    },
+    Change {
+        place: 7,
+        word: [0x21, 0x01, 0x00, 0x00],
+        fault: None,
+    },
+    Change {
+        place: 3,
+        word: [0x02, 0x00, 0x00, 0x00],
+        fault: None,
+    },
+    Change {
+        place: 2,
+        word: [0x01, 0x00, 0x00, 0x00],
+        fault: None,
+    },
+    Change {
+        place: 4,
+        word: [0x7a, 0x00, 0x00, 0x00],
+        fault: None,
+    },
+];
+
+#[test]
+fn changes(rt: HostRuntime) {
+    for row in &CHANGES {
+        let mut bytes = AT;
+        bytes[4 * row.place..4 * row.place + 4].copy_from_slice(&row.word);
+        assert_eq!(rt;
+            LexFile::open(&bytes).err(),
+            row.fault,
+            "word {}: {:?}",
+            row.place,
+            row.word
+        );
+    }
+}
+
+#[test]
+fn truncations(rt: HostRuntime) {
+    for length in 0..AT.len() {
+        let fault = if length < 16 {
+            FileFault::Short
+        } else {
+            FileFault::Length
+        };
+        assert_eq!(rt;
+            LexFile::open(&AT[..length]).err(),
+            Some(fault),
+            "{length} bytes"
+        );
+    }
+}
+
+#[test]
+fn counts(rt: HostRuntime) -> Result<(), Fail> {
+    let file = LexFile::open(&AT_IT).ok().ok_or("a file")?;
+    assert_eq!(rt; file.word_count(), 2);
+    assert_eq!(rt; file.arc_count(), 7);
+    let empty = LexFile::open(&EMPTY).ok().ok_or("a file")?;
+    assert_eq!(rt; empty.word_count(), 0);
+    assert_eq!(rt; empty.arc_count(), 0);
+    Ok(())
+}
+
+#[test]
+fn names(rt: HostRuntime) {
+    assert_eq!(rt; FileFault::DeadArc.name(), "DeadArc");
+    assert_eq!(rt; FileFault::Short.name(), "Short");
+}
+
+/// Whether labels lead from a node to an arc that accepts.
+fn accepts<L: PathLex>(lexicon: &L, node: L::Node, labels: &[u8]) -> bool
+    requires { L.is_node lexicon.now node }
+{
+    let [label, rest @ ..] = labels else {
+        return false;
+    };
+    let Some(step) = lexicon.step(node, *label) else {
+        return false;
+    };
+    if rest.is_empty() {
+        return step.accepts;
+    }
+    match step.next {
+        Some(next) => accepts(lexicon, next, rest),
+        None => false,
+    }
+}
+
+/// Labels, and whether they are a path of the word AT, and one of the words AT and IT.
+struct Walk {
+    labels: &'static [u8],
+    at: bool,
+    at_it: bool,
+}
+
+const WALKS: [Walk; 14] = [
+    Walk {
+        labels: &[1, 0, 20],
+        at: true,
+        at_it: true,
+    },
+    Walk {
+        labels: &[20, 1],
+        at: true,
+        at_it: true,
+    },
+    Walk {
+        labels: &[9, 0, 20],
+        at: false,
+        at_it: true,
+    },
+    Walk {
+        labels: &[20, 9],
+        at: false,
+        at_it: true,
+    },
+    Walk {
+        labels: &[],
+        at: false,
+        at_it: false,
+    },
+    Walk {
+        labels: &[1],
+        at: false,
+        at_it: false,
+    },
+    Walk {
+        labels: &[20],
+        at: false,
+        at_it: false,
+    },
+    Walk {
+        labels: &[1, 0],
+        at: false,
+        at_it: false,
+    },
+    Walk {
+        labels: &[1, 20],
+        at: false,
+        at_it: false,
+    },
+    Walk {
+        labels: &[0, 20],
+        at: false,
+        at_it: false,
+    },
+    Walk {
+        labels: &[20, 1, 0],
+        at: false,
+        at_it: false,
+    },
+    Walk {
+        labels: &[1, 0, 20, 1],
+        at: false,
+        at_it: false,
+    },
+    Walk {
+        labels: &[27],
+        at: false,
+        at_it: false,
+    },
+    Walk {
+        labels: &[255],
+        at: false,
+        at_it: false,
+    },
+];
+
+#[test]
+fn walks(rt: HostRuntime) -> Result<(), Fail> {
+    let at = LexFile::open(&AT).ok().ok_or("a file")?;
+    let at_it = LexFile::open(&AT_IT).ok().ok_or("a file")?;
+    let empty = LexFile::open(&EMPTY).ok().ok_or("a file")?;
+    for row in &WALKS {
+        assert_eq!(rt;
+            accepts(&at, at.root(), row.labels),
+            row.at,
+            "{:?}",
+            row.labels
+        );
+        assert_eq!(rt;
+            accepts(&at_it, at_it.root(), row.labels),
+            row.at_it,
+            "{:?}",
+            row.labels
+        );
+        assert!(rt; !accepts(&empty, empty.root(), row.labels));
+    }
+    Ok(())
+}
+
+/// A label from which on the next one is looked for at the root, and the first of the word AT, and of AT and IT.
+struct Ahead {
+    from: u8,
+    at: Option<u8>,
+    at_it: Option<u8>,
+}
+
+const AHEAD: [Ahead; 9] = [
+    Ahead {
+        from: 0,
+        at: Some(1),
+        at_it: Some(1),
+    },
+    Ahead {
+        from: 1,
+        at: Some(1),
+        at_it: Some(1),
+    },
+    Ahead {
+        from: 2,
+        at: Some(20),
+        at_it: Some(9),
+    },
+    Ahead {
+        from: 9,
+        at: Some(20),
+        at_it: Some(9),
+    },
+    Ahead {
+        from: 10,
+        at: Some(20),
+        at_it: Some(20),
+    },
+    Ahead {
+        from: 20,
+        at: Some(20),
+        at_it: Some(20),
+    },
+    Ahead {
+        from: 21,
+        at: None,
+        at_it: None,
+    },
+    Ahead {
+        from: 27,
+        at: None,
+        at_it: None,
+    },
+    Ahead {
+        from: 255,
+        at: None,
+        at_it: None,
+    },
+];
+
+/// The first label from one on with which a tail of the root begins.
+fn label_from(file: &LexFile<'_>, from: u8) -> Option<u8> {
+    let branch = file.branch_from(file.root(), from)?;
+    Some(branch.label)
+}
+
+#[test]
+fn labels_ahead(rt: HostRuntime) -> Result<(), Fail> {
+    let at = LexFile::open(&AT).ok().ok_or("a file")?;
+    let at_it = LexFile::open(&AT_IT).ok().ok_or("a file")?;
+    let empty = LexFile::open(&EMPTY).ok().ok_or("a file")?;
+    for row in &AHEAD {
+        assert_eq!(rt; label_from(&at, row.from), row.at, "{}", row.from);
+        assert_eq!(rt; label_from(&at_it, row.from), row.at_it, "{}", row.from);
+        assert_eq!(rt; label_from(&empty, row.from), None, "{}", row.from);
+    }
+    Ok(())
+}
+
+#[test]
+fn branches(rt: HostRuntime) -> Result<(), Fail> {
+    let file = LexFile::open(&AT).ok().ok_or("a file")?;
+    let letter = file.branch_from(file.root(), 2).ok_or("a branch")?;
+    assert_eq!(rt; letter.label, 20);
+    assert!(rt; !letter.step.accepts);
+    let node = letter.step.next.ok_or("a node")?;
+    assert_eq!(rt;
+        file.branch_from(node, 0),
+        Some(Branch {
+            label: 1,
+            step: Step {
+                accepts: true,
+                next: None
+            }
+        })
+    );
+    assert_eq!(rt; file.branch_from(node, 2), None);
+    Ok(())
+}
+
+#[test]
+fn steps(rt: HostRuntime) -> Result<(), Fail> {
+    let file = LexFile::open(&AT).ok().ok_or("a file")?;
+    let root = file.root();
+    assert!(rt; file.step(root, 0).is_none());
+    let last = file.step(root, 20).ok_or("a step")?;
+    assert!(rt; !last.accepts);
+    let node = last.next.ok_or("a node")?;
+    assert_eq!(rt;
+        file.step(node, 1),
+        Some(Step {
+            accepts: true,
+            next: None
+        })
+    );
+    law_of_language();
+    law_of_nodes();
+    Ok(())
+}

@@ -1,0 +1,19 @@
+//! The tests of the crates of word lists and compiled lexicons, by what they show: how a text falls into lines
+//! (`lines`), which texts are word lists (`lists`), which bytes are a compiled lexicon and what it holds (`files`),
+//! where a lexicon first differs from a list (`checks`), and the bytes that are built (`builds`).
+//!
+//! They stand here, and not in the crates that they test, since a crate with tests is proved twice.
+#![tactic(auto)]
+
+#[cfg(test)]
+mod builds;
+#[cfg(test)]
+mod checks;
+#[cfg(test)]
+mod files;
+#[cfg(test)]
+mod lines;
+#[cfg(test)]
+mod lists;
+#[cfg(test)]
+mod samples;

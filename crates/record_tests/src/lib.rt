@@ -1,0 +1,18 @@
+//! Tests of the crates that read, write and judge records: tiles, boards, plays, the reader, the normal form and the turns.
+//!
+//! Each module has the tables of one crate, each table shows one rule. They stand here, and not in the crates that they
+//! test, since a crate with tests of its own is proved a second time with them.
+#![tactic(auto)]
+
+#[cfg(test)]
+mod boards;
+#[cfg(test)]
+mod normal_forms;
+#[cfg(test)]
+mod plays;
+#[cfg(test)]
+mod records;
+#[cfg(test)]
+mod tiles;
+#[cfg(test)]
+mod turns;

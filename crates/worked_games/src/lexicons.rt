@@ -1,0 +1,416 @@
+//! The calls that read or write a lexicon file, over memory.
+ghost use Rattle.devices.specs.Devices.{Device, HasRoom};
+ghost use Rattle.std.specs.Prelude.{None};
+
+use devices::{DeviceFailed, FromRead, FromWrite, Input};
+use engine::{RunFault, Verdict, run, run_build, run_check};
+use ref_tiles::english_rules;
+use std::alloc::Global;
+use std::process::Abort;
+use std::test::Fail;
+
+/// The file of the word AT, whose paths are A+T and TA.
+const AT: [u8; 36] = [
+    0x47, 0x41, 0x44, 0x31, 0x05, 0x00, 0x00, 0x00, 0x04, 0x00, 0x00, 0x00, 0x01, 0x00, 0x00, 0x00,
+    0x74, 0x00, 0x00, 0x00, 0xc0, 0x00, 0x00, 0x00, 0x61, 0x00, 0x00, 0x00, 0x01, 0x01, 0x00, 0x00,
+    0xd4, 0x01, 0x00, 0x00,
+];
+
+/// The file of the words AT and IT, whose paths are A+T, I+T, TA and TI.
+const AT_IT: [u8; 44] = [
+    0x47, 0x41, 0x44, 0x31, 0x07, 0x00, 0x00, 0x00, 0x05, 0x00, 0x00, 0x00, 0x02, 0x00, 0x00, 0x00,
+    0x74, 0x00, 0x00, 0x00, 0xc0, 0x00, 0x00, 0x00, 0x21, 0x00, 0x00, 0x00, 0x69, 0x00, 0x00, 0x00,
+    0x01, 0x01, 0x00, 0x00, 0x09, 0x01, 0x00, 0x00, 0xd4, 0x01, 0x00, 0x00,
+];
+
+/// The file of the empty list.
+const EMPTY: [u8; 16] = [
+    0x47, 0x41, 0x44, 0x31, 0x00, 0x00, 0x00, 0x00, 0x00, 0x00, 0x00, 0x00, 0x00, 0x00, 0x00, 0x00,
+];
+
+/// Checks a file by words, and gives the verdict and what was written.
+fn checked<L: Input>(
+    alloc: Global,
+    words: &[u8],
+    lexicon: &mut L,
+) -> Result<(Verdict, Vec<u8>), RunFault>
+    requires { HasRoom (L.device lexicon.old) }
+{
+    let mut words = FromRead::new(words);
+    let mut out = FromWrite::new(Vec::new(alloc));
+    let verdict = run_check(alloc, &mut words, lexicon, &mut out)?;
+    Ok((verdict, out.into_inner()))
+}
+
+/// Asserts a verdict and what was written.
+fn expect(rt: &impl Abort, told: &(Verdict, Vec<u8>), verdict: Verdict, written: &[u8]) {
+    assert_eq!(rt; told.0, verdict);
+    assert_eq!(rt; told.1.as_slice(), written);
+}
+
+/// Checks the bytes of a file by words, and gives the verdict and what was written.
+fn checked_bytes(
+    alloc: Global,
+    words: &[u8],
+    lexicon: &[u8],
+) -> Result<(Verdict, Vec<u8>), RunFault> {
+    let mut lexicon = FromRead::new(lexicon);
+    checked(alloc, words, &mut lexicon)
+}
+
+/// A word list, a file, and what is written of their check.
+struct Check {
+    words: &'static str,
+    lexicon: &'static [u8],
+    verdict: Verdict,
+    report: &'static str,
+}
+
+const CHECKS: [Check; 8] = [
+    Check {
+        words: "AT",
+        lexicon: &AT,
+        verdict: Verdict::Done,
+        report: "ok 1\n",
+    },
+    Check {
+        words: "it\nAT\nAt",
+        lexicon: &AT_IT,
+        verdict: Verdict::Done,
+        report: "ok 2\n",
+    },
+    Check {
+        words: "",
+        lexicon: &EMPTY,
+        verdict: Verdict::Done,
+        report: "ok 0\n",
+    },
+    Check {
+        words: "AT",
+        lexicon: &AT_IT,
+        verdict: Verdict::BadFile,
+        report: "bad lexicon: Extra I\n",
+    },
+    Check {
+        words: "AT\nIT",
+        lexicon: &AT,
+        verdict: Verdict::BadFile,
+        report: "bad lexicon: Missing I+T\n",
+    },
+    Check {
+        words: "",
+        lexicon: b"",
+        verdict: Verdict::BadFile,
+        report: "bad lexicon: Short\n",
+    },
+    Check {
+        words: "AT\nA1",
+        lexicon: b"",
+        verdict: Verdict::BadList,
+        report: "bad word list line 2: BadLetter\n",
+    },
+    Check {
+        words: "A",
+        lexicon: &AT,
+        verdict: Verdict::BadList,
+        report: "bad word list line 1: BadLength\n",
+    },
+];
+
+#[test]
+fn checks(rt: HostRuntime) -> Result<(), Fail> {
+    for row in &CHECKS {
+        let told = checked_bytes(rt.alloc(), row.words.as_bytes(), row.lexicon)?;
+        expect(&rt, &told, row.verdict, row.report.as_bytes());
+    }
+    Ok(())
+}
+
+/// Bytes that stand in the file of AT from a place on in place of its own, and what is written of the check.
+struct Change {
+    at: usize,
+    bytes: &'static [u8],
+    report: &'static str,
+}
+
+const CHANGES: [Change; 10] = [
+    Change {
+        at: 0,
+        bytes: &[0x48],
+        report: "bad lexicon: Magic\n",
+    },
+    Change {
+        at: 8,
+        bytes: &[0x05],
+        report: "bad lexicon: Root\n",
+    },
+    Change {
+        at: 8,
+        bytes: &[0x00],
+        report: "bad lexicon: Root\n",
+    },
+    Change {
+        at: 12,
+        bytes: &[0x02],
+        report: "bad lexicon: WordCount\n",
+    },
+    Change {
+        at: 16,
+        bytes: &[0x7b, 0x00, 0x00, 0x00],
+        report: "bad lexicon: Label\n",
+    },
+    Change {
+        at: 32,
+        bytes: &[0xc1, 0x01, 0x00, 0x00],
+        report: "bad lexicon: Order\n",
+    },
+    Change {
+        at: 20,
+        bytes: &[0x40, 0x01, 0x00, 0x00],
+        report: "bad lexicon: Target\n",
+    },
+    Change {
+        at: 16,
+        bytes: &[0x54, 0x00, 0x00, 0x00],
+        report: "bad lexicon: DeadArc\n",
+    },
+    Change {
+        at: 32,
+        bytes: &[0x94, 0x01, 0x00, 0x00],
+        report: "bad lexicon: OpenRun\n",
+    },
+    Change {
+        at: 28,
+        bytes: &[0x21, 0x01, 0x00, 0x00],
+        report: "bad lexicon: Extra A\n",
+    },
+];
+
+#[test]
+fn changed_files(rt: HostRuntime) -> Result<(), Fail> {
+    for change in &CHANGES {
+        let mut file = AT;
+        for (place, byte) in change.bytes.iter().enumerate() {
+            assert!(rt; place < 8 && change.at + place < 36);
+            file[change.at + place] = *byte;
+        }
+        let mut lexicon = FromRead::new(file.as_slice());
+        let (verdict, report) = checked(rt.alloc(), b"AT", &mut lexicon)?;
+        assert_eq!(rt; verdict, Verdict::BadFile, "{}", change.report);
+        assert_eq!(rt;
+            report.as_slice(),
+            change.report.as_bytes(),
+            "{}",
+            change.report
+        );
+    }
+    Ok(())
+}
+
+#[test]
+fn cut_files(rt: HostRuntime) -> Result<(), Fail> {
+    for len in 0..AT.len() {
+        let mut lexicon = FromRead::new(&AT[..len]);
+        let (verdict, report) = checked(rt.alloc(), b"AT", &mut lexicon)?;
+        let want = if len < 16 {
+            "bad lexicon: Short\n"
+        } else {
+            "bad lexicon: Length\n"
+        };
+        assert_eq!(rt; verdict, Verdict::BadFile, "{len}");
+        assert_eq!(rt; report.as_slice(), want.as_bytes(), "{len}");
+    }
+    Ok(())
+}
+
+/// A file of 25 nodes of the arcs A and B. Those of the first accept and have no target; those of each further one do
+/// not accept, and have the node before as target. So very many strings are spelt, and none of them has a mark.
+fn many_walks(alloc: Global) -> Result<Vec<u8>, RunFault> {
+    let mut words: [u32; 54] = [0; 54];
+    words[0] = u32::from_le_bytes(*b"GAD1");
+    words[1] = 50;
+    words[2] = 49;
+    words[3] = 1;
+    words[4] = 1 + 32;
+    words[5] = 2 + 32 + 64;
+    for node in 2..=25_u32 {
+        let target = 2 * node - 3;
+        let place = 2 * node as usize + 2;
+        words[place] = 1 + 128 * target;
+        words[place + 1] = 2 + 64 + 128 * target;
+    }
+    let mut bytes = Vec::new(alloc);
+    for word in words {
+        if bytes.extend_from_slice(&word.to_le_bytes()).is_err() {
+            return Err(RunFault::NoMemory);
+        }
+    }
+    Ok(bytes)
+}
+
+#[test]
+fn many_strings(rt: HostRuntime) -> Result<(), Fail> {
+    let file = many_walks(rt.alloc())?;
+    let mut lexicon = FromRead::new(file.as_slice());
+    let (verdict, report) = checked(rt.alloc(), b"AT", &mut lexicon)?;
+    assert_eq!(rt; verdict, Verdict::BadFile);
+    assert_eq!(rt; report.as_slice(), b"bad lexicon: Missing A+T\n".as_slice());
+    Ok(())
+}
+
+/// An input of zeros without an end. It counts them as it gives them.
+#[derive(Drop)]
+struct Zeros {
+    given: usize,
+}
+
+impl Input for Zeros {
+    ghost device = { λ _. record { bytes = None; failures = 0; stalls = 0 } };
+
+    fn read(&mut self, buf: &mut [u8]) -> Result<usize, DeviceFailed> {
+        buf.fill(0);
+        self.given = self.given.saturating_add(buf.len());
+        Ok(buf.len())
+    }
+}
+
+#[test]
+fn too_long(rt: HostRuntime) -> Result<(), Fail> {
+    let mut zeros = Zeros { given: 0 };
+    let (verdict, report) = checked(rt.alloc(), b"AT", &mut zeros)?;
+    assert_eq!(rt; verdict, Verdict::BadFile);
+    assert_eq!(rt; report.as_slice(), b"bad lexicon: Length\n".as_slice());
+    assert_eq!(rt; zeros.given, 134_217_741);
+    Ok(())
+}
+
+/// A word list, a lexicon and a record, and what is written of them.
+struct Game {
+    words: &'static str,
+    lexicon: &'static [u8],
+    game: &'static str,
+    verdict: Verdict,
+    report: &'static str,
+}
+
+const GAMES: [Game; 6] = [
+    Game {
+        words: "AT",
+        lexicon: &AT,
+        game: ">A: AEI -5 +0 0\n",
+        verdict: Verdict::Legal { complete: false },
+        report: "legal unfinished\n1 A -5 +0 0\n",
+    },
+    Game {
+        words: "AT",
+        lexicon: &AT,
+        game: ">A B: AEI -5 +0 0\n",
+        verdict: Verdict::BadRecord,
+        report: "bad record line 1: NoColon\n",
+    },
+    Game {
+        words: "AT",
+        lexicon: b"GAD1",
+        game: ">A B: AEI -5 +0 0\n",
+        verdict: Verdict::BadFile,
+        report: "bad lexicon: Short\n",
+    },
+    Game {
+        words: "AT",
+        lexicon: &AT_IT,
+        game: ">A: AEI -5 +0 0\n",
+        verdict: Verdict::BadFile,
+        report: "bad lexicon: Extra I\n",
+    },
+    Game {
+        words: "AT\nIT",
+        lexicon: &AT,
+        game: ">A: AEI -5 +0 0\n",
+        verdict: Verdict::BadFile,
+        report: "bad lexicon: Missing I+T\n",
+    },
+    Game {
+        words: "A1",
+        lexicon: b"GAD1",
+        game: ">A B: AEI -5 +0 0\n",
+        verdict: Verdict::BadList,
+        report: "bad word list line 1: BadLetter\n",
+    },
+];
+
+/// Judges a record by words and the bytes of a lexicon, and gives the verdict and what was written.
+fn judged_bytes(
+    alloc: Global,
+    words: &[u8],
+    lexicon: &[u8],
+    game: &[u8],
+) -> Result<(Verdict, Vec<u8>), RunFault> {
+    let rules = english_rules();
+    let mut words = FromRead::new(words);
+    let mut lexicon = FromRead::new(lexicon);
+    let mut game = FromRead::new(game);
+    let mut out = FromWrite::new(Vec::new(alloc));
+    let verdict = run(alloc, &mut words, &mut lexicon, &mut game, &mut out, &rules)?;
+    Ok((verdict, out.into_inner()))
+}
+
+#[test]
+fn games(rt: HostRuntime) -> Result<(), Fail> {
+    for row in &GAMES {
+        let told = judged_bytes(
+            rt.alloc(),
+            row.words.as_bytes(),
+            row.lexicon,
+            row.game.as_bytes(),
+        )?;
+        expect(&rt, &told, row.verdict, row.report.as_bytes());
+    }
+    Ok(())
+}
+
+/// A word list, and what is built of it.
+struct Build {
+    words: &'static str,
+    verdict: Verdict,
+    bytes: &'static [u8],
+}
+
+const BUILDS: [Build; 4] = [
+    Build {
+        words: "AT",
+        verdict: Verdict::Done,
+        bytes: &AT,
+    },
+    Build {
+        words: "it\nAT\nAt\n",
+        verdict: Verdict::Done,
+        bytes: &AT_IT,
+    },
+    Build {
+        words: "",
+        verdict: Verdict::Done,
+        bytes: &EMPTY,
+    },
+    Build {
+        words: "AT\nA1",
+        verdict: Verdict::BadList,
+        bytes: b"bad word list line 2: BadLetter\n",
+    },
+];
+
+/// Builds the lexicon of words, and gives the verdict and what was written.
+fn built(alloc: Global, words: &[u8]) -> Result<(Verdict, Vec<u8>), RunFault> {
+    let mut words = FromRead::new(words);
+    let mut out = FromWrite::new(Vec::new(alloc));
+    let verdict = run_build(alloc, &mut words, &mut out)?;
+    Ok((verdict, out.into_inner()))
+}
+
+#[test]
+fn builds(rt: HostRuntime) -> Result<(), Fail> {
+    for row in &BUILDS {
+        let told = built(rt.alloc(), row.words.as_bytes())?;
+        expect(&rt, &told, row.verdict, row.bytes);
+    }
+    Ok(())
+}

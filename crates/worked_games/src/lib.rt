@@ -1,0 +1,23 @@
+//! The worked games, lexicons and records, judged, built, checked and tidied over memory by the calls of the engine, and
+//! tests of the devices that they are read from and written to.
+//!
+//! Each table shows one rule. They stand here, and not in the crates that they test, since a crate with tests of its own
+//! is proved a second time with them.
+#![tactic(auto)]
+
+#[cfg(test)]
+mod deals;
+#[cfg(test)]
+mod devices_over_memory;
+#[cfg(test)]
+mod games;
+#[cfg(test)]
+mod inputs;
+#[cfg(test)]
+mod lexicons;
+#[cfg(test)]
+mod plays;
+#[cfg(test)]
+mod tidying;
+#[cfg(test)]
+mod turns;

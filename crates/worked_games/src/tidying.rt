@@ -1,0 +1,56 @@
+//! Records that are tidied.
+use devices::{FromRead, FromWrite};
+use engine::{RunFault, Verdict, run_tidy};
+use std::alloc::Global;
+use std::test::Fail;
+
+/// Tidies a record, and gives the verdict and what was written.
+fn tidied(alloc: Global, game: &[u8]) -> Result<(Verdict, Vec<u8>), RunFault> {
+    let mut game = FromRead::new(game);
+    let mut out = FromWrite::new(Vec::new(alloc));
+    let verdict = run_tidy(alloc, &mut game, &mut out)?;
+    Ok((verdict, out.into_inner()))
+}
+
+#[test]
+fn normal_forms(rt: HostRuntime) -> Result<(), Fail> {
+    let rows: [(&str, &str); 4] = [
+        (
+            "\u{feff}#player1 A  Ann Lee\r\n#note x\n>A:\tDORWAAE  8e WORD 16 16\r\n",
+            "#player1 A Ann Lee\n>A: AADEORW 8E WORD +16 16\n",
+        ),
+        ("", ""),
+        (
+            "\n> Al :?Q? 08h W(o)rD -0 -7",
+            "#player1 Al\n>Al: Q?? 8H WorD +0 -7\n",
+        ),
+        (
+            ">A: - 0 +0\n>B: -7 0 0\n>A: -? +0 5\n>A: (time) -5 0\n>B: (A?) 4 4",
+            "#player1 A\n#player2 B\n>A: - +0 0\n>B: -7 +0 0\n>A: -? +0 5\n>A: (time) -5 0\n>B: (A?) +4 4\n",
+        ),
+    ];
+    for (game, want) in rows {
+        let (verdict, text) = tidied(rt.alloc(), game.as_bytes())?;
+        assert_eq!(rt; verdict, Verdict::Done);
+        assert_eq!(rt; text.as_slice(), want.as_bytes(), "{want}");
+    }
+    Ok(())
+}
+
+#[test]
+fn untidy_records(rt: HostRuntime) -> Result<(), Fail> {
+    let rows: [(&str, &str); 3] = [
+        (
+            "#player1 A\n#player2 A\n",
+            "bad record line 2: ThirdPlayer\n",
+        ),
+        (">A: -8 +0 0\n", "bad record line 1: Code\n"),
+        (">A: - +1234567 0\n", "bad record line 1: Number\n"),
+    ];
+    for (game, want) in rows {
+        let (verdict, text) = tidied(rt.alloc(), game.as_bytes())?;
+        assert_eq!(rt; verdict, Verdict::BadRecord);
+        assert_eq!(rt; text.as_slice(), want.as_bytes(), "{want}");
+    }
+    Ok(())
+}
