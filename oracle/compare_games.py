@@ -1,15 +1,16 @@
-"""Compares `referee judge` with the second judge on random games: compare_games.py PROGRAM CASES SEED"""
+"""Compares `referee judge` with the second judge on random games that nobody dealt: compare_games.py PROGRAM CASES SEED"""
 import random
 import subprocess
 import sys
 import tempfile
 from pathlib import Path
 
-from games import ACROSS, DOWN, POINTS, Event, Game, Refused, judge, place, runs, score_of
+from deals import judge_deal
+from games import ACROSS, DOWN, POINTS, Event, Refused, place, runs, score_of
 from lexicons import build
 
 choose = random.choice
-LETTERS = "AEINRSTOUDLGBCMPQZ"
+LETTERS = "AAAAEEEEEEIIIINNNRRRSSTTTOOOOUUDDLLGBCMPQZ"
 
 
 def likely(share):
@@ -45,7 +46,8 @@ class Maker:
 
     def add(self, player, kind, text, score, **said):
         self.totals[player] += score
-        self.events.append(Event(player, kind, score, self.totals[player], text, **said))
+        rack = choose(["AEINRST", "EIT", "Q?"]) if likely(0.02) or kind in ("withdraw", "time") else ""
+        self.events.append(Event(player, kind, score, self.totals[player], text, rack=rack, **said))
 
     def play(self):
         for _ in range(40):
@@ -121,7 +123,7 @@ class Maker:
 
 
 def line(event):
-    rack = choose(["", "AEINRST "])
+    rack = f"{event.rack} " if event.rack else ""
     return f">{'AB'[event.player]}: {rack}{event.text} {event.score:+d} {event.total}\n"
 
 
@@ -140,7 +142,7 @@ def main():
             lexicon.write_bytes(build(maker.listed))
             game.write_text("".join(line(event) for event in events))
             told = subprocess.run([program, "judge", words, lexicon, game], capture_output=True, check=False).stdout.decode()
-            expected = judge(events, maker.listed)
+            expected = judge_deal(events, maker.listed)
             verdict = expected.split("\n")[0].split(": ")[-1].split(" ")[0 if expected.startswith("illegal") else -1]
             verdicts[verdict] = verdicts.get(verdict, 0) + 1
             if told != expected:

@@ -35,7 +35,7 @@ class Refused(Exception):
 
 @dataclass
 class Event:
-    """One event: player 0 or 1, its kind, what it says, its score and total, and its text in a report."""
+    """One event: player 0 or 1, its kind, what it says, its score and total, its text in a report, and the rack that its line shows."""
 
     player: int
     kind: str  # play, pass, exchange, unknown, withdraw, challenge, time, rack
@@ -47,6 +47,7 @@ class Event:
     word: str = ""
     tiles: str = ""
     size: int = 0
+    rack: str = ""
 
 
 @dataclass
@@ -57,6 +58,7 @@ class Game:
     totals: list = field(default_factory=lambda: [0, 0])
     racks: list = field(default_factory=lambda: [RACK, RACK])
     bag: int = TILES - 2 * RACK
+    exchange_min: int = EXCHANGE_MIN
     mover: int = None
     idle_turns: int = 0
     out: int = None
@@ -203,7 +205,7 @@ def other(game, event, listed):
             game.idle_pass = True
     elif event.kind in ("exchange", "unknown"):
         may_turn(game, event)
-        check(game.bag >= EXCHANGE_MIN, "ExchangeRefused")
+        check(game.bag >= game.exchange_min, "ExchangeRefused")
         check(event.size <= min(game.racks[event.player], game.bag), "ExchangeSize")
         close(game, event, 0)
         pass_turn(game, event)
@@ -234,9 +236,9 @@ def step(game, event, following, listed):
     return told
 
 
-def judge(events, listed, nicks="AB"):
-    """What `referee judge` is to print of these events on the lines 1, 2 and so on."""
-    game, lines = Game(), []
+def judge(events, listed, nicks="AB", game=None):
+    """What `referee judge` is to print of these events on the lines 1, 2 and so on, deals apart."""
+    game, lines = game or Game(), []
     for place_, event in enumerate(events):
         following = events[place_ + 1] if place_ + 1 < len(events) else None
         try:
