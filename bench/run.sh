@@ -31,7 +31,18 @@ record() {
 record 500 > "$work/500"
 record 1000 > "$work/1000"
 record 50 > "$work/50"
-# The same 1,000 events in 1 MiB, between lines that are read over.
+# 1,000 exchanges of seven tiles that are not told, each with a full rack: each draw asks what all later lines want.
+awk 'BEGIN {
+    for (i = 0; i < 1000; i++) printf ">%s: %s -7 +0 0\n", (i % 2) ? "B" : "A", (i % 2) ? "DGLOTUW" : "AEINRST"
+}' > "$work/exchanges"
+# The same of tiles that are told, and 1,000 passes with full racks.
+awk 'BEGIN {
+    for (i = 0; i < 1000; i++) printf ">%s: %s -%s +0 0\n", (i % 2) ? "B" : "A", (i % 2) ? "DGLOTUW" : "AEINRST", (i % 2) ? "DGL" : "AEI"
+}' > "$work/told"
+awk 'BEGIN {
+    for (i = 0; i < 1000; i++) printf ">%s: %s - +0 0\n", (i % 2) ? "B" : "A", (i % 2) ? "DGLOTUW" : "AEINRST"
+}' > "$work/passes"
+# The 1,000 plays and withdrawals in 1 MiB, between lines that are read over.
 awk '{ print; for (i = 0; i < 1031; i++) printf "x"; print "" }' "$work/1000" > "$work/long"
 head -c $((1048576 - $(wc -c < "$work/long"))) /dev/zero | tr '\0' y >> "$work/long"
 
@@ -56,6 +67,9 @@ measure 'tidy of an empty record' 50 "$program" tidy "$work/empty"
 measure 'tidy of the record of 1 MiB' 50 "$program" tidy "$work/long"
 measure 'judge of 500 events, no words' 50 "$program" judge "$work/empty" "$work/none" "$work/500"
 measure 'judge of 1,000 events, no words' 50 "$program" judge "$work/empty" "$work/none" "$work/1000"
+measure 'judge of 1,000 exchanges, not told' 20 "$program" judge "$work/empty" "$work/none" "$work/exchanges"
+measure 'judge of 1,000 exchanges, told' 20 "$program" judge "$work/empty" "$work/none" "$work/told"
+measure 'judge of 1,000 passes with full racks' 20 "$program" judge "$work/empty" "$work/none" "$work/passes"
 
 # The reading of a word list alone: an empty file is no lexicon.
 measure 'judge with 400,000 words, empty lexicon' 5 "$program" judge "$work/words" "$work/empty" "$work/empty"
