@@ -22,6 +22,7 @@ use Rattle.ref_play.specs.Words.{words_formed, letters_of}
 use Rattle.ref_play.specs.Legality.{fault_of, check, overlaps, has_gap, has_no_tile, misses_centre, is_too_short, is_apart}
 use Rattle.ref_play.specs.Texts.{text_cells, placement_of, text_fault, mismatches, is_open_ended}
 use Rattle.ref_play.specs.Scores.{score_of, letters_score, words_factor}
+use Rattle.ref_play.specs.Notations.{Written, notation_of}
 
 abbrev listed : Option Symbol → List Symbol
 listed None = []
@@ -73,6 +74,13 @@ english = record {
 -- what the text scores
 abbrev scores : List (Option Tile) → Dir → ℕ → List ℕ → ℕ
 scores board d at bytes = score_of english board (tiles_of board d at bytes)
+
+-- a text with its place, and the notation of the tiles that a text puts down
+abbrev written : Dir → ℕ → List ℕ → Written
+written d at bytes = record { dir = d; at = at; word = text bytes }
+
+abbrev notates : List (Option Tile) → Dir → ℕ → List ℕ → Written
+notates board d at bytes = notation_of board (tiles_of board d at bytes)
 
 -- the faults of texts
 word_names_a_play : text_fails empty_board Across 109 (codes "WORD") ≡ None
@@ -173,3 +181,22 @@ eat_scores = refl
 oe_scores : scores after_at Down 110 (codes ".E") ≡ 5
 unfolding score_of letters_score words_factor english english_premiums empty_board runs_along stretches_on text_cells placement_of letter_at
 oe_scores = refl
+
+-- the notations: a blank is a small letter, an old tile is a dot
+word_is_written : notates empty_board Across 109 (codes "WOrD") ≡ written Across 109 (codes "WOrD")
+unfolding notation_of empty_board runs_along stretches_on text_cells placement_of letter_at
+word_is_written = refl
+
+eat_is_written : notates after_at Across 125 (codes "E..") ≡ written Across 125 (codes "E..")
+unfolding notation_of empty_board runs_along stretches_on text_cells placement_of letter_at
+eat_is_written = refl
+
+-- A lone tile is written across where its run across has two tiles, whichever text put it down, and else down: what
+-- F8 `.E` puts down is 9F `E..`, and an A below the W of 8E WORD, alone in its row, is E8 `.A`.
+oe_is_written_across : notates after_at Down 110 (codes ".E") ≡ written Across 125 (codes "E..")
+unfolding notation_of empty_board runs_along stretches_on text_cells placement_of letter_at
+oe_is_written_across = refl
+
+lone_tile_is_written_down : notates after_word Across 124 (codes "A") ≡ written Down 109 (codes ".A")
+unfolding notation_of empty_board runs_along stretches_on text_cells placement_of letter_at
+lone_tile_is_written_down = refl

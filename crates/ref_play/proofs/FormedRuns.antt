@@ -50,7 +50,7 @@ stretches_agree occupied f g h =
     stretches_same occupied f g (λ k l. same_test (is_formed occupied f k l) (is_formed occupied g k l) (onto f g h k l) (onto g f (λ place below. sym (h place below)) k l))
 
 -- a whole stretch reaches as far as the tiles do
-reach : (occupied : ℕ → Bool) (k l a b : ℕ) → IsWhole occupied k l → k ≤ a → a < k + l → b < 15 → occupied b ≡ true
+pub reach : (occupied : ℕ → Bool) (k l a b : ℕ) → IsWhole occupied k l → k ≤ a → a < k + l → b < 15 → occupied b ≡ true
     → ((x : ℕ) → a < x → x < b → occupied x ≡ true) → ((x : ℕ) → b < x → x < a → occupied x ≡ true) → (k ≤ b) × (b < k + l)
 reach occupied k l a b w low high below here up down =
     let from : k ≤ b = ⊎_elim
@@ -69,7 +69,7 @@ covering : (ps : List Placed) (square : ℕ) → covers ps square ≡ true → (
 covering ps square e =
     let found = list_any-found (λ (q : Placed). q.square == square) ps e in (found.0, found.1, eqb-true found.0.square square found.2)
 
-covered : (ps : List Placed) (square : ℕ) (q : Placed) → Contains ps q → q.square ≡ square → covers ps square ≡ true
+pub covered : (ps : List Placed) (square : ℕ) (q : Placed) → Contains ps q → q.square ≡ square → covers ps square ≡ true
 covered ps square q c e = list_any-in (λ (q : Placed). q.square == square) ps q c (eq-eqb q.square square e)
 
 -- a tile that covers a place of a line lies there
@@ -123,7 +123,7 @@ along_line d after p ps laid =
     stretches_same occupied fresh (λ place. place == start) (λ k l. same_test (is_formed occupied fresh k l) (is_formed occupied (λ place. place == start) k l) (onto k l) (back k l))
 
 -- along its direction a play without a gap forms the run through its first tile, and no other
-along_runs : (d : Dir) (after : List (Option Tile)) (p : Placed) (ps : List Placed) → IsLaid d after (p ∷ ps) → runs_along d after (p ∷ ps) ≡ runs_through d after p.square
+pub along_runs : (d : Dir) (after : List (Option Tile)) (p : Placed) (ps : List Placed) → IsLaid d after (p ∷ ps) → runs_along d after (p ∷ ps) ≡ runs_through d after p.square
 unfolding runs_along
 along_runs d after p ps laid =
     let parts = is_play-parts d (p ∷ ps) laid.play in
@@ -138,11 +138,11 @@ abbrev pub KeysRise : (Placed → ℕ) → List Placed → Type 0
 KeysRise key [] = Unit {0}
 KeysRise key (p ∷ ps) = ((q : Placed) → Contains ps q → key p < key q) × KeysRise key ps
 
-none_contained : (q : Placed) → Contains [] q → ⊥
+pub none_contained : (q : Placed) → Contains [] q → ⊥
 none_contained q c = omega (arith, c.1)
 
 -- a join over successive numbers is a join over the items whose keys they are
-join_keys : {A : Type 0} (g : ℕ → List A) (h : Placed → List A) (key : Placed → ℕ) (from n : ℕ) (ps : List Placed)
+pub join_keys : {A : Type 0} (g : ℕ → List A) (h : Placed → List A) (key : Placed → ℕ) (from n : ℕ) (ps : List Placed)
     → ((q : Placed) → Contains ps q → from ≤ key q) → ((q : Placed) → Contains ps q → key q < from + n) → KeysRise key ps
     → ((q : Placed) → Contains ps q → g (key q) ≡ h q)
     → ((k : ℕ) → from ≤ k → k < from + n → ((q : Placed) → Contains ps q → key q ≡ k → ⊥) → g k ≡ [])

@@ -268,7 +268,7 @@ unfolding check
 check-none true why rest e = cc
 check-none false why rest e = (refl, e)
 
-check-from : (test : Bool) (why : PlayFault) (rest : Option PlayFault) → test ≡ false → rest ≡ None → check test why rest ≡ None
+pub check-from : (test : Bool) (why : PlayFault) (rest : Option PlayFault) → test ≡ false → rest ≡ None → check test why rest ≡ None
 unfolding check
 check-from true why rest s e = cc
 check-from false why rest s e = e

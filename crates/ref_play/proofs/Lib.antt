@@ -11,4 +11,11 @@ pub mod WholeTexts
 pub mod DirectionLaws
 pub mod ScoreLemmas
 pub mod Taking
+pub mod Stretches
+pub mod Directing
+pub mod Reading
+pub mod Naming
+pub mod WrittenTexts
+pub mod WrittenRuns
+pub mod Ordering
 pub mod Examples

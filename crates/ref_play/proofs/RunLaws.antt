@@ -108,7 +108,7 @@ is_on-from run square l a b =
     (lt-ltb (place_of run.dir square) (place_of run.dir run.start + run.len) b)
 
 -- a stretch that a placement forms is a run that meets it
-stretch_meets : (d : Dir) (after : List (Option Tile)) (ps : List Placed) (line first len : ℕ) → line < 15 → 2 ≤ len
+pub stretch_meets : (d : Dir) (after : List (Option Tile)) (ps : List Placed) (line first len : ℕ) → line < 15 → 2 ≤ len
     → is_formed (occupied_on d after line) (fresh_on d ps line) first len ≡ true → MeetsRun after ps (run_of d line (first, len))
 stretch_meets d after ps line first len below long e =
     let parts = is_formed-parts (occupied_on d after line) (fresh_on d ps line) first len e in

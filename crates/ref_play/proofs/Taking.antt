@@ -56,7 +56,7 @@ without-kept (p ∷ ps) board square e =
     without-kept ps (with_tile board p.square None) square parts.1
     ∙ get_or-set_other board p.square square None None (other_square p square parts.0)
 
-with-kept : (ps : List Placed) (board : List (Option Tile)) (square : ℕ) → covers ps square ≡ false → tile_at (with_tiles board ps) square ≡ tile_at board square
+pub with-kept : (ps : List Placed) (board : List (Option Tile)) (square : ℕ) → covers ps square ≡ false → tile_at (with_tiles board ps) square ≡ tile_at board square
 with-kept [] board square e = refl
 with-kept (p ∷ ps) board square e =
     let parts = or_parts (p.square == square) (covers ps square) e in

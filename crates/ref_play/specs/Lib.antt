@@ -5,4 +5,8 @@ pub mod Legality
 pub mod Texts
 pub mod Words
 pub mod Scores
+pub mod Directions
+pub mod Notations
+pub mod Candidates
+pub mod Best
 pub mod Laws

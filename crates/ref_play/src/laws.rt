@@ -1,5 +1,5 @@
 //! Laws about the definitions that the contracts of plays cite. Each function does nothing: its contract is the law.
-ghost use Rattle.ref_play.specs.Laws.{RunsAreThoseMet, RunsAreDistinct, FaultlessIsLegal, OneTileFitsBoth, OneTileHasOneFault, WordsFitBoth, MoreTilesFitOne, TakingBackRestores};
+ghost use Rattle.ref_play.specs.Laws.{RunsAreThoseMet, RunsAreDistinct, FaultlessIsLegal, OneTileFitsBoth, OneTileHasOneFault, WordsFitBoth, MoreTilesFitOne, TakingBackRestores, WrittenAlongItsRun, NotationsReadBack, NotationsTell, NoneBeforeItself, BeforeIsTransitive, OneComesBefore};
 
 /// The runs that a placement forms are the maximal stretches of two tiles or more, in a row or a column, that have
 /// one of its tiles, each once.
@@ -27,4 +27,21 @@ pub fn law_of_directions()
 /// Tiles that were put on empty squares and taken off again leave the board as it was.
 pub fn law_of_undoing()
     ensures { TakingBackRestores }
+{}
+
+/// A legal placement has one notation: it lies in one run along the direction in which it is written, the text on that
+/// run has no fault and names the placement, and no other placement has the same notation.
+pub fn law_of_notations()
+    ensures along { WrittenAlongItsRun }
+    ensures read_back { NotationsReadBack }
+    ensures tell { NotationsTell }
+{}
+
+/// The order of plays by their notations is a strict total order on the legal placements of a board: none comes before
+/// itself, what comes before a placement comes before all that this one comes before, and of two that differ one
+/// comes before the other.
+pub fn law_of_before()
+    ensures irreflexive { NoneBeforeItself }
+    ensures transitive { BeforeIsTransitive }
+    ensures one_first { OneComesBefore }
 {}

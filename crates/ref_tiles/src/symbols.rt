@@ -14,6 +14,17 @@ pub enum Symbol {
     Blank(Letter),
 }
 
+/// A dot, which puts no tile down.
+impl Default for Symbol {
+    ghost use Rattle.ref_tiles.specs.declared.symbols.Symbol.TheVariants as symbol;
+
+    ghost is_default = { λ value. value ≡ symbol.Dot };
+
+    fn default() -> Symbol {
+        Symbol::Dot
+    }
+}
+
 impl Symbol {
     /// The symbol that a byte writes; none for a byte that is neither a dot nor a letter.
     pub fn of_byte(byte: u8) -> Option<Symbol>
