@@ -14,18 +14,18 @@ use Rattle.engine.specs.declared.faults.RunFault.{RunFault}
 use Rattle.engine.specs.declared.faults.RunFault.TheVariants as run
 use Rattle.engine.specs.Runs.{Answers, HasStopped, ReadGivesUp, GivesUp}
 use Rattle.engine.specs.Verdicts.{IsVerdictOn}
-use Rattle.engine.specs.Judging.{IsJudged, IsDecided, IsDecidedByPair, IsRefused, report_on}
+use Rattle.engine.specs.Judging.{IsJudged, IsDecided, IsDecidedByPair, IsRefused, IsReportOn}
 use Rattle.engine.specs.Lexicons.{IsLexicon}
 use Rattle.engine.specs.Tidying.{IsTidied}
-use Rattle.engine.specs.Reports.{legal_report, legal_text, bad_record_line, bad_record_text}
+use Rattle.engine.specs.Reports.{IsLegalText, bad_record_line, bad_record_text}
 
 -- the verdict on a record, by the words of a list and their lexicon
 decided_on : (rules : Rules) (words : List (List ℕ)) (listing lexicon text : List ℕ) (r : Record) (v : Verdict) (bytes : List ℕ) → list_of listing ≡ Ok words → IsLexicon words lexicon
-    → record_of text ≡ Ok r → IsVerdictOn rules words r v → bytes ≡ report_on rules words r v → IsDecided rules (record { words = listing; lexicon = lexicon; game = text }) v bytes
+    → record_of text ≡ Ok r → IsVerdictOn rules words r v → IsReportOn rules words r v bytes → IsDecided rules (record { words = listing; lexicon = lexicon; game = text }) v bytes
 decided_on rules words listing lexicon text r (verdict.Legal complete) bytes l p e is told =
     record {
       judged = record { list = words; listed = l; paired = p; game = r; recorded = e; verdict_is = is };
-      told = let whole : legal_text rules complete (list_of listing) (record_of text) ≡ legal_report rules words complete r = rw (l, e) refl in told ∙ sym whole;
+      told = rw (l, e) told;
     }
 decided_on rules words listing lexicon text r (verdict.Illegal line fault) bytes l p e is told =
     record { judged = record { list = words; listed = l; paired = p; game = r; recorded = e; verdict_is = is }; told = told }

@@ -20,19 +20,19 @@ use Rattle.engine.specs.declared.verdicts.GameFault.TheVariants as game
 use Rattle.engine.specs.declared.verdicts.Verdict.{Verdict}
 use Rattle.engine.specs.declared.verdicts.Verdict.TheVariants as verdict
 use Rattle.engine.specs.Verdicts.{IsVerdictOn, IsDealt, Exceeds}
-use Rattle.engine.specs.Judging.{IsJudged, IsTold, IsToldBound, report_on}
-use Rattle.engine.specs.Reports.{legal_report, illegal_line, unsettled_line}
+use Rattle.engine.specs.Judging.{IsJudged, IsTold, IsToldBound, IsToldLegal, IsReportOn}
+use Rattle.engine.specs.Reports.{illegal_line, unsettled_line}
 
 -- a verdict that is told is the verdict on the record
-judged_as : (rules : Rules) (words : List (List ℕ)) (r : Record) (what v : Verdict) (bytes : List ℕ) → IsVerdictOn rules words r what → IsTold what (report_on rules words r what) v bytes
+judged_as : (rules : Rules) (words : List (List ℕ)) (r : Record) (what v : Verdict) (bytes : List ℕ) → IsVerdictOn rules words r what → v ≡ what → IsReportOn rules words r what bytes
     → IsJudged rules words r v bytes
-judged_as rules words r what v bytes is told =
-    subst (λ x. IsJudged rules words r x bytes) (sym told.verdict_is) (record { verdict_is = is; told = told.told })
+judged_as rules words r what v bytes is same told =
+    subst (λ x. IsJudged rules words r x bytes) (sym same) (record { verdict_is = is; told = told })
 
 -- an event that is not allowed
 pub judged_refused : (rules : Rules) (words : List (List ℕ)) (r : Record) (line : ℕ) (why : RuleFault) (v : Verdict) (bytes : List ℕ) → IsFirstRefusal rules words r.events line why
     → IsTold (verdict.Illegal line (game.Rule why)) (illegal_line line (game.Rule why)) v bytes → IsJudged rules words r v bytes
-judged_refused rules words r line why v bytes refused told = judged_as rules words r (verdict.Illegal line (game.Rule why)) v bytes refused told
+judged_refused rules words r line why v bytes refused told = judged_as rules words r (verdict.Illegal line (game.Rule why)) v bytes refused told.verdict_is told.told
 
 -- a bound that is exceeded
 exceeded_is : (bound : Option DealFault) (why : DealFault) → MatchOption bound (why ≡ deal.NoMemory) (λ b. why ≡ b) → (why ≡ deal.NoMemory → ⊥) → bound ≡ Some why
@@ -54,11 +54,11 @@ pub judged_bound : FittingIsBounded → (rules : Rules) (words : List (List ℕ)
 judged_bound law rules words r (deal.RackTooBig line) v bytes allowed given told =
     judged_as rules words r (verdict.Illegal line game.RackTooBig) v bytes
     (exceeds law rules words r.events (deal.RackTooBig line) allowed
-    (exceeded_is (first_bound rules (steps_of rules r.events)) (deal.RackTooBig line) given (λ (same : deal.RackTooBig line ≡ deal.NoMemory). cc))) told
+    (exceeded_is (first_bound rules (steps_of rules r.events)) (deal.RackTooBig line) given (λ (same : deal.RackTooBig line ≡ deal.NoMemory). cc))) told.verdict_is told.told
 judged_bound law rules words r (deal.TilesShort line kind) v bytes allowed given told =
     judged_as rules words r (verdict.Illegal line (game.TilesShort kind)) v bytes
     (exceeds law rules words r.events (deal.TilesShort line kind) allowed
-    (exceeded_is (first_bound rules (steps_of rules r.events)) (deal.TilesShort line kind) given (λ (same : deal.TilesShort line kind ≡ deal.NoMemory). cc))) told
+    (exceeded_is (first_bound rules (steps_of rules r.events)) (deal.TilesShort line kind) given (λ (same : deal.TilesShort line kind ≡ deal.NoMemory). cc))) told.verdict_is told.told
 judged_bound law rules words r deal.NoMemory v bytes allowed given told = absurd told
 
 -- ---- whether the rule gives a deal that fits
@@ -80,10 +80,10 @@ plain_fits rules events given b is plain same none = same.1 (subst (λ (d : Opti
 
 -- ---- what follows
 pub judged_dealt : (rules : Rules) (words : List (List ℕ)) (r : Record) (b : Bool) (v : Verdict) (bytes : List ℕ) → AreAllowed rules words r.events → b ≡ true → IsTrue b ↔ IsDealt rules r.events
-    → IsTold (verdict.Legal (is_finished rules r.events)) (legal_report rules words (is_finished rules r.events) r) v bytes → IsJudged rules words r v bytes
+    → IsToldLegal rules words r v bytes → IsJudged rules words r v bytes
 judged_dealt rules words r b v bytes allowed holds same told =
     judged_as rules words r (verdict.Legal (is_finished rules r.events)) v bytes
-    (record { allowed = allowed; is_dealt = same.0 holds; ended = refl }) told
+    (record { allowed = allowed; is_dealt = same.0 holds; ended = refl }) told.verdict_is told.told
 
 pub judged_undealt : (rules : Rules) (words : List (List ℕ)) (r : Record) (b : Bool) (v : Verdict) (bytes : List ℕ) → AreAllowed rules words r.events → first_bound rules (steps_of rules r.events) ≡ None
     → b ≡ false → IsTrue b ↔ IsDealt rules r.events → (HaveNoExchange r.events → IsTrue b) → IsTold verdict.Unsettled unsettled_line v bytes → IsJudged rules words r v bytes
@@ -94,4 +94,4 @@ judged_undealt rules words r b v bytes allowed bounded fails same plain told =
       bounded = bounded;
       undealt = λ is. let both : false ≡ true = sym fails ∙ same.1 is in cc;
       exchanged = λ none. let both : false ≡ true = sym fails ∙ plain none in cc;
-    }) told
+    }) told.verdict_is told.told

@@ -1,21 +1,16 @@
 -- Reports as the definitions give them, computed.
-use Rattle.std.proofs.Common.{◌≡◌, ℕ, pos, [], ◌∷◌, Some, None, refl}
+use Rattle.std.proofs.Common.{◌≡◌, ℕ, pos, [], ◌∷◌, refl}
 use Rattle.std.specs.Prelude.{codes}
 use Rattle.std.specs.Fmt.{digits}
 use Rattle.arrayvec.specs.ArrayVec.{ArrayVec}
 use Rattle.lex_file.specs.declared.faults.FileFault.TheVariants as form
 use Rattle.ref_play.specs.declared.faults.PlayFault.TheVariants as play
-use Rattle.lex_list.specs.Words.{is_listed}
 use Rattle.lex_list.specs.declared.faults.ListWhy.TheVariants as list_why
 use Rattle.gcg_read.specs.declared.faults.Why.TheVariants as why
-use Rattle.gcg_read.specs.declared.events.EventKind.TheVariants as kind
-use Rattle.gcg_read.specs.declared.events.Seat.TheVariants.{Second}
-use Rattle.gcg_write.specs.Fields.{kind_text}
-use Rattle.gcg_write.specs.Normal.{event_text_of}
 use Rattle.game_turns.specs.declared.faults.RuleFault.TheVariants as rule
 use Rattle.engine.specs.declared.verdicts.GameFault.TheVariants as game
 use Rattle.engine.specs.declared.lexicons.LexiconFault.TheVariants as lexicon
-use Rattle.engine.specs.Reports.{unlisted_text, line_with, illegal_line, bad_record_line, bad_list_line, bad_file_line, ok_line}
+use Rattle.engine.specs.Reports.{illegal_line, bad_record_line, bad_list_line, bad_file_line, ok_line}
 
 -- the lines of faults
 score_is_told : illegal_line 1 (game.Rule (rule.WrongScore (pos 16))) ≡ codes "illegal line 1: WrongScore 16\n"
@@ -54,18 +49,3 @@ path_is_told path is = rw is refl
 number_is_told : ok_line 12 ≡ codes "ok 12\n"
 unfolding digits ok_line
 number_is_told = refl
-
--- words that are not in the list
-nothing_unlisted : unlisted_text (codes "AT" ∷ codes "WORD" ∷ []) (codes "WORD" ∷ []) ≡ []
-unfolding unlisted_text is_listed
-nothing_unlisted = refl
-
-two_unlisted : unlisted_text (codes "AT" ∷ []) (codes "RA" ∷ codes "AT" ∷ codes "DT" ∷ []) ≡ codes " unlisted RA DT"
-unfolding unlisted_text is_listed
-two_unlisted = refl
-
--- a line of a report
-pass_is_told : line_with (record { first = record { nick = codes "Ann"; full = [] }; second = record { nick = codes "Bo"; full = [] } })
-    (Some (record { line = 7; player = Second; rack = None; kind = kind.Pass; score = pos 0; total = pos 41 })) [] ≡ codes "7 Bo - +0 41\n"
-unfolding digits event_text_of kind_text
-pass_is_told = refl

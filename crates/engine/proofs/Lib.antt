@@ -5,6 +5,6 @@ pub mod Judgements
 pub mod WordListLaws
 pub mod Pairings
 pub mod CheckedFiles
-pub mod ReportLines
+pub mod Headlines
 pub mod Examples
 pub mod BuiltFiles

@@ -8,6 +8,7 @@ use Rattle.gcg_read.specs.declared.records.Record.{Record}
 use Rattle.gcg_read.specs.declared.faults.ReadFault.{ReadFault}
 use Rattle.gcg_read.specs.declared.faults.Why.TheVariants as why
 use Rattle.gcg_read.specs.Records.{record_of}
+use Rattle.game_turns.specs.Places.{is_finished}
 use Rattle.deal_steps.specs.declared.faults.DealFault.{DealFault}
 use Rattle.deal_steps.specs.declared.faults.DealFault.TheVariants as deal
 use Rattle.engine.specs.declared.verdicts.GameFault.TheVariants as game
@@ -15,23 +16,28 @@ use Rattle.engine.specs.declared.verdicts.Verdict.{Verdict}
 use Rattle.engine.specs.declared.verdicts.Verdict.TheVariants as verdict
 use Rattle.engine.specs.Verdicts.{Judged, IsVerdictOn}
 use Rattle.engine.specs.Lexicons.{IsLexicon, IsWrongFile}
-use Rattle.engine.specs.Reports.{legal_report, legal_text, illegal_line, unsettled_line, bad_record_line, bad_record_text, bad_list_line, bad_list_text}
+use Rattle.engine.specs.Reports.{IsLegalReport, IsLegalText, illegal_line, unsettled_line, bad_record_line, bad_record_text, bad_list_line, bad_list_text}
 
 -- the report of a verdict on a record
-abbrev pub report_on : Rules → (words : List (List ℕ)) → Record → Verdict → List ℕ
-report_on rules words r (verdict.Legal complete) = legal_report rules words complete r
-report_on rules words r (verdict.Illegal line fault) = illegal_line line fault
-report_on rules words r verdict.Unsettled = unsettled_line
-report_on rules words r verdict.BadList = []
-report_on rules words r verdict.BadFile = []
-report_on rules words r verdict.BadRecord = []
-report_on rules words r verdict.Done = []
-report_on rules words r verdict.BadRack = []
+abbrev pub IsReportOn : Rules → (words : List (List ℕ)) → Record → Verdict → (bytes : List ℕ) → Type 0
+IsReportOn rules words r (verdict.Legal complete) bytes = IsLegalReport rules words complete r bytes
+IsReportOn rules words r (verdict.Illegal line fault) bytes = bytes ≡ illegal_line line fault
+IsReportOn rules words r verdict.Unsettled bytes = bytes ≡ unsettled_line
+IsReportOn rules words r verdict.BadList bytes = ⊥
+IsReportOn rules words r verdict.BadFile bytes = ⊥
+IsReportOn rules words r verdict.BadRecord bytes = ⊥
+IsReportOn rules words r verdict.Done bytes = ⊥
+IsReportOn rules words r verdict.BadRack bytes = ⊥
 
 -- this verdict is given, and these bytes tell it
 pub record IsTold (what : Verdict) (text : List ℕ) (v : Verdict) (bytes : List ℕ) : Type 0 where
   pub verdict_is : v ≡ what
   pub told : bytes ≡ text
+
+-- the verdict that a game is legal is given, and told
+pub record IsToldLegal (rules : Rules) (words : List (List ℕ)) (r : Record) (v : Verdict) (bytes : List ℕ) : Type 0 where
+  pub verdict_is : v ≡ verdict.Legal (is_finished rules r.events)
+  pub told : IsLegalReport rules words (is_finished rules r.events) r bytes
 
 -- the verdict of an exceeded bound is given, and told
 abbrev pub IsToldBound : DealFault → Verdict → List ℕ → Type 0
@@ -42,12 +48,12 @@ IsToldBound deal.NoMemory v bytes = ⊥
 -- a verdict on a record, and its report
 pub record IsJudged (rules : Rules) (words : List (List ℕ)) (r : Record) (v : Verdict) (bytes : List ℕ) : Type 0 where
   pub verdict_is : IsVerdictOn rules words r v
-  pub told : bytes ≡ report_on rules words r v
+  pub told : IsReportOn rules words r v bytes
 
 -- The report of a verdict: its line, and of a legal game a line for each event. The verdicts that are not given yet have
 -- none.
 abbrev pub IsReport : Rules → (words lexicon game : List ℕ) → Verdict → List ℕ → Type 0
-IsReport rules words lexicon text (verdict.Legal complete) bytes = bytes ≡ legal_text rules complete (list_of words) (record_of text)
+IsReport rules words lexicon text (verdict.Legal complete) bytes = IsLegalText rules complete (list_of words) (record_of text) bytes
 IsReport rules words lexicon text (verdict.Illegal line fault) bytes = bytes ≡ illegal_line line fault
 IsReport rules words lexicon text verdict.Unsettled bytes = bytes ≡ unsettled_line
 IsReport rules words lexicon text verdict.BadList bytes = bytes ≡ bad_list_text (list_of words)

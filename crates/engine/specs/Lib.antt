@@ -7,3 +7,4 @@ pub mod WordLists
 pub mod Lexicons
 pub mod Checking
 pub mod Building
+pub mod Headlines

@@ -1,27 +1,21 @@
 -- The bytes of a report.
-use Rattle.std.specs.Prelude.{ℕ, ◌+◌, ◌==◌, Bool, true, false, List, [], ◌∷◌, ◌++◌, length, slice_get, Option, Some, None, Result, Ok, Err, codes, decimal, if◌then◌else◌, map}
-use Rattle.std.specs.List.{list_all, flat_map, range_with_len}
+use Rattle.std.specs.Prelude.{ℕ, ◌+◌, ◌==◌, Bool, true, false, List, [], ◌∷◌, ◌++◌, length, Result, Ok, Err, codes, decimal, if◌then◌else◌, map}
 use Rattle.std.specs.Fmt.{signed_decimal}
 use Rattle.ref_tiles.specs.declared.rulebook.Rules.{Rules}
 use Rattle.ref_tiles.specs.declared.kinds.Kind.{Kind}
 use Rattle.ref_tiles.specs.declared.kinds.Kind.TheVariants as kind
 use Rattle.ref_play.specs.Faults as play
-use Rattle.gcg_read.specs.declared.events.Event.{Event}
-use Rattle.gcg_read.specs.declared.players.Players.{Players}
 use Rattle.gcg_read.specs.declared.records.Record.{Record}
 use Rattle.gcg_read.specs.declared.faults.ReadFault.{ReadFault}
 use Rattle.lex_list.specs.declared.faults.ListFault.{ListFault}
 use Rattle.lex_list.specs.Faults as listing
-use Rattle.lex_list.specs.Words.{is_listed}
-use Rattle.game_turns.specs.LatestEvents.{standing_words}
-use Rattle.game_turns.specs.Tallies.{tally_at}
 use Rattle.lex_file.specs.Faults as file
 use Rattle.lex_check.specs.Checks.{symbol_of}
 use Rattle.gcg_read.specs.Faults as read
-use Rattle.gcg_read.specs.Players.{player_of}
-use Rattle.gcg_write.specs.Normal.{event_text_of}
 use Rattle.game_turns.specs.declared.faults.RuleFault.{RuleFault}
 use Rattle.game_turns.specs.declared.faults.RuleFault.TheVariants as rule
+use Rattle.game_report.specs.BestPlays.{Appends}
+use Rattle.game_report.specs.EventLines.{AreEventLines}
 use Rattle.engine.specs.declared.lexicons.LexiconFault.{LexiconFault}
 use Rattle.engine.specs.declared.lexicons.LexiconFault.TheVariants as lexicon
 use Rattle.engine.specs.declared.verdicts.GameFault.{GameFault}
@@ -91,41 +85,16 @@ abbrev pub legal_line : Bool → List ℕ
 legal_line true = codes "legal complete\n"
 legal_line false = codes "legal unfinished\n"
 
--- ---- the lines of a legal game
-
--- a word behind a space, where it is not in the list
-abbrev pub unlisted_word : (list : List (List ℕ)) → List ℕ → List ℕ
-unlisted_word list word = if is_listed list word then [] else 32 ∷ word
-
--- ' unlisted' and the words that are not in the list, each behind a space; nothing where all are in it
-unfoldable pub unlisted_text : (list : List (List ℕ)) → List (List ℕ) → List ℕ
-unlisted_text list words = if list_all (is_listed list) words then [] else codes " unlisted" ++ flat_map (unlisted_word list) words
-
-abbrev pub line_with : Players → Option Event → (told : List ℕ) → List ℕ
-line_with players None told = []
-line_with players (Some event) told =
-    decimal event.line ++ 32 ∷ (player_of players event.player).nick ++ 32 ∷ event_text_of event ++ told ++ 10 ∷ []
-
--- N NICK EVENT SCORE TOTAL, and of a play that stands its words that are not in the list: the line of the event at a
--- place, counted from 0, N its line in the record
-unfoldable pub event_line : Rules → (list : List (List ℕ)) → Record → ℕ → List ℕ
-event_line rules list r place =
-    line_with r.players (slice_get r.events place) (unlisted_text list (standing_words (tally_at rules r.events (place + 1)).latest))
-
--- the lines of the first events
-unfoldable pub event_lines : Rules → (list : List (List ℕ)) → Record → ℕ → List ℕ
-event_lines rules list r many = flat_map (event_line rules list r) (range_with_len 0 many)
-
 -- the report of a legal game: the verdict, and then a line for each event
-unfoldable pub legal_report : Rules → (list : List (List ℕ)) → Bool → Record → List ℕ
-legal_report rules list complete r = legal_line complete ++ event_lines rules list r (length r.events)
+abbrev pub IsLegalReport : Rules → (list : List (List ℕ)) → Bool → Record → (bytes : List ℕ) → Type 0
+IsLegalReport rules list complete r bytes = Appends (AreEventLines rules list r (length r.events)) (legal_line complete) bytes
 
 -- ---- the report of a run
 
-abbrev pub legal_text : Rules → Bool → Result (List (List ℕ)) ListFault → Result Record ReadFault → List ℕ
-legal_text rules complete (Ok list) (Ok r) = legal_report rules list complete r
-legal_text rules complete (Ok list) (Err fault) = []
-legal_text rules complete (Err fault) game = []
+abbrev pub IsLegalText : Rules → Bool → Result (List (List ℕ)) ListFault → Result Record ReadFault → (bytes : List ℕ) → Type 0
+IsLegalText rules complete (Ok list) (Ok r) bytes = IsLegalReport rules list complete r bytes
+IsLegalText rules complete (Ok list) (Err fault) bytes = ⊥
+IsLegalText rules complete (Err fault) game bytes = ⊥
 
 abbrev pub bad_list_text : Result (List (List ℕ)) ListFault → List ℕ
 bad_list_text (Ok list) = []

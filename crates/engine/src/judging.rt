@@ -7,7 +7,7 @@ ghost use Rattle.game_deal.specs.Plain.{HaveNoExchange};
 ghost use Rattle.game_deal.specs.Recorded.{steps_of};
 ghost use Rattle.lex_check.specs.Pairs as pairs;
 ghost use Rattle.engine.specs.declared.verdicts.Verdict.TheVariants as verdict;
-ghost use Rattle.engine.specs.Judging.{IsJudged, IsTold, IsToldBound};
+ghost use Rattle.engine.specs.Judging.{IsJudged, IsTold, IsToldBound, IsToldLegal};
 ghost use Rattle.engine.specs.Reports as reports;
 ghost use Rattle.engine.specs.Verdicts.{IsDealt};
 
@@ -34,9 +34,7 @@ fn illegal(alloc: Global, line: u32, fault: GameFault) -> Result<Decision, Alloc
 
 /// The verdict that a game is legal.
 fn legal(alloc: Global, passed: &Passed<'_>) -> Result<Decision, AllocError>
-    ensures { IfOk result (λ d. IsTold (verdict.Legal (is_finished (rules_in passed.now) (record_in passed.now).events))
-        (reports.legal_report (rules_in passed.now) (list_in passed.now) (is_finished (rules_in passed.now) (record_in passed.now).events) (record_in passed.now))
-        d.verdict d.report.items) }
+    ensures { IfOk result (λ d. IsToldLegal (rules_in passed.now) (list_in passed.now) (record_in passed.now) d.verdict d.report.items) }
 {
     let complete = passed.complete();
     let report = legal_report(alloc, passed)?;

@@ -7,9 +7,9 @@
 mod building;
 mod checking;
 mod decisions;
-mod event_lines;
 mod faults;
 mod judging;
+mod laws;
 mod lexicons;
 mod reports;
 mod running;
@@ -21,6 +21,7 @@ mod word_lists;
 pub use building::run_build;
 pub use checking::run_check;
 pub use faults::RunFault;
+pub use laws::law_of_legal;
 pub use running::run;
 pub use tidying::run_tidy;
 pub use verdicts::{GameFault, Verdict};

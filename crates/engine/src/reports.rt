@@ -3,11 +3,11 @@ ghost use Rattle.std.specs.Fmt.{signed_decimal};
 ghost use Rattle.lex_check.specs.Checks.{symbol_of};
 ghost use Rattle.game_turns.specs.Passing.{rules_in, record_in, list_in};
 ghost use Rattle.game_turns.specs.Places.{is_finished};
-ghost use Rattle.engine.specs.Reports.{rule_text, kind_byte, fault_text, line_text, illegal_line, unsettled_line, bad_record_line, bad_list_line, lexicon_text, bad_file_line, ok_line, legal_line, legal_report};
+ghost use Rattle.engine.specs.Reports.{rule_text, kind_byte, fault_text, line_text, illegal_line, unsettled_line, bad_record_line, bad_list_line, lexicon_text, bad_file_line, ok_line, legal_line, IsLegalReport};
 
-use crate::event_lines::push_event_lines;
 use crate::lexicons::LexiconFault;
 use crate::verdicts::GameFault;
+use game_report::push_event_lines;
 use game_turns::{Passed, RuleFault};
 use gcg_read::ReadFault;
 use itoa::Buffer;
@@ -198,10 +198,9 @@ fn legal_line(complete: bool) -> &'static [u8]
 }
 
 /// The verdict on a legal game, and then a line for each of its events.
-#[tactic(auto, unfolding(crate::specs::Reports::legal_report))]
 pub fn legal_report(alloc: Global, passed: &Passed<'_>) -> Result<Vec<u8>, AllocError>
-    ensures { IfOk result (λ text. text.items
-        ≡ legal_report (rules_in passed.now) (list_in passed.now) (is_finished (rules_in passed.now) (record_in passed.now).events) (record_in passed.now)) }
+    ensures { IfOk result (λ text. IsLegalReport (rules_in passed.now) (list_in passed.now)
+        (is_finished (rules_in passed.now) (record_in passed.now).events) (record_in passed.now) text.items) }
 {
     let mut text = Vec::from_slice(alloc, legal_line(passed.complete()))?;
     push_event_lines(&mut text, passed)?;

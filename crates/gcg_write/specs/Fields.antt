@@ -42,6 +42,10 @@ position_text square Down = column_byte square ∷ row_text square
 abbrev pub word_text : List Symbol → List ℕ
 word_text word = map byte_of word
 
+-- a play: where it begins, and its text
+abbrev pub play_text : ℕ → Dir → List Symbol → List ℕ
+play_text at dir word = position_text at dir ++ 32 ∷ word_text word
+
 -- a score, always with its sign: '+' (43) or '-' (45)
 abbrev pub score_text : ℤ → List ℕ
 score_text (pos n) = 43 ∷ decimal n
@@ -49,7 +53,7 @@ score_text (negsuc n) = 45 ∷ decimal (suc n)
 
 -- what happened: position and word, or a code
 unfoldable pub kind_text : EventKind → List ℕ
-kind_text (kind.Play at dir word) = position_text at dir ++ 32 ∷ word_text word
+kind_text (kind.Play at dir word) = play_text at dir word
 kind_text kind.Pass = codes "-"
 kind_text (kind.Exchange tiles) = 45 ∷ tiles_text tiles
 kind_text (kind.ExchangeUnknown number) = 45 ∷ decimal number

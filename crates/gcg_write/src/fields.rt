@@ -1,12 +1,12 @@
 ghost use Rattle.std.specs.Prelude.{◌≡◌, ◌++◌, ◌∷◌, OnOk, replicate};
 ghost use Rattle.std.specs.Fmt.{signed_decimal};
-ghost use Rattle.gcg_write.specs.Fields.{letters_text, tiles_text, position_text, word_text, score_text, points_text};
+ghost use Rattle.gcg_write.specs.Fields.{letters_text, tiles_text, position_text, word_text, play_text, score_text, points_text};
 ghost use Rattle.gcg_write.specs.Fronts.{IsFront};
 
-use gcg_read::{Points, Text};
+use gcg_read::Points;
 use itoa::Buffer;
 use ref_board::{Dir, Square};
-use ref_tiles::{Counts, Kind, Letter};
+use ref_tiles::{Counts, Kind, Letter, Symbol};
 use std::alloc::AllocError;
 
 /// Appends a byte so many times.
@@ -63,19 +63,19 @@ fn push_position(at: Square, dir: Dir, out: &mut Vec<u8>) -> Result<(), AllocErr
 }
 
 /// Appends the text of a play.
-fn push_word(word: &Text, out: &mut Vec<u8>) -> Result<(), AllocError>
+fn push_word(word: &[Symbol], out: &mut Vec<u8>) -> Result<(), AllocError>
     ensures done { OnOk result (out.new.items ≡ out.old.items ++ word_text word.now) }
     ensures kept { IsFront out.old.items out.new.items }
 {
-    for symbol in word.as_slice() {
+    for symbol in word {
         out.push(symbol.byte())?;
     }
     Ok(())
 }
 
 /// Appends where a play begins and its text.
-pub fn push_play(at: Square, dir: Dir, word: &Text, out: &mut Vec<u8>) -> Result<(), AllocError>
-    ensures done { OnOk result (out.new.items ≡ out.old.items ++ (position_text at dir ++ 32 ∷ word_text word.now)) }
+pub fn push_play(at: Square, dir: Dir, word: &[Symbol], out: &mut Vec<u8>) -> Result<(), AllocError>
+    ensures done { OnOk result (out.new.items ≡ out.old.items ++ play_text at dir word.now) }
     ensures kept { IsFront out.old.items out.new.items }
 {
     push_position(at, dir, out)?;

@@ -16,7 +16,7 @@ fn push_kind(kind: &EventKind, out: &mut Vec<u8>) -> Result<(), AllocError>
     ensures kept { IsFront out.old.items out.new.items }
 {
     match kind {
-        EventKind::Play { at, dir, word } => push_play(*at, *dir, word, out),
+        EventKind::Play { at, dir, word } => push_play(*at, *dir, word.as_slice(), out),
         EventKind::Pass => out.extend_from_slice(b"-"),
         EventKind::Exchange(tiles) => push_exchange(tiles, out),
         EventKind::ExchangeUnknown(number) => push_unknown(*number, out),

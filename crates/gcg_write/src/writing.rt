@@ -1,9 +1,13 @@
 ghost use Rattle.std.specs.Prelude.{◌≡◌, ◌++◌, ◌<◌, length, OnOk, OnErr};
 ghost use Rattle.std.specs.List.{HoldsAt};
+ghost use Rattle.gcg_write.specs.Fields.{play_text};
 ghost use Rattle.gcg_write.specs.Normal.{normal_of, event_text_of};
 
+use crate::fields::push_play;
 use crate::lines::{push_event, push_record};
 use gcg_read::Record;
+use ref_board::{Dir, Square};
+use ref_tiles::Symbol;
 
 /// Memory ran out.
 pub use std::alloc::AllocError as NoMemory;
@@ -32,6 +36,20 @@ pub fn event_text(game: &Record, i: usize, out: &mut Vec<u8>) -> Result<(), NoMe
     let len = out.len();
     let events = game.events.as_slice();
     let written = push_event(&events[i], out);
+    if written.is_err() {
+        out.truncate(len);
+    }
+    written
+}
+
+/// Appends a play as event lines have it: the square of its first symbol, row and column of one across, column and row of
+/// one down, and behind a blank its text. It fails only where the growth of `out` was refused, and then `out` is as it was.
+pub fn play_text(at: Square, dir: Dir, word: &[Symbol], out: &mut Vec<u8>) -> Result<(), NoMemory>
+    ensures written { OnOk result (out.new.items ≡ out.old.items ++ play_text at dir word.now) }
+    ensures refused { OnErr result (out.new.items ≡ out.old.items) }
+{
+    let len = out.len();
+    let written = push_play(at, dir, word, out);
     if written.is_err() {
         out.truncate(len);
     }

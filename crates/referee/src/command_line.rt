@@ -67,7 +67,7 @@ fn command<'a>(alloc: Global) -> Result<Command<'a>, AllocError> {
 fn judge_command<'a>(alloc: Global) -> Result<Command<'a>, AllocError> {
     Command::new(alloc, "judge")
         .about(
-            "Says whether the game is legal, or which line is the first that does not stand and why",
+            "Says whether the game is legal, with the best play of each turn, or which line is the first that does not stand and why",
         )
         .arg(name(alloc, "WORDS", "the word list"))?
         .arg(name(alloc, "LEXICON", "the lexicon file of the words"))?

@@ -1,14 +1,15 @@
-use Rattle.std.proofs.Common.{◌≡◌, ◌++◌}
+use Rattle.std.proofs.Common.{◌≡◌}
 use Rattle.game_turns.specs.Machines.{rules_of, state_of}
 use Rattle.game_turns.specs.Passing.{rules_in, record_in, list_in}
 use Rattle.game_turns.specs.Tallies.{tally_at}
-use Rattle.engine.specs.Reports.{event_lines}
-use Rattle.engine.proofs.event_lines.push_event_lines.Given as goal
+use Rattle.game_report.specs.BestPlays.{Appends}
+use Rattle.game_report.specs.EventLines.{AreEventLines}
+use Rattle.game_report.proofs.event_lines.push_event_lines.Given as goal
 
 abbrev pub invariant-loop-place : goal.invariant-loop-place
 invariant-loop-place l =
     record {
       rules : rules_of l.machine ≡ rules_in l.passed;
       state : state_of l.machine ≡ tally_at (rules_in l.passed) (record_in l.passed).events l.place;
-      lines : l.text.items ≡ l.initial.text.items ++ event_lines (rules_in l.passed) (list_in l.passed) (record_in l.passed) l.place;
+      lines : Appends (AreEventLines (rules_in l.passed) (list_in l.passed) (record_in l.passed) l.place) l.initial.text.items l.text.items;
     }

@@ -1,0 +1,58 @@
+-- The headline: what it means that the referee answers legal.
+use Rattle.std.specs.Prelude.{◌≡◌, ◌↔◌, ◌⊎◌, ◌≤◌, ℕ, Bool, true, List, [], ◌∷◌, ◌++◌, length, codes, decimal, slice_get, slice_index_or, Option, Some, Ok}
+use Rattle.ref_tiles.specs.declared.tiles.Tile.{Tile}
+use Rattle.ref_tiles.specs.declared.rulebook.Rules.{Rules}
+use Rattle.ref_play.specs.declared.placed.Placed.{Placed}
+use Rattle.ref_play.specs.Scores.{score_of}
+use Rattle.ref_play.specs.Notations.{notation_of}
+use Rattle.ref_play.specs.Candidates.{IsCandidate}
+use Rattle.gcg_read.specs.declared.events.Event.{Event}
+use Rattle.gcg_read.specs.declared.records.Record.{Record}
+use Rattle.gcg_read.specs.Records.{record_of}
+use Rattle.lex_list.specs.Lists.{list_of}
+use Rattle.lex_list.specs.RotatedPaths.{IsPath}
+use Rattle.lex_file.specs.Languages.{IsInLanguage}
+use Rattle.game_turns.specs.Tallies.{tally_at}
+use Rattle.game_turns.specs.Places.{AreAllowed}
+use Rattle.deal_steps.specs.declared.deals.Held.{Held}
+use Rattle.deal_steps.specs.Fitting.{Fits}
+use Rattle.game_deal.specs.Recorded.{steps_of}
+use Rattle.game_report.specs.BestPlays.{is_judged, full_rack, notation_text}
+use Rattle.game_report.specs.EventLines.{lines_from}
+use Rattle.engine.specs.declared.verdicts.Verdict.TheVariants as verdict
+use Rattle.engine.specs.Judging.{Texts, IsDecided}
+use Rattle.engine.specs.Reports.{legal_line}
+
+-- What is printed of a full rack: a play that is legal, with words of the list and tiles of the rack, and that none such
+-- outscores; or that there is no such play.
+abbrev pub IsBestPrinted : Rules → (list : List (List ℕ)) → (board : List (Option Tile)) → (rack : List ℕ) → (told : List ℕ) → Type 0
+IsBestPrinted rules list board rack told =
+    ((ps : List Placed) × IsCandidate list board rack ps
+    × ((others : List Placed) → IsCandidate list board rack others → score_of rules board others ≤ score_of rules board ps)
+    × (told ≡ codes " best " ++ notation_text (notation_of board ps) ++ 32 ∷ decimal (score_of rules board ps)))
+    ⊎ (((ps : List Placed) → IsCandidate list board rack ps → ⊥) × (told ≡ codes " best none"))
+
+-- A legal game, by the bytes of a word list, a lexicon file and a record, and its report.
+pub record IsLegalGame (rules : Rules) (texts : Texts) (complete : Bool) (report : List ℕ) : Type 0 where
+  -- the words are a list, and the text is a record
+  pub list : List (List ℕ)
+  pub listed : list_of texts.words ≡ Ok list
+  pub game : Record
+  pub recorded : record_of texts.game ≡ Ok game
+  -- The lexicon file accepts exactly the rotated paths of the list's words.
+  pub lexicon : (string : List ℕ) → IsInLanguage texts.lexicon string ↔ IsPath list string
+  -- Some deal of the tile set yields every rack of the record.
+  pub racks : List Held
+  pub dealt : Fits rules (steps_of rules game.events) racks
+  -- Every event is allowed: every play, exchange, withdrawal, bonus and running total is what the rules give.
+  pub allowed : AreAllowed rules list game.events
+  -- On each turn with a full rack no legal, valid play scores more than the printed best, which is itself legal and valid.
+  pub told : List (List ℕ)
+  pub printed : report ≡ legal_line complete ++ lines_from rules list game 0 told
+  pub best : (place : ℕ) (e : Event) (rack : List ℕ) → slice_get game.events place ≡ Some e → is_judged (tally_at rules game.events place).out e.kind ≡ true
+      → full_rack (tally_at rules game.events place) e ≡ Some rack
+      → IsBestPrinted rules list (tally_at rules game.events place).board rack (slice_index_or told place [])
+
+-- the verdict that a game is legal, with its report, means that
+abbrev pub LegalMeansLegal : Type 0
+LegalMeansLegal = (rules : Rules) (texts : Texts) (complete : Bool) (report : List ℕ) → IsDecided rules texts (verdict.Legal complete) report → IsLegalGame rules texts complete report

@@ -1,0 +1,2 @@
+pub mod BestPlays
+pub mod EventLines

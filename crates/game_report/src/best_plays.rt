@@ -1,0 +1,96 @@
+ghost use Rattle.std.specs.Prelude.{◌≡◌, ◌++◌, ◌∷◌, OnOk, option_map};
+ghost use Rattle.std.specs.Fmt.{signed_decimal};
+ghost use Rattle.ref_play.specs.Legality.{IsLegal};
+ghost use Rattle.ref_play.specs.Notations.{notation_of};
+ghost use Rattle.ref_play.specs.Best.{IsAnnotation};
+ghost use Rattle.game_turns.specs.Machines.{state_of};
+ghost use Rattle.game_turns.specs.Passing.{rules_in, list_in};
+ghost use Rattle.game_report.specs.BestPlays.{is_judged, full_rack, notation_text, best_text, TellsByRack, TellsBest, Appends};
+ghost use Rattle.game_notes.specs.Keeping.{given_by};
+
+use game_notes::annotate;
+use game_turns::{Machine, Passed};
+use gcg_read::{Event, EventKind, Seat};
+use gcg_write::play_text;
+use itoa::Buffer;
+use lex_list::WordList;
+use ref_board::Board;
+use ref_play::{Play, notation};
+use ref_tiles::{Counts, Rules};
+use std::alloc::AllocError;
+
+/// Whether the line of an event shows the rack of a turn, where this player is out, or none, before it.
+fn is_judged(kind: &EventKind, out: Option<Seat>) -> bool
+    ensures { result ≡ is_judged out kind.now }
+{
+    match kind {
+        EventKind::Play { .. } | EventKind::Exchange(_) | EventKind::ExchangeUnknown(_) => true,
+        EventKind::Pass => out.is_none(),
+        EventKind::Withdraw | EventKind::Challenge | EventKind::Time | EventKind::LastRack(_) =>
+            false,
+    }
+}
+
+/// The rack that a line states, where it has as many tiles as its player holds.
+fn full_rack(machine: &Machine, event: &Event) -> Option<Counts>
+    ensures { result ≡ full_rack (state_of machine.now) event.now }
+{
+    let rack = event.rack?;
+    if rack.total() == machine.rack_size(event.player) {
+        Some(rack)
+    } else {
+        None
+    }
+}
+
+/// Appends the notation of a play and its score.
+fn push_scored(text: &mut Vec<u8>, board: &Board, play: &Play, score: i32) -> Result<(), AllocError>
+    requires { IsLegal board.now play.now.tiles.items }
+    ensures { OnOk result (text.new.items ≡ text.old.items
+        ++ (notation_text (notation_of board.now play.now.tiles.items) ++ 32 ∷ signed_decimal score)) }
+{
+    let mut buffer = Buffer::new();
+    let written = notation(board, play);
+    play_text(written.at, written.dir, written.word.as_slice(), text)?;
+    text.push(b' ')?;
+    text.extend_from_slice(buffer.format(score).as_bytes())
+}
+
+/// Appends the best play by a rack, or that there is none.
+fn push_best_play(
+    text: &mut Vec<u8>,
+    rules: &Rules,
+    list: &WordList,
+    board: &Board,
+    rack: &Counts,
+) -> Result<(), AllocError>
+    ensures { OnOk result (Appends (TellsByRack rules.now list.now board.now (Some rack.now)) text.old.items text.new.items) }
+{
+    let mut held = *board;
+    match annotate(rules, list, &mut held, rack) {
+        Some((play, score)) => {
+            text.extend_from_slice(b" best ")?;
+            push_scored(text, board, &play, score)
+        }
+        None => text.extend_from_slice(b" best none"),
+    }
+}
+
+/// Appends what the line of an event tells of the best play; `machine` stands before the event.
+pub fn push_best(
+    text: &mut Vec<u8>,
+    passed: &Passed<'_>,
+    machine: &Machine,
+    event: &Event,
+) -> Result<(), AllocError>
+    ensures { OnOk result (Appends (TellsBest (rules_in passed.now) (list_in passed.now) (state_of machine.now) event.now)
+        text.old.items text.new.items) }
+{
+    if !is_judged(&event.kind, machine.out()) {
+        return Ok(());
+    }
+    match full_rack(machine, event) {
+        Some(rack) => push_best_play(text, passed.rules(), passed.list(), machine.board(), &rack),
+        None => text.extend_from_slice(b" best -"),
+    }
+}

@@ -1,0 +1,104 @@
+ghost use Rattle.std.specs.Prelude.{◌≡◌, ◌<◌, ◌∷◌, ◌++◌, ◌+◌, [], OnOk, length, decimal};
+ghost use Rattle.ref_play.specs.Words.{items_of};
+ghost use Rattle.game_turns.specs.Machines.{rules_of, state_of};
+ghost use Rattle.game_turns.specs.Passing.{rules_in, record_in, list_in};
+ghost use Rattle.game_turns.specs.Tallies.{tally_at};
+ghost use Rattle.game_report.specs.BestPlays.{Appends};
+ghost use Rattle.game_report.specs.EventLines.{unlisted_word, unlisted_text, AreEventLines, IsEventLine};
+
+use crate::best_plays::push_best;
+use game_turns::{Machine, Passed, all_listed};
+use gcg_write::event_text;
+use itoa::Buffer;
+use lex_list::WordList;
+use ref_play::Word;
+use std::alloc::AllocError;
+
+/// Appends the number of a line, a nickname and a blank behind each.
+fn push_heading(text: &mut Vec<u8>, line: u32, nick: &[u8]) -> Result<(), AllocError>
+    ensures { OnOk result (text.new.items ≡ text.old.items ++ (decimal line ++ 32 ∷ nick.now ++ 32 ∷ [])) }
+{
+    let mut buffer = Buffer::new();
+    text.extend_from_slice(buffer.format(line).as_bytes())?;
+    text.push(b' ')?;
+    text.extend_from_slice(nick)?;
+    text.push(b' ')?;
+    Ok(())
+}
+
+/// Appends a space and a word, where it is not in the list.
+fn push_word(text: &mut Vec<u8>, list: &WordList, word: &Word) -> Result<(), AllocError>
+    ensures { OnOk result (text.new.items ≡ text.old.items ++ unlisted_word list.now word.now.items) }
+{
+    if list.has(word.as_slice()) {
+        return Ok(());
+    }
+    text.push(b' ')?;
+    text.extend_from_slice(word.as_slice())
+}
+
+/// Appends ` unlisted` and the words that are not in the list; nothing where all are in it.
+#[tactic(auto, using(crate::proofs::ReportLines::some_unlisted), unfolding(crate::specs::EventLines::unlisted_text))]
+fn push_unlisted(text: &mut Vec<u8>, list: &WordList, words: &[Word]) -> Result<(), AllocError>
+    ensures { OnOk result (text.new.items ≡ text.old.items ++ unlisted_text list.now (items_of words.now)) }
+{
+    if all_listed(list, words) {
+        return Ok(());
+    }
+    text.extend_from_slice(b" unlisted")?;
+    for word in words {
+        push_word(text, list, word)?;
+    }
+    Ok(())
+}
+
+/// Appends the line of the event at a place, and takes the event: the number of its line, the nickname, the event, its score
+/// and the total, what is told of the best play, and then the words that are not in the list.
+#[tactic(auto, using(crate::proofs::ReportLines::line_is))]
+fn push_event_line(
+    text: &mut Vec<u8>,
+    passed: &Passed<'_>,
+    machine: &mut Machine,
+    place: usize,
+) -> Result<(), AllocError>
+    requires place { place < length (record_in passed.now).events }
+    requires rules { rules_of machine.old ≡ rules_in passed.now }
+    requires state { state_of machine.old ≡ tally_at (rules_in passed.now) (record_in passed.now).events place }
+    ensures rules { rules_of machine.new ≡ rules_in passed.now }
+    ensures state { OnOk result (state_of machine.new ≡ tally_at (rules_in passed.now) (record_in passed.now).events (place + 1)) }
+    ensures line { OnOk result (Appends (IsEventLine (rules_in passed.now) (list_in passed.now) (record_in passed.now) place)
+        text.old.items text.new.items) }
+{
+    let game = passed.record();
+    let event = &game.events.as_slice()[place];
+    push_heading(
+        text,
+        event.line,
+        game.players.of(event.player).nick.as_bytes(),
+    )?;
+    event_text(game, place, text)?;
+    push_best(text, passed, machine, event)?;
+    passed.take_event(machine, place);
+    push_unlisted(text, passed.list(), machine.standing_words())?;
+    text.push(b'\n')?;
+    Ok(())
+}
+
+/// Appends the lines of all events of a record that passed, by its rules and its word list: a line `N NICK EVENT SCORE
+/// TOTAL` for each, N its line in the record. Behind that of a play, an exchange or a pass stands ` best NOTATION SCORE`
+/// with the play that scores most by the stated rack, of several the first by their notations; ` best none` where there is
+/// no legal play with words of the list; ` best -` where the stated rack is not the whole rack. Behind that of a play that
+/// stands then come ` unlisted` and its words that are not in the list, where there are some.
+///
+/// It fails only where the growth of `text` was refused.
+#[tactic(auto, using(crate::proofs::ReportLines::one_more_line, crate::proofs::ReportLines::start_of_game, crate::proofs::ReportLines::no_lines))]
+pub fn push_event_lines(text: &mut Vec<u8>, passed: &Passed<'_>) -> Result<(), AllocError>
+    ensures { OnOk result (Appends (AreEventLines (rules_in passed.now) (list_in passed.now) (record_in passed.now)
+        (length (record_in passed.now).events)) text.old.items text.new.items) }
+{
+    let mut machine = Machine::new(passed.rules());
+    for place in 0..passed.record().events.len() {
+        push_event_line(text, passed, &mut machine, place)?;
+    }
+    Ok(())
+}

@@ -1,0 +1,8 @@
+//! The lines of a legal game's report: each event as the record has it, the best play of each turn, and the words of a play
+//! that are not in the list.
+#![tactic(auto)]
+
+mod best_plays;
+mod event_lines;
+
+pub use event_lines::push_event_lines;
