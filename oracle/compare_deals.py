@@ -1,18 +1,31 @@
 """Compares `referee judge` with the second judge on random games that were dealt for real, and on such games with one rack
 spoiled: compare_deals.py PROGRAM CASES SEED"""
 import random
-import subprocess
 import sys
 import tempfile
-from collections import Counter
-from pathlib import Path
 
-from dealing import Dealer, line, spoiled
-from deals import ENGLISH, events_of, judge_deal
-from lexicons import build
+from comparing import Comparison
+from dealing import Dealer, in_order, line, spoiled, words_in_reach
+from deals import ENGLISH, events_of
 from try_deals import ROWS
 
 EXCHANGES = [(), ("known",), ("unknown",), ("known", "unknown")]
+
+
+def with_words_in_reach(dealer, tries):
+    """The listed words of a game, and words of plays that its racks allowed. What was taken back stays unlisted."""
+    listed = set(dealer.listed)
+    for event, board, (racks, _) in zip(dealer.events, dealer.boards, dealer.deal):
+        if random.random() < 0.3:
+            listed |= words_in_reach(board, racks[event.player].elements(), tries)
+    return listed - dealer.phonies
+
+
+def show_last_racks(dealer):
+    """Lets passes after a player is out show the whole rack of the other one: they are no turns, and have no best play."""
+    for event, (racks, _) in zip(dealer.events, dealer.deal):
+        if event.kind == "pass" and not racks[1 - event.player] and random.random() < 0.5:
+            event.rack = in_order(racks[event.player].elements())
 
 
 def records(cases):
@@ -22,9 +35,12 @@ def records(cases):
             yield events_of(text), text, set(words.split())
     for _ in range(cases):
         turns, exchanges, stated = (random.choice(it) for it in ([4, 12, 40, 60], EXCHANGES, ["whole", "part", "mixed"]))
-        events, _, listed = Dealer(ENGLISH, turns, exchanges, stated).game()
+        dealer = Dealer(ENGLISH, turns, exchanges, stated)
+        events, _, _ = dealer.game()
+        listed = with_words_in_reach(dealer, random.choice([0, 1, 5, 20]))
         if not events:
             continue
+        show_last_racks(dealer)
         for record in (events, spoiled(events)):
             if record:
                 yield record, "".join(map(line, record)), listed
@@ -33,21 +49,11 @@ def records(cases):
 def main():
     program, cases = sys.argv[1], int(sys.argv[2])
     random.seed(int(sys.argv[3]))
-    differences, verdicts = 0, Counter()
     with tempfile.TemporaryDirectory() as folder:
-        words, lexicon, game = (Path(folder, name) for name in ("words", "lexicon", "game"))
-        for events, text, listed in records(cases):
-            words.write_text("\n".join(sorted(listed)))
-            lexicon.write_bytes(build(listed))
-            game.write_text(text)
-            told = subprocess.run([program, "judge", words, lexicon, game], capture_output=True, check=False).stdout.decode()
-            expected = judge_deal(events, listed)
-            verdicts[" ".join(expected.split("\n")[0].split(": ")[-1].split(" ")[:2])] += 1
-            if told != expected:
-                differences += 1
-                print(game.read_text(), "program", told, "second judge", expected, sep="\n")
-    print(f"{sum(verdicts.values())} games, {differences} differences", dict(sorted(verdicts.items())))
-    sys.exit(differences > 0)
+        comparison = Comparison(program, folder)
+        for record in records(cases):
+            comparison.judge(*record)
+    comparison.end()
 
 
 main()

@@ -1,24 +1,25 @@
-"""Compares `referee judge` with the second judge on random games that nobody dealt: compare_games.py PROGRAM CASES SEED"""
+"""Compares `referee judge` with the second judge on random games that nobody dealt: compare_games.py PROGRAM CASES SEED
+
+The second judge is tried on worked rows first, and the two are compared on the game of `examples/`.
+"""
 import random
-import subprocess
 import sys
 import tempfile
 from pathlib import Path
 
-from deals import judge_deal
-from games import ACROSS, DOWN, POINTS, Event, Refused, place, runs, score_of
-from lexicons import build
+from boards import ACROSS, DOWN, POINTS, Refused, place, runs, score_of
+from comparing import Comparison
+from dealing import in_order, likely, line, words_in_reach
+from deals import events_of
+from games import Event
+from try_best import rows
 
 choose = random.choice
 LETTERS = "AAAAEEEEEEIIIINNNRRRSSTTTOOOOUUDDLLGBCMPQZ"
 
 
-def likely(share):
-    return random.random() < share
-
-
 def some_tiles(size):
-    return "".join(sorted((choose(LETTERS + "?") for _ in range(size)), key=lambda tile: (tile == "?", tile)))
+    return in_order(choose(LETTERS + "?") for _ in range(size))
 
 
 def letter():
@@ -36,6 +37,15 @@ def random_text(board):
     return at, step, "".join(choose([".", board[s]]) if s in board else letter() for s in squares)
 
 
+def tiles_used(event, board):
+    """The tiles that a play or an exchange takes from its rack."""
+    if event.kind != "play":
+        return event.tiles if event.kind == "exchange" else ""
+    (row, column), (down, right) = event.at, event.direction
+    new = (tile for k, tile in enumerate(event.word) if (row + down * k, column + right * k) not in board and tile != ".")
+    return "".join("?" if tile.islower() else tile for tile in new)
+
+
 class Maker:
     """Makes the events of one game, mostly allowed ones; the bag and the racks are kept so that games can end."""
 
@@ -43,8 +53,12 @@ class Maker:
         self.longest, self.events, self.listed = longest, [], set()
         self.board, self.totals, self.player = {}, [0, 0], 0
         self.racks, self.bag, self.out = [7, 7], 86, None
+        self.turns, self.phonies = {}, set()
 
     def add(self, player, kind, text, score, **said):
+        """Records an event. Of each player's latest turn its place, the board and the size of the rack are kept."""
+        if kind in ("play", "pass", "exchange", "unknown"):
+            self.turns[player] = len(self.events), self.board, self.racks[player]
         self.totals[player] += score
         rack = choose(["AEINRST", "EIT", "Q?"]) if likely(0.02) or kind in ("withdraw", "time") else ""
         self.events.append(Event(player, kind, score, self.totals[player], text, rack=rack, **said))
@@ -64,12 +78,14 @@ class Maker:
             return
         found = runs(after, new, step) + runs(after, new, step[::-1])
         score = score_of(after, new, found) + likely(0.004)
-        self.listed |= {"".join(after[s] for s in run).upper() for run in found if likely(0.7)}
+        words = ["".join(after[s] for s in run).upper() for run in found]
+        self.listed |= {word for word in words if likely(0.7)}
         row, column = str(at[0] + 1), chr(65 + at[1])
         text = (row + column if step == ACROSS else column + row) + " " + word
         self.add(self.player, "play", text, score, at=at, direction=step, word=word)
         if likely(0.1):
             self.add(self.player, "withdraw", "--", -score)
+            self.phonies |= {choose(words)} if words and likely(0.9) else set()
         else:
             self.keep(after, len(new), len(found))
         self.player = 1 - self.player
@@ -119,37 +135,44 @@ class Maker:
             for _ in range(choose([0, 0, 1, 1, 2])):
                 self.add(choose([1 - self.out, 1 - self.out, self.out]), "pass", "-", 0)
             self.last_rack(self.out if likely(0.95) else 1 - self.out, 1 - self.out, 2)
+        for place_, board, size in self.turns.values():
+            if likely(0.7):
+                self.show_rack(self.events[place_], board, size)
+        self.listed -= self.phonies
         return self.events
 
+    def show_rack(self, event, board, size):
+        """Lets the line of a player's latest turn show a whole rack, or one tile less, and lists words of plays that it allows."""
+        used = tiles_used(event, board)
+        number = size - len(used) - likely(0.1)
+        if number < 0 or number + len(used) == 0:
+            return
+        event.rack = in_order(used + some_tiles(number) if likely(0.6) or not number else used + some_tiles(number - 1) + "?")
+        if likely(0.8):
+            self.listed |= words_in_reach(board, event.rack, choose([1, 3, 10, 100]))
 
-def line(event):
-    rack = f"{event.rack} " if event.rack else ""
-    return f">{'AB'[event.player]}: {rack}{event.text} {event.score:+d} {event.total}\n"
+
+def example(comparison):
+    """Compares the events of the game of `examples/`."""
+    folder = Path(__file__).parent.parent / "examples"
+    text = "".join(it + "\n" for it in (folder / "game.gcg").read_text().splitlines() if it.startswith(">"))
+    text = text.replace(">Bob:", ">A:").replace(">Ann:", ">B:")
+    comparison.judge(events_of(text), text, set((folder / "words.txt").read_text().upper().split()))
 
 
 def main():
-    program, cases, seed = sys.argv[1], int(sys.argv[2]), int(sys.argv[3])
-    random.seed(seed)
-    differences, verdicts = 0, {}
+    program, cases = sys.argv[1], int(sys.argv[2])
+    rows()
+    random.seed(int(sys.argv[3]))
     with tempfile.TemporaryDirectory() as folder:
-        words, lexicon, game = (Path(folder, name) for name in ("words", "lexicon", "game"))
+        comparison = Comparison(program, folder)
+        example(comparison)
         for _ in range(cases):
-            maker = Maker(choose([3, 10, 40, 120]))
+            maker = Maker(choose([2, 3, 6, 10, 40, 120]))
             events = maker.game()
-            if not events or events[0].player:
-                continue
-            words.write_text("\n".join(sorted(maker.listed)))
-            lexicon.write_bytes(build(maker.listed))
-            game.write_text("".join(line(event) for event in events))
-            told = subprocess.run([program, "judge", words, lexicon, game], capture_output=True, check=False).stdout.decode()
-            expected = judge_deal(events, maker.listed)
-            verdict = expected.split("\n")[0].split(": ")[-1].split(" ")[0 if expected.startswith("illegal") else -1]
-            verdicts[verdict] = verdicts.get(verdict, 0) + 1
-            if told != expected:
-                differences += 1
-                print(game.read_text(), "program", told, "second judge", expected, sep="\n")
-    print(f"{sum(verdicts.values())} games, {differences} differences", verdicts)
-    sys.exit(differences > 0)
+            if events and not events[0].player:
+                comparison.judge(events, "".join(map(line, events)), maker.listed)
+    comparison.end()
 
 
 main()

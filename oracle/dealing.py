@@ -6,7 +6,8 @@ import random
 from collections import Counter
 from dataclasses import replace
 
-from games import ACROSS, DOWN, POINTS, RACK, Event, Refused, place, runs, score_of
+from boards import ACROSS, DOWN, POINTS, RACK, Refused, place, runs, score_of
+from games import Event
 
 choose = random.choice
 
@@ -17,6 +18,43 @@ def likely(share):
 
 def in_order(tiles):
     return "".join(sorted(tiles, key=lambda tile: (tile == "?", tile)))
+
+
+def text_from(board, rack):
+    """A text somewhere on a board, with tiles of a rack on the empty squares."""
+    step = choose([ACROSS, DOWN])
+    row, column = choose(list(board)) if board else (7, 7)
+    side = choose([0, 0, 0, 1, -1]) if board else 0
+    back, size = random.randint(0, 5), random.randint(2, 9)
+    at = row - step[0] * back + step[1] * side, column - step[1] * back + step[0] * side
+    squares = [(at[0] + step[0] * k, at[1] + step[1] * k) for k in range(size)]
+    if min(at) < 0 or max(squares[-1]) > 14 or max(at) > 14:
+        return None
+    tiles = random.sample(rack, len(rack))
+    word = ""
+    for square in squares:
+        if square in board:
+            word += choose([".", board[square]])
+        elif not tiles:
+            return None
+        else:
+            tile = tiles.pop()
+            word += choose("abcdefghijklmnopqrstuvwxyz") if tile == "?" else tile
+    return at, step, word
+
+
+def words_in_reach(board, rack, tries):
+    """Words of some plays that a rack could make on a board, so that a list which has them allows plays."""
+    words = set()
+    for _ in range(tries):
+        tried = text_from(board, list(rack))
+        try:
+            new, after = place(board, *tried) if tried else ({}, {})
+        except Refused:
+            continue
+        found = runs(after, new, ACROSS) + runs(after, new, DOWN)
+        words |= {"".join(after[square] for square in run).upper() for run in found}
+    return words
 
 
 class Dealer:
@@ -32,7 +70,7 @@ class Dealer:
         self.turns, self.exchanges, self.stated, self.exchange_min = turns, exchanges, stated, exchange_min
         self.board, self.totals, self.racks = {}, [0, 0], [[], []]
         self.player, self.idle, self.out, self.over = choose([0, 1]), 0, None, False
-        self.events, self.deal, self.listed, self.phonies, self.timed = [], [], set(), set(), set()
+        self.events, self.deal, self.boards, self.listed, self.phonies, self.timed = [], [], [], set(), set(), set()
         for player in (0, 1):
             self.draw(player, RACK)
 
@@ -52,7 +90,8 @@ class Dealer:
         return in_order(part if likely(0.5) else (Counter(part) | Counter(used)).elements())
 
     def add(self, player, kind, text, score, thrown="", **said):
-        """Records an event, and both racks before it."""
+        """Records an event, and both racks and the board before it."""
+        self.boards.append(self.board)
         self.deal.append((tuple(Counter(rack) for rack in self.racks), Counter(thrown)))
         self.totals[player] += score
         self.events.append(Event(player, kind, score, self.totals[player], text, **said))
@@ -61,32 +100,10 @@ class Dealer:
         for tile in tiles:
             self.racks[player].remove(tile)
 
-    def text(self, rack):
-        """A text somewhere on the board, with tiles of the rack on the empty squares."""
-        step = choose([ACROSS, DOWN])
-        row, column = choose(list(self.board)) if self.board else (7, 7)
-        side = choose([0, 0, 0, 1, -1]) if self.board else 0
-        back, size = random.randint(0, 5), random.randint(2, 9)
-        at = row - step[0] * back + step[1] * side, column - step[1] * back + step[0] * side
-        squares = [(at[0] + step[0] * k, at[1] + step[1] * k) for k in range(size)]
-        if min(at) < 0 or max(squares[-1]) > 14 or max(at) > 14:
-            return None
-        tiles = random.sample(rack, len(rack))
-        word = ""
-        for square in squares:
-            if square in self.board:
-                word += choose([".", self.board[square]])
-            elif not tiles:
-                return None
-            else:
-                tile = tiles.pop()
-                word += choose("abcdefghijklmnopqrstuvwxyz") if tile == "?" else tile
-        return at, step, word
-
     def play(self):
         player = self.player
         for _ in range(60):
-            tried = self.text(self.racks[player])
+            tried = text_from(self.board, self.racks[player])
             if tried is None:
                 continue
             at, step, word = tried

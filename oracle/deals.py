@@ -8,7 +8,8 @@ from collections import Counter
 from dataclasses import dataclass
 from functools import lru_cache
 
-from games import ACROSS, DOWN, RACK, Event, Game, judge, step
+from boards import ACROSS, DOWN, RACK
+from games import Event, Game, go_through, is_judged, report, step
 from records import read
 
 KINDS = "ABCDEFGHIJKLMNOPQRSTUVWXYZ?"
@@ -69,7 +70,7 @@ def judged_rack(place, out):
     event = place.event
     if event.kind == "rack":
         return (event.player if out is None else 1 - out), Counter(event.tiles)
-    if event.kind in ("play", "exchange", "unknown") or (event.kind == "pass" and out is None):
+    if is_judged(event, out):
         return event.player, Counter(event.rack) | place.used | place.throws()
     return None, None
 
@@ -279,17 +280,22 @@ def settle(places, tiles):
     return None if deal is not None and fits(places, tiles, deal) else "unsettled"
 
 
-def judge_deal(events, listed, tiles=ENGLISH, exchange_min=7):
-    """What `referee judge` is to print of these events on the lines 1, 2 and so on."""
+def decide(events, listed, tiles=ENGLISH, exchange_min=7):
+    """The verdict of these events on the lines 1, 2 and so on, and the lines of their report where they are a game."""
 
     def start():
         return Game(bag=Counter(tiles).total() - 2 * RACK, exchange_min=exchange_min)
 
-    told = judge(events, listed, game=start())
-    if told.startswith("illegal"):
-        return told
-    verdict = settle(course(events, listed, start()), tiles)
-    return f"{verdict}\n" if verdict else told
+    verdict, lines = go_through(events, listed, game=start())
+    if verdict.startswith("illegal"):
+        return verdict, []
+    settled = settle(course(events, listed, start()), tiles)
+    return (f"{settled}\n", []) if settled else (verdict, lines)
+
+
+def judge_deal(events, listed, tiles=ENGLISH, exchange_min=7):
+    """What `referee judge` is to print of these events on the lines 1, 2 and so on."""
+    return report(*decide(events, listed, tiles, exchange_min), listed)
 
 
 def event_of(said):

@@ -4,33 +4,10 @@ It shares nothing with the program, and serves to compare what both say of the s
 """
 from dataclasses import dataclass, field
 
-ACROSS, DOWN = (0, 1), (1, 0)
-TILES, RACK, BONUS, EXCHANGE_MIN, ZERO_LIMIT, UNIT, STEP = 100, 7, 50, 7, 6, 5, 5
+from best import Search
+from boards import POINTS, RACK, Refused, check, place, runs, score_of
 
-POINTS = {
-    letter: points
-    for letters, points in [("AEILNORSTU", 1), ("DG", 2), ("BCMP", 3), ("FHVWY", 4), ("K", 5), ("JX", 8), ("QZ", 10)]
-    for letter in letters
-}
-
-# Premium squares by row and columns, as the tables of the game have them.
-ROWS = {
-    "TW": [((1, 15), "AHO"), ((8,), "AO")],
-    "DW": [((2, 14), "BN"), ((3, 13), "CM"), ((4, 12), "DL"), ((5, 11), "EK"), ((8,), "H")],
-    "TL": [((2, 14), "FJ"), ((6, 10), "BFJN")],
-    "DL": [((1, 15), "DL"), ((3, 13), "GI"), ((4, 12), "AHO"), ((7, 9), "CGIM"), ((8,), "DL")],
-}
-PREMIUMS = {
-    (row - 1, ord(column) - ord("A")): premium
-    for premium, squares in ROWS.items()
-    for rows, columns in squares
-    for row in rows
-    for column in columns
-}
-
-
-class Refused(Exception):
-    """The first check of an event that fails."""
+TILES, EXCHANGE_MIN, ZERO_LIMIT, UNIT, STEP = 100, 7, 6, 5, 5
 
 
 @dataclass
@@ -67,56 +44,6 @@ class Game:
     timed: list = field(default_factory=lambda: [False, False])
     ended: list = field(default_factory=lambda: [False, False])
     latest: dict = None  # of a play: player, new tiles, words, score, stands
-
-
-def check(holds, fault):
-    if not holds:
-        raise Refused(fault)
-
-
-def runs(board, squares, step):
-    """The runs of two tiles or more in one direction that hold one of the squares."""
-    found = []
-    for row, column in sorted(squares):
-        while (row - step[0], column - step[1]) in board:
-            row, column = row - step[0], column - step[1]
-        run = []
-        while (row, column) in board:
-            run.append((row, column))
-            row, column = row + step[0], column + step[1]
-        if len(run) > 1 and run not in found:
-            found.append(run)
-    return found
-
-
-def place(board, at, step, word):
-    """The new tiles of a text and the board with them, or the first fault of the text or of the play."""
-    squares = [(at[0] + step[0] * k, at[1] + step[1] * k) for k in range(len(word))]
-    check(max(squares[-1]) < 15, "OffBoard")
-    check(all((s in board) if t == "." else board.get(s, t).upper() == t.upper() for s, t in zip(squares, word)), "Mismatch")
-    new = {square: tile for square, tile in zip(squares, word) if square not in board}
-    check(new, "NoNewTile")
-    check(len(new) <= RACK, "TooManyTiles")
-    ends = (at[0] - step[0], at[1] - step[1]), (squares[-1][0] + step[0], squares[-1][1] + step[1])
-    check(not any(end in board for end in ends), "NotWhole")
-    after = board | new
-    check(board or (7, 7) in new, "MissesCentre")
-    check(runs(after, new, ACROSS) or runs(after, new, DOWN), "TooShort")
-    beside = [(row + a, column + b) for row, column in new for a, b in (ACROSS, DOWN, (0, -1), (-1, 0))]
-    check(not board or any(square in board for square in beside), "Apart")
-    return new, after
-
-
-def score_of(after, new, words):
-    total = BONUS if len(new) == RACK else 0
-    for run in words:
-        points, factor = 0, 1
-        for square in run:
-            premium = PREMIUMS.get(square) if square in new else None
-            points += POINTS.get(after[square], 0) * {"DL": 2, "TL": 3}.get(premium, 1)
-            factor *= {"DW": 2, "TW": 3}.get(premium, 1)
-        total += points * factor
-    return total
 
 
 def close(game, event, expected=None):
@@ -236,14 +163,40 @@ def step(game, event, following, listed):
     return told
 
 
-def judge(events, listed, nicks="AB", game=None):
-    """What `referee judge` is to print of these events on the lines 1, 2 and so on, deals apart."""
+def is_judged(event, out):
+    """Whether the rack of an event's line is judged: that of a play, also of one that is taken back, of an exchange, and of a pass
+    but for the one after a player is out."""
+    return event.kind in ("play", "exchange", "unknown") or (event.kind == "pass" and out is None)
+
+
+@dataclass
+class Line:
+    """A line of a report: the event; of a turn the board before it, the stated rack and how many tiles its player holds, so that
+    the best play can be told (None of another event); and the unlisted words."""
+
+    head: str
+    turn: tuple
+    unlisted: str
+
+    def text(self, search):
+        return f"{self.head}{search.told(*self.turn) if self.turn else ''}{self.unlisted}\n"
+
+
+def go_through(events, listed, nicks="AB", game=None):
+    """The verdict of the events on the lines 1, 2 and so on, deals apart, and the lines of their report where they are allowed."""
     game, lines = game or Game(), []
     for place_, event in enumerate(events):
         following = events[place_ + 1] if place_ + 1 < len(events) else None
+        turn = (dict(game.board), event.rack, game.racks[event.player]) if is_judged(event, game.out) else None
         try:
-            told = step(game, event, following, listed)
+            unlisted = step(game, event, following, listed)
         except Refused as fault:
-            return f"illegal line {place_ + 1}: {fault}\n"
-        lines.append(f"{place_ + 1} {nicks[event.player]} {event.text} {event.score:+d} {event.total}{told}\n")
-    return ("legal complete\n" if game.complete else "legal unfinished\n") + "".join(lines)
+            return f"illegal line {place_ + 1}: {fault}\n", []
+        lines.append(Line(f"{place_ + 1} {nicks[event.player]} {event.text} {event.score:+d} {event.total}", turn, unlisted))
+    return ("legal complete\n" if game.complete else "legal unfinished\n"), lines
+
+
+def report(verdict, lines, listed):
+    """What `referee judge` prints: the verdict, and the lines of what is allowed, with the best play of each turn."""
+    search = Search(listed)
+    return verdict + "".join(line.text(search) for line in lines)

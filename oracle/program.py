@@ -44,6 +44,8 @@ TEXTS = {
     "too-soon": PASSES[: -len(">B: - +0 0\n")] + ">B: AEINRST (AEINRST) -7 -7\n",
     "unlisted": ON_WORD,
     "withdrawn": ON_WORD + ">B: AT -- -9 0\n>A: AT 9G AT +9 25\n",
+    "with-blank": ">A: ABCDEF? - +0 0\n",
+    "no-play": ">A: AEIRSUV - +0 0\n>B: AEINRST - +0 0\n",
     "third": ">A: - +0 0\n>B: - +0 0\n>C: - +0 0\n",
     "number": ">A: 8E WORD +x 16\n",
     "long-game": "\n" * 1_048_577,
@@ -122,11 +124,11 @@ def judged(run):
     run.row(["build", "word", "word.gad"], 0)
     run.row(["build", "word-at-ra", "word-at-ra.gad"], 0)
     by_word = lambda game, status, out: run.row(["judge", "word", "word.gad", game], status, out)
-    by_word("line", 0, "legal unfinished\n1 A 8E WORD +16 16\n")
+    by_word("line", 0, "legal unfinished\n1 A 8E WORD +16 16 best 8E WORD 16\n")
     by_word("nothing", 0, "legal unfinished\n")
     by_word("page", 0, "legal unfinished\n")
     by_word("full-game", 0, "legal unfinished\n")
-    lines = "".join(f"{k + 1} {'AB'[k % 2]} - +0 0\n" for k in range(6))
+    lines = "".join(f"{k + 1} {'AB'[k % 2]} - +0 0 best -\n" for k in range(6))
     by_word("ends", 0, f"legal complete\n{lines}7 A (AEINRST) -7 -7\n8 B (AEINRST) -7 -7\n")
     by_word("too-soon", 1, "illegal line 6: NotOver\n")
     by_word("line-17", 1, "illegal line 1: WrongTotal 16\n")
@@ -137,15 +139,19 @@ def judged(run):
     by_word("number", 3, "bad record line 1: Number\n")
     by_word("long-game", 3, "bad record: TooLong\n")
     listed = lambda game, out: run.row(["judge", "word-at-ra", "word-at-ra.gad", game], 0, out)
-    listed("unlisted", "legal unfinished\n1 A 8E WORD +16 16\n2 B 9G AT +9 9 unlisted DT\n")
-    back = "3 B -- -9 0\n4 A 9G AT +9 25 unlisted DT\n"
-    listed("withdrawn", f"legal unfinished\n1 A 8E WORD +16 16\n2 B 9G AT +9 9\n{back}")
-    listed("not-judged", f"legal unfinished\n1 A 8E WORD +16 16\n2 B 9G AT +9 9\n{back}")
+    laid = "legal unfinished\n1 A 8E WORD +16 16 best 8E WORD 16\n2 B 9G AT +9 9 best -"
+    back = "3 B -- -9 0\n4 A 9G AT +9 25 best - unlisted DT\n"
+    listed("unlisted", f"{laid} unlisted DT\n")
+    listed("withdrawn", f"{laid}\n{back}")
+    listed("not-judged", f"{laid}\n{back}")
     by_word("blanks", 1, "illegal line 2: TilesShort ?\n")
     by_word("one-q", 2, "unsettled\n")
     run.row(["judge", "at", "at.gad", "big-rack"], 1, "illegal line 3: RackTooBig\n")
-    lines = "1 A -5 +0 0\n2 B - +0 0\n3 A - +0 0\n"
+    lines = "1 A -5 +0 0 best -\n2 B - +0 0 best -\n3 A - +0 0 best -\n"
     run.row(["judge", "at", "at.gad", "unknown"], 0, f"legal unfinished\n{lines}")
+    run.row(["judge", "at", "at.gad", "with-blank"], 0, "legal unfinished\n1 A - +0 0 best 8G At 2\n")
+    run.row(["judge", "at", "at.gad", "no-play"], 0, "legal unfinished\n1 A - +0 0 best none\n2 B - +0 0 best 8G AT 4\n")
+    run.row(["judge", "nothing", "nothing.gad", "no-play"], 0, "legal unfinished\n1 A - +0 0 best none\n2 B - +0 0 best none\n")
     run.row(["judge", "nothing", "nothing.gad", "nothing"], 0, "legal unfinished\n")
     run.row(["judge", "digit", "at.gad", "line"], 3, "bad word list line 2: BadLetter\n")
     run.row(["judge", "short-word", "at.gad", "line"], 3, "bad word list line 1: BadLength\n")

@@ -9,9 +9,10 @@ import random
 import sys
 from collections import Counter
 
+from boards import RACK
 from dealing import Dealer, spoiled
-from deals import ENGLISH, course, events_of, fits, fits_place, follows, judge_deal, settle
-from games import RACK, Game, judge
+from deals import ENGLISH, course, decide, events_of, fits, fits_place, follows, settle
+from games import Game, go_through
 
 SMALL = Counter("AADEEINORRSTTW")
 RETAINS = ">A: AEINRST 8D RETAINS +66 66\n"
@@ -35,7 +36,7 @@ ROWS = [
 
 def rows():
     for text, wanted, tiles, words, exchange_min in ROWS:
-        told = judge_deal(events_of(text), set(words.split()), tiles, exchange_min).split("\n")[0]
+        told = decide(events_of(text), set(words.split()), tiles, exchange_min)[0].strip()
         assert told == wanted, (text, told, wanted)
     print(f"{len(ROWS)} worked rows")
 
@@ -109,7 +110,7 @@ def small(cases):
         events, _, listed = Dealer(tiles, random.choice([2, 3, 4, 5]), exchanges, exchange_min=1).game()
         record = random.choice([events, spoiled(events)])
         start = {"bag": tiles.total() - 2 * RACK, "exchange_min": 1}
-        if not record or judge(record, listed, game=Game(**start)).startswith("illegal"):
+        if not record or go_through(record, listed, game=Game(**start))[0].startswith("illegal"):
             continue
         places = course(record, listed, Game(**start))
         told, found = settle(places, tiles) or "legal", some_deal(places, tiles)
@@ -132,7 +133,7 @@ def one(dealer, answers):
     assert verdict is None or (verdict == "unsettled" and has_exchange(events)), ("a real game", verdict, events)
     changed = spoiled(events)
     if changed:
-        spoilt = judge_deal(changed, listed).split("\n")[0]
+        spoilt = decide(changed, listed)[0].strip()
         assert spoilt != "unsettled" or has_exchange(events), ("unsettled without an exchange", changed)
         answers["spoiled: " + spoilt.split(": ")[-1].split(" ")[0]] += 1
     answers[f"{'exchange' if has_exchange(events) else 'none'}: {verdict or 'legal'}"] += 1

@@ -1,0 +1,38 @@
+"""Judges records by the program and by the second judge, and counts what they say."""
+import subprocess
+import sys
+from collections import Counter
+from pathlib import Path
+
+from best import kinds_told
+from deals import judge_deal
+from lexicons import build
+
+
+class Comparison:
+    """A program, a folder for its inputs, and what was told so far."""
+
+    def __init__(self, program, folder):
+        self.program, self.differences, self.verdicts, self.kinds = program, 0, Counter(), Counter()
+        self.words, self.lexicon, self.game = (Path(folder, name) for name in ("words", "lexicon", "game"))
+
+    def judge(self, events, text, listed):
+        """Compares the whole reports of a record: its events for the second judge, its text for the program."""
+        self.words.write_text("\n".join(sorted(listed)))
+        self.lexicon.write_bytes(build(listed))
+        self.game.write_text(text)
+        words = [self.program, "judge", self.words, self.lexicon, self.game]
+        told = subprocess.run(words, capture_output=True, check=False).stdout.decode()
+        expected = judge_deal(events, listed)
+        verdict = expected.split("\n")[0]
+        self.verdicts[verdict.split(": ")[-1].split(" ")[0] if verdict.startswith("illegal") else verdict] += 1
+        self.kinds += kinds_told(expected)
+        if told != expected:
+            self.differences += 1
+            print(text, "listed", *sorted(listed), "program", told, "second judge", expected, sep="\n")
+
+    def end(self):
+        """Tells what was compared; the exit status is 1 where anything differs."""
+        print(f"{self.verdicts.total()} games, {self.differences} differences", dict(sorted(self.verdicts.items())))
+        print("best plays:", ", ".join(f"{kind} {times}" for kind, times in sorted(self.kinds.items())))
+        sys.exit(self.differences > 0)
