@@ -49,5 +49,6 @@ pub fn are_small(tiles: &Counts)
     ensures kinds { length tiles.now ≡ 27 }
     ensures small { (k : ℕ) → k < 27 → slice_index tiles.now k < 256 }
 {
+    // The array tells that there are 27 numbers, each a byte.
     let _numbers = tiles.numbers();
 }

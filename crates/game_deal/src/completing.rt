@@ -28,6 +28,7 @@ fn append<T: Drop>(list: &mut Vec<T>, item: T) -> Result<(), NoMemory>
 fn all_steps(alloc: Global, passed: &Passed<'_>) -> Result<Vec<Step>, NoMemory>
     ensures { IfOk result (λ steps. steps.items ≡ steps_in passed.now) }
 {
+    // These two values only make the types of motions and acts known to the prover.
     let _keeps = Motion::Keeps;
     let _rests = Act::Rests;
     let mut steps = Vec::new(alloc);

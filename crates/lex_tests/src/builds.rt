@@ -3,7 +3,7 @@ use lex_build::{BuildFault, build};
 use lex_check::{Mismatch, check};
 use lex_file::LexFile;
 use lex_list::{ListWhy, WordList};
-use std::alloc::{AllocError, Global};
+use std::alloc::Global;
 use std::process::Abort;
 
 /// The file of the word AA, whose paths are A+A and AA: the node of A has a mark that goes on and an A that ends.
@@ -116,31 +116,29 @@ fn next(state: u32) -> u32 {
 
 /// 5,000 lines with a word each: four letters that spell the number of the word, and 0 to 11 of the letters A to E behind
 /// them.
-fn many_words(alloc: Global) -> Result<Vec<u8>, AllocError> {
+fn many_words(rt: &impl Abort, alloc: Global) -> Vec<u8> {
     let mut text = Vec::new(alloc);
     let mut state = 1;
     for number in 0..5000_u32 {
         for digit in [17_576, 676, 26, 1] {
-            text.push(b'A' + (number / digit % 26) as u8)?;
+            text.push(b'A' + (number / digit % 26) as u8)
+                .expect(rt, "memory");
         }
         for _ in 0..state / 65536 % 12 {
             state = next(state);
-            text.push(b'A' + (state / 65536 % 5) as u8)?;
+            text.push(b'A' + (state / 65536 % 5) as u8)
+                .expect(rt, "memory");
         }
-        text.push(b'\n')?;
+        text.push(b'\n').expect(rt, "memory");
         state = next(state);
     }
-    Ok(text)
+    text
 }
 
 #[test]
 fn many(rt: HostRuntime) {
-    let Ok(text) = many_words(rt.alloc()) else {
-        panic!(rt; "no memory for the words");
-    };
-    match WordList::read(rt.alloc(), &text) {
-        Ok(list) => assert_eq!(rt; list.len(), 5000),
-        Err(_) => panic!(rt; "the words are no list"),
-    }
+    let text = many_words(&rt, rt.alloc());
+    let list = WordList::read(rt.alloc(), &text).expect(&rt, "a list");
+    assert_eq!(rt; list.len(), 5000);
     assert_eq!(rt; rebuild(rt.alloc(), &text), Outcome::Same);
 }

@@ -1,7 +1,6 @@
 use lex_list::{ListFault, ListWhy, MAX_BYTES, MAX_WORDS, WordList, law_of_lists, law_of_paths};
-use std::alloc::{AllocError, Global};
+use std::alloc::Global;
 use std::process::Abort;
-use std::test::Fail;
 
 /// Texts and their first faults.
 const FAULTS: [(&[u8], u32, ListWhy); 19] = [
@@ -55,24 +54,30 @@ const LISTS: [(&[u8], &[&[u8]]); 7] = [
     ),
 ];
 
-#[test]
-fn lists(rt: HostRuntime) -> Result<(), Fail> {
-    for row in &LISTS {
-        let list = WordList::read(rt.alloc(), row.0).ok().ok_or("a list")?;
-        assert_eq!(rt; list.len(), row.1.len(), "{:?}", row.0);
-        for (place, word) in row.1.iter().enumerate() {
-            assert_eq!(rt; list.word(place), *word);
-            assert!(rt; list.has(word));
-        }
+/// The list of a text.
+fn list_of(rt: &impl Abort, alloc: Global, text: &[u8]) -> WordList {
+    WordList::read(alloc, text).expect(rt, "a list")
+}
+
+fn assert_list(rt: &impl Abort, list: &WordList, words: &[&[u8]]) {
+    assert_eq!(rt; list.len(), words.len());
+    for (place, word) in words.iter().enumerate() {
+        assert!(rt; place < list.len());
+        assert_eq!(rt; list.word(place), *word);
+        assert!(rt; list.has(word));
     }
-    Ok(())
 }
 
 #[test]
-fn other_bytes_are_unlisted(rt: HostRuntime) -> Result<(), Fail> {
-    let list = WordList::read(rt.alloc(), b"at\nabcdefghijklmno\nzax")
-        .ok()
-        .ok_or("a list")?;
+fn lists(rt: HostRuntime) {
+    for (text, words) in &LISTS {
+        assert_list(&rt, &list_of(&rt, rt.alloc(), text), words);
+    }
+}
+
+#[test]
+fn other_bytes_are_unlisted(rt: HostRuntime) {
+    let list = list_of(&rt, rt.alloc(), b"at\nabcdefghijklmno\nzax");
     let others: [&[u8]; 11] = [
         b"",
         b"A",
@@ -89,7 +94,6 @@ fn other_bytes_are_unlisted(rt: HostRuntime) -> Result<(), Fail> {
     for word in others.iter() {
         assert!(rt; !list.has(word), "{word:?}");
     }
-    Ok(())
 }
 
 #[test]
@@ -104,56 +108,60 @@ fn names(rt: HostRuntime) {
 }
 
 /// Lines of four letters each, all different, in no order of bytes.
-fn distinct_lines(alloc: Global, lines: u32) -> Result<Vec<u8>, AllocError> {
+fn distinct_lines(rt: &impl Abort, alloc: Global, lines: u32) -> Vec<u8> {
     let mut text = Vec::new(alloc);
     for line in 0..lines {
         let mut rest = line;
         for _ in 0..4 {
-            text.push(b'A' + (rest % 26) as u8)?;
+            text.push(b'A' + (rest % 26) as u8).expect(rt, "memory");
             rest /= 26;
         }
-        text.push(b'\n')?;
+        text.push(b'\n').expect(rt, "memory");
     }
-    Ok(text)
+    text
 }
 
-#[test]
-fn limit_of_words(rt: HostRuntime) -> Result<(), Fail> {
-    let mut text = distinct_lines(rt.alloc(), 400_000)?;
-    text.extend_from_slice(b"baaa\n")?;
-    let list = WordList::read(rt.alloc(), &text).ok().ok_or("a list")?;
+/// The fault of a text.
+fn fault_of(alloc: Global, text: &[u8]) -> Option<ListFault> {
+    WordList::read(alloc, text).err()
+}
+
+fn assert_many(rt: &impl Abort, list: &WordList) {
     assert_eq!(rt; list.len(), MAX_WORDS);
     assert_eq!(rt; list.word(0), b"AAAA".as_slice());
     assert_eq!(rt; list.word(1), b"AAAB".as_slice());
     assert!(rt; list.has(b"BAAA"));
-    text.extend_from_slice(b"\nQI\nA1")?;
-    let fault = WordList::read(rt.alloc(), &text).err();
-    assert_eq!(rt;
-        fault,
-        Some(ListFault {
-            line: 400_003,
-            why: ListWhy::TooMany
-        })
-    );
-    Ok(())
 }
 
 #[test]
-fn limit_of_bytes(rt: HostRuntime) -> Result<(), Fail> {
-    let mut feeds = Vec::new(rt.alloc());
-    for _ in 0..MAX_BYTES {
-        feeds.push(b'\n')?;
+fn limit_of_words(rt: HostRuntime) {
+    let mut text = distinct_lines(&rt, rt.alloc(), 400_000);
+    text.extend_from_slice(b"baaa\n").expect(&rt, "memory");
+    assert_many(&rt, &list_of(&rt, rt.alloc(), &text));
+    text.extend_from_slice(b"\nQI\nA1").expect(&rt, "memory");
+    let one_more = ListFault {
+        line: 400_003,
+        why: ListWhy::TooMany,
+    };
+    assert_eq!(rt; fault_of(rt.alloc(), &text), Some(one_more));
+}
+
+fn feeds(rt: &impl Abort, alloc: Global, number: usize) -> Vec<u8> {
+    let mut text = Vec::new(alloc);
+    for _ in 0..number {
+        text.push(b'\n').expect(rt, "memory");
     }
-    let list = WordList::read(rt.alloc(), &feeds).ok().ok_or("a list")?;
-    assert_eq!(rt; list.len(), 0);
-    feeds.push(b'\n')?;
-    let fault = WordList::read(rt.alloc(), &feeds).err();
-    assert_eq!(rt;
-        fault,
-        Some(ListFault {
-            line: 0,
-            why: ListWhy::TooLong
-        })
-    );
-    Ok(())
+    text
+}
+
+#[test]
+fn limit_of_bytes(rt: HostRuntime) {
+    let mut text = feeds(&rt, rt.alloc(), MAX_BYTES);
+    assert_eq!(rt; list_of(&rt, rt.alloc(), &text).len(), 0);
+    text.push(b'\n').expect(&rt, "memory");
+    let one_more = ListFault {
+        line: 0,
+        why: ListWhy::TooLong,
+    };
+    assert_eq!(rt; fault_of(rt.alloc(), &text), Some(one_more));
 }

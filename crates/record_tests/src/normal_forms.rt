@@ -2,8 +2,8 @@ use gcg_read::{Event, EventKind, Points, Record, Seat, Text, read};
 use gcg_write::{NoMemory, event_text, law_of_round_trip, write};
 use ref_board::{Dir, Square};
 use ref_tiles::{Letter, Symbol};
+use std::alloc::Global;
 use std::process::Abort;
-use std::test::Fail;
 
 /// A record and its normal form.
 struct Row {
@@ -46,35 +46,36 @@ const ROWS: [Row; 8] = [
     },
 ];
 
-/// The normal form of the record of a text.
-fn normal(rt: &HostRuntime, text: &[u8]) -> Result<Vec<u8>, Fail> {
-    let record = read(rt.alloc(), text)?;
-    let mut out = Vec::new(rt.alloc());
-    write(&record, &mut out)?;
-    Ok(out)
+/// What is written of a record behind these bytes.
+fn written(rt: &impl Abort, alloc: Global, record: &Record, front: &[u8]) -> Vec<u8> {
+    let mut out = Vec::from_slice(alloc, front).expect(rt, "memory");
+    write(record, &mut out).expect(rt, "memory");
+    out
+}
+
+/// The normal form of the record of a text, behind these bytes.
+fn normal(rt: &impl Abort, alloc: Global, text: &[u8], front: &[u8]) -> Vec<u8> {
+    let record = read(alloc, text).expect(rt, "a record");
+    written(rt, alloc, &record, front)
 }
 
 #[test]
-fn normal_forms(rt: HostRuntime) -> Result<(), Fail> {
+fn normal_forms(rt: HostRuntime) {
     for row in &ROWS {
-        let once = normal(&rt, row.text)?;
+        let once = normal(&rt, rt.alloc(), row.text, b"");
         assert_eq!(rt; once.as_slice(), row.normal);
-        let twice = normal(&rt, once.as_slice())?;
+        let twice = normal(&rt, rt.alloc(), &once, b"");
         assert_eq!(rt; twice.as_slice(), row.normal, "read again");
     }
-    Ok(())
 }
 
 #[test]
-fn written_behind(rt: HostRuntime) -> Result<(), Fail> {
-    let record = read(rt.alloc(), b">A: A 8H A. +2 2")?;
-    let mut out = Vec::from_slice(rt.alloc(), b"x")?;
-    write(&record, &mut out)?;
+fn written_behind(rt: HostRuntime) {
+    let out = normal(&rt, rt.alloc(), b">A: A 8H A. +2 2", b"x");
     assert_eq!(rt;
         out.as_slice(),
         b"x#player1 A\n>A: A 8H A. +2 2\n".as_slice()
     );
-    Ok(())
 }
 
 /// The event, score and total of each line of a record.
@@ -89,63 +90,70 @@ const EVENTS: [&[u8]; 8] = [
     b"(E??) -1 -1",
 ];
 
+/// What is written of the event at a place.
+fn event_written(rt: &impl Abort, alloc: Global, record: &Record, place: usize) -> Vec<u8> {
+    assert!(rt; place < record.events.len(), "an event");
+    let mut out = Vec::new(alloc);
+    event_text(record, place, &mut out).expect(rt, "memory");
+    out
+}
+
 #[test]
-fn event_texts(rt: HostRuntime) -> Result<(), Fail> {
+fn event_texts(rt: HostRuntime) {
     let text =
         b">A: 8e WORD 16 16\n>B: - 0 0\n>A: A -Z?A 0 16\n>B: -7 0 0\n>A: -- -16 0\n>B: AB (challenge) 5 5\n>B: (time) -10 -5\n>A: (?E?) -1 -1";
-    let record = read(rt.alloc(), text)?;
-    for (i, expected) in EVENTS.iter().enumerate() {
-        assert!(rt; i < record.events.len(), "eight events");
-        let mut out = Vec::new(rt.alloc());
-        event_text(&record, i, &mut out)?;
+    let record = read(rt.alloc(), text).expect(&rt, "a record");
+    for (place, expected) in EVENTS.iter().enumerate() {
+        let out = event_written(&rt, rt.alloc(), &record, place);
         assert_eq!(rt; out.as_slice(), *expected);
     }
-    Ok(())
 }
 
 /// A play of a record that was made and not read.
-fn own_event() -> Result<Event, Fail> {
-    let letter = Letter::new(3).ok_or("D")?;
-    Ok(Event {
+fn own_event(rt: &impl Abort) -> Event {
+    let letter = Letter::new(3).expect(rt, "D");
+    let word = Text::new(&[Symbol::Dot, Symbol::Blank(letter)]).expect(rt, "a text");
+    Event {
         line: 0,
         player: Seat::Second,
         rack: None,
         kind: EventKind::Play {
-            at: Square::new(9, 0).ok_or("A10")?,
+            at: Square::new(9, 0).expect(rt, "A10"),
             dir: Dir::Down,
-            word: Text::new(&[Symbol::Dot, Symbol::Blank(letter)]).ok_or("a text")?,
+            word,
         },
-        score: Points::new(0).ok_or("0")?,
-        total: Points::new(-3).ok_or("-3")?,
-    })
+        score: Points::new(0).expect(rt, "0"),
+        total: Points::new(-3).expect(rt, "-3"),
+    }
 }
 
 #[test]
-fn own_records(rt: HostRuntime) -> Result<(), Fail> {
+fn own_records(rt: HostRuntime) {
     let mut record = Record::empty(rt.alloc());
-    let event = own_event()?;
-    record.events.push(event)?;
-    let mut out = Vec::new(rt.alloc());
-    write(&record, &mut out)?;
+    let event = own_event(&rt);
+    record.events.push(event).expect(&rt, "memory");
+    let out = written(&rt, rt.alloc(), &record, b"");
     assert_eq!(rt; out.as_slice(), b">: A10 .d +0 -3\n".as_slice());
     law_of_round_trip();
-    Ok(())
+}
+
+/// What is written of a record behind a byte is the normal form, or nothing where a growth is refused.
+fn assert_growth(rt: &impl Abort, alloc: Global, record: &Record, normal: &[u8]) {
+    let Ok(mut out) = Vec::from_slice(alloc, b"x") else {
+        return;
+    };
+    match write(record, &mut out) {
+        Ok(()) => assert_eq!(rt; &out.as_slice()[1..], normal),
+        Err(NoMemory) => assert_eq!(rt; out.as_slice(), b"x".as_slice(), "as it was"),
+    }
 }
 
 /// Each growth that is refused leaves the output as it was: `rt try --test --fail-alloc N` fails the N-th.
 #[test]
-fn refused_growths(rt: HostRuntime) -> Result<(), Fail> {
+fn refused_growths(rt: HostRuntime) {
     for row in &ROWS {
-        let Ok(record) = read(rt.alloc(), row.text) else {
-            return Ok(());
-        };
-        let Ok(mut out) = Vec::from_slice(rt.alloc(), b"x") else {
-            return Ok(());
-        };
-        match write(&record, &mut out) {
-            Ok(()) => assert_eq!(rt; &out.as_slice()[1..], row.normal),
-            Err(NoMemory) => assert_eq!(rt; out.as_slice(), b"x".as_slice(), "as it was"),
+        if let Ok(record) = read(rt.alloc(), row.text) {
+            assert_growth(&rt, rt.alloc(), &record, row.normal);
         }
     }
-    Ok(())
 }

@@ -10,13 +10,13 @@ use std::alloc::Global;
 use std::process::Abort;
 
 /// The text of a play: the row and the column of its first square, both from 0, its direction and its symbols.
-type Text = (usize, usize, Dir, &'static [u8]);
+pub type Text = (usize, usize, Dir, &'static [u8]);
 
 /// 8E WORD, which leaves R over 9G and D over 9H.
-const WORD: Text = (7, 4, Dir::Across, b"WORD");
+pub const WORD: Text = (7, 4, Dir::Across, b"WORD");
 
 /// 9G AT.
-const AT: Text = (8, 6, Dir::Across, b"AT");
+pub const AT: Text = (8, 6, Dir::Across, b"AT");
 
 /// A legal play: the plays before it, its text, its score in the English game, and its words.
 struct Scored {
@@ -200,7 +200,7 @@ fn named(rt: &impl Abort, alloc: Global, board: &Board, text: Text) -> Result<Pl
 }
 
 /// The play that a text names, where it is legal.
-fn judged(rt: &impl Abort, alloc: Global, board: &Board, text: Text) -> Result<Play, PlayFault>
+pub fn judged(rt: &impl Abort, alloc: Global, board: &Board, text: Text) -> Result<Play, PlayFault>
     ensures { IfOk result (λ play. IsLegal board.now play.tiles.items) }
 {
     let play = named(rt, alloc, board, text)?;
@@ -209,7 +209,7 @@ fn judged(rt: &impl Abort, alloc: Global, board: &Board, text: Text) -> Result<P
 }
 
 /// The board after plays that are all legal.
-fn after(rt: &impl Abort, alloc: Global, texts: &[Text]) -> Board {
+pub fn after(rt: &impl Abort, alloc: Global, texts: &[Text]) -> Board {
     let mut board = Board::empty();
     for text in texts {
         match judged(rt, alloc, &board, *text) {

@@ -4,9 +4,8 @@ use gcg_read::{
 };
 use ref_board::Dir;
 use ref_tiles::{Counts, Kind, Letter, Symbol};
-use std::alloc::AllocError;
+use std::alloc::Global;
 use std::process::Abort;
-use std::test::Fail;
 
 /// Records of one fault, with its line: lines of plays, then codes that are none and pragmas that give a nickname twice.
 const FAULTS: [(&[u8], u32, Why); 60] = [
@@ -245,16 +244,15 @@ fn writes(text: &Text, bytes: &[u8]) -> bool {
             .all(|(symbol, byte)| symbol.byte() == *byte)
 }
 
+fn last_event<'a>(rt: &impl Abort, record: &'a Record) -> &'a Event {
+    record.events.as_slice().last().expect(rt, "an event")
+}
+
 #[test]
 fn plays(rt: HostRuntime) {
     for row in &PLAYS {
-        match read(rt.alloc(), row.text) {
-            Ok(record) => match record.events.as_slice() {
-                [.., event] => assert_event(&rt, row, event),
-                [] => assert!(rt; false, "no event"),
-            },
-            Err(fault) => assert!(rt; false, "{fault:?}"),
-        }
+        let record = read(rt.alloc(), row.text).expect(&rt, "a record");
+        assert_event(&rt, row, last_event(&rt, &record));
     }
 }
 
@@ -448,13 +446,8 @@ fn assert_code(rt: &impl Abort, row: &CodeRow, event: &Event) {
 #[test]
 fn codes(rt: HostRuntime) {
     for row in &CODES {
-        match read(rt.alloc(), row.text) {
-            Ok(record) => match record.events.as_slice() {
-                [.., event] => assert_code(&rt, row, event),
-                [] => assert!(rt; false, "no event"),
-            },
-            Err(fault) => assert!(rt; false, "{fault:?}"),
-        }
+        let record = read(rt.alloc(), row.text).expect(&rt, "a record");
+        assert_code(&rt, row, last_event(&rt, &record));
     }
 }
 
@@ -538,130 +531,136 @@ fn assert_player(rt: &impl Abort, player: &Player, nick: &[u8], full: &[u8]) {
     assert_eq!(rt; player.full.as_bytes(), full);
 }
 
+fn assert_players(rt: &impl Abort, players: &Players, row: &NameRow) {
+    assert_player(rt, &players.first, row.nicks[0], row.fulls[0]);
+    assert_player(rt, &players.second, row.nicks[1], row.fulls[1]);
+}
+
 #[test]
 fn pragmas(rt: HostRuntime) {
     for row in &NAMES {
-        match read(rt.alloc(), row.text) {
-            Ok(record) => {
-                assert_player(&rt, &record.players.first, row.nicks[0], row.fulls[0]);
-                assert_player(&rt, &record.players.second, row.nicks[1], row.fulls[1]);
-            }
-            Err(fault) => assert!(rt; false, "{fault:?}"),
-        }
+        let record = read(rt.alloc(), row.text).expect(&rt, "a record");
+        assert_players(&rt, &record.players, row);
     }
 }
 
-#[test]
-fn names_and_racks(rt: HostRuntime) -> Result<(), Fail> {
-    let text = b">Ann Lee\n#x\n>Bo:?QQ A1 Q +0 0\n> Al :A1 Q +0 0\n";
-    let first = read(rt.alloc(), text).err();
-    assert_eq!(rt;
-        first,
-        Some(ReadFault {
-            line: 1,
-            why: Why::NoColon
-        })
-    );
-    let record = read(rt.alloc(), &text[9..]).ok().ok_or("a record")?;
-    assert_eq!(rt;
-        record.players.of(Seat::First).nick.as_bytes(),
-        b"Bo".as_slice()
-    );
-    assert_eq!(rt;
-        record.players.of(Seat::Second).nick.as_bytes(),
-        b"Al".as_slice()
-    );
-    assert_eq!(rt; record.players.of(Seat::First).full.as_bytes().len(), 0);
-    match record.events.as_slice() {
+/// How many events the record of a text has.
+fn events_in(alloc: Global, text: &[u8]) -> Result<usize, ReadFault> {
+    let record = read(alloc, text)?;
+    Ok(record.events.len())
+}
+
+/// The rack of the first of two events alone is known.
+fn assert_racks(rt: &impl Abort, events: &[Event]) {
+    match events {
         [one, two] => {
+            let rack = one.rack.expect(rt, "a rack");
+            assert!(rt; has_tiles(&rack, b"?QQ"));
             assert!(rt; two.rack.is_none());
-            let rack = one.rack.ok_or("a rack")?;
-            assert_eq!(rt; rack.total(), 3);
-            assert_eq!(rt; rack.count(Kind::Blank), 1);
-            let letter = Letter::new(16).ok_or("Q")?;
-            assert_eq!(rt; rack.count(Kind::Letter(letter)), 2);
         }
         _ => assert!(rt; false, "two events"),
     }
-    Ok(())
 }
 
 #[test]
-fn parts(rt: HostRuntime) -> Result<(), Fail> {
+fn names_and_racks(rt: HostRuntime) {
+    let text = b">Ann Lee\n#x\n>Bo:?QQ A1 Q +0 0\n> Al :A1 Q +0 0\n";
+    let no_colon = ReadFault {
+        line: 1,
+        why: Why::NoColon,
+    };
+    assert_eq!(rt; events_in(rt.alloc(), text), Err(no_colon));
+    let record = read(rt.alloc(), &text[9..]).expect(&rt, "a record");
+    assert_player(&rt, record.players.of(Seat::First), b"Bo", b"");
+    assert_player(&rt, record.players.of(Seat::Second), b"Al", b"");
+    assert_racks(&rt, record.events.as_slice());
+}
+
+#[test]
+fn names_of_faults_and_players(rt: HostRuntime) {
     assert_eq!(rt; Why::TooManyEvents.name(), "TooManyEvents");
     assert_eq!(rt; ReadFault::no_memory().line, 0);
-    let name = Name::copied(rt.alloc(), b"Ann")?;
+    let name = Name::copied(rt.alloc(), b"Ann").expect(&rt, "memory");
     assert_eq!(rt; name.as_bytes(), b"Ann".as_slice());
     assert_eq!(rt; Name::empty(rt.alloc()).as_bytes().len(), 0);
-    assert_eq!(rt; Points::new(-999_999).ok_or("least")?.value(), -999_999);
-    assert!(rt; Points::new(1_000_000).is_none());
-    assert_eq!(rt; Points::of_bytes(b"-12").ok_or("number")?.value(), -12);
-    assert!(rt; Text::new(&[]).is_none());
-    let text = Text::new(&[Symbol::Dot, Symbol::Dot]).ok_or("text")?;
-    assert_eq!(rt; text.as_slice().len(), 2);
-    assert!(rt; Text::of_bytes(b"A-B").is_none());
     assert!(rt; Seat::First.other() == Seat::Second);
-    Ok(())
 }
 
 #[test]
-fn own_records(rt: HostRuntime) -> Result<(), Fail> {
-    let mut record = Record::empty(rt.alloc());
-    assert!(rt; record.events.is_empty());
-    record.events.push(Event {
+fn points(rt: HostRuntime) {
+    let least = Points::new(-999_999).expect(&rt, "the least number");
+    assert_eq!(rt; least.value(), -999_999);
+    assert!(rt; Points::new(1_000_000).is_none());
+    let number = Points::of_bytes(b"-12").expect(&rt, "a number");
+    assert_eq!(rt; number.value(), -12);
+}
+
+#[test]
+fn texts(rt: HostRuntime) {
+    assert!(rt; Text::new(&[]).is_none());
+    let text = Text::new(&[Symbol::Dot, Symbol::Dot]).expect(&rt, "a text");
+    assert_eq!(rt; text.as_slice().len(), 2);
+    assert!(rt; Text::of_bytes(b"A-B").is_none());
+}
+
+/// A pass that was made and not read.
+fn own_event(rt: &impl Abort) -> Event {
+    Event {
         line: 7,
         player: Seat::Second,
         rack: Some(Counts::new()),
         kind: EventKind::Pass,
-        score: Points::new(0).ok_or("0")?,
-        total: Points::new(5).ok_or("5")?,
-    })?;
-    assert_eq!(rt; record.events.len(), 1);
-    assert_eq!(rt;
-        Players::unnamed(rt.alloc()).second.nick.as_bytes().len(),
-        0
-    );
-    assert_eq!(rt; Player::unnamed(rt.alloc()).full.as_bytes().len(), 0);
-    assert!(rt; Events::new(rt.alloc()).is_empty());
-    law_of_faults();
-    law_of_lines();
-    Ok(())
-}
-
-fn repeated(rt: &HostRuntime, text: &[u8], times: usize) -> Result<Vec<u8>, AllocError> {
-    let mut bytes = Vec::new(rt.alloc());
-    for _ in 0..times {
-        bytes.extend_from_slice(text)?;
+        score: Points::new(0).expect(rt, "0"),
+        total: Points::new(5).expect(rt, "5"),
     }
-    Ok(bytes)
 }
 
 #[test]
-fn limits(rt: HostRuntime) -> Result<(), Fail> {
-    let mut events = repeated(&rt, b">A: 8E A 0 0\n", MAX_EVENTS)?;
-    let record = read(rt.alloc(), &events).ok().ok_or("1,000 events")?;
-    assert_eq!(rt; record.events.len(), 1_000);
-    events.extend_from_slice(b"\n>")?;
-    let fault = read(rt.alloc(), &events).err();
-    assert_eq!(rt;
-        fault,
-        Some(ReadFault {
-            line: 1_002,
-            why: Why::TooManyEvents
-        })
-    );
-
-    let mut feeds = repeated(&rt, b"\n\n\n\n\n\n\n\n\n\n\n\n\n\n\n\n", MAX_BYTES / 16)?;
-    let record = read(rt.alloc(), &feeds).ok().ok_or("an empty record")?;
+fn own_records(rt: HostRuntime) {
+    let mut record = Record::empty(rt.alloc());
     assert!(rt; record.events.is_empty());
-    feeds.push(b'\n')?;
-    let fault = read(rt.alloc(), &feeds).err();
-    assert_eq!(rt;
-        fault,
-        Some(ReadFault {
-            line: 0,
-            why: Why::TooLong
-        })
-    );
-    Ok(())
+    let event = own_event(&rt);
+    record.events.push(event).expect(&rt, "memory");
+    assert_eq!(rt; record.events.len(), 1);
+    law_of_faults();
+    law_of_lines();
+}
+
+#[test]
+fn unnamed_players(rt: HostRuntime) {
+    assert_player(&rt, &Players::unnamed(rt.alloc()).second, b"", b"");
+    assert_player(&rt, &Player::unnamed(rt.alloc()), b"", b"");
+    assert!(rt; Events::new(rt.alloc()).is_empty());
+}
+
+fn repeated(rt: &impl Abort, alloc: Global, text: &[u8], times: usize) -> Vec<u8> {
+    let mut bytes = Vec::new(alloc);
+    for _ in 0..times {
+        bytes.extend_from_slice(text).expect(rt, "memory");
+    }
+    bytes
+}
+
+#[test]
+fn most_events(rt: HostRuntime) {
+    let mut text = repeated(&rt, rt.alloc(), b">A: 8E A 0 0\n", MAX_EVENTS);
+    assert_eq!(rt; events_in(rt.alloc(), &text), Ok(1_000));
+    text.extend_from_slice(b"\n>").expect(&rt, "memory");
+    let one_more = ReadFault {
+        line: 1_002,
+        why: Why::TooManyEvents,
+    };
+    assert_eq!(rt; events_in(rt.alloc(), &text), Err(one_more));
+}
+
+#[test]
+fn most_bytes(rt: HostRuntime) {
+    let mut text = repeated(&rt, rt.alloc(), &[b'\n'; 16], MAX_BYTES / 16);
+    assert_eq!(rt; events_in(rt.alloc(), &text), Ok(0));
+    text.push(b'\n').expect(&rt, "memory");
+    let one_more = ReadFault {
+        line: 0,
+        why: Why::TooLong,
+    };
+    assert_eq!(rt; events_in(rt.alloc(), &text), Err(one_more));
 }

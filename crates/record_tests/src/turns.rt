@@ -656,37 +656,47 @@ const TAKEN_BACK: Told = Told {
     finished: false,
 };
 
+/// Asserts what a step answers, and what is told of the machine and the first player behind it.
+fn assert_step(
+    rt: &impl Abort,
+    machine: &mut Machine,
+    event: &Event,
+    next: Option<&Event>,
+    list: &WordList,
+    answer: Result<Turn, RuleFault>,
+    told: Told,
+) {
+    assert_eq!(rt; machine.step(event, next, list), answer);
+    assert_eq!(rt; look_at(machine, Seat::First), told);
+}
+
+/// What is answered of a withdrawal that has nothing to withdraw, and of what comes before one.
+const REFUSED: Result<Turn, RuleFault> = Err(RuleFault::NothingToWithdraw);
+
+/// What is answered of an event that is taken: whether it is a turn, the rack before it, and whether it stands.
+fn taken(counted: bool, rack_size: usize, stands: bool) -> Result<Turn, RuleFault> {
+    Ok(Turn {
+        counted,
+        rack_size,
+        stands,
+    })
+}
+
 #[test]
 fn a_play_taken_back(rt: HostRuntime) {
     let list = list_of(&rt, rt.alloc(), b"AT");
     let record = record_of(&rt, rt.alloc(), &[WORD, b">A: -- -16 0", b">A: - +0 16"]);
-    let (play, taken, pass) = (
-        event(&rt, &record, 0),
-        event(&rt, &record, 1),
-        event(&rt, &record, 2),
-    );
+    let play = event(&rt, &record, 0);
+    let back = event(&rt, &record, 1);
+    let pass = event(&rt, &record, 2);
     let mut machine = Machine::new(&english_rules());
     assert_eq!(rt; look_at(&machine, Seat::First), START);
     assert!(rt; machine.board().is_empty());
-    let laid = Turn {
-        counted: false,
-        rack_size: 7,
-        stands: false,
-    };
-    assert_eq!(rt; machine.step(play, Some(taken), &list).ok(), Some(laid));
-    assert_eq!(rt; look_at(&machine, Seat::First), WAITING);
-    assert_eq!(rt;
-        machine.step(pass, None, &list).err(),
-        Some(RuleFault::NothingToWithdraw)
-    );
-    assert_eq!(rt; look_at(&machine, Seat::First), WAITING);
-    let back = Turn {
-        counted: true,
-        rack_size: 3,
-        stands: false,
-    };
-    assert_eq!(rt; machine.step(taken, None, &list).ok(), Some(back));
-    assert_eq!(rt; look_at(&machine, Seat::First), TAKEN_BACK);
+    let waits = taken(false, 7, false);
+    assert_step(&rt, &mut machine, play, Some(back), &list, waits, WAITING);
+    assert_step(&rt, &mut machine, pass, None, &list, REFUSED, WAITING);
+    let counts = taken(true, 3, false);
+    assert_step(&rt, &mut machine, back, None, &list, counts, TAKEN_BACK);
     assert!(rt; machine.board().is_empty());
 }
 
@@ -694,19 +704,11 @@ fn a_play_taken_back(rt: HostRuntime) {
 fn a_play_that_stands(rt: HostRuntime) {
     let list = list_of(&rt, rt.alloc(), b"AT");
     let record = record_of(&rt, rt.alloc(), &[WORD, b">A: -- -16 0"]);
-    let (play, taken) = (event(&rt, &record, 0), event(&rt, &record, 1));
+    let play = event(&rt, &record, 0);
+    let back = event(&rt, &record, 1);
     let mut machine = Machine::new(&english_rules());
-    let stands = Turn {
-        counted: true,
-        rack_size: 7,
-        stands: true,
-    };
-    assert_eq!(rt; machine.step(play, None, &list).ok(), Some(stands));
-    assert_eq!(rt; look_at(&machine, Seat::First), STANDING);
-    assert_eq!(rt;
-        machine.step(taken, None, &list).err(),
-        Some(RuleFault::NothingToWithdraw)
-    );
-    assert_eq!(rt; look_at(&machine, Seat::First), STANDING);
+    let stands = taken(true, 7, true);
+    assert_step(&rt, &mut machine, play, None, &list, stands, STANDING);
+    assert_step(&rt, &mut machine, back, None, &list, REFUSED, STANDING);
     law_of_tallies();
 }

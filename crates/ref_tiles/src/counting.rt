@@ -29,6 +29,7 @@ impl Model for Counts {
 fn are_bytes(numbers: &[u8])
     ensures { (k : ℕ) → k < length numbers.now → slice_index numbers.now k < 256 }
 {
+    // A body that reads the slice knows that its numbers are bytes.
     let _count = numbers.len();
 }
 

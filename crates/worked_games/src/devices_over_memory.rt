@@ -7,7 +7,6 @@ use devices::{
 };
 use std::alloc::Global;
 use std::io::{self, ErrorKind, Read, Write};
-use std::test::Fail;
 
 /// An input that gives at most so many bytes a read, and fails from some read on.
 #[derive(Drop)]
@@ -138,7 +137,7 @@ fn appended(to: Vec<u8>, bytes: &[u8]) -> Result<Vec<u8>, WriteGaveUp>
 }
 
 #[test]
-fn an_input_is_read_to_its_end_or_past_its_limit(rt: HostRuntime) -> Result<(), Fail> {
+fn an_input_is_read_to_its_end_or_past_its_limit(rt: HostRuntime) {
     let text = b"eighteen bytes, so";
     for piece in [1, 7, 100] {
         for (limit, want) in [
@@ -155,12 +154,11 @@ fn an_input_is_read_to_its_end_or_past_its_limit(rt: HostRuntime) -> Result<(), 
                 reads: 100,
                 failures: 0,
             };
-            let bytes = read_within(rt.alloc(), &mut input, limit)?;
+            let bytes = read_within(rt.alloc(), &mut input, limit).expect(&rt, "bytes");
             assert_eq!(rt; bytes.as_slice(), &text[..want], "{limit} by {piece}");
             assert_eq!(rt; input.rest, &text[want..], "{limit} by {piece}");
         }
     }
-    Ok(())
 }
 
 #[test]
@@ -236,15 +234,13 @@ fn an_interruption_is_no_failure(rt: HostRuntime) {
 }
 
 #[test]
-fn memory_is_an_input_and_an_output(rt: HostRuntime) -> Result<(), Fail> {
-    assert_eq!(rt;
-        front_of(rt.alloc(), b"word", 2)?.as_slice(),
-        b"wor".as_slice()
-    );
-    let start = b"a ".to_vec(rt.alloc())?;
-    assert_eq!(rt; appended(start, b"word")?.as_slice(), b"a word".as_slice());
+fn memory_is_an_input_and_an_output(rt: HostRuntime) {
+    let front = front_of(rt.alloc(), b"word", 2).expect(&rt, "bytes");
+    assert_eq!(rt; front.as_slice(), b"wor".as_slice());
+    let start = b"a ".to_vec(rt.alloc()).expect(&rt, "memory");
+    let all = appended(start, b"word").expect(&rt, "written");
+    assert_eq!(rt; all.as_slice(), b"a word".as_slice());
     let mut input = FromRead::new(b"word".as_slice());
     assert_eq!(rt; input.read(&mut [0; 3]), Ok(3));
     assert_eq!(rt; input.into_inner(), b"d".as_slice());
-    Ok(())
 }

@@ -1,12 +1,11 @@
 //! Records that are judged over memory.
 use devices::{FromRead, FromWrite};
-use engine::{RunFault, Verdict, run};
+use engine::{Verdict, run};
 use lex_build::build;
 use lex_list::WordList;
 use ref_tiles::{Counts, Kind, Letter, Rules, english_rules};
 use std::alloc::Global;
 use std::process::Abort;
-use std::test::Fail;
 
 /// A word list, a record, and what is written of them. The lexicon is that of the list.
 pub struct Row {
@@ -20,38 +19,53 @@ pub struct Row {
 
 /// Judges a record by words, their lexicon and rules, and gives the verdict and what was written.
 pub fn judged(
+    rt: &impl Abort,
     alloc: Global,
     rules: &Rules,
     words: &[u8],
     game: &[u8],
-) -> Result<(Verdict, Vec<u8>), RunFault> {
-    let file = lexicon_of(alloc, words)?;
+) -> (Verdict, Vec<u8>) {
+    let file = lexicon_of(rt, alloc, words);
+    judged_by(rt, alloc, rules, words, &file, game)
+}
+
+/// Judges a record by words, the bytes of a lexicon and rules, and gives the verdict and what was written.
+pub fn judged_by(
+    rt: &impl Abort,
+    alloc: Global,
+    rules: &Rules,
+    words: &[u8],
+    lexicon: &[u8],
+    game: &[u8],
+) -> (Verdict, Vec<u8>) {
     let mut words = FromRead::new(words);
-    let mut lexicon = FromRead::new(file.as_slice());
+    let mut lexicon = FromRead::new(lexicon);
     let mut game = FromRead::new(game);
     let mut out = FromWrite::new(Vec::new(alloc));
-    let verdict = run(alloc, &mut words, &mut lexicon, &mut game, &mut out, rules)?;
-    Ok((verdict, out.into_inner()))
+    let verdict = run(alloc, &mut words, &mut lexicon, &mut game, &mut out, rules);
+    (verdict.expect(rt, "a verdict"), out.into_inner())
 }
 
 /// The lexicon that is built for a word list; no bytes where the text is none.
-fn lexicon_of(alloc: Global, words: &[u8]) -> Result<Vec<u8>, RunFault> {
+fn lexicon_of(rt: &impl Abort, alloc: Global, words: &[u8]) -> Vec<u8> {
     match WordList::read(alloc, words) {
-        Ok(list) => match build(alloc, &list) {
-            Ok(bytes) => Ok(bytes),
-            Err(_) => Err(RunFault::NoMemory),
-        },
-        Err(_) => Ok(Vec::new(alloc)),
+        Ok(list) => build(alloc, &list).expect(rt, "a lexicon"),
+        Err(_) => Vec::new(alloc),
     }
 }
 
 /// Asserts what is written of each row's record.
-pub fn report_all(rt: &impl Abort, alloc: Global, rules: &Rules, rows: &[Row]) -> Result<(), Fail> {
+pub fn report_all(rt: &impl Abort, alloc: Global, rules: &Rules, rows: &[Row]) {
     for row in rows {
-        let (_verdict, report) = judged(alloc, rules, row.words.as_bytes(), row.game.as_bytes())?;
+        let (_verdict, report) = judged(
+            rt,
+            alloc,
+            rules,
+            row.words.as_bytes(),
+            row.game.as_bytes(),
+        );
         assert_eq!(rt; report.as_slice(), row.report.as_bytes(), "{}", row.report);
     }
-    Ok(())
 }
 
 /// Rules with the English numbers and premiums, and these tiles alone.

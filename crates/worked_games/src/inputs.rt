@@ -4,7 +4,6 @@ use engine::{GameFault, Verdict};
 use game_turns::RuleFault;
 use ref_play::PlayFault;
 use ref_tiles::english_rules;
-use std::test::Fail;
 
 /// The first line that is no word is told, and no other input is read.
 const BAD_LISTS: [Row; 3] = [
@@ -26,8 +25,8 @@ const BAD_LISTS: [Row; 3] = [
 ];
 
 #[test]
-fn bad_lists(rt: HostRuntime) -> Result<(), Fail> {
-    report_all(&rt, rt.alloc(), &english_rules(), &BAD_LISTS)
+fn bad_lists(rt: HostRuntime) {
+    report_all(&rt, rt.alloc(), &english_rules(), &BAD_LISTS);
 }
 
 /// The first faulty line of a record is told.
@@ -65,21 +64,26 @@ const BAD_RECORDS: [Row; 6] = [
 ];
 
 #[test]
-fn bad_records(rt: HostRuntime) -> Result<(), Fail> {
-    report_all(&rt, rt.alloc(), &english_rules(), &BAD_RECORDS)
+fn bad_records(rt: HostRuntime) {
+    report_all(&rt, rt.alloc(), &english_rules(), &BAD_RECORDS);
 }
 
 #[test]
-fn verdicts(rt: HostRuntime) -> Result<(), Fail> {
+fn verdicts(rt: HostRuntime) {
     let rules = english_rules();
-    let (legal, _report) = judged(rt.alloc(), &rules, b"WORD", b">A: DORWAAE 8E WORD +16 16\n")?;
+    let (legal, _report) = judged(
+        &rt,
+        rt.alloc(),
+        &rules,
+        b"WORD",
+        b">A: DORWAAE 8E WORD +16 16\n",
+    );
     assert_eq!(rt; legal, Verdict::Legal { complete: false });
-    let (illegal, _report) = judged(rt.alloc(), &rules, b"WORD", b">A: 8H A +0 0\n")?;
+    let (illegal, _report) = judged(&rt, rt.alloc(), &rules, b"WORD", b">A: 8H A +0 0\n");
     let fault = GameFault::Rule(RuleFault::Play(PlayFault::TooShort));
     assert_eq!(rt; illegal, Verdict::Illegal { line: 1, fault });
-    let (bad, _report) = judged(rt.alloc(), &rules, b"WORD", b">A\n")?;
+    let (bad, _report) = judged(&rt, rt.alloc(), &rules, b"WORD", b">A\n");
     assert_eq!(rt; bad, Verdict::BadRecord);
-    let (bad, _report) = judged(rt.alloc(), &rules, b"W", b">A\n")?;
+    let (bad, _report) = judged(&rt, rt.alloc(), &rules, b"W", b">A\n");
     assert_eq!(rt; bad, Verdict::BadList);
-    Ok(())
 }

@@ -2,12 +2,12 @@
 ghost use Rattle.devices.specs.Devices.{Device, HasRoom};
 ghost use Rattle.std.specs.Prelude.{None};
 
+use crate::games::judged_by;
 use devices::{DeviceFailed, FromRead, FromWrite, Input};
-use engine::{RunFault, Verdict, run, run_build, run_check};
+use engine::{Verdict, run_build, run_check};
 use ref_tiles::english_rules;
 use std::alloc::Global;
 use std::process::Abort;
-use std::test::Fail;
 
 /// The file of the word AT, whose paths are A+T and TA.
 const AT: [u8; 36] = [
@@ -30,16 +30,17 @@ const EMPTY: [u8; 16] = [
 
 /// Checks a file by words, and gives the verdict and what was written.
 fn checked<L: Input>(
+    rt: &impl Abort,
     alloc: Global,
     words: &[u8],
     lexicon: &mut L,
-) -> Result<(Verdict, Vec<u8>), RunFault>
+) -> (Verdict, Vec<u8>)
     requires { HasRoom (L.device lexicon.old) }
 {
     let mut words = FromRead::new(words);
     let mut out = FromWrite::new(Vec::new(alloc));
-    let verdict = run_check(alloc, &mut words, lexicon, &mut out)?;
-    Ok((verdict, out.into_inner()))
+    let verdict = run_check(alloc, &mut words, lexicon, &mut out);
+    (verdict.expect(rt, "a verdict"), out.into_inner())
 }
 
 /// Asserts a verdict and what was written.
@@ -50,12 +51,13 @@ fn expect(rt: &impl Abort, told: &(Verdict, Vec<u8>), verdict: Verdict, written:
 
 /// Checks the bytes of a file by words, and gives the verdict and what was written.
 fn checked_bytes(
+    rt: &impl Abort,
     alloc: Global,
     words: &[u8],
     lexicon: &[u8],
-) -> Result<(Verdict, Vec<u8>), RunFault> {
+) -> (Verdict, Vec<u8>) {
     let mut lexicon = FromRead::new(lexicon);
-    checked(alloc, words, &mut lexicon)
+    checked(rt, alloc, words, &mut lexicon)
 }
 
 /// A word list, a file, and what is written of their check.
@@ -118,12 +120,11 @@ const CHECKS: [Check; 8] = [
 ];
 
 #[test]
-fn checks(rt: HostRuntime) -> Result<(), Fail> {
+fn checks(rt: HostRuntime) {
     for row in &CHECKS {
-        let told = checked_bytes(rt.alloc(), row.words.as_bytes(), row.lexicon)?;
+        let told = checked_bytes(&rt, rt.alloc(), row.words.as_bytes(), row.lexicon);
         expect(&rt, &told, row.verdict, row.report.as_bytes());
     }
-    Ok(())
 }
 
 /// Bytes that stand in the file of AT from a place on in place of its own, and what is written of the check.
@@ -186,46 +187,40 @@ const CHANGES: [Change; 10] = [
     },
 ];
 
-#[test]
-fn changed_files(rt: HostRuntime) -> Result<(), Fail> {
-    for change in &CHANGES {
-        let mut file = AT;
-        for (place, byte) in change.bytes.iter().enumerate() {
-            assert!(rt; place < 8 && change.at + place < 36);
-            file[change.at + place] = *byte;
-        }
-        let mut lexicon = FromRead::new(file.as_slice());
-        let (verdict, report) = checked(rt.alloc(), b"AT", &mut lexicon)?;
-        assert_eq!(rt; verdict, Verdict::BadFile, "{}", change.report);
-        assert_eq!(rt;
-            report.as_slice(),
-            change.report.as_bytes(),
-            "{}",
-            change.report
-        );
+/// The file of AT with a change.
+fn changed(rt: &impl Abort, change: &Change) -> [u8; 36] {
+    let mut file = AT;
+    for (place, byte) in change.bytes.iter().enumerate() {
+        assert!(rt; place < 8 && change.at < 36 - place);
+        file[change.at + place] = *byte;
     }
-    Ok(())
+    file
 }
 
 #[test]
-fn cut_files(rt: HostRuntime) -> Result<(), Fail> {
+fn changed_files(rt: HostRuntime) {
+    for change in &CHANGES {
+        let told = checked_bytes(&rt, rt.alloc(), b"AT", &changed(&rt, change));
+        expect(&rt, &told, Verdict::BadFile, change.report.as_bytes());
+    }
+}
+
+#[test]
+fn cut_files(rt: HostRuntime) {
     for len in 0..AT.len() {
-        let mut lexicon = FromRead::new(&AT[..len]);
-        let (verdict, report) = checked(rt.alloc(), b"AT", &mut lexicon)?;
+        let told = checked_bytes(&rt, rt.alloc(), b"AT", &AT[..len]);
         let want = if len < 16 {
             "bad lexicon: Short\n"
         } else {
             "bad lexicon: Length\n"
         };
-        assert_eq!(rt; verdict, Verdict::BadFile, "{len}");
-        assert_eq!(rt; report.as_slice(), want.as_bytes(), "{len}");
+        expect(&rt, &told, Verdict::BadFile, want.as_bytes());
     }
-    Ok(())
 }
 
 /// A file of 25 nodes of the arcs A and B. Those of the first accept and have no target; those of each further one do
 /// not accept, and have the node before as target. So very many strings are spelt, and none of them has a mark.
-fn many_walks(alloc: Global) -> Result<Vec<u8>, RunFault> {
+fn many_walks(rt: &impl Abort, alloc: Global) -> Vec<u8> {
     let mut words: [u32; 54] = [0; 54];
     words[0] = u32::from_le_bytes(*b"GAD1");
     words[1] = 50;
@@ -241,21 +236,18 @@ fn many_walks(alloc: Global) -> Result<Vec<u8>, RunFault> {
     }
     let mut bytes = Vec::new(alloc);
     for word in words {
-        if bytes.extend_from_slice(&word.to_le_bytes()).is_err() {
-            return Err(RunFault::NoMemory);
-        }
+        bytes
+            .extend_from_slice(&word.to_le_bytes())
+            .expect(rt, "memory");
     }
-    Ok(bytes)
+    bytes
 }
 
 #[test]
-fn many_strings(rt: HostRuntime) -> Result<(), Fail> {
-    let file = many_walks(rt.alloc())?;
-    let mut lexicon = FromRead::new(file.as_slice());
-    let (verdict, report) = checked(rt.alloc(), b"AT", &mut lexicon)?;
-    assert_eq!(rt; verdict, Verdict::BadFile);
-    assert_eq!(rt; report.as_slice(), b"bad lexicon: Missing A+T\n".as_slice());
-    Ok(())
+fn many_strings(rt: HostRuntime) {
+    let file = many_walks(&rt, rt.alloc());
+    let told = checked_bytes(&rt, rt.alloc(), b"AT", &file);
+    expect(&rt, &told, Verdict::BadFile, b"bad lexicon: Missing A+T\n");
 }
 
 /// An input of zeros without an end. It counts them as it gives them.
@@ -275,13 +267,11 @@ impl Input for Zeros {
 }
 
 #[test]
-fn too_long(rt: HostRuntime) -> Result<(), Fail> {
+fn too_long(rt: HostRuntime) {
     let mut zeros = Zeros { given: 0 };
-    let (verdict, report) = checked(rt.alloc(), b"AT", &mut zeros)?;
-    assert_eq!(rt; verdict, Verdict::BadFile);
-    assert_eq!(rt; report.as_slice(), b"bad lexicon: Length\n".as_slice());
+    let told = checked(&rt, rt.alloc(), b"AT", &mut zeros);
+    expect(&rt, &told, Verdict::BadFile, b"bad lexicon: Length\n");
     assert_eq!(rt; zeros.given, 134_217_741);
-    Ok(())
 }
 
 /// A word list, a lexicon and a record, and what is written of them.
@@ -299,7 +289,7 @@ const GAMES: [Game; 6] = [
         lexicon: &AT,
         game: ">A: AEI -5 +0 0\n",
         verdict: Verdict::Legal { complete: false },
-        report: "legal unfinished\n1 A -5 +0 0\n",
+        report: "legal unfinished\n1 A -5 +0 0 best -\n",
     },
     Game {
         words: "AT",
@@ -338,34 +328,20 @@ const GAMES: [Game; 6] = [
     },
 ];
 
-/// Judges a record by words and the bytes of a lexicon, and gives the verdict and what was written.
-fn judged_bytes(
-    alloc: Global,
-    words: &[u8],
-    lexicon: &[u8],
-    game: &[u8],
-) -> Result<(Verdict, Vec<u8>), RunFault> {
-    let rules = english_rules();
-    let mut words = FromRead::new(words);
-    let mut lexicon = FromRead::new(lexicon);
-    let mut game = FromRead::new(game);
-    let mut out = FromWrite::new(Vec::new(alloc));
-    let verdict = run(alloc, &mut words, &mut lexicon, &mut game, &mut out, &rules)?;
-    Ok((verdict, out.into_inner()))
-}
-
 #[test]
-fn games(rt: HostRuntime) -> Result<(), Fail> {
+fn games(rt: HostRuntime) {
+    let rules = english_rules();
     for row in &GAMES {
-        let told = judged_bytes(
+        let told = judged_by(
+            &rt,
             rt.alloc(),
+            &rules,
             row.words.as_bytes(),
             row.lexicon,
             row.game.as_bytes(),
-        )?;
+        );
         expect(&rt, &told, row.verdict, row.report.as_bytes());
     }
-    Ok(())
 }
 
 /// A word list, and what is built of it.
@@ -399,18 +375,17 @@ const BUILDS: [Build; 4] = [
 ];
 
 /// Builds the lexicon of words, and gives the verdict and what was written.
-fn built(alloc: Global, words: &[u8]) -> Result<(Verdict, Vec<u8>), RunFault> {
+fn built(rt: &impl Abort, alloc: Global, words: &[u8]) -> (Verdict, Vec<u8>) {
     let mut words = FromRead::new(words);
     let mut out = FromWrite::new(Vec::new(alloc));
-    let verdict = run_build(alloc, &mut words, &mut out)?;
-    Ok((verdict, out.into_inner()))
+    let verdict = run_build(alloc, &mut words, &mut out);
+    (verdict.expect(rt, "a verdict"), out.into_inner())
 }
 
 #[test]
-fn builds(rt: HostRuntime) -> Result<(), Fail> {
+fn builds(rt: HostRuntime) {
     for row in &BUILDS {
-        let told = built(rt.alloc(), row.words.as_bytes())?;
+        let told = built(&rt, rt.alloc(), row.words.as_bytes());
         expect(&rt, &told, row.verdict, row.bytes);
     }
-    Ok(())
 }

@@ -6,6 +6,8 @@
 #![tactic(auto)]
 
 #[cfg(test)]
+mod best_plays;
+#[cfg(test)]
 mod deals;
 #[cfg(test)]
 mod devices_over_memory;

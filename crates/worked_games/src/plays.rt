@@ -1,7 +1,6 @@
 //! Plays: where they may lie, what they score, and which of their words are not in the list.
 use crate::games::{Row, report_all};
 use ref_tiles::english_rules;
-use std::test::Fail;
 
 /// Where a play may lie: on the board, on empty squares, whole, through the centre first, and beside a tile then.
 pub const PLACES: [Row; 9] = [
@@ -53,8 +52,8 @@ pub const PLACES: [Row; 9] = [
 ];
 
 #[test]
-fn places(rt: HostRuntime) -> Result<(), Fail> {
-    report_all(&rt, rt.alloc(), &english_rules(), &PLACES)
+fn places(rt: HostRuntime) {
+    report_all(&rt, rt.alloc(), &english_rules(), &PLACES);
 }
 
 /// What a play scores: letters, premiums under new tiles, blanks, words across, seven tiles.
@@ -62,7 +61,7 @@ pub const SCORES: [Row; 10] = [
     Row {
         words: "WORD",
         game: ">A: DORWAAE 8E WORD +16 16\n",
-        report: "legal unfinished\n1 A 8E WORD +16 16\n",
+        report: "legal unfinished\n1 A 8E WORD +16 16 best 8E WORD 16\n",
     },
     Row {
         words: "WORD",
@@ -72,7 +71,7 @@ pub const SCORES: [Row; 10] = [
     Row {
         words: "WORD",
         game: ">A: DOW? 8E WOrD +14 14\n",
-        report: "legal unfinished\n1 A 8E WOrD +14 14\n",
+        report: "legal unfinished\n1 A 8E WOrD +14 14 best -\n",
     },
     Row {
         words: "WORD",
@@ -82,7 +81,7 @@ pub const SCORES: [Row; 10] = [
     Row {
         words: "RETAINS",
         game: ">A: AEINRST 8B RETAINS +66 66\n",
-        report: "legal unfinished\n1 A 8B RETAINS +66 66\n",
+        report: "legal unfinished\n1 A 8B RETAINS +66 66 best 8B RETAINS 66\n",
     },
     Row {
         words: "",
@@ -92,17 +91,17 @@ pub const SCORES: [Row; 10] = [
     Row {
         words: "WORD\nAT\nRA\nEAT\nOE",
         game: ">A: DORWAAE 8E WORD +16 16\n>B: AT 9G AT +9 9\n>A: E 9F E.. +5 21\n",
-        report: "legal unfinished\n1 A 8E WORD +16 16\n2 B 9G AT +9 9 unlisted DT\n3 A 9F E.. +5 21\n",
+        report: "legal unfinished\n1 A 8E WORD +16 16 best 8E WORD 16\n2 B 9G AT +9 9 best - unlisted DT\n3 A 9F E.. +5 21 best -\n",
     },
     Row {
         words: "WORD\nAT\nRA\nEAT\nOE",
         game: ">A: DORWAAE 8E WORD +16 16\n>B: AT 9G AT +9 9\n>A: E F8 .E +5 21\n",
-        report: "legal unfinished\n1 A 8E WORD +16 16\n2 B 9G AT +9 9 unlisted DT\n3 A F8 .E +5 21\n",
+        report: "legal unfinished\n1 A 8E WORD +16 16 best 8E WORD 16\n2 B 9G AT +9 9 best - unlisted DT\n3 A F8 .E +5 21 best -\n",
     },
     Row {
         words: "WORD\nAT\nRA\nEAT\nOE",
         game: ">A: DORWAAE 8E WORD +16 16\n>B: AT 9G AT +9 9\n>A: 9F E(AT) +5 21\n",
-        report: "legal unfinished\n1 A 8E WORD +16 16\n2 B 9G AT +9 9 unlisted DT\n3 A 9F EAT +5 21\n",
+        report: "legal unfinished\n1 A 8E WORD +16 16 best 8E WORD 16\n2 B 9G AT +9 9 best - unlisted DT\n3 A 9F EAT +5 21 best -\n",
     },
     Row {
         words: "WORD",
@@ -112,8 +111,8 @@ pub const SCORES: [Row; 10] = [
 ];
 
 #[test]
-fn scores(rt: HostRuntime) -> Result<(), Fail> {
-    report_all(&rt, rt.alloc(), &english_rules(), &SCORES)
+fn scores(rt: HostRuntime) {
+    report_all(&rt, rt.alloc(), &english_rules(), &SCORES);
 }
 
 /// The running total is the sum of the scores of the player.
@@ -131,8 +130,8 @@ pub const TOTALS: [Row; 2] = [
 ];
 
 #[test]
-fn totals(rt: HostRuntime) -> Result<(), Fail> {
-    report_all(&rt, rt.alloc(), &english_rules(), &TOTALS)
+fn totals(rt: HostRuntime) {
+    report_all(&rt, rt.alloc(), &english_rules(), &TOTALS);
 }
 
 /// Words that are not in the list stand where nobody challenges them, and are told.
@@ -140,31 +139,31 @@ pub const UNLISTED: [Row; 5] = [
     Row {
         words: "",
         game: ">A: DORWAAE 8E WORD +16 16\n",
-        report: "legal unfinished\n1 A 8E WORD +16 16 unlisted WORD\n",
+        report: "legal unfinished\n1 A 8E WORD +16 16 best none unlisted WORD\n",
     },
     Row {
         words: "WORD\nAT\nRA\n",
         game: ">A: DORWAAE 8E WORD +16 16\n>B: AT 9G AT +9 9\n",
-        report: "legal unfinished\n1 A 8E WORD +16 16\n2 B 9G AT +9 9 unlisted DT\n",
+        report: "legal unfinished\n1 A 8E WORD +16 16 best 8E WORD 16\n2 B 9G AT +9 9 best - unlisted DT\n",
     },
     Row {
         words: "WORD\nAT\nRA\nDT\n",
         game: ">A: DORWAAE 8E WORD +16 16\n>B: AT 9G AT +9 9\n",
-        report: "legal unfinished\n1 A 8E WORD +16 16\n2 B 9G AT +9 9\n",
+        report: "legal unfinished\n1 A 8E WORD +16 16 best 8E WORD 16\n2 B 9G AT +9 9 best -\n",
     },
     Row {
         words: "WORD",
         game: ">A: DORWAAE 8E WORD +16 16\n>B: A? 9G At +7 7\n",
-        report: "legal unfinished\n1 A 8E WORD +16 16\n2 B 9G At +7 7 unlisted AT RA DT\n",
+        report: "legal unfinished\n1 A 8E WORD +16 16 best 8E WORD 16\n2 B 9G At +7 7 best - unlisted AT RA DT\n",
     },
     Row {
         words: "WORD",
         game: ">A: DORWAAE 8E WORD +16 16\n>B: 8E WORDS +9 9\n",
-        report: "legal unfinished\n1 A 8E WORD +16 16\n2 B 8E WORDS +9 9 unlisted WORDS\n",
+        report: "legal unfinished\n1 A 8E WORD +16 16 best 8E WORD 16\n2 B 8E WORDS +9 9 best - unlisted WORDS\n",
     },
 ];
 
 #[test]
-fn unlisted_words(rt: HostRuntime) -> Result<(), Fail> {
-    report_all(&rt, rt.alloc(), &english_rules(), &UNLISTED)
+fn unlisted_words(rt: HostRuntime) {
+    report_all(&rt, rt.alloc(), &english_rules(), &UNLISTED);
 }

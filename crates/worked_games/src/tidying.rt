@@ -1,19 +1,19 @@
 //! Records that are tidied.
 use devices::{FromRead, FromWrite};
-use engine::{RunFault, Verdict, run_tidy};
+use engine::{Verdict, run_tidy};
 use std::alloc::Global;
-use std::test::Fail;
+use std::process::Abort;
 
 /// Tidies a record, and gives the verdict and what was written.
-fn tidied(alloc: Global, game: &[u8]) -> Result<(Verdict, Vec<u8>), RunFault> {
+fn tidied(rt: &impl Abort, alloc: Global, game: &[u8]) -> (Verdict, Vec<u8>) {
     let mut game = FromRead::new(game);
     let mut out = FromWrite::new(Vec::new(alloc));
-    let verdict = run_tidy(alloc, &mut game, &mut out)?;
-    Ok((verdict, out.into_inner()))
+    let verdict = run_tidy(alloc, &mut game, &mut out);
+    (verdict.expect(rt, "a verdict"), out.into_inner())
 }
 
 #[test]
-fn normal_forms(rt: HostRuntime) -> Result<(), Fail> {
+fn normal_forms(rt: HostRuntime) {
     let rows: [(&str, &str); 4] = [
         (
             "\u{feff}#player1 A  Ann Lee\r\n#note x\n>A:\tDORWAAE  8e WORD 16 16\r\n",
@@ -30,15 +30,14 @@ fn normal_forms(rt: HostRuntime) -> Result<(), Fail> {
         ),
     ];
     for (game, want) in rows {
-        let (verdict, text) = tidied(rt.alloc(), game.as_bytes())?;
+        let (verdict, text) = tidied(&rt, rt.alloc(), game.as_bytes());
         assert_eq!(rt; verdict, Verdict::Done);
         assert_eq!(rt; text.as_slice(), want.as_bytes(), "{want}");
     }
-    Ok(())
 }
 
 #[test]
-fn untidy_records(rt: HostRuntime) -> Result<(), Fail> {
+fn untidy_records(rt: HostRuntime) {
     let rows: [(&str, &str); 3] = [
         (
             "#player1 A\n#player2 A\n",
@@ -48,9 +47,8 @@ fn untidy_records(rt: HostRuntime) -> Result<(), Fail> {
         (">A: - +1234567 0\n", "bad record line 1: Number\n"),
     ];
     for (game, want) in rows {
-        let (verdict, text) = tidied(rt.alloc(), game.as_bytes())?;
+        let (verdict, text) = tidied(&rt, rt.alloc(), game.as_bytes());
         assert_eq!(rt; verdict, Verdict::BadRecord);
         assert_eq!(rt; text.as_slice(), want.as_bytes(), "{want}");
     }
-    Ok(())
 }

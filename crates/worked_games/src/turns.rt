@@ -1,7 +1,6 @@
 //! Turns: whose it is, exchanges, withdrawals, challenges, and how a game ends.
 use crate::games::{Row, report_all, rules_with};
 use ref_tiles::english_rules;
-use std::test::Fail;
 
 /// The tiles of the rules with 14 tiles.
 pub const SHORT: &[u8] = b"AADEEINORRSTTW";
@@ -19,7 +18,7 @@ pub const MOVERS: [Row; 4] = [
     Row {
         words: "RETAINS",
         game: ">A: AEINRST - +0 0\n",
-        report: "legal unfinished\n1 A - +0 0\n",
+        report: "legal unfinished\n1 A - +0 0 best 8B RETAINS 66\n",
     },
     Row {
         words: "WORD",
@@ -34,8 +33,8 @@ pub const MOVERS: [Row; 4] = [
 ];
 
 #[test]
-fn movers(rt: HostRuntime) -> Result<(), Fail> {
-    report_all(&rt, rt.alloc(), &english_rules(), &MOVERS)
+fn movers(rt: HostRuntime) {
+    report_all(&rt, rt.alloc(), &english_rules(), &MOVERS);
 }
 
 /// A play with a word that is not in the list may be withdrawn by the line directly behind it.
@@ -48,7 +47,7 @@ pub const WITHDRAWALS: [Row; 5] = [
     Row {
         words: "WORD\nAT\nRA\n",
         game: ">A: DORWAAE 8E WORD +16 16\n>B: AT 9G AT +9 9\n>B: AT -- -9 0\n>A: AT 9G AT +9 25\n",
-        report: "legal unfinished\n1 A 8E WORD +16 16\n2 B 9G AT +9 9\n3 B -- -9 0\n4 A 9G AT +9 25 unlisted DT\n",
+        report: "legal unfinished\n1 A 8E WORD +16 16 best 8E WORD 16\n2 B 9G AT +9 9 best -\n3 B -- -9 0\n4 A 9G AT +9 25 best - unlisted DT\n",
     },
     Row {
         words: "WORD\nAT\nRA\nDT\n",
@@ -58,7 +57,7 @@ pub const WITHDRAWALS: [Row; 5] = [
     Row {
         words: "WORD\nAT\nRA\n",
         game: ">A: DORWAAE 8E WORD +16 16\n>B: AT 9G AT +9 9\n>B: ZZZZZZZ -- -9 0\n",
-        report: "legal unfinished\n1 A 8E WORD +16 16\n2 B 9G AT +9 9\n3 B -- -9 0\n",
+        report: "legal unfinished\n1 A 8E WORD +16 16 best 8E WORD 16\n2 B 9G AT +9 9 best -\n3 B -- -9 0\n",
     },
     Row {
         words: "WORD\nAT\nRA\n",
@@ -68,8 +67,8 @@ pub const WITHDRAWALS: [Row; 5] = [
 ];
 
 #[test]
-fn withdrawals(rt: HostRuntime) -> Result<(), Fail> {
-    report_all(&rt, rt.alloc(), &english_rules(), &WITHDRAWALS)
+fn withdrawals(rt: HostRuntime) {
+    report_all(&rt, rt.alloc(), &english_rules(), &WITHDRAWALS);
 }
 
 /// A bonus for a challenge that failed: five points for each of the words that are in the list and were named.
@@ -82,12 +81,12 @@ pub const CHALLENGES: [Row; 8] = [
     Row {
         words: "WORD\nAT\nRA\n",
         game: ">A: DORWAAE 8E WORD +16 16\n>B: AT 9G AT +9 9\n>B: AT (challenge) +5 14\n",
-        report: "legal unfinished\n1 A 8E WORD +16 16\n2 B 9G AT +9 9 unlisted DT\n3 B (challenge) +5 14\n",
+        report: "legal unfinished\n1 A 8E WORD +16 16 best 8E WORD 16\n2 B 9G AT +9 9 best - unlisted DT\n3 B (challenge) +5 14\n",
     },
     Row {
         words: "WORD\nAT\nRA\n",
         game: ">A: DORWAAE 8E WORD +16 16\n>B: AT 9G AT +9 9\n>B: AT (challenge) +10 19\n",
-        report: "legal unfinished\n1 A 8E WORD +16 16\n2 B 9G AT +9 9 unlisted DT\n3 B (challenge) +10 19\n",
+        report: "legal unfinished\n1 A 8E WORD +16 16 best 8E WORD 16\n2 B 9G AT +9 9 best - unlisted DT\n3 B (challenge) +10 19\n",
     },
     Row {
         words: "WORD\nAT\nRA\n",
@@ -97,7 +96,7 @@ pub const CHALLENGES: [Row; 8] = [
     Row {
         words: "WORD\nAT\nRA\nDT\n",
         game: ">A: DORWAAE 8E WORD +16 16\n>B: AT 9G AT +9 9\n>B: AT (challenge) +15 24\n",
-        report: "legal unfinished\n1 A 8E WORD +16 16\n2 B 9G AT +9 9\n3 B (challenge) +15 24\n",
+        report: "legal unfinished\n1 A 8E WORD +16 16 best 8E WORD 16\n2 B 9G AT +9 9 best -\n3 B (challenge) +15 24\n",
     },
     Row {
         words: "WORD\nAT\nRA\nDT\n",
@@ -117,20 +116,20 @@ pub const CHALLENGES: [Row; 8] = [
 ];
 
 #[test]
-fn challenges(rt: HostRuntime) -> Result<(), Fail> {
-    report_all(&rt, rt.alloc(), &english_rules(), &CHALLENGES)
+fn challenges(rt: HostRuntime) {
+    report_all(&rt, rt.alloc(), &english_rules(), &CHALLENGES);
 }
 
 /// An exchange by the English rules.
 const EXCHANGES: [Row; 1] = [Row {
     words: "AT",
     game: ">A: AEI -5 +0 0\n>B: QU - +0 0\n>A: SX - +0 0\n",
-    report: "legal unfinished\n1 A -5 +0 0\n2 B - +0 0\n3 A - +0 0\n",
+    report: "legal unfinished\n1 A -5 +0 0 best -\n2 B - +0 0 best -\n3 A - +0 0 best -\n",
 }];
 
 #[test]
-fn exchanges(rt: HostRuntime) -> Result<(), Fail> {
-    report_all(&rt, rt.alloc(), &english_rules(), &EXCHANGES)
+fn exchanges(rt: HostRuntime) {
+    report_all(&rt, rt.alloc(), &english_rules(), &EXCHANGES);
 }
 
 /// An exchange needs seven tiles in the bag, and a play no more tiles than the rack has.
@@ -148,8 +147,8 @@ const LEAST_BAGS: [Row; 2] = [
 ];
 
 #[test]
-fn least_bags(rt: HostRuntime) -> Result<(), Fail> {
-    report_all(&rt, rt.alloc(), &rules_with(&rt, SHORT, 7), &LEAST_BAGS)
+fn least_bags(rt: HostRuntime) {
+    report_all(&rt, rt.alloc(), &rules_with(&rt, SHORT, 7), &LEAST_BAGS);
 }
 
 /// An exchange of no more tiles than the bag has, where one tile in it is enough.
@@ -162,13 +161,13 @@ const SMALL_BAGS: [Row; 2] = [
     Row {
         words: "RETAINS",
         game: ">A: AEINRST -AEI +0 0\n",
-        report: "legal unfinished\n1 A -AEI +0 0\n",
+        report: "legal unfinished\n1 A -AEI +0 0 best 8B RETAINS 66\n",
     },
 ];
 
 #[test]
-fn small_bags(rt: HostRuntime) -> Result<(), Fail> {
-    report_all(&rt, rt.alloc(), &rules_with(&rt, SPARE, 1), &SMALL_BAGS)
+fn small_bags(rt: HostRuntime) {
+    report_all(&rt, rt.alloc(), &rules_with(&rt, SPARE, 1), &SMALL_BAGS);
 }
 
 /// After six turns in a row without a standing play each player may lose the points of the own rack.
@@ -176,7 +175,7 @@ pub const STALE_GAMES: [Row; 4] = [
     Row {
         words: "RETAINS",
         game: ">A: - +0 0\n>B: - +0 0\n>A: - +0 0\n>B: - +0 0\n>A: - +0 0\n>B: - +0 0\n>A: AEINRST (AEINRST) -7 -7\n>B: AEINRST (AEINRST) -7 -7\n",
-        report: "legal complete\n1 A - +0 0\n2 B - +0 0\n3 A - +0 0\n4 B - +0 0\n5 A - +0 0\n6 B - +0 0\n7 A (AEINRST) -7 -7\n8 B (AEINRST) -7 -7\n",
+        report: "legal complete\n1 A - +0 0 best -\n2 B - +0 0 best -\n3 A - +0 0 best -\n4 B - +0 0 best -\n5 A - +0 0 best -\n6 B - +0 0 best -\n7 A (AEINRST) -7 -7\n8 B (AEINRST) -7 -7\n",
     },
     Row {
         words: "RETAINS",
@@ -196,8 +195,8 @@ pub const STALE_GAMES: [Row; 4] = [
 ];
 
 #[test]
-fn stale_games(rt: HostRuntime) -> Result<(), Fail> {
-    report_all(&rt, rt.alloc(), &english_rules(), &STALE_GAMES)
+fn stale_games(rt: HostRuntime) {
+    report_all(&rt, rt.alloc(), &english_rules(), &STALE_GAMES);
 }
 
 /// A player who is out gains twice the points of the other rack, after one idle pass at most.
@@ -205,7 +204,7 @@ const OUT: [Row; 4] = [
     Row {
         words: "RETAINS",
         game: ">A: AEINRST 8D RETAINS +66 66\n>A: (ADEORTW) +22 88\n",
-        report: "legal complete\n1 A 8D RETAINS +66 66\n2 A (ADEORTW) +22 88\n",
+        report: "legal complete\n1 A 8D RETAINS +66 66 best 8B RETAINS 66\n2 A (ADEORTW) +22 88\n",
     },
     Row {
         words: "RETAINS",
@@ -225,8 +224,8 @@ const OUT: [Row; 4] = [
 ];
 
 #[test]
-fn players_out(rt: HostRuntime) -> Result<(), Fail> {
-    report_all(&rt, rt.alloc(), &rules_with(&rt, SHORT, 7), &OUT)
+fn players_out(rt: HostRuntime) {
+    report_all(&rt, rt.alloc(), &rules_with(&rt, SHORT, 7), &OUT);
 }
 
 /// A time penalty is a multiple of five points, once for each player.
@@ -234,7 +233,7 @@ const TIME: [Row; 3] = [
     Row {
         words: "RETAINS",
         game: ">A: AEINRST 8D RETAINS +66 66\n>B: ADEORTW - +0 0\n>A: (ADEORTW) +22 88\n>A: (time) -5 83\n",
-        report: "legal complete\n1 A 8D RETAINS +66 66\n2 B - +0 0\n3 A (ADEORTW) +22 88\n4 A (time) -5 83\n",
+        report: "legal complete\n1 A 8D RETAINS +66 66 best 8B RETAINS 66\n2 B - +0 0\n3 A (ADEORTW) +22 88\n4 A (time) -5 83\n",
     },
     Row {
         words: "RETAINS",
@@ -249,6 +248,6 @@ const TIME: [Row; 3] = [
 ];
 
 #[test]
-fn time_penalties(rt: HostRuntime) -> Result<(), Fail> {
-    report_all(&rt, rt.alloc(), &rules_with(&rt, SHORT, 7), &TIME)
+fn time_penalties(rt: HostRuntime) {
+    report_all(&rt, rt.alloc(), &rules_with(&rt, SHORT, 7), &TIME);
 }

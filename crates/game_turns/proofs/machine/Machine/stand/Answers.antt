@@ -1,5 +1,6 @@
-use Rattle.std.proofs.Common.{◌≤◌, ◌+◌, ◌-◌, ap, arith}
+use Rattle.std.proofs.Common.{rules, ◌≤◌, ◌+◌, ◌-◌, ap, arith}
 use Rattle.game_turns.specs.Seats.{side_of}
+use Rattle.game_turns.specs.Changes.{after_standing}
 use Rattle.game_turns.proofs.RackLaws.{fit_scored, scored_rack, fit_standing, holds_played}
 use Rattle.game_turns.proofs.machine.Machine.stand.Goals as goal
 
@@ -18,3 +19,7 @@ invariant_of-self c =
       racks = fit_standing sides c.set_rack.new.self event.player rack laid scored less c.requires.stands c.set_rack.ensures;
       tiles = holds_played c.apply.new.board laid c.apply.ensures.there;
     }
+
+pub returns-clause-state : goal.returns-clause-state
+unfolding after_standing
+returns-clause-state c = search rules

@@ -1,4 +1,5 @@
-use Rattle.std.proofs.Common.{◌≤◌, ◌+◌, ap, sym, subst, arith}
+use Rattle.std.proofs.Common.{rules, ◌≤◌, ◌+◌, ap, sym, subst, arith}
+use Rattle.game_turns.specs.Changes.{after_withdraw}
 use Rattle.game_turns.specs.LatestEvents.{FitRacks, IsAwaited}
 use Rattle.game_turns.proofs.RackLaws.{fit_scored, room_for, fit_taken, holds_taken}
 use Rattle.game_turns.proofs.machine.Machine.take_back.Goals as goal
@@ -19,3 +20,7 @@ invariant_of-self-2 c =
       racks = fit_taken c.set_total.new.self c.set_rack.new.self event.player rack laid.play scored few c.set_rack.ensures;
       tiles = holds_taken _ laid.play;
     }
+
+pub returns-clause-state : goal.returns-clause-state
+unfolding after_withdraw
+returns-clause-state c = search rules

@@ -1,0 +1,5 @@
+use Rattle.std.proofs.Common.{rules}
+use Rattle.deal_steps.proofs.fitting.used_by.Goals as goal
+
+pub returns-in-Tries : goal.returns-in-Tries
+returns-in-Tries c = search rules
