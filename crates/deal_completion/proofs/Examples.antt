@@ -3,13 +3,13 @@
 use Rattle.std.proofs.Common.{◌≡◌, ℕ, true, false, List, [], ◌∷◌, replicate, Some, None, refl, lit<}
 use Rattle.std.specs.Prelude.{codes}
 use Rattle.std.specs.List.{filter_map}
-use Rattle.ref_tiles.specs.Counting.{no_tiles}
-use Rattle.ref_tiles.specs.English.{english_counts, english_points, english_premiums}
+use Rattle.ref_tiles.specs.Counting.{no_tiles, counted as counts_of}
+use Rattle.ref_tiles.specs.English.{english}
 use Rattle.ref_tiles.specs.Letters.{letter_at}
 use Rattle.ref_tiles.specs.Limits.{most_tiles}
 use Rattle.ref_tiles.specs.declared.rulebook.Rules.{Rules}
 use Rattle.ref_tiles.specs.declared.kinds.Kind.TheVariants as kind
-use Rattle.gcg_read.specs.Racks.{tally as counts_of, kind_of}
+use Rattle.gcg_read.specs.Racks.{kind_of}
 use Rattle.gcg_read.specs.declared.events.Seat.{Seat}
 use Rattle.gcg_read.specs.declared.events.Seat.TheVariants.{First, Second}
 use Rattle.deal_steps.specs.declared.faults.DealFault.TheVariants as fault
@@ -24,27 +24,6 @@ use Rattle.deal_steps.specs.Runs.{IsRun}
 use Rattle.deal_completion.specs.Completion.{lacking, with_one, pick, draw, exchange, chosen, start, dealt}
 use Rattle.deal_completion.proofs.DealStates.{IsDealtFitting}
 use Rattle.deal_completion.proofs.PlainDeals.{plain_games_are_dealt}
-
--- the English game
-english : Rules
-unfolding most_tiles
-english = record {
-  counts = english_counts;
-  points = english_points;
-  premiums = english_premiums;
-  bonus = 50;
-  exchange_min = 7;
-  zero_limit = 6;
-  challenge_unit = 5;
-  time_step = 5;
-  tiles_in_limits = refl;
-  points_in_limits = refl;
-  bonus_in_limits = refl;
-  exchange_in_limits = refl;
-  zero_in_limits = refl;
-  challenge_in_limits = refl;
-  time_in_limits = refl;
-}
 
 -- a tile set of 14: two each of A, E, R and T, one each of D, I, N, O, S and W
 short : Rules

@@ -3,7 +3,7 @@ use Rattle.std.proofs.Common.{◌≡◌, ℕ, ◌==◌, true, List, [], ◌∷�
 use Rattle.std.specs.Prelude.{codes}
 use Rattle.std.specs.List.{count_by, range_with_len}
 use Rattle.ref_tiles.specs.declared.rulebook.Rules.{Rules}
-use Rattle.ref_tiles.specs.English.{english_counts, english_points, english_premiums}
+use Rattle.ref_tiles.specs.English.{english, english_premiums}
 use Rattle.ref_tiles.specs.Letters.{letter_at}
 use Rattle.ref_tiles.specs.Limits.{most_tiles}
 use Rattle.ref_tiles.specs.Counting.{no_tiles}
@@ -16,27 +16,6 @@ use Rattle.deal_steps.specs.declared.steps.Step.{Step}
 use Rattle.deal_steps.specs.declared.faults.DealFault.TheVariants as fault
 use Rattle.deal_steps.specs.Piles.{kinds, joined, without, greater}
 use Rattle.deal_steps.specs.Bounds.{gone, low, held, kind_at, bound_at, first_bound}
-
--- the English game
-english : Rules
-unfolding most_tiles
-english = record {
-  counts = english_counts;
-  points = english_points;
-  premiums = english_premiums;
-  bonus = 50;
-  exchange_min = 7;
-  zero_limit = 6;
-  challenge_unit = 5;
-  time_step = 5;
-  tiles_in_limits = refl;
-  points_in_limits = refl;
-  bonus_in_limits = refl;
-  exchange_in_limits = refl;
-  zero_in_limits = refl;
-  challenge_in_limits = refl;
-  time_in_limits = refl;
-}
 
 -- a tile set of 14: two each of A, E, R and T, one each of D, I, N, O, S and W
 short : Rules

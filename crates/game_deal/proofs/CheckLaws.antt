@@ -1,29 +1,22 @@
 -- What the checks of an event that the rules allow leave.
-use Rattle.std.proofs.Common.{◌≡◌, ℕ, ◌*◌, ◌≤◌, ◌==◌, Bool, true, false, not, ◌||◌, nat_lt, List, [], ◌∷◌, length, Option, Some, None, refl, sum}
+use Rattle.std.proofs.Common.{◌≡◌, ℕ, ◌*◌, ◌≤◌, ◌==◌, Bool, true, false, not, ◌||◌, nat_lt, List, [], ◌∷◌, length, Option, Some, None, sum}
 use Rattle.std.specs.Prelude.{option_map, pos, neg_ℤ}
 use Rattle.std.proofs.lemmas.Bool.{ltb-false, eqb-true, or_parts, not-false}
+use Rattle.check_lists.specs.Checks.{fails}
+use Rattle.check_lists.proofs.CheckLaws.{some_fault, none_first, test_fails}
 use Rattle.ref_tiles.specs.declared.symbols.Symbol.{Symbol}
 use Rattle.ref_tiles.specs.declared.rulebook.Rules.{Rules}
 use Rattle.ref_board.specs.declared.directions.Dir.{Dir}
-use Rattle.ref_play.specs.declared.faults.PlayFault.{PlayFault}
 use Rattle.ref_play.specs.Texts.{placement_of}
 use Rattle.gcg_read.specs.Players.{other_seat}
 use Rattle.gcg_read.specs.declared.events.Seat.{Seat}
 use Rattle.gcg_read.specs.declared.events.Event.{Event}
-use Rattle.game_turns.specs.declared.faults.RuleFault.{RuleFault}
 use Rattle.game_turns.specs.declared.faults.RuleFault.TheVariants as fault
 use Rattle.game_turns.specs.Seats.{same_seat, side_of}
 use Rattle.game_turns.specs.Tallies.{State}
-use Rattle.game_turns.specs.Checks.{fails, is_over, points_in, text_score, check_score, check_total, check_turn, play_fault, check_play, check_exchange, check_other_rack, check_own_rack, check_due_rack, is_stale, check_last_rack}
-use Rattle.game_turns.proofs.Allowed.{none_first, test_fails}
+use Rattle.game_turns.specs.Checks.{is_over, points_in, text_score, check_score, check_total, check_turn, play_fault, check_play, check_exchange, check_other_rack, check_own_rack, check_due_rack, is_stale, check_last_rack}
+use Rattle.game_turns.proofs.Allowed.{no_play_fault}
 use Rattle.game_deal.specs.Recorded.{last_holder}
-
-some_fault : (why : RuleFault) → Some why ≡ None → ⊥
-some_fault why e = cc
-
-no_play_fault : (o : Option PlayFault) → option_map fault.Play o ≡ None → o ≡ None
-no_play_fault None e = refl
-no_play_fault (Some why) e = absurd (some_fault (fault.Play why) e)
 
 -- a play has no fault, and its tiles are on the rack
 pub play_parts : (rules : Rules) (s : State) (e : Event) (dir : Dir) (at : ℕ) (word : List Symbol) → check_play rules s e dir at word ≡ None

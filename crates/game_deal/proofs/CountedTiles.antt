@@ -6,12 +6,12 @@ use Rattle.std.proofs.lemmas.List.Sums.{sum_by-cons, sum_by-append, count_by-le-
 use Rattle.ref_tiles.specs.declared.tiles.Tile.{Tile}
 use Rattle.ref_tiles.specs.declared.kinds.Kind.{Kind}
 use Rattle.ref_tiles.specs.Kinds.{number_of}
+use Rattle.ref_tiles.proofs.Counted.{number_below}
 use Rattle.ref_tiles.specs.Counting.{no_tiles, count_of, with_count}
 use Rattle.ref_play.specs.declared.placed.Placed.{Placed}
 use Rattle.deal_steps.specs.Piles.{table}
 use Rattle.deal_steps.proofs.PileLaws.{length-table, get-table, same_numbers, length-no_tiles, get-no_tiles}
 use Rattle.game_deal.specs.Recorded.{has_kind, on_board, placed_tiles}
-use Rattle.game_deal.proofs.PlacedLaws.{number_below}
 
 -- one where the test holds
 abbrev one_if : Bool → ℕ

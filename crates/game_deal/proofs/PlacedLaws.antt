@@ -2,24 +2,23 @@
 use Rattle.std.proofs.Common.{◌≡◌, ℕ, zero, suc, ◌+◌, ◌<◌, ◌≤◌, ◌==◌, ◌||◌, Bool, true, false, cond, nat_lt, nat_le, List, [], ◌∷◌, length, get_or, refl, ap, ◌∙◌, arith, ⊎_elim, Option, Some, None, is_some, sum, sum_by, count_by}
 use Rattle.std.specs.Prelude.{Contains}
 use Rattle.std.specs.List.{list_all, list_any, range_with_len}
-use Rattle.std.specs.Option.{option_or}
 use Rattle.std.proofs.lemmas.List.{length-set, get_or-set_other}
 use Rattle.std.proofs.lemmas.List.Sums.{sum_by-cons}
 use Rattle.std.proofs.lemmas.Bool.{cases_eq, and_parts, or_parts, ltb-true, ltb-false, le-leb, leb-true, eq-eqb, ne_eqb}
+use Rattle.check_lists.proofs.CheckLaws.{check-none, or_none}
 use Rattle.ref_tiles.specs.declared.tiles.Tile.{Tile}
 use Rattle.ref_tiles.specs.declared.symbols.Symbol.{Symbol}
 use Rattle.ref_tiles.specs.declared.kinds.Kind.{Kind}
-use Rattle.ref_tiles.specs.declared.kinds.Kind.TheVariants as kind
 use Rattle.ref_tiles.specs.Kinds.{number_of}
+use Rattle.ref_tiles.proofs.Counted.{number_below}
 use Rattle.ref_board.specs.declared.directions.Dir.{Dir}
 use Rattle.ref_board.specs.declared.directions.Dir.TheVariants.{Across, Down}
 use Rattle.ref_board.specs.Lines.{line_of, place_of}
 use Rattle.ref_board.specs.Cells.{holds, with_tile}
 use Rattle.ref_play.specs.declared.placed.Placed.{Placed}
-use Rattle.ref_play.specs.declared.faults.PlayFault.{PlayFault}
 use Rattle.ref_play.specs.Placements.{are_rising, with_tiles}
 use Rattle.ref_play.specs.Formed.{along, runs_formed}
-use Rattle.ref_play.specs.Legality.{check, overlaps, has_gap, misses_centre, is_too_short, fault_of}
+use Rattle.ref_play.specs.Legality.{overlaps, has_gap, misses_centre, is_too_short, fault_of}
 use Rattle.ref_play.specs.Texts.{mismatches, placement_of, text_fault, text_cells}
 use Rattle.ref_play.proofs.RangeLaws.{list_any-found, list_all-in, some_element}
 use Rattle.ref_play.proofs.LineLaws.{line_below}
@@ -63,10 +62,6 @@ once_in n a (suc len) low high =
     let rest = once_in n (a + 1) len (omega arith) (omega arith) in
     omega arith)
     (cases_eq n a)
-
-pub number_below : (k : Kind) → number_of k < 27
-number_below (kind.Letter l) = let low = l.in_range in omega arith
-number_below kind.Blank = omega arith
 
 once_counted : (k : Kind) → sum_by (one_at (number_of k)) kinds ≡ 1
 unfolding kinds
@@ -135,15 +130,6 @@ are_free (p ∷ ps) board size within rising free =
 
 -- ---- a play without a fault
 
-check-none : (test : Bool) (why : PlayFault) (rest : Option PlayFault) → check test why rest ≡ None → (test ≡ false) × (rest ≡ None)
-unfolding check
-check-none true why rest e = cc
-check-none false why rest e = (refl, e)
-
-or-none : (o p : Option PlayFault) → option_or o p ≡ None → (o ≡ None) × (p ≡ None)
-or-none None p e = (refl, e)
-or-none (Some why) p e = cc
-
 -- what a text without a fault keeps to
 record IsNamedText (board : List (Option Tile)) (d : Dir) (at : ℕ) (word : List Symbol) : Type 0 where
   within : place_of d at + length word ≤ 15
@@ -209,7 +195,7 @@ pub put_free : (board : List (Option Tile)) (d : Dir) (at : ℕ) (word : List Sy
 unfolding play_fault
 put_free board d at word size none =
     let ps = placement_of board d at word in
-    let parts = or-none (text_fault board d at word) (fault_of d board ps) none in
+    let parts = or_none (text_fault board d at word) (fault_of d board ps) none in
     let text = named_text board d at word parts.0 in
     let legal = legal_parts board d ps parts.1 in
     let some = some_on_board d (with_tiles board ps) ps legal.1 in
@@ -221,4 +207,4 @@ put_free board d at word size none =
 -- a play without a fault has a text without one
 pub no_text_fault : (board : List (Option Tile)) (d : Dir) (at : ℕ) (word : List Symbol) → play_fault board d at word ≡ None → text_fault board d at word ≡ None
 unfolding play_fault
-no_text_fault board d at word none = (or-none (text_fault board d at word) (fault_of d board (placement_of board d at word)) none).0
+no_text_fault board d at word none = (or_none (text_fault board d at word) (fault_of d board (placement_of board d at word)) none).0

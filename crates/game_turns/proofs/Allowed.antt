@@ -3,58 +3,34 @@ use Rattle.std.proofs.Common.{◌≡◌, ℕ, ◌≤◌, Bool, true, false, not,
 use Rattle.std.specs.Prelude.{option_map, neg_ℤ}
 use Rattle.std.specs.List.{list_all}
 use Rattle.lex_list.specs.Words.{is_listed}
-use Rattle.std.specs.Option.{option_or}
 use Rattle.std.proofs.lemmas.Bool.{ltb-false}
+use Rattle.check_lists.specs.Checks.{fails}
+use Rattle.check_lists.proofs.CheckLaws.{some_fault, none_first, test_fails, check-none, or_none}
 use Rattle.ref_tiles.specs.declared.symbols.Symbol.{Symbol}
 use Rattle.ref_tiles.specs.declared.tiles.Tile.{Tile}
 use Rattle.ref_tiles.specs.declared.rulebook.Rules.{Rules}
 use Rattle.ref_board.specs.declared.directions.Dir.{Dir}
 use Rattle.ref_play.specs.declared.faults.PlayFault.{PlayFault}
 use Rattle.ref_play.specs.declared.placed.Placed.{Placed}
-use Rattle.ref_play.specs.Legality.{check, fault_of, overlaps}
+use Rattle.ref_play.specs.Legality.{fault_of, overlaps}
 use Rattle.ref_play.specs.Texts.{text_fault, placement_of}
 use Rattle.gcg_read.specs.declared.events.Seat.{Seat}
 use Rattle.gcg_read.specs.declared.events.Event.{Event}
-use Rattle.game_turns.specs.declared.faults.RuleFault.{RuleFault}
 use Rattle.game_turns.specs.declared.faults.RuleFault.TheVariants as fault
 use Rattle.game_turns.specs.Seats.{same_seat, side_of}
 use Rattle.game_turns.specs.Tallies.{State, LatestPlay, played, taken_back, other}
-use Rattle.game_turns.specs.Checks.{fails, first_fault, is_over, text_score, check_score, check_total, check_turn, play_fault, check_play, check_withdraw, check_kind, interrupts, fault_in}
+use Rattle.game_turns.specs.Checks.{is_over, text_score, check_score, check_total, check_turn, play_fault, check_play, check_withdraw, check_kind, interrupts, fault_in}
 
-some_fault : (why : RuleFault) → Some why ≡ None → ⊥
-some_fault why e = cc
-
-some_play_fault : (why : PlayFault) → Some why ≡ None → ⊥
-some_play_fault why e = cc
-
--- where no check of a list fails, the first does not, and none of the others
-pub none_first : (o : Option RuleFault) (checks : List (Option RuleFault)) → first_fault (o ∷ checks) ≡ None → (o ≡ None) × (first_fault checks ≡ None)
-none_first None checks e = (refl, e)
-none_first (Some why) checks e = absurd (some_fault why e)
-
--- a test of a check that does not fail
-pub test_fails : (b : Bool) (why : RuleFault) → fails b why ≡ None → b ≡ false
-test_fails true why e = absurd (some_fault why e)
-test_fails false why e = refl
-
-no_play_fault : (o : Option PlayFault) → option_map fault.Play o ≡ None → o ≡ None
+-- the fault of a play
+pub no_play_fault : (o : Option PlayFault) → option_map fault.Play o ≡ None → o ≡ None
 no_play_fault None e = refl
 no_play_fault (Some why) e = absurd (some_fault (fault.Play why) e)
-
-no_second_fault : (o p : Option PlayFault) → option_or o p ≡ None → p ≡ None
-no_second_fault None p e = e
-no_second_fault (Some why) p e = absurd (some_play_fault why e)
-
-check-none : (b : Bool) (why : PlayFault) (rest : Option PlayFault) → check b why rest ≡ None → b ≡ false
-unfolding check
-check-none true why rest e = absurd (some_play_fault why e)
-check-none false why rest e = refl
 
 -- a play without a fault is put on empty squares
 pub play_is_free : (board : List (Option Tile)) (dir : Dir) (at : ℕ) (word : List Symbol) → play_fault board dir at word ≡ None → overlaps board (placement_of board dir at word) ≡ false
 unfolding play_fault fault_of
 play_is_free board dir at word e =
-    check-none (overlaps board (placement_of board dir at word)) _ _ (no_second_fault (text_fault board dir at word) _ e)
+    (check-none (overlaps board (placement_of board dir at word)) _ _ (or_none (text_fault board dir at word) _ e).1).0
 
 -- a play that the rules allow: its tiles are on the rack, and its squares are empty
 pub record IsAllowedPlay (s : State) (player : Seat) (dir : Dir) (at : ℕ) (word : List Symbol) : Type 0 where

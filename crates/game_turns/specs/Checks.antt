@@ -3,6 +3,7 @@ use Rattle.std.specs.Prelude.{ℕ, ℤ, pos, negsuc, neg_ℤ, ◌+◌, ◌*◌, 
 use Rattle.std.specs.List.{list_all, list_any, range_with_len}
 use Rattle.std.specs.Option.{option_or}
 use Rattle.std.specs.Ordering.{int_eq}
+use Rattle.check_lists.specs.Checks.{fails, first_fault}
 use Rattle.ref_tiles.specs.declared.tiles.Tile.{Tile}
 use Rattle.ref_tiles.specs.declared.symbols.Symbol.{Symbol}
 use Rattle.ref_tiles.specs.declared.rulebook.Rules.{Rules}
@@ -22,19 +23,6 @@ use Rattle.game_turns.specs.declared.faults.RuleFault.TheVariants as fault
 use Rattle.game_turns.specs.Seats.{same_seat, may_move, side_of}
 use Rattle.game_turns.specs.Standing.{is_withdraw}
 use Rattle.game_turns.specs.Tallies.{State, Latest, played, taken_back, other}
-
--- ---- lists of checks
-
--- a check that fails where the test holds
-abbrev pub fails : Bool → RuleFault → Option RuleFault
-fails true why = Some why
-fails false why = None
-
--- the first check that fails
-abbrev pub first_fault : List (Option RuleFault) → Option RuleFault
-first_fault [] = None
-first_fault (None ∷ checks) = first_fault checks
-first_fault (Some why ∷ checks) = Some why
 
 -- ---- what the checks ask
 

@@ -3,6 +3,7 @@ use Rattle.std.proofs.Common.{◌≡◌, ℕ, pos, negsuc, List, [], ◌∷◌, 
 use Rattle.std.specs.Prelude.{codes}
 use Rattle.std.specs.List.{filter_map}
 use Rattle.ref_tiles.specs.declared.kinds.Kind.{Kind}
+use Rattle.ref_tiles.specs.Counting.{counted}
 use Rattle.ref_tiles.specs.Letters.{letter_at}
 use Rattle.ref_tiles.specs.Symbols.{byte_of}
 use Rattle.ref_board.specs.declared.directions.Dir.TheVariants.{Across, Down}
@@ -18,7 +19,7 @@ use Rattle.gcg_read.specs.Cutting.{lines_in, fields_of, head_of}
 use Rattle.gcg_read.specs.Codes.{code_of, dashed_of, bracketed_of}
 use Rattle.gcg_read.specs.EventLines.{scored_of, played_of, coded_of, event_of}
 use Rattle.gcg_read.specs.Players.{no_player}
-use Rattle.gcg_read.specs.Racks.{tally, kind_of}
+use Rattle.gcg_read.specs.Racks.{kind_of}
 use Rattle.gcg_read.specs.Records.{no_record, entry_of, with_event, with_pragma, players_with, with_line, record_from, record_of}
 use Rattle.gcg_read.specs.Pragmas.{names_of, naming_of}
 use Rattle.gcg_read.specs.Texts.{symbols_of}
@@ -39,7 +40,7 @@ word_play : record_of (codes ">A: DORWAAE 8E WORD +16 16")
         total = pos 16;
       } ∷ [];
     })
-unfolding record_of record_from with_line with_event with_pragma naming_of names_of players_with entry_of head_of fields_of lines_in event_of played_of scored_of coded_of dashed_of bracketed_of tally letter_at
+unfolding record_of record_from with_line with_event with_pragma naming_of names_of players_with entry_of head_of fields_of lines_in event_of played_of scored_of coded_of dashed_of bracketed_of counted letter_at
 word_play = refl
 
 abbrev fails_as : ℕ → Why → Result Record ReadFault
@@ -60,55 +61,55 @@ unfolding record_of record_from with_line with_event entry_of head_of fields_of 
 blank_in_nick = refl
 
 one_field : record_of (codes ">A: 8E") ≡ fails_as 1 why.Fields
-unfolding record_of record_from with_line with_event with_pragma naming_of names_of players_with entry_of head_of fields_of lines_in event_of played_of scored_of coded_of dashed_of bracketed_of tally letter_at
+unfolding record_of record_from with_line with_event with_pragma naming_of names_of players_with entry_of head_of fields_of lines_in event_of played_of scored_of coded_of dashed_of bracketed_of counted letter_at
 one_field = refl
 
 three_fields : record_of (codes ">A: 8E WORD +16") ≡ fails_as 1 why.Code
-unfolding record_of record_from with_line with_event with_pragma naming_of names_of players_with entry_of head_of fields_of lines_in event_of played_of scored_of coded_of dashed_of bracketed_of tally letter_at
+unfolding record_of record_from with_line with_event with_pragma naming_of names_of players_with entry_of head_of fields_of lines_in event_of played_of scored_of coded_of dashed_of bracketed_of counted letter_at
 three_fields = refl
 
 eight_tiles : record_of (codes ">A: AAAAAAAA - +0 0") ≡ fails_as 1 why.Rack
-unfolding record_of record_from with_line with_event with_pragma naming_of names_of players_with entry_of head_of fields_of lines_in event_of played_of scored_of coded_of dashed_of bracketed_of tally letter_at
+unfolding record_of record_from with_line with_event with_pragma naming_of names_of players_with entry_of head_of fields_of lines_in event_of played_of scored_of coded_of dashed_of bracketed_of counted letter_at
 eight_tiles = refl
 
 row_sixteen : record_of (codes ">A: 16A AT +4 4") ≡ fails_as 1 why.Position
-unfolding record_of record_from with_line with_event with_pragma naming_of names_of players_with entry_of head_of fields_of lines_in event_of played_of scored_of coded_of dashed_of bracketed_of tally letter_at
+unfolding record_of record_from with_line with_event with_pragma naming_of names_of players_with entry_of head_of fields_of lines_in event_of played_of scored_of coded_of dashed_of bracketed_of counted letter_at
 row_sixteen = refl
 
 digit_in_word : record_of (codes ">A: 8E W0RD +16 16") ≡ fails_as 1 why.Word
-unfolding record_of record_from with_line with_event with_pragma naming_of names_of players_with entry_of head_of fields_of lines_in event_of played_of scored_of coded_of dashed_of bracketed_of tally letter_at
+unfolding record_of record_from with_line with_event with_pragma naming_of names_of players_with entry_of head_of fields_of lines_in event_of played_of scored_of coded_of dashed_of bracketed_of counted letter_at
 digit_in_word = refl
 
 letter_in_score : record_of (codes ">A: 8E WORD +x 16") ≡ fails_as 1 why.Number
-unfolding record_of record_from with_line with_event with_pragma naming_of names_of players_with entry_of head_of fields_of lines_in event_of played_of scored_of coded_of dashed_of bracketed_of tally letter_at
+unfolding record_of record_from with_line with_event with_pragma naming_of names_of players_with entry_of head_of fields_of lines_in event_of played_of scored_of coded_of dashed_of bracketed_of counted letter_at
 letter_in_score = refl
 
 number_after_code : record_of (codes ">A: - +1234567 0") ≡ fails_as 1 why.Number
-unfolding record_of record_from with_line with_event with_pragma naming_of names_of players_with entry_of head_of fields_of lines_in event_of played_of scored_of coded_of dashed_of bracketed_of tally letter_at
+unfolding record_of record_from with_line with_event with_pragma naming_of names_of players_with entry_of head_of fields_of lines_in event_of played_of scored_of coded_of dashed_of bracketed_of counted letter_at
 number_after_code = refl
 
 no_colon : record_of (codes ">A 8E WORD +16 16") ≡ fails_as 1 why.NoColon
-unfolding record_of record_from with_line with_event with_pragma naming_of names_of players_with entry_of head_of fields_of lines_in event_of played_of scored_of coded_of dashed_of bracketed_of tally letter_at
+unfolding record_of record_from with_line with_event with_pragma naming_of names_of players_with entry_of head_of fields_of lines_in event_of played_of scored_of coded_of dashed_of bracketed_of counted letter_at
 no_colon = refl
 
 six_fields : record_of (codes ">A: A 8A AT +4 4 4") ≡ fails_as 1 why.Fields
-unfolding record_of record_from with_line with_event with_pragma naming_of names_of players_with entry_of head_of fields_of lines_in event_of played_of scored_of coded_of dashed_of bracketed_of tally letter_at
+unfolding record_of record_from with_line with_event with_pragma naming_of names_of players_with entry_of head_of fields_of lines_in event_of played_of scored_of coded_of dashed_of bracketed_of counted letter_at
 six_fields = refl
 
 seven_digits : record_of (codes ">A: 8E WORD +16 1000000") ≡ fails_as 1 why.Number
-unfolding record_of record_from with_line with_event with_pragma naming_of names_of players_with entry_of head_of fields_of lines_in event_of played_of scored_of coded_of dashed_of bracketed_of tally letter_at
+unfolding record_of record_from with_line with_event with_pragma naming_of names_of players_with entry_of head_of fields_of lines_in event_of played_of scored_of coded_of dashed_of bracketed_of counted letter_at
 seven_digits = refl
 
 rack_before_position : record_of (codes ">A: a 16A A- x 0") ≡ fails_as 1 why.Rack
-unfolding record_of record_from with_line with_event with_pragma naming_of names_of players_with entry_of head_of fields_of lines_in event_of played_of scored_of coded_of dashed_of bracketed_of tally letter_at
+unfolding record_of record_from with_line with_event with_pragma naming_of names_of players_with entry_of head_of fields_of lines_in event_of played_of scored_of coded_of dashed_of bracketed_of counted letter_at
 rack_before_position = refl
 
 long_word : record_of (codes ">A: 8A ABCDEFGHIJKLMNOP +4 4") ≡ fails_as 1 why.Word
-unfolding record_of record_from with_line with_event with_pragma naming_of names_of players_with entry_of head_of fields_of lines_in event_of played_of scored_of coded_of dashed_of bracketed_of tally letter_at
+unfolding record_of record_from with_line with_event with_pragma naming_of names_of players_with entry_of head_of fields_of lines_in event_of played_of scored_of coded_of dashed_of bracketed_of counted letter_at
 long_word = refl
 
 only_brackets : record_of (codes ">A: 8A () +4 4") ≡ fails_as 1 why.Word
-unfolding record_of record_from with_line with_event with_pragma naming_of names_of players_with entry_of head_of fields_of lines_in event_of played_of scored_of coded_of dashed_of bracketed_of tally letter_at
+unfolding record_of record_from with_line with_event with_pragma naming_of names_of players_with entry_of head_of fields_of lines_in event_of played_of scored_of coded_of dashed_of bracketed_of counted letter_at
 only_brackets = refl
 
 -- A mark at the front, lines that are read over and are counted, a CR at each end, tabs, a column before its row,
@@ -132,11 +133,11 @@ two_lines : record_of good_lines
           })
           ∷ [];
     })
-unfolding record_of record_from with_line with_event with_pragma naming_of names_of players_with entry_of head_of fields_of lines_in event_of played_of scored_of coded_of dashed_of bracketed_of tally letter_at
+unfolding record_of record_from with_line with_event with_pragma naming_of names_of players_with entry_of head_of fields_of lines_in event_of played_of scored_of coded_of dashed_of bracketed_of counted letter_at
 two_lines = refl
 
 third_player : record_of (good_lines ++ (10 ∷ codes ">C: x")) ≡ fails_as 5 why.ThirdPlayer
-unfolding record_of record_from with_line with_event with_pragma naming_of names_of players_with entry_of head_of fields_of lines_in event_of played_of scored_of coded_of dashed_of bracketed_of tally letter_at
+unfolding record_of record_from with_line with_event with_pragma naming_of names_of players_with entry_of head_of fields_of lines_in event_of played_of scored_of coded_of dashed_of bracketed_of counted letter_at
 third_player = refl
 
 -- an event after the last that a record may have
@@ -146,7 +147,7 @@ too_many r line text e = refl
 
 -- the first colon ends the nickname
 second_colon : record_of (codes ">B:: 8E WORD +16 16") ≡ fails_as 1 why.Rack
-unfolding record_of record_from with_line with_event with_pragma naming_of names_of players_with entry_of head_of fields_of lines_in event_of played_of scored_of coded_of dashed_of bracketed_of tally letter_at
+unfolding record_of record_from with_line with_event with_pragma naming_of names_of players_with entry_of head_of fields_of lines_in event_of played_of scored_of coded_of dashed_of bracketed_of counted letter_at
 second_colon = refl
 
 -- ---- codes
@@ -170,8 +171,8 @@ eight_unknown : code_of (codes "-8") ≡ None
 unfolding dashed_of
 eight_unknown = refl
 
-known_tiles : code_of (codes "-?A") ≡ Some (kind.Exchange (tally (kinds_of (codes "A?"))))
-unfolding dashed_of tally letter_at
+known_tiles : code_of (codes "-?A") ≡ Some (kind.Exchange (counted (kinds_of (codes "A?"))))
+unfolding dashed_of counted letter_at
 known_tiles = refl
 
 a_challenge : code_of (codes "(challenge)") ≡ Some kind.Challenge
@@ -182,8 +183,8 @@ a_penalty : code_of (codes "(time)") ≡ Some kind.Time
 unfolding bracketed_of letter_at
 a_penalty = refl
 
-last_tiles : code_of (codes "(AB?)") ≡ Some (kind.LastRack (tally (kinds_of (codes "AB?"))))
-unfolding bracketed_of tally letter_at
+last_tiles : code_of (codes "(AB?)") ≡ Some (kind.LastRack (counted (kinds_of (codes "AB?"))))
+unfolding bracketed_of counted letter_at
 last_tiles = refl
 
 no_last_tiles : code_of (codes "()") ≡ None
@@ -199,29 +200,29 @@ abbrev first_named : List ℕ → List ℕ → Record
 first_named nick full = record { players = record { first = record { nick = nick; full = full }; second = no_player }; events = [] }
 
 full_name : record_of (codes "#player1 A  Ann  Lee ") ≡ Ok (first_named (codes "A") (codes "Ann  Lee"))
-unfolding record_of record_from with_line with_event with_pragma naming_of names_of players_with entry_of head_of fields_of lines_in event_of played_of scored_of coded_of dashed_of bracketed_of tally letter_at
+unfolding record_of record_from with_line with_event with_pragma naming_of names_of players_with entry_of head_of fields_of lines_in event_of played_of scored_of coded_of dashed_of bracketed_of counted letter_at
 full_name = refl
 
 no_full_name : record_of (codes "#player1   A") ≡ Ok (first_named (codes "A") [])
-unfolding record_of record_from with_line with_event with_pragma naming_of names_of players_with entry_of head_of fields_of lines_in event_of played_of scored_of coded_of dashed_of bracketed_of tally letter_at
+unfolding record_of record_from with_line with_event with_pragma naming_of names_of players_with entry_of head_of fields_of lines_in event_of played_of scored_of coded_of dashed_of bracketed_of counted letter_at
 no_full_name = refl
 
 second_pragma : record_of (codes "#player1 A Ann" ++ 10 ∷ codes "#player1 B Bo") ≡ Ok (first_named (codes "A") (codes "Ann"))
-unfolding record_of record_from with_line with_event with_pragma naming_of names_of players_with entry_of head_of fields_of lines_in event_of played_of scored_of coded_of dashed_of bracketed_of tally letter_at
+unfolding record_of record_from with_line with_event with_pragma naming_of names_of players_with entry_of head_of fields_of lines_in event_of played_of scored_of coded_of dashed_of bracketed_of counted letter_at
 second_pragma = refl
 
 other_nickname : record_of (codes "#player2 A" ++ 10 ∷ codes "#player1 A") ≡ fails_as 2 why.ThirdPlayer
-unfolding record_of record_from with_line with_event with_pragma naming_of names_of players_with entry_of head_of fields_of lines_in event_of played_of scored_of coded_of dashed_of bracketed_of tally letter_at
+unfolding record_of record_from with_line with_event with_pragma naming_of names_of players_with entry_of head_of fields_of lines_in event_of played_of scored_of coded_of dashed_of bracketed_of counted letter_at
 other_nickname = refl
 
 colon_in_nickname : record_of (codes "#player1 A:B C") ≡ Ok no_record
-unfolding record_of record_from with_line with_event with_pragma naming_of names_of players_with entry_of head_of fields_of lines_in event_of played_of scored_of coded_of dashed_of bracketed_of tally letter_at
+unfolding record_of record_from with_line with_event with_pragma naming_of names_of players_with entry_of head_of fields_of lines_in event_of played_of scored_of coded_of dashed_of bracketed_of counted letter_at
 colon_in_nickname = refl
 
 no_blank : record_of (codes "#player1X A") ≡ Ok no_record
-unfolding record_of record_from with_line with_event with_pragma naming_of names_of players_with entry_of head_of fields_of lines_in event_of played_of scored_of coded_of dashed_of bracketed_of tally letter_at
+unfolding record_of record_from with_line with_event with_pragma naming_of names_of players_with entry_of head_of fields_of lines_in event_of played_of scored_of coded_of dashed_of bracketed_of counted letter_at
 no_blank = refl
 
 bare_pragma : record_of (codes "#player1") ≡ Ok no_record
-unfolding record_of record_from with_line with_event with_pragma naming_of names_of players_with entry_of head_of fields_of lines_in event_of played_of scored_of coded_of dashed_of bracketed_of tally letter_at
+unfolding record_of record_from with_line with_event with_pragma naming_of names_of players_with entry_of head_of fields_of lines_in event_of played_of scored_of coded_of dashed_of bracketed_of counted letter_at
 bare_pragma = refl

@@ -1,6 +1,5 @@
 pub mod Decimals
 pub mod Lists
-pub mod Tallies
 pub mod Cuts
 pub mod Steps
 pub mod FirstFaults

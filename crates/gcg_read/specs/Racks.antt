@@ -1,15 +1,11 @@
 -- Racks, as the bytes of a record write them.
-use Rattle.std.specs.Prelude.{ℕ, Bool, ◌&&◌, ◌==◌, nat_le, List, map, length, Option, Some, None, is_some, if◌then◌else◌}
-use Rattle.std.specs.List.{list_all, filter_map, count_by, range_with_len}
+use Rattle.std.specs.Prelude.{ℕ, Bool, ◌&&◌, ◌==◌, nat_le, List, length, Option, Some, None, is_some, if◌then◌else◌}
+use Rattle.std.specs.List.{list_all, filter_map}
 use Rattle.std.specs.Option.{option_map}
 use Rattle.ref_tiles.specs.declared.kinds.Kind.{Kind}
 use Rattle.ref_tiles.specs.declared.kinds.Kind.TheVariants as kind
-use Rattle.ref_tiles.specs.Kinds.{number_of}
+use Rattle.ref_tiles.specs.Counting.{counted}
 use Rattle.ref_tiles.specs.Letters.{letter_from}
-
--- how often each of the 27 kinds is among these tiles
-unfoldable pub tally : List Kind → List ℕ
-tally kinds = map (λ k. count_by (λ kind. number_of kind == k) kinds) (range_with_len 0 27)
 
 -- A to Z are letter tiles, '?' (63) is a blank
 abbrev pub kind_of : ℕ → Option Kind
@@ -25,4 +21,4 @@ is_rack bytes = nat_le 1 (length bytes) && nat_le (length bytes) 7 && list_all i
 
 -- the tiles of a rack, how many of each kind
 abbrev pub rack_of : List ℕ → Option (List ℕ)
-rack_of bytes = if is_rack bytes then Some (tally (filter_map kind_of bytes)) else None
+rack_of bytes = if is_rack bytes then Some (counted (filter_map kind_of bytes)) else None

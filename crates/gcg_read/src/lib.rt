@@ -29,6 +29,7 @@ pub use laws::{law_of_faults, law_of_lines};
 pub use names::Name;
 pub use players::{Player, Players};
 pub use points::Points;
+pub use racks::read_rack;
 pub use reading::{MAX_BYTES, MAX_EVENTS, read};
 pub use records::Record;
 pub use texts::Text;

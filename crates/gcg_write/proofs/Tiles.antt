@@ -4,14 +4,16 @@ use Rattle.std.specs.List.{list_all, filter_map, cons_option, count_by}
 use Rattle.std.proofs.lemmas.List.{length-append, length-replicate}
 use Rattle.std.proofs.lemmas.List.Elements.{filter_map-append}
 use Rattle.std.proofs.lemmas.List.Sums.{sum_by-append, sum_by-cons}
-use Rattle.std.proofs.lemmas.List.FromFn.{length-map-range_with_len, get_or-map-range_with_len, fill_by_all}
+use Rattle.std.proofs.lemmas.List.FromFn.{fill_by_all}
 use Rattle.std.proofs.lemmas.Bool.Decides.{eqb_tells, nat_tests}
 use Rattle.ref_tiles.specs.declared.letters.Letter.{Letter}
 use Rattle.ref_tiles.specs.declared.kinds.Kind.{Kind}
 use Rattle.ref_tiles.specs.declared.kinds.Kind.TheVariants as kind
 use Rattle.ref_tiles.specs.Kinds.{number_of}
+use Rattle.ref_tiles.specs.Counting.{counted}
+use Rattle.ref_tiles.proofs.Counted.{number_below, length-counted, counted_at}
 use Rattle.ref_tiles.proofs.LetterLemmas.{letter_at_letter}
-use Rattle.gcg_read.specs.Racks.{tally, kind_of, is_tile, is_rack, rack_of}
+use Rattle.gcg_read.specs.Racks.{kind_of, is_tile, is_rack, rack_of}
 use Rattle.gcg_write.specs.Fields.{letter_text, letters_to, tiles_text}
 use Rattle.gcg_write.proofs.Each.{Each, each_append, each_replicate}
 use Rattle.gcg_write.proofs.Digits.{le_true}
@@ -116,9 +118,9 @@ written_tiles counts n h =
     written_append n (letters_to counts 26) (replicate (get_or counts 26 0) 63)
     ∙ rw (written_letters counts n 26 (omega arith), written_times n (get_or counts 26 0) 63 kind.Blank refl) (tiles_step counts n h)
 
-tally_tiles : (counts : List ℕ) → length counts ≡ 27 → tally (filter_map kind_of (tiles_text counts)) ≡ counts
-unfolding tally
-tally_tiles counts size =
+counted_tiles : (counts : List ℕ) → length counts ≡ 27 → counted (filter_map kind_of (tiles_text counts)) ≡ counts
+unfolding counted
+counted_tiles counts size =
     sym (fill_by_all (λ (n : ℕ). written n (tiles_text counts)) counts 27 0 size (λ n h. sym (written_tiles counts n h)))
 
 -- tiles that a rack may have: 1 to 7
@@ -130,7 +132,7 @@ pub record IsRack (counts : List ℕ) : Type 0 where
 pub rack_again : (counts : List ℕ) → IsRack counts → rack_of (tiles_text counts) ≡ Some counts
 rack_again counts rack =
     rw (le_true 1 (length (tiles_text counts)) rack.some, le_true (length (tiles_text counts)) 7 rack.few, all_tiles (tiles_text counts) (tiles_bytes counts))
-    (ap Some (tally_tiles counts rack.kinds))
+    (ap Some (counted_tiles counts rack.kinds))
 
 -- ---- how many tiles there are
 
@@ -158,17 +160,13 @@ unfolding total
 total_none zero = refl
 total_none (suc m) = let before = total_none m in omega arith
 
-number_small : (k : Kind) → number_of k < 27
-number_small (kind.Letter l) = let below = l.in_range in omega arith
-number_small kind.Blank = omega arith
-
 total_kinds : (kinds : List Kind) → total (λ n. count_by (is_number n) kinds) 27 ≡ length kinds
 total_kinds [] = total_none 27
 total_kinds (k ∷ kinds) =
     let parts = total_same (λ n. count_by (is_number n) (k ∷ kinds)) (λ n. cond (eqb (number_of k) n) 1 0 + count_by (is_number n) kinds) 27
     (λ n h. sum_by-cons (λ (x : Kind). cond (is_number n x) 1 0) k kinds) in
     let sums = total_add (λ n. cond (eqb (number_of k) n) 1 0) (λ n. count_by (is_number n) kinds) 27 in
-    let inside : ltb (number_of k) 27 ≡ true = let small = number_small k in grind (arith, nat_tests) in
+    let inside : ltb (number_of k) 27 ≡ true = let small = number_below k in grind (arith, nat_tests) in
     let one : total (λ n. cond (eqb (number_of k) n) 1 0) 27 ≡ 1 = total_one (number_of k) 27 ∙ rw inside refl in
     parts ∙ sums ∙ rw (one, total_kinds kinds) (omega arith)
 
@@ -185,40 +183,32 @@ length-tiles counts =
     length-append (letters_to counts 26) (replicate (get_or counts 26 0) 63)
     ∙ rw (length-letters counts 26, length-replicate {A = ℕ} (get_or counts 26 0) 63) refl
 
-counted : (o : Option Kind) (kinds : List Kind) → is_some o ≡ true → length (cons_option o kinds) ≡ suc (length kinds)
-counted None kinds e = absurd cc
-counted (Some k) kinds e = refl
+one_more : (o : Option Kind) (kinds : List Kind) → is_some o ≡ true → length (cons_option o kinds) ≡ suc (length kinds)
+one_more None kinds e = absurd cc
+one_more (Some k) kinds e = refl
 
 length-kinds : (bytes : List ℕ) → list_all is_tile bytes ≡ true → length (filter_map kind_of bytes) ≡ length bytes
 length-kinds [] h = refl
 length-kinds (byte ∷ bytes) h =
     let parts = both (is_tile byte) (list_all is_tile bytes) h in
-    counted (kind_of byte) (filter_map kind_of bytes) parts.0 ∙ ap suc (length-kinds bytes parts.1)
+    one_more (kind_of byte) (filter_map kind_of bytes) parts.0 ∙ ap suc (length-kinds bytes parts.1)
 
-length-tally : (kinds : List Kind) → length (tally kinds) ≡ 27
-unfolding tally
-length-tally kinds = length-map-range_with_len (λ n. count_by (is_number n) kinds) 0 27
-
-tally_at : (kinds : List Kind) (n : ℕ) → n < 27 → get_or (tally kinds) n 0 ≡ count_by (is_number n) kinds
-unfolding tally
-tally_at kinds n h = get_or-map-range_with_len (λ k. count_by (is_number k) kinds) 0 27 n n 0 h (omega arith)
-
-length-tally_text : (kinds : List Kind) → length (tiles_text (tally kinds)) ≡ length kinds
-length-tally_text kinds =
-    length-tiles (tally kinds) ∙ total_same (λ n. get_or (tally kinds) n 0) (λ n. count_by (is_number n) kinds) 27 (λ n h. tally_at kinds n h)
+length-counted_text : (kinds : List Kind) → length (tiles_text (counted kinds)) ≡ length kinds
+length-counted_text kinds =
+    length-tiles (counted kinds) ∙ total_same (λ n. get_or (counted kinds) n 0) (λ n. count_by (is_number n) kinds) 27 (λ n h. counted_at kinds n h)
     ∙ total_kinds kinds
 
-rack_counted : (bytes : List ℕ) → is_rack bytes ≡ true → IsRack (tally (filter_map kind_of bytes))
+rack_counted : (bytes : List ℕ) → is_rack bytes ≡ true → IsRack (counted (filter_map kind_of bytes))
 rack_counted bytes h =
     let outer = both (nat_le 1 (length bytes) && nat_le (length bytes) 7) (list_all is_tile bytes) h in
     let inner = both (nat_le 1 (length bytes)) (nat_le (length bytes) 7) outer.0 in
-    let size : length (tiles_text (tally (filter_map kind_of bytes))) ≡ length bytes = length-tally_text (filter_map kind_of bytes) ∙ length-kinds bytes outer.1 in
+    let size : length (tiles_text (counted (filter_map kind_of bytes))) ≡ length bytes = length-counted_text (filter_map kind_of bytes) ∙ length-kinds bytes outer.1 in
     let some = le_from 1 (length bytes) inner.0 in
     let few = le_from (length bytes) 7 inner.1 in
-    record { kinds = length-tally (filter_map kind_of bytes); some = omega arith; few = omega arith }
+    record { kinds = length-counted (filter_map kind_of bytes); some = omega arith; few = omega arith }
 
 -- what is read as a rack is one
 pub rack_read : (bytes counts : List ℕ) → rack_of bytes ≡ Some counts → IsRack counts
 rack_read bytes counts e =
-    let parts = chosen (is_rack bytes) (tally (filter_map kind_of bytes)) counts e in
+    let parts = chosen (is_rack bytes) (counted (filter_map kind_of bytes)) counts e in
     subst IsRack parts.1 (rack_counted bytes parts.0)

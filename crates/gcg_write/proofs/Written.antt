@@ -7,11 +7,12 @@ use Rattle.std.specs.Str.{bytes_eq}
 use Rattle.std.proofs.lemmas.Fmt.{decimal_digit}
 use Rattle.std.proofs.lemmas.List.{length-append}
 use Rattle.std.proofs.lemmas.Bool.Decides.{nat_tests}
+use Rattle.ref_tiles.specs.Counting.{counted}
 use Rattle.ref_tiles.specs.Letters.{letter_at}
 use Rattle.gcg_read.specs.declared.events.EventKind.{EventKind}
 use Rattle.gcg_read.specs.declared.events.EventKind.TheVariants as kind
 use Rattle.gcg_read.specs.Numerals.{numeral}
-use Rattle.gcg_read.specs.Racks.{is_tile, rack_of, tally}
+use Rattle.gcg_read.specs.Racks.{is_tile, rack_of}
 use Rattle.gcg_read.specs.Codes.{unknown_of, dashed_of, bracketed_of, opened_of, code_of}
 use Rattle.gcg_write.specs.Fields.{kind_text, tiles_text}
 use Rattle.gcg_write.proofs.Parts.{take_front, drop_front}
@@ -49,7 +50,7 @@ opened_again : (bytes : List ℕ) → opened_of (bytes ++ 41 ∷ []) ≡ bracket
 opened_again bytes = rw (front_len bytes 41, drop_front bytes (41 ∷ []), take_front bytes (41 ∷ [])) refl
 
 pub code_again : (what : EventKind) → IsCode what → code_of (kind_text what) ≡ Some what
-unfolding kind_text dashed_of bracketed_of tally letter_at
+unfolding kind_text dashed_of bracketed_of counted letter_at
 code_again (kind.Play at dir word) h = absurd h
 code_again kind.Pass h = refl
 code_again (kind.Exchange tiles) h = rw (rack_again tiles h) refl

@@ -6,6 +6,7 @@ pub mod Nodes
 pub mod Shapes
 pub mod Languages
 pub mod Lexicons
+pub mod Walking
 pub mod SoundNodes
 pub mod Files
 pub mod Laws

@@ -2,11 +2,11 @@
 use Rattle.std.specs.Prelude.{ℕ, zero, suc, ◌+◌, ◌*◌, Bool, ◌&&◌, ◌||◌, ◌==◌, nat_lt, nat_le, eqb, List, [], ◌∷◌, length, slice_index, Option, Some, None, if◌then◌else◌}
 use Rattle.std.specs.List.{starts_with}
 use Rattle.std.specs.Option.{option_or}
+use Rattle.check_lists.specs.Checks.{passes, first_fault}
 use Rattle.lex_file.specs.declared.faults.FileFault.{FileFault}
 use Rattle.lex_file.specs.declared.faults.FileFault.TheVariants as why
 use Rattle.lex_file.specs.declared.arcs.Arc.{Arc}
 use Rattle.lex_file.specs.Arcs.{arc_of}
-use Rattle.lex_file.specs.Faults.{check, first_fault}
 use Rattle.lex_file.specs.Formats.{header_bytes, gad1_magic, greatest_label, most_arcs}
 use Rattle.lex_file.specs.FileWords.{words_in, body_of}
 use Rattle.lex_file.specs.Nodes.{node_at, begins, is_first, is_node, start_at}
@@ -50,10 +50,10 @@ unfoldable pub arc_fault : List ℕ → ℕ → Option FileFault
 arc_fault words place =
     let arc = arc_of (slice_index words place) in
     first_fault
-    (check (nat_le arc.label greatest_label) why.Label
-    ∷ check (begins words place || nat_lt (label_before words place) arc.label) why.Order
-    ∷ check (leads_back words (start_at words place) arc.target) why.Target
-    ∷ check (arc.accepts || nat_lt 0 arc.target) why.DeadArc
+    (passes (nat_le arc.label greatest_label) why.Label
+    ∷ passes (begins words place || nat_lt (label_before words place) arc.label) why.Order
+    ∷ passes (leads_back words (start_at words place) arc.target) why.Target
+    ∷ passes (arc.accepts || nat_lt 0 arc.target) why.DeadArc
     ∷ [])
 
 -- the first fault of the first `count` arcs
@@ -63,14 +63,14 @@ arcs_fault words (suc place) = option_or (arcs_fault words place) (arc_fault wor
 
 -- the faults behind the header: of the arcs in rising order, and that the last arc is not last of its node
 unfoldable pub body_fault : List ℕ → Option FileFault
-body_fault words = option_or (arcs_fault words (length words)) (check (begins words (length words)) why.OpenRun)
+body_fault words = option_or (arcs_fault words (length words)) (passes (begins words (length words)) why.OpenRun)
 
 -- the faults of the header: too many arcs or a length that is not that of the arcs, and a root that is no node
 unfoldable pub header_fault : List ℕ → Option FileFault
 header_fault bytes =
     first_fault
-    (check (nat_le (count_of bytes) most_arcs && length bytes == header_bytes + 4 * count_of bytes) why.Length
-    ∷ check (is_node (body_of bytes) (root_of bytes)) why.Root
+    (passes (nat_le (count_of bytes) most_arcs && length bytes == header_bytes + 4 * count_of bytes) why.Length
+    ∷ passes (is_node (body_of bytes) (root_of bytes)) why.Root
     ∷ [])
 
 -- ---- every format

@@ -4,12 +4,12 @@ use Rattle.std.specs.Prelude.{IsTrue, is_none}
 use Rattle.std.proofs.Math.ListN.{drop_of_length-le}
 use Rattle.std.proofs.lemmas.Bool.{ltb-true, ltb-false, leb-true, eqb-true, false≢true, cases_lt, and_parts, and_from, lt-ltb}
 use Rattle.std.specs.List.{find, list_all}
-use Rattle.std.specs.Option.{option_or}
+use Rattle.check_lists.specs.Checks.{passes}
+use Rattle.check_lists.proofs.CheckLaws.{checked, or_none}
 use Rattle.lex_file.specs.declared.arcs.Arc.{Arc}
 use Rattle.lex_file.specs.declared.faults.FileFault.{FileFault}
 use Rattle.lex_file.specs.declared.faults.FileFault.TheVariants as why
 use Rattle.lex_file.specs.Arcs.{arc_of, is_last, has_label, arc_with, accepts_of, target_of}
-use Rattle.lex_file.specs.Faults.{check, first_fault}
 use Rattle.lex_file.specs.FileWords.{body_of}
 use Rattle.lex_file.specs.Formats.{header_bytes, greatest_label, most_arcs}
 use Rattle.lex_file.specs.Nodes.{run_of, node_at, begins, is_first, is_node, start_at}
@@ -24,14 +24,6 @@ pub record IsFineArc (words : List ℕ) (start : ℕ) (arc : Arc) : Type 0 where
   pub label : arc.label ≤ greatest_label
   pub target : leads_back words start arc.target ≡ true
   pub alive : (arc.accepts || ltb 0 arc.target) ≡ true
-
-or_none : (a b : Option FileFault) → option_or a b ≡ None → (a ≡ None) × (b ≡ None)
-or_none None b e = (refl, e)
-or_none (Some fault) b e = absurd cc
-
-checked : (test : Bool) (fault : FileFault) (rest : List (Option FileFault)) → first_fault (check test fault ∷ rest) ≡ None → (test ≡ true) × (first_fault rest ≡ None)
-checked true fault rest e = (refl, e)
-checked false fault rest e = absurd cc
 
 pub fine_at : (words : List ℕ) (count place : ℕ) → arcs_fault words count ≡ None → place < count → arc_fault words place ≡ None
 unfolding arcs_fault
@@ -223,7 +215,7 @@ sound bytes e = short (ltb (length bytes) header_bytes) refl (not_some (fault_of
         let parts = or_none (header_fault bytes) (body_fault (body_of bytes)) h in
         let size = checked (leb (count_of bytes) most_arcs && eqb (length bytes) (header_bytes + 4 * count_of bytes)) why.Length _ parts.0 in
         let root = checked (is_node (body_of bytes) (root_of bytes)) why.Root _ size.1 in
-        let arcs = or_none (arcs_fault (body_of bytes) (length (body_of bytes))) (check (begins (body_of bytes) (length (body_of bytes))) why.OpenRun) parts.1 in
+        let arcs = or_none (arcs_fault (body_of bytes) (length (body_of bytes))) (passes (begins (body_of bytes) (length (body_of bytes))) why.OpenRun) parts.1 in
         let sizes = and_parts (leb (count_of bytes) most_arcs) (eqb (length bytes) (header_bytes + 4 * count_of bytes)) size.0 in
         record {
           format = is;

@@ -23,7 +23,7 @@ pub struct LexFile<'a> {
 impl<'a> LexFile<'a> {
     ghost use Rattle.std.specs.Prelude.{◌≡◌, ℕ, List, [], ◌∷◌, false, Some, IfOk, IsSome, IsTrue, drop};
     ghost use Rattle.lex_file.specs.Arcs.{arc_with};
-    ghost use Rattle.lex_file.specs.Faults.{Refuses};
+    ghost use Rattle.check_lists.specs.Checks.{Refuses};
     ghost use Rattle.lex_file.specs.FileWords.{body_of};
     ghost use Rattle.lex_file.specs.Languages.{file_tail};
     ghost use Rattle.lex_file.specs.Lexicons.{NextGives};

@@ -28,6 +28,7 @@ mod laws;
 mod lexicons;
 mod opening;
 mod reading;
+mod walking;
 
 pub use arcs::Arc;
 pub use faults::FileFault;
@@ -35,3 +36,4 @@ pub use files::{LexFile, Node};
 pub use laws::{law_of_language, law_of_nodes};
 pub use lexicons::{Branch, LABELS, PathLex, Step};
 pub use opening::{HEADER_BYTES, MAGIC, MAX_ARCS};
+pub use walking::advance;

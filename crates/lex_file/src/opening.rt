@@ -1,7 +1,7 @@
 ghost use Rattle.std.specs.Prelude.{◌≡◌, ◌≤◌, ◌<◌, length, slice_index};
 ghost use Rattle.lex_file.specs.FileWords.{words_in};
 ghost use Rattle.lex_file.specs.Formats.{header_bytes};
-ghost use Rattle.lex_file.specs.Faults.{Refuses};
+ghost use Rattle.check_lists.specs.Checks.{Refuses};
 ghost use Rattle.lex_file.specs.Nodes.{start_at};
 ghost use Rattle.lex_file.specs.Shapes.{label_before, leads_back, arc_fault, body_fault, header_fault, fault_of};
 

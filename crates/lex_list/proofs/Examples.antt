@@ -7,7 +7,7 @@ use Rattle.lex_list.specs.declared.faults.ListFault.{ListFault}
 use Rattle.lex_list.specs.Lines.{lines_in}
 use Rattle.lex_list.specs.Words.{most_words, is_listed}
 use Rattle.lex_list.specs.RotatedPaths.{label_of, mark, path_of, is_path_behind, is_path}
-use Rattle.lex_list.specs.Lists.{with_line, words_in, spelling_fault, fault_of, first_fault, at_line, list_in, list_of}
+use Rattle.lex_list.specs.Lists.{with_line, words_in, spelling_fault, fault_of, first_bad_line, at_line, list_in, list_of}
 
 abbrev fails_as : ℕ → ListWhy → Result (List (List ℕ)) ListFault
 fails_as line w = Err (at_line line w)
@@ -21,53 +21,53 @@ abbrev cr_lf : List ℕ
 cr_lf = 13 ∷ 10 ∷ []
 
 nothing : list_of [] ≡ Ok []
-unfolding list_of list_in first_fault words_in fault_of spelling_fault with_line most_words lines_in
+unfolding list_of list_in first_bad_line words_in fault_of spelling_fault with_line most_words lines_in
 nothing = refl
 
 digit_in_line_two : list_of (codes "AT" ++ lf ++ codes "A1") ≡ fails_as 2 why.BadLetter
-unfolding list_of list_in first_fault words_in fault_of spelling_fault with_line most_words lines_in
+unfolding list_of list_in first_bad_line words_in fault_of spelling_fault with_line most_words lines_in
 digit_in_line_two = refl
 
 one_letter : list_of (codes "A") ≡ fails_as 1 why.BadLength
-unfolding list_of list_in first_fault words_in fault_of spelling_fault with_line most_words lines_in
+unfolding list_of list_in first_bad_line words_in fault_of spelling_fault with_line most_words lines_in
 one_letter = refl
 
 hyphen : list_of (codes "A-B") ≡ fails_as 1 why.BadLetter
-unfolding list_of list_in first_fault words_in fault_of spelling_fault with_line most_words lines_in
+unfolding list_of list_in first_bad_line words_in fault_of spelling_fault with_line most_words lines_in
 hyphen = refl
 
 blank_behind : list_of (codes "AT ") ≡ fails_as 1 why.BadLetter
-unfolding list_of list_in first_fault words_in fault_of spelling_fault with_line most_words lines_in
+unfolding list_of list_in first_bad_line words_in fault_of spelling_fault with_line most_words lines_in
 blank_behind = refl
 
 sixteen_letters : list_of (lf ++ cr_lf ++ codes "ABCDEFGHIJKLMNOP") ≡ fails_as 3 why.BadLength
-unfolding list_of list_in first_fault words_in fault_of spelling_fault with_line most_words lines_in
+unfolding list_of list_in first_bad_line words_in fault_of spelling_fault with_line most_words lines_in
 sixteen_letters = refl
 
 fifteen_letters : list_of (codes "ABCDEFGHIJKLMNO") ≡ Ok (codes "ABCDEFGHIJKLMNO" ∷ [])
-unfolding list_of list_in first_fault words_in fault_of spelling_fault with_line most_words lines_in
+unfolding list_of list_in first_bad_line words_in fault_of spelling_fault with_line most_words lines_in
 fifteen_letters = refl
 
 -- the letters are looked at before the length
 sixteen_with_digit : list_of (codes "ABCDEFGHIJKLMNO1") ≡ fails_as 1 why.BadLetter
-unfolding list_of list_in first_fault words_in fault_of spelling_fault with_line most_words lines_in
+unfolding list_of list_in first_bad_line words_in fault_of spelling_fault with_line most_words lines_in
 sixteen_with_digit = refl
 
 -- A mark at the front, both ends of lines, both cases, repeats and empty lines; the words come in byte order, a
 -- word before those that it begins.
 mixed : list_of ((0xef ∷ 0xbb ∷ 0xbf ∷ codes "Word") ++ cr_lf ++ codes "atE" ++ lf ++ lf ++ codes "AT" ++ cr_lf ++ cr_lf ++ codes "at" ++ lf ++ codes "zA" ++ (13 ∷ []))
     ≡ Ok (codes "AT" ∷ codes "ATE" ∷ codes "WORD" ∷ codes "ZA" ∷ [])
-unfolding list_of list_in first_fault words_in fault_of spelling_fault with_line most_words lines_in
+unfolding list_of list_in first_bad_line words_in fault_of spelling_fault with_line most_words lines_in
 mixed = refl
 
 -- one CR at an end is dropped, and a second is no letter
 two_returns : list_of (codes "AT" ++ (13 ∷ cr_lf)) ≡ fails_as 1 why.BadLetter
-unfolding list_of list_in first_fault words_in fault_of spelling_fault with_line most_words lines_in
+unfolding list_of list_in first_bad_line words_in fault_of spelling_fault with_line most_words lines_in
 two_returns = refl
 
 -- a mark is no letter but at the front
 late_mark : list_of (lf ++ (0xef ∷ 0xbb ∷ 0xbf ∷ codes "AT")) ≡ fails_as 2 why.BadLetter
-unfolding list_of list_in first_fault words_in fault_of spelling_fault with_line most_words lines_in
+unfolding list_of list_in first_bad_line words_in fault_of spelling_fault with_line most_words lines_in
 late_mark = refl
 
 -- one word more than there may be, and a repeat of a word where there are as many as there may be

@@ -2,4 +2,5 @@ pub mod Orders
 pub mod Steps
 pub mod Meanings
 pub mod RotatedPaths
+pub mod Splitting
 mod Examples

@@ -13,25 +13,19 @@ use Rattle.std.proofs.lemmas.Bool.Decides.{nat_tests}
 use Rattle.std.proofs.lemmas.List.{length-map}
 use Rattle.std.proofs.lemmas.List.Folds.{Any-from_list_any, list_any-from_Any}
 use Rattle.std.proofs.lemmas.Slice.Eq.{bytes_eq-Decides}
+use Rattle.check_lists.specs.Checks.{passes}
+use Rattle.check_lists.proofs.CheckLaws.{checked, none_first}
 use Rattle.lex_list.specs.declared.faults.ListWhy.{ListWhy}
 use Rattle.lex_list.specs.declared.faults.ListWhy.TheVariants as why
 use Rattle.lex_list.specs.declared.faults.ListFault.{ListFault}
 use Rattle.lex_list.specs.Faults.{no_memory}
 use Rattle.lex_list.specs.Lines.{lines_of}
 use Rattle.lex_list.specs.Words.{most_words, has_word_length, is_word, word_order, is_listed, IsWordList}
-use Rattle.lex_list.specs.Lists.{list_of, unless, spelling_fault, capitals, with_line, words_in, fault_of, first_fault, at_line, or_fault, list_in, Holds, HoldsWordsOf, IsFirstFault, IsFaultOf, most_list_bytes}
+use Rattle.lex_list.specs.Lists.{list_of, spelling_fault, capitals, with_line, words_in, fault_of, first_bad_line, at_line, or_fault, list_in, Holds, HoldsWordsOf, IsFirstFault, IsFaultOf, most_list_bytes}
 use Rattle.lex_list.proofs.Orders.{ordered_more, all_more, any_more, listed_from_member, member_from_listed}
 use Rattle.lex_list.proofs.Steps.{words_in_more}
 
 -- ---- a line without a fault
-
-passes : (test : Bool) (w : ListWhy) (rest : Option ListWhy) → unless test w rest ≡ None → (test ≡ true) × (rest ≡ None)
-passes true w rest e = (refl, e)
-passes false w rest e = absurd cc
-
-neither : (a b : Option ListWhy) → option_or a b ≡ None → (a ≡ None) × (b ≡ None)
-neither None b e = (refl, e)
-neither (Some w) b e = absurd cc
 
 no_earlier : (n : ℕ) (o : Option ListWhy) (later : Option ListFault) → option_or (option_map (at_line n) o) later ≡ None → (o ≡ None) × (later ≡ None)
 no_earlier n None later e = (refl, e)
@@ -49,8 +43,8 @@ capitals_are (byte ∷ line) e =
 word_is : (line : List ℕ) → spelling_fault line ≡ None → is_word (capitals line) ≡ true
 unfolding spelling_fault
 word_is line e =
-    let first = passes (list_all is_ascii_alphabetic line) why.BadLetter (unless (has_word_length line) why.BadLength None) e in
-    let second = passes (has_word_length line) why.BadLength None first.1 in
+    let first = checked (list_all is_ascii_alphabetic line) why.BadLetter (passes (has_word_length line) why.BadLength ∷ []) e in
+    let second = checked (has_word_length line) why.BadLength [] first.1 in
     rw (capitals_are line first.0, length-map line to_ascii_uppercase) second.0
 
 -- a line without a fault keeps a word list
@@ -59,19 +53,19 @@ unfolding fault_of with_line
 proper_more words [] p e = p
 proper_more words (byte ∷ line) p e =
     let word = capitals (byte ∷ line) in
-    let parts = neither (spelling_fault (byte ∷ line)) (unless (leb (length (insert_key word_order words word)) most_words) why.TooMany None) e in
-    let room = passes (leb (length (insert_key word_order words word)) most_words) why.TooMany None parts.1 in
+    let parts = none_first (spelling_fault (byte ∷ line)) (passes (leb (length (insert_key word_order words word)) most_words) why.TooMany ∷ []) e in
+    let room = checked (leb (length (insert_key word_order words word)) most_words) why.TooMany [] parts.1 in
     record {
       ordered = ordered_more words word p.ordered;
       each = all_more is_word words word (word_is (byte ∷ line) parts.0) p.each;
       few = leb-true (length (insert_key word_order words word)) most_words room.0;
     }
 
-proper_from : (before rest : List (List ℕ)) → IsWordList (words_in before) → first_fault before rest ≡ None → IsWordList (words_in (before ++ rest))
-unfolding first_fault
+proper_from : (before rest : List (List ℕ)) → IsWordList (words_in before) → first_bad_line before rest ≡ None → IsWordList (words_in (before ++ rest))
+unfolding first_bad_line
 proper_from before [] p e = subst (λ lines. IsWordList (words_in lines)) (sym (append-nil before)) p
 proper_from before (line ∷ rest) p e =
-    let parts = no_earlier (length before + 1) (fault_of (words_in before) line) (first_fault (before ++ line ∷ []) rest) e in
+    let parts = no_earlier (length before + 1) (fault_of (words_in before) line) (first_bad_line (before ++ line ∷ []) rest) e in
     let more : IsWordList (words_in (before ++ line ∷ [])) = rw (words_in_more before line) (proper_more (words_in before) line p parts.0) in
     rw append_assoc at (proper_from (before ++ line ∷ []) rest more parts.1)
 
@@ -87,7 +81,7 @@ list_parts (Some fault) words list e = absurd cc
 pub list_proper : (lines list : List (List ℕ)) → list_in lines ≡ Ok list → IsWordList list
 unfolding list_in
 list_proper lines list e =
-    let parts = list_parts (first_fault [] lines) (words_in lines) list e in
+    let parts = list_parts (first_bad_line [] lines) (words_in lines) list e in
     subst IsWordList parts.1 (proper_from [] lines no_words parts.0)
 
 -- ---- the words that lines hold
@@ -128,7 +122,7 @@ holds_from word (byte ∷ line) h = (bytes_eq-Decides word (capitals (byte ∷ l
 pub list_holds : (lines list : List (List ℕ)) → list_in lines ≡ Ok list → HoldsWordsOf list lines
 unfolding list_in
 list_holds lines list e =
-    let parts = list_parts (first_fault [] lines) (words_in lines) list e in
+    let parts = list_parts (first_bad_line [] lines) (words_in lines) list e in
     subst (λ words. HoldsWordsOf words lines) parts.1 (λ word. (
       λ member. let some = Any-from_list_any (holds word) lines (sym (listed_in word lines) ∙ listed_from_member (words_in lines) word member) in
           (some.0, some.1, some.2, some.3, held word some.1 some.4),
@@ -138,27 +132,27 @@ list_holds lines list e =
 
 -- ---- the first fault
 
-first_fault-append : (a xs ys : List (List ℕ)) → first_fault a xs ≡ None → first_fault a (xs ++ ys) ≡ first_fault (a ++ xs) ys
-unfolding first_fault
-first_fault-append a [] ys e = rw (append-nil a) refl
-first_fault-append a (x ∷ xs) ys e =
-    let parts = no_earlier (length a + 1) (fault_of (words_in a) x) (first_fault (a ++ x ∷ []) xs) e in
-    let here : first_fault a (x ∷ (xs ++ ys)) ≡ first_fault (a ++ x ∷ []) (xs ++ ys) = rw parts.0 refl in
-    here ∙ first_fault-append (a ++ x ∷ []) xs ys parts.1 ∙ ap (λ front. first_fault front ys) (append_assoc a (x ∷ []) xs)
+first_bad_line-append : (a xs ys : List (List ℕ)) → first_bad_line a xs ≡ None → first_bad_line a (xs ++ ys) ≡ first_bad_line (a ++ xs) ys
+unfolding first_bad_line
+first_bad_line-append a [] ys e = rw (append-nil a) refl
+first_bad_line-append a (x ∷ xs) ys e =
+    let parts = no_earlier (length a + 1) (fault_of (words_in a) x) (first_bad_line (a ++ x ∷ []) xs) e in
+    let here : first_bad_line a (x ∷ (xs ++ ys)) ≡ first_bad_line (a ++ x ∷ []) (xs ++ ys) = rw parts.0 refl in
+    here ∙ first_bad_line-append (a ++ x ∷ []) xs ys parts.1 ∙ ap (λ front. first_bad_line front ys) (append_assoc a (x ∷ []) xs)
 
-one_more_none : (before : List (List ℕ)) (line : List ℕ) → first_fault [] before ≡ None → fault_of (words_in before) line ≡ None → first_fault [] (before ++ line ∷ []) ≡ None
-unfolding first_fault
-one_more_none before line e here = first_fault-append [] before (line ∷ []) e ∙ rw here refl
+one_more_none : (before : List (List ℕ)) (line : List ℕ) → first_bad_line [] before ≡ None → fault_of (words_in before) line ≡ None → first_bad_line [] (before ++ line ∷ []) ≡ None
+unfolding first_bad_line
+one_more_none before line e here = first_bad_line-append [] before (line ∷ []) e ∙ rw here refl
 
-first_from : (before rest : List (List ℕ)) (fault : ListFault) → first_fault [] before ≡ None → first_fault before rest ≡ Some fault → IsFirstFault (before ++ rest) fault
-unfolding first_fault list_in
+first_from : (before rest : List (List ℕ)) (fault : ListFault) → first_bad_line [] before ≡ None → first_bad_line before rest ≡ Some fault → IsFirstFault (before ++ rest) fault
+unfolding first_bad_line list_in
 first_from before [] fault none e = absurd cc
 first_from before (line ∷ rest) fault none e =
     by (fault_of (words_in before) line) refl (λ here later. first_from (before ++ line ∷ []) rest fault (one_more_none before line none here) later) e
   where
     by : (o : Option ListWhy) → fault_of (words_in before) line ≡ o
-        → (fault_of (words_in before) line ≡ None → first_fault (before ++ line ∷ []) rest ≡ Some fault → IsFirstFault ((before ++ line ∷ []) ++ rest) fault)
-        → option_or (option_map (at_line (length before + 1)) o) (first_fault (before ++ line ∷ []) rest) ≡ Some fault → IsFirstFault (before ++ line ∷ rest) fault
+        → (fault_of (words_in before) line ≡ None → first_bad_line (before ++ line ∷ []) rest ≡ Some fault → IsFirstFault ((before ++ line ∷ []) ++ rest) fault)
+        → option_or (option_map (at_line (length before + 1)) o) (first_bad_line (before ++ line ∷ []) rest) ≡ Some fault → IsFirstFault (before ++ line ∷ rest) fault
     by None here later e = subst (λ lines. IsFirstFault lines fault) (append_assoc before (line ∷ []) rest) (later here e)
     by (Some w) here later e =
         let is : at_line (length before + 1) w ≡ fault = cc in
@@ -178,8 +172,8 @@ fault_parts (Some f) words fault e = cc
 
 -- the fault of lines is that of the first with one
 pub list_first : (lines : List (List ℕ)) (fault : ListFault) → list_in lines ≡ Err fault → IsFirstFault lines fault
-unfolding list_in first_fault
-list_first lines fault e = first_from [] lines fault refl (fault_parts (first_fault [] lines) (words_in lines) fault e)
+unfolding list_in first_bad_line
+list_first lines fault e = first_from [] lines fault refl (fault_parts (first_bad_line [] lines) (words_in lines) fault e)
 
 -- the fault of a text that is not too long
 pub text_fault : (text : List ℕ) (lines : List (List ℕ)) (fault : ListFault) → length text ≤ most_list_bytes → lines ≡ lines_of text

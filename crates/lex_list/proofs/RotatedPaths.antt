@@ -64,10 +64,10 @@ behind_more words front rest label b =
       read = let read = b.read in cc;
     }
 
-behind_mark : (words : List (List ℕ)) (front rest : List ℕ) (label : ℕ) → label ≡ 0 → 0 < length front → 0 < length rest
+past_mark : (words : List (List ℕ)) (front rest : List ℕ) (label : ℕ) → label ≡ 0 → 0 < length front → 0 < length rest
     → Contains words (front ++ map letter_of rest) → Behind words front (label ∷ rest)
-behind_mark words front [] label zero some filled listed = absurd (omega arith)
-behind_mark words front (first ∷ rest) label zero some filled listed =
+past_mark words front [] label zero some filled listed = absurd (omega arith)
+past_mark words front (first ∷ rest) label zero some filled listed =
     let again = label_again (first ∷ rest) in
     record { more = []; back = map letter_of (first ∷ rest); listed = listed; some = some; read = cc }
 
@@ -90,7 +90,7 @@ behind_from_test words front (label ∷ rest) t = by (eqb label 0) refl t (behin
     by true is h f =
         let parts = and_parts (ltb 0 (length front) && ltb 0 (length rest)) (is_listed words (front ++ map letter_of rest)) h in
         let sizes = and_parts (ltb 0 (length front)) (ltb 0 (length rest)) parts.0 in
-        behind_mark words front rest label (eqb-true label 0 is) (ltb-true 0 (length front) sizes.0) (ltb-true 0 (length rest) sizes.1)
+        past_mark words front rest label (eqb-true label 0 is) (ltb-true 0 (length front) sizes.0) (ltb-true 0 (length rest) sizes.1)
         (member_from_listed words (front ++ map letter_of rest) parts.1)
     by false is h f = behind_more words front rest label (f h)
 

@@ -13,7 +13,7 @@ use Rattle.std.specs.BTreeSet.{insert_key}
 use Rattle.std.proofs.Common.{leb}
 use Rattle.lex_list.specs.declared.faults.ListWhy.TheVariants as why
 use Rattle.lex_list.specs.Words.{word_order, most_words}
-use Rattle.lex_list.specs.Lists.{with_line, words_in, spelling_fault, fault_of, first_fault, at_line, or_fault, list_in, line_in, capitals}
+use Rattle.lex_list.specs.Lists.{with_line, words_in, spelling_fault, fault_of, first_bad_line, at_line, or_fault, list_in, line_in, capitals}
 
 -- how much of a text is left
 abbrev pub size_of : Option (Bor (List ℕ)) → ℕ
@@ -26,7 +26,7 @@ pub record Progress (lines words : List (List ℕ)) (line : ℕ) (behind : List 
   pub before : List (List ℕ)
   pub count : length before ≡ line
   pub there : words ≡ words_in before
-  pub same : first_fault before behind ≡ first_fault [] lines
+  pub same : first_bad_line before behind ≡ first_bad_line [] lines
   pub whole : before ++ behind ≡ lines
 
 -- no line yet
@@ -56,17 +56,17 @@ words_in_more before line = fold-append with_line [] before (line ∷ [])
 pub progress_more : (lines words next : List (List ℕ)) (n : ℕ) (left : Option (Bor (List ℕ))) (rest : Bor (List ℕ)) (text : List ℕ) (others : List (List ℕ))
     → left ≡ Some rest → lines_in rest.now ≡ text ∷ others → line_in words (n + 1) text ≡ Ok next
     → Progress lines words n (lines_behind left) → Progress lines next (n + 1) others
-unfolding first_fault
+unfolding first_bad_line
 progress_more lines words next n left rest text others at cut step p =
     let fine = no_fault (fault_of words text) (n + 1) (with_line words text) next step in
     let behind : lines_behind left ≡ text ∷ others = rw at cut in
     let none : fault_of (words_in p.before) text ≡ None = rw p.there at fine.0 in
-    let here : first_fault p.before (text ∷ others) ≡ first_fault (p.before ++ text ∷ []) others = rw none refl in
+    let here : first_bad_line p.before (text ∷ others) ≡ first_bad_line (p.before ++ text ∷ []) others = rw none refl in
     record {
       before = p.before ++ text ∷ [];
       count = omega (arith, length_push p.before text, p.count);
       there = sym fine.1 ∙ ap (λ ws. with_line ws text) p.there ∙ sym (words_in_more p.before text);
-      same = sym here ∙ ap (first_fault p.before) (sym behind) ∙ p.same;
+      same = sym here ∙ ap (first_bad_line p.before) (sym behind) ∙ p.same;
       whole = append_assoc p.before (text ∷ []) others ∙ ap (λ rest. p.before ++ rest) (sym behind) ∙ p.whole;
     }
 
@@ -74,14 +74,14 @@ progress_more lines words next n left rest text others at cut step p =
 pub progress_fails : (lines words : List (List ℕ)) (n : ℕ) (left : Option (Bor (List ℕ))) (rest : Bor (List ℕ)) (text : List ℕ) (others : List (List ℕ)) (fault : ListFault)
     → left ≡ Some rest → lines_in rest.now ≡ text ∷ others → (fault ≡ no_memory) ⊎ (line_in words (n + 1) text ≡ Err fault)
     → Progress lines words n (lines_behind left) → (fault ≡ no_memory) ⊎ (list_in lines ≡ Err fault)
-unfolding first_fault list_in
+unfolding first_bad_line list_in
 progress_fails lines words n left rest text others fault at cut (inl memory) p = inl memory
 progress_fails lines words n left rest text others fault at cut (inr step) p =
     let found = some_fault (fault_of words text) (n + 1) (with_line words text) fault step in
     let behind : lines_behind left ≡ text ∷ others = rw at cut in
     let here : option_map (at_line (length p.before + 1)) (fault_of (words_in p.before) text) ≡ Some fault = rw (p.count, ← p.there) found in
-    let first : first_fault p.before (text ∷ others) ≡ Some fault = rw here refl in
-    let whole : first_fault [] lines ≡ Some fault = sym p.same ∙ ap (first_fault p.before) behind ∙ first in
+    let first : first_bad_line p.before (text ∷ others) ≡ Some fault = rw here refl in
+    let whole : first_bad_line [] lines ≡ Some fault = sym p.same ∙ ap (first_bad_line p.before) behind ∙ first in
     inr (rw whole refl)
 
 -- what is left grows shorter by more than the lines count up
@@ -124,9 +124,9 @@ line_good words new n (byte ∷ rest) word lt (e, spelt) is few =
 
 -- no more lines
 pub progress_done : (lines words : List (List ℕ)) (n : ℕ) (left : Option (Bor (List ℕ))) → left ≡ None → Progress lines words n (lines_behind left) → list_in lines ≡ Ok words
-unfolding first_fault list_in
+unfolding first_bad_line list_in
 progress_done lines words n left at p =
     let none : lines_behind left ≡ [] = rw at refl in
-    let fine : first_fault [] lines ≡ None = sym p.same ∙ ap (first_fault p.before) none in
+    let fine : first_bad_line [] lines ≡ None = sym p.same ∙ ap (first_bad_line p.before) none in
     let all : p.before ≡ lines = sym (append-nil p.before) ∙ ap (λ rest. p.before ++ rest) (sym none) ∙ p.whole in
     rw fine (ap Ok (sym (p.there ∙ ap words_in all)))

@@ -1,9 +1,9 @@
 -- Laws about the definitions that contracts cite.
-use Rattle.std.specs.Prelude.{◌≡◌, ℕ, Bool, List, Ok, IsTrue, ◌↔◌}
+use Rattle.std.specs.Prelude.{◌≡◌, ℕ, ◌<◌, Bool, List, ◌++◌, length, map, reverse, All, Ok, IsTrue, ◌↔◌}
 use Rattle.lex_list.specs.Lines.{lines_of}
 use Rattle.lex_list.specs.Lists.{list_of, HoldsWordsOf}
-use Rattle.lex_list.specs.RotatedPaths.{IsPath, is_path, StandsFor}
-use Rattle.lex_list.specs.Words.{IsWordList, has_capitals_alone}
+use Rattle.lex_list.specs.RotatedPaths.{letter_of, behind_mark, IsPath, is_path, StandsFor}
+use Rattle.lex_list.specs.Words.{is_listed, IsWordList, has_capitals_alone}
 
 -- A text that has a meaning means a word list, and its words are those that the lines of the text hold.
 abbrev pub MeaningsAreLists : Type 0
@@ -22,3 +22,10 @@ abbrev pub StandingIsExact : Type 0
 StandingIsExact =
     (words : List (List ℕ)) → IsTrue (has_capitals_alone words) → (language : List ℕ → Bool) → StandsFor language words
     → (string : List ℕ) → IsTrue (language string) ↔ IsPath words string
+
+-- What stands for the rotated paths of words has the splits of each word: labels, none of them the mark, and others behind
+-- a mark, are in it exactly where the first read backwards and then the others are a word.
+abbrev pub SplitsAreStrings : Type 0
+SplitsAreStrings =
+    (words : List (List ℕ)) (language : List ℕ → Bool) → StandsFor language words → (labels rest : List ℕ) → 0 < length labels → All (λ label. 0 < label) labels
+    → language (labels ++ behind_mark rest) ≡ is_listed words (map letter_of (reverse labels ++ rest))

@@ -1,10 +1,11 @@
 -- The word list of a text: the set of the words of its lines, or the first fault.
-use Rattle.std.specs.Prelude.{◌≡◌, ◌≢◌, ◌⊎◌, ℕ, ◌+◌, ◌<◌, ◌≤◌, Bool, true, false, nat_lt, nat_le, List, [], ◌∷◌, ◌++◌, length, map, Option, Some, None, Result, Ok, Err, ◌↔◌, if◌then◌else◌}
+use Rattle.std.specs.Prelude.{◌≡◌, ◌≢◌, ◌⊎◌, ℕ, ◌+◌, ◌<◌, ◌≤◌, nat_lt, nat_le, List, [], ◌∷◌, ◌++◌, length, map, Option, Some, None, Result, Ok, Err, ◌↔◌, if◌then◌else◌}
 use Rattle.std.specs.BTreeSet.{BTreeSet, insert_key}
 use Rattle.std.specs.Char.{is_ascii_alphabetic, to_ascii_uppercase}
 use Rattle.std.specs.List.{fold, list_all, Any, Contains}
 use Rattle.std.specs.Option.{option_or}
 use Rattle.std.specs.Prelude.{option_map}
+use Rattle.check_lists.specs.Checks.{passes, first_fault}
 use Rattle.lex_list.specs.declared.faults.ListWhy.{ListWhy}
 use Rattle.lex_list.specs.declared.faults.ListWhy.TheVariants as why
 use Rattle.lex_list.specs.declared.faults.ListFault.{ListFault}
@@ -29,34 +30,27 @@ with_line words (byte ∷ line) = insert_key word_order words (capitals (byte �
 unfoldable pub words_in : List (List ℕ) → List (List ℕ)
 words_in lines = fold with_line [] lines
 
--- a fault where a test fails, else what comes behind it
-abbrev pub unless : Bool → ListWhy → Option ListWhy → Option ListWhy
-unless true fault rest = rest
-unless false fault rest = Some fault
-
 -- what is wrong with the bytes of a line that is not empty: all are letters, of either case, and 2 to 15
 unfoldable pub spelling_fault : List ℕ → Option ListWhy
 spelling_fault line =
-    unless (list_all is_ascii_alphabetic line) why.BadLetter
-    (unless (has_word_length line) why.BadLength None)
+    first_fault (passes (list_all is_ascii_alphabetic line) why.BadLetter ∷ passes (has_word_length line) why.BadLength ∷ [])
 
 -- What is wrong with a line behind these words: its bytes, or that with its word there are too many. An empty line
 -- is read over.
 unfoldable pub fault_of : List (List ℕ) → List ℕ → Option ListWhy
 fault_of words [] = None
 fault_of words (byte ∷ line) =
-    option_or (spelling_fault (byte ∷ line))
-    (unless (nat_le (length (with_line words (byte ∷ line))) most_words) why.TooMany None)
+    first_fault (spelling_fault (byte ∷ line) ∷ passes (nat_le (length (with_line words (byte ∷ line))) most_words) why.TooMany ∷ [])
 
 -- a fault on a line
 abbrev pub at_line : ℕ → ListWhy → ListFault
 at_line line w = record { line = line; why = w }
 
 -- the first fault of further lines; the lines before them have none, and are numbered from 1
-unfoldable pub first_fault : List (List ℕ) → List (List ℕ) → Option ListFault
-first_fault before [] = None
-first_fault before (line ∷ rest) =
-    option_or (option_map (at_line (length before + 1)) (fault_of (words_in before) line)) (first_fault (before ++ line ∷ []) rest)
+unfoldable pub first_bad_line : List (List ℕ) → List (List ℕ) → Option ListFault
+first_bad_line before [] = None
+first_bad_line before (line ∷ rest) =
+    option_or (option_map (at_line (length before + 1)) (fault_of (words_in before) line)) (first_bad_line (before ++ line ∷ []) rest)
 
 -- a value, unless there is a fault
 abbrev pub or_fault : {A : Type 0} → Option ListFault → A → Result A ListFault
@@ -65,7 +59,7 @@ or_fault (Some fault) x = Err fault
 
 -- the words of lines, or their first fault
 unfoldable pub list_in : List (List ℕ) → Result (List (List ℕ)) ListFault
-list_in lines = or_fault (first_fault [] lines) (words_in lines)
+list_in lines = or_fault (first_bad_line [] lines) (words_in lines)
 
 -- the words of a text that is not too long, or its first fault
 unfoldable pub list_of : List ℕ → Result (List (List ℕ)) ListFault

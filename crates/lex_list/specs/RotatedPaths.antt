@@ -35,6 +35,11 @@ pub record IsPath (words : List (List ℕ)) (string : List ℕ) : Type 0 where
   pub some : 0 < length front
   pub path : string ≡ path_of front back
 
+-- labels behind a mark, where there are some
+abbrev pub behind_mark : List ℕ → List ℕ
+behind_mark [] = []
+behind_mark (label ∷ rest) = mark ∷ label ∷ rest
+
 -- ---- the test: the string is cut at its first mark, and the word is read back
 
 -- Whether a string, read on behind a front, ends as a path of one of the words does. The front so far is read back from

@@ -1,6 +1,6 @@
 //! Laws about the definitions that the contracts of word lists and lexicons cite. The functions do nothing: their
 //! contracts are the laws.
-ghost use Rattle.lex_list.specs.Laws.{MeaningsAreLists, ListsHaveCapitals, PathsAreTested, StandingIsExact};
+ghost use Rattle.lex_list.specs.Laws.{MeaningsAreLists, ListsHaveCapitals, PathsAreTested, StandingIsExact, SplitsAreStrings};
 
 /// A text that has a meaning means a word list: capitals alone, 2 to 15 a word, the words strictly rising in byte
 /// order, 400,000 at most. Its words are those that the lines of the text hold, and no others.
@@ -15,4 +15,11 @@ pub fn law_of_lists()
 pub fn law_of_paths()
     ensures tested { PathsAreTested }
     ensures standing { StandingIsExact }
+{}
+
+/// What stands for the rotated paths of words has each word once for each of its splits: some labels, and the others of
+/// the word behind a mark, are one of its strings exactly where the first labels, read backwards, and then the others
+/// make a listed word. With no others, and no mark, the labels are the whole word backwards.
+pub fn law_of_splits()
+    ensures { SplitsAreStrings }
 {}

@@ -13,6 +13,6 @@ mod reading;
 mod words;
 
 pub use faults::{ListFault, ListWhy};
-pub use laws::{law_of_lists, law_of_paths};
+pub use laws::{law_of_lists, law_of_paths, law_of_splits};
 pub use lists::WordList;
 pub use reading::{MAX_BYTES, MAX_WORDS};

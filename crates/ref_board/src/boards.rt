@@ -1,7 +1,9 @@
 ghost use Rattle.std.specs.Prelude.{◌≡◌, ◌↔◌, true, ◌<◌, IsTrue, IsSome, length, Some, None, OnSome};
-ghost use Rattle.ref_board.specs.Cells.{empty_board, tile_at, holds, with_tile, HasNoTile, occupied_on};
+ghost use Rattle.ref_board.specs.Cells.{empty_board, tile_at, holds, with_tile, HasNoTile, occupied_on, transposed, AreTransposed};
+ghost use Rattle.ref_board.specs.Anchors.{centre, IsAnchor};
 ghost use Rattle.ref_board.specs.Runs.{IsRunThrough, IsFirstBack, IsEndOn};
 
+use crate::anchors::touches;
 use crate::directions::Dir;
 use crate::squares::{SIDE, Square};
 use ref_tiles::Tile;
@@ -90,6 +92,34 @@ impl Board {
         &self.cells
     }
 
+    /// Whether a square is an anchor: an empty square orthogonally beside a tile, or the centre, 8H, of an empty board.
+    /// Each legal play covers one (Appel and Jacobson 1988, The World's Fastest Scrabble Program).
+    pub fn is_anchor(&self, square: Square) -> bool
+        ensures { IsTrue result ↔ IsAnchor self.now square }
+    {
+        let free = self.cells[square.number()].is_none();
+        free && (self.opens_at(square) || touches(self, square))
+    }
+
+    /// Whether the board is empty and the square its centre, 8H, which the first play covers.
+    fn opens_at(&self, square: Square) -> bool
+        ensures { IsTrue result ↔ (square ≡ centre) × HasNoTile self.now }
+    {
+        square == Square::on_line(Dir::Across, 7, 7) && self.is_empty()
+    }
+
+    /// The board with its rows and columns exchanged: each row has the tiles of the column with its number.
+    pub fn transposed(&self) -> Board
+        ensures board { result ≡ transposed self.now }
+        ensures exact { AreTransposed self.now result }
+    {
+        let mut cells = [None; SQUARES];
+        for number in 0..SQUARES {
+            cells[number] = self.cells[SIDE * (number % SIDE) + number / SIDE];
+        }
+        Board { cells }
+    }
+
     /// The run through a square that has a tile: the maximal stretch of tiles in a direction, as its first
     /// square and how many tiles it has. A single tile is a run of one.
     pub fn run(&self, square: Square, dir: Dir) -> (Square, usize)
@@ -111,8 +141,9 @@ impl Board {
         self.at(Square::on_line(dir, line, place)).is_some()
     }
 
-    /// The first place of the stretch of tiles that ends at a place.
-    fn first_of_run(&self, dir: Dir, line: usize, place: usize) -> usize
+    /// The first place of the stretch of tiles that ends directly before a place of a line; the place itself where the one
+    /// before it has none.
+    pub fn first_of_run(&self, dir: Dir, line: usize, place: usize) -> usize
         requires line { line < 15 }
         requires place { place < 15 }
         ensures { IsFirstBack (occupied_on dir self.now line) place result }
@@ -124,8 +155,9 @@ impl Board {
         first
     }
 
-    /// The place after the stretch of tiles that goes on behind a place.
-    fn end_of_run(&self, dir: Dir, line: usize, place: usize) -> usize
+    /// The place after the stretch of tiles that begins directly behind a place of a line; the next place where that has
+    /// none.
+    pub fn end_of_run(&self, dir: Dir, line: usize, place: usize) -> usize
         requires line { line < 15 }
         requires place { place < 15 }
         ensures { IsEndOn (occupied_on dir self.now line) place result }

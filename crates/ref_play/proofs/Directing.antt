@@ -30,7 +30,7 @@ is_play-turned d e ps play line =
     and_from front (are_in_line e ps) (and_parts front (are_in_line d ps) play).0 line
 
 -- the stretch of a play, as the run through its first tile
-stretch_is_run : (d : Dir) (after : List (Option Tile)) (p : Placed) (ps : List Placed) (first len : ℕ) → p.square < 225
+pub stretch_is_run : (d : Dir) (after : List (Option Tile)) (p : Placed) (ps : List Placed) (first len : ℕ) → p.square < 225
     → LiesIn d after (p ∷ ps) (line_of d p.square) first len → IsRunThrough after d p.square (square_at d (line_of d p.square) first) len
 stretch_is_run d after p ps first len on lies =
     let line = line_of d p.square in

@@ -1,9 +1,9 @@
 -- Plays of one tile have no direction, plays of more have one.
 use Rattle.std.proofs.Common.{◌≡◌, ℕ, ◌-◌, true, false, ◌==◌, nat_lt, List, [], ◌∷◌, ◌++◌, length, refl, ap, arith, Option}
-use Rattle.std.specs.Prelude.{IsPermutation}
+use Rattle.std.specs.Prelude.{All, IsPermutation}
 use Rattle.std.specs.List.{list_all}
 use Rattle.std.proofs.lemmas.List.{length-append}
-use Rattle.std.proofs.lemmas.List.Sorted.{IsPermutation-append_comm, IsPermutation-map}
+use Rattle.std.proofs.lemmas.List.Sorted.{All-permutation, IsPermutation-append_comm, IsPermutation-map, IsPermutation-sym}
 use Rattle.std.proofs.lemmas.Bool.{and_parts, ltb-true}
 use Rattle.ref_tiles.specs.declared.tiles.Tile.{Tile}
 use Rattle.ref_board.specs.declared.directions.Dir.{Dir}
@@ -47,6 +47,15 @@ words-both board ps =
     let after = with_tiles board ps in
     IsPermutation-map (letters_of after) (runs_formed Across after ps) (runs_formed Down after ps)
     (IsPermutation-append_comm (runs_along Across after ps) (runs_along Down after ps))
+
+-- the words are the same in both directions
+pub words_across : (P : List ℕ → Type 0) (d : Dir) (board : List (Option Tile)) (ps : List Placed) → All P (words_formed d board ps) → All P (words_formed Across board ps)
+words_across P Across board ps h = h
+words_across P Down board ps h = All-permutation P (words_formed Down board ps) (words_formed Across board ps) (IsPermutation-sym (words_formed Across board ps) (words_formed Down board ps) (words-both board ps)) h
+
+pub words_along : (P : List ℕ → Type 0) (d : Dir) (board : List (Option Tile)) (ps : List Placed) → All P (words_formed Across board ps) → All P (words_formed d board ps)
+words_along P Across board ps h = h
+words_along P Down board ps h = All-permutation P (words_formed Across board ps) (words_formed Down board ps) (words-both board ps) h
 
 pub more_tiles : (ps : List Placed) → is_play Across ps ≡ true → is_play Down ps ≡ true → length ps ≡ 1
 more_tiles [] across down = let parts = is_play-parts Across [] across in absurd (omega (arith, parts.0))

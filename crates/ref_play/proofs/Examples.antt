@@ -1,28 +1,30 @@
 -- Plays, their faults, words and scores as the definitions give them, computed. Squares are numbered row by row from
 -- 1A, which is 0: 8E is 109 and 9G is 126.
-use Rattle.std.proofs.Common.{◌≡◌, ℕ, List, [], ◌∷◌, Option, Some, None, refl}
+use Rattle.std.proofs.Common.{◌≡◌, ℕ, List, [], ◌∷◌, map, Option, Some, None, inr, refl, lit<}
 use Rattle.std.specs.Prelude.{codes}
 use Rattle.std.specs.List.{flat_map}
 use Rattle.ref_tiles.specs.declared.tiles.Tile.{Tile}
 use Rattle.ref_tiles.specs.declared.symbols.Symbol.{Symbol}
-use Rattle.ref_tiles.specs.declared.rulebook.Rules.{Rules}
-use Rattle.ref_tiles.specs.English.{english_counts, english_points, english_premiums}
+use Rattle.ref_tiles.specs.declared.letters.Letter.{Letter}
+use Rattle.ref_tiles.specs.English.{english, english_premiums}
 use Rattle.ref_tiles.specs.Letters.{letter_at}
-use Rattle.ref_tiles.specs.Limits.{most_tiles}
+use Rattle.ref_tiles.specs.Faces.{letter_tile, blank_tile}
 use Rattle.ref_tiles.specs.Symbols.{symbol_of}
 use Rattle.ref_board.specs.declared.directions.Dir.{Dir}
 use Rattle.ref_board.specs.declared.directions.Dir.TheVariants.{Across, Down}
 use Rattle.ref_board.specs.Cells.{empty_board}
+use Rattle.ref_board.specs.Anchors.{IsAnchor}
 use Rattle.ref_play.specs.declared.placed.Placed.{Placed}
 use Rattle.ref_play.specs.declared.faults.PlayFault.{PlayFault}
 use Rattle.ref_play.specs.declared.faults.PlayFault.TheVariants as fault
 use Rattle.ref_play.specs.Placements.{with_tiles}
 use Rattle.ref_play.specs.Formed.{stretches_on, runs_along}
 use Rattle.ref_play.specs.Words.{words_formed, letters_of}
-use Rattle.ref_play.specs.Legality.{fault_of, check, overlaps, has_gap, has_no_tile, misses_centre, is_too_short, is_apart}
+use Rattle.ref_play.specs.Legality.{fault_of, overlaps, has_gap, has_no_tile, misses_centre, is_too_short, is_apart}
 use Rattle.ref_play.specs.Texts.{text_cells, placement_of, text_fault, mismatches, is_open_ended}
 use Rattle.ref_play.specs.Scores.{score_of, letters_score, words_factor}
 use Rattle.ref_play.specs.Notations.{Written, notation_of}
+use Rattle.ref_play.specs.Crosses.{old_points, cross_runs, cross_words, cross_score}
 
 abbrev listed : Option Symbol → List Symbol
 listed None = []
@@ -50,27 +52,6 @@ after_word = with_tiles empty_board (tiles_of empty_board Across 109 (codes "WOR
 abbrev after_at : List (Option Tile)
 after_at = with_tiles after_word (tiles_of after_word Across 126 (codes "AT"))
 
--- the English game
-english : Rules
-unfolding most_tiles
-english = record {
-  counts = english_counts;
-  points = english_points;
-  premiums = english_premiums;
-  bonus = 50;
-  exchange_min = 7;
-  zero_limit = 6;
-  challenge_unit = 5;
-  time_step = 5;
-  tiles_in_limits = refl;
-  points_in_limits = refl;
-  bonus_in_limits = refl;
-  exchange_in_limits = refl;
-  zero_in_limits = refl;
-  challenge_in_limits = refl;
-  time_in_limits = refl;
-}
-
 -- what the text scores
 abbrev scores : List (Option Tile) → Dir → ℕ → List ℕ → ℕ
 scores board d at bytes = score_of english board (tiles_of board d at bytes)
@@ -84,56 +65,56 @@ notates board d at bytes = notation_of board (tiles_of board d at bytes)
 
 -- the faults of texts
 word_names_a_play : text_fails empty_board Across 109 (codes "WORD") ≡ None
-unfolding text_fault check empty_board mismatches text_cells placement_of is_open_ended letter_at
+unfolding text_fault empty_board mismatches text_cells placement_of is_open_ended letter_at
 word_names_a_play = refl
 
 row_is_left : text_fails empty_board Across 118 (codes "ABC") ≡ Some fault.OffBoard
-unfolding text_fault check empty_board mismatches text_cells placement_of is_open_ended letter_at
+unfolding text_fault empty_board mismatches text_cells placement_of is_open_ended letter_at
 row_is_left = refl
 
 letter_on_another : text_fails after_word Across 108 (codes "QUA") ≡ Some fault.Mismatch
-unfolding text_fault check empty_board mismatches text_cells placement_of is_open_ended letter_at
+unfolding text_fault empty_board mismatches text_cells placement_of is_open_ended letter_at
 letter_on_another = refl
 
 dots_alone : text_fails after_word Across 109 (codes "....") ≡ Some fault.NoNewTile
-unfolding text_fault check empty_board mismatches text_cells placement_of is_open_ended letter_at
+unfolding text_fault empty_board mismatches text_cells placement_of is_open_ended letter_at
 dots_alone = refl
 
 eight_tiles : text_fails after_word Across 0 (codes "ABCDEFGH") ≡ Some fault.TooManyTiles
-unfolding text_fault check empty_board mismatches text_cells placement_of is_open_ended letter_at
+unfolding text_fault empty_board mismatches text_cells placement_of is_open_ended letter_at
 eight_tiles = refl
 
 front_of_a_word : text_fails after_word Across 108 (codes "S") ≡ Some fault.NotWhole
-unfolding text_fault check empty_board mismatches text_cells placement_of is_open_ended letter_at
+unfolding text_fault empty_board mismatches text_cells placement_of is_open_ended letter_at
 front_of_a_word = refl
 
 back_of_a_word : text_fails after_word Across 113 (codes "S") ≡ Some fault.NotWhole
-unfolding text_fault check empty_board mismatches text_cells placement_of is_open_ended letter_at
+unfolding text_fault empty_board mismatches text_cells placement_of is_open_ended letter_at
 back_of_a_word = refl
 
 -- the faults of plays
 word_is_legal : play_fails empty_board Across 109 (codes "WORD") ≡ None
-unfolding fault_of check empty_board overlaps has_gap has_no_tile misses_centre is_too_short is_apart runs_along stretches_on text_cells placement_of letter_at
+unfolding fault_of empty_board overlaps has_gap has_no_tile misses_centre is_too_short is_apart runs_along stretches_on text_cells placement_of letter_at
 word_is_legal = refl
 
 beside_the_centre : play_fails empty_board Across 108 (codes "WORD") ≡ Some fault.MissesCentre
-unfolding fault_of check empty_board overlaps has_gap has_no_tile misses_centre is_too_short is_apart runs_along stretches_on text_cells placement_of letter_at
+unfolding fault_of empty_board overlaps has_gap has_no_tile misses_centre is_too_short is_apart runs_along stretches_on text_cells placement_of letter_at
 beside_the_centre = refl
 
 in_a_corner : play_fails empty_board Across 224 (codes "A") ≡ Some fault.MissesCentre
-unfolding fault_of check empty_board overlaps has_gap has_no_tile misses_centre is_too_short is_apart runs_along stretches_on text_cells placement_of letter_at
+unfolding fault_of empty_board overlaps has_gap has_no_tile misses_centre is_too_short is_apart runs_along stretches_on text_cells placement_of letter_at
 in_a_corner = refl
 
 one_letter : play_fails empty_board Across 112 (codes "A") ≡ Some fault.TooShort
-unfolding fault_of check empty_board overlaps has_gap has_no_tile misses_centre is_too_short is_apart runs_along stretches_on text_cells placement_of letter_at
+unfolding fault_of empty_board overlaps has_gap has_no_tile misses_centre is_too_short is_apart runs_along stretches_on text_cells placement_of letter_at
 one_letter = refl
 
 far_away : play_fails after_word Across 0 (codes "AT") ≡ Some fault.Apart
-unfolding fault_of check empty_board overlaps has_gap has_no_tile misses_centre is_too_short is_apart runs_along stretches_on text_cells placement_of letter_at
+unfolding fault_of empty_board overlaps has_gap has_no_tile misses_centre is_too_short is_apart runs_along stretches_on text_cells placement_of letter_at
 far_away = refl
 
 below_a_word : play_fails after_word Across 126 (codes "AT") ≡ None
-unfolding fault_of check empty_board overlaps has_gap has_no_tile misses_centre is_too_short is_apart runs_along stretches_on text_cells placement_of letter_at
+unfolding fault_of empty_board overlaps has_gap has_no_tile misses_centre is_too_short is_apart runs_along stretches_on text_cells placement_of letter_at
 below_a_word = refl
 
 -- the words, that of the direction first
@@ -200,3 +181,36 @@ oe_is_written_across = refl
 lone_tile_is_written_down : notates after_word Across 124 (codes "A") ≡ written Down 109 (codes ".A")
 unfolding notation_of empty_board runs_along stretches_on text_cells placement_of letter_at
 lone_tile_is_written_down = refl
+
+-- A new tile on 8H between an A on 8G and an A on 8I: across it makes one run of three tiles, two points of them old, and
+-- an S there scores three points on the double word score of the centre. Down it makes no run.
+abbrev between_two : List (Option Tile)
+between_two = with_tiles (with_tiles empty_board (tiles_of empty_board Across 111 (codes "A"))) (tiles_of empty_board Across 113 (codes "A"))
+
+abbrev letter_s : Letter
+letter_s = record { index = 18; in_range = lit< tt }
+
+s_crosses : cross_words Across between_two 112 (letter_tile letter_s) ≡ codes "ASA" ∷ []
+unfolding letters_of empty_board stretches_on text_cells placement_of letter_at
+s_crosses = refl
+
+blank_s_crosses : cross_words Across between_two 112 (blank_tile letter_s) ≡ codes "ASA" ∷ []
+unfolding letters_of empty_board stretches_on text_cells placement_of letter_at
+blank_s_crosses = refl
+
+s_has_no_word_down : cross_words Down between_two 112 (letter_tile letter_s) ≡ []
+unfolding letters_of empty_board stretches_on text_cells placement_of letter_at
+s_has_no_word_down = refl
+
+two_points_are_old : map (old_points english between_two) (cross_runs Across between_two 112 (letter_tile letter_s)) ≡ 2 ∷ []
+unfolding english english_premiums empty_board stretches_on text_cells placement_of letter_at
+two_points_are_old = refl
+
+s_scores_across : cross_score english Across between_two 112 (letter_tile letter_s) ≡ 6
+unfolding english english_premiums empty_board stretches_on text_cells placement_of letter_at
+s_scores_across = refl
+
+-- 8H is an anchor of that board
+between_is_an_anchor : IsAnchor between_two 112
+unfolding empty_board text_cells placement_of letter_at
+between_is_an_anchor = record { free = refl; near = inr (111, (Across, refl, inr refl), refl) }

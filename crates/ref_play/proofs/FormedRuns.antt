@@ -22,21 +22,21 @@ use Rattle.ref_play.specs.Words.{IsWithin}
 use Rattle.ref_play.proofs.PlaceLaws.{is_play-parts, on_board, on_one_line, with_tiles-holds}
 
 -- two tests that say the same
-same_test : (a b : Bool) → (a ≡ true → b ≡ true) → (b ≡ true → a ≡ true) → a ≡ b
+pub same_test : (a b : Bool) → (a ≡ true → b ≡ true) → (b ≡ true → a ≡ true) → a ≡ b
 same_test true b f g = sym (f refl)
 same_test false true f g = g refl
 same_test false false f g = refl
 
-flat_map_agree : {X A : Type 0} (f g : X → List A) → ((x : X) → f x ≡ g x) → (xs : List X) → flat_map f xs ≡ flat_map g xs
+pub flat_map_agree : {X A : Type 0} (f g : X → List A) → ((x : X) → f x ≡ g x) → (xs : List X) → flat_map f xs ≡ flat_map g xs
 flat_map_agree f g h [] = refl
 flat_map_agree f g h (x ∷ xs) = ap (λ ys. ys ++ flat_map f xs) (h x) ∙ ap (λ ys. g x ++ ys) (flat_map_agree f g h xs)
 
 -- the stretches of a line depend on which stretches are formed
-stretches_same : (occupied f g : ℕ → Bool) → ((k l : ℕ) → is_formed occupied f k l ≡ is_formed occupied g k l) → stretches_on occupied f ≡ stretches_on occupied g
+pub stretches_same : (old new f g : ℕ → Bool) → ((k l : ℕ) → is_formed old f k l ≡ is_formed new g k l) → stretches_on old f ≡ stretches_on new g
 unfolding stretches_on
-stretches_same occupied f g h =
-    flat_map_agree (λ first. map (λ len. (first, len)) (filter (is_formed occupied f first) (range_with_len 2 14))) (λ first. map (λ len. (first, len)) (filter (is_formed occupied g first) (range_with_len 2 14)))
-    (λ first. ap (map (λ (len : ℕ). (first, len))) (filter_agree (is_formed occupied f first) (is_formed occupied g first) (h first) (range_with_len 2 14)))
+stretches_same old new f g h =
+    flat_map_agree (λ first. map (λ len. (first, len)) (filter (is_formed old f first) (range_with_len 2 14))) (λ first. map (λ len. (first, len)) (filter (is_formed new g first) (range_with_len 2 14)))
+    (λ first. ap (map (λ (len : ℕ). (first, len))) (filter_agree (is_formed old f first) (is_formed new g first) (h first) (range_with_len 2 14)))
     (range_with_len 0 15)
 
 -- new places that are the same on the line form the same stretches
@@ -47,7 +47,7 @@ stretches_agree occupied f g h =
     let parts = is_formed-parts occupied p k l t in
     let inside = parts.0.inside in
     is_formed-from occupied q k l parts.1.0 parts.0 parts.1.1 parts.1.2 (sym (same parts.1.0 (omega arith)) ∙ parts.1.3) in
-    stretches_same occupied f g (λ k l. same_test (is_formed occupied f k l) (is_formed occupied g k l) (onto f g h k l) (onto g f (λ place below. sym (h place below)) k l))
+    stretches_same occupied occupied f g (λ k l. same_test (is_formed occupied f k l) (is_formed occupied g k l) (onto f g h k l) (onto g f (λ place below. sym (h place below)) k l))
 
 -- a whole stretch reaches as far as the tiles do
 pub reach : (occupied : ℕ → Bool) (k l a b : ℕ) → IsWhole occupied k l → k ≤ a → a < k + l → b < 15 → occupied b ≡ true
@@ -65,7 +65,7 @@ reach occupied k l a b w low high below here up down =
     (from, upto)
 
 -- the tile that covers a square
-covering : (ps : List Placed) (square : ℕ) → covers ps square ≡ true → (q : Placed) × Contains ps q × (q.square ≡ square)
+pub covering : (ps : List Placed) (square : ℕ) → covers ps square ≡ true → (q : Placed) × Contains ps q × (q.square ≡ square)
 covering ps square e =
     let found = list_any-found (λ (q : Placed). q.square == square) ps e in (found.0, found.1, eqb-true found.0.square square found.2)
 
@@ -120,7 +120,7 @@ along_line d after p ps laid =
     let here : z ≡ start = eqb-true z start formed.1.3 in
     let is_new : fresh z ≡ true = covered (p ∷ ps) (square_at d line z) p (Contains-here p ps) (sym start_is ∙ ap (square_at d line) (sym here)) in
     is_formed-from occupied fresh k l z formed.0 formed.1.1 formed.1.2 is_new in
-    stretches_same occupied fresh (λ place. place == start) (λ k l. same_test (is_formed occupied fresh k l) (is_formed occupied (λ place. place == start) k l) (onto k l) (back k l))
+    stretches_same occupied occupied fresh (λ place. place == start) (λ k l. same_test (is_formed occupied fresh k l) (is_formed occupied (λ place. place == start) k l) (onto k l) (back k l))
 
 -- along its direction a play without a gap forms the run through its first tile, and no other
 pub along_runs : (d : Dir) (after : List (Option Tile)) (p : Placed) (ps : List Placed) → IsLaid d after (p ∷ ps) → runs_along d after (p ∷ ps) ≡ runs_through d after p.square
@@ -180,7 +180,7 @@ other_line Across square = refl
 other_line Down square = refl
 
 -- a square is known by its line and its place in the other direction
-same_by_lines : (d : Dir) (a b : ℕ) → line_of d a ≡ line_of d b → line_of (other_dir d) a ≡ line_of (other_dir d) b → a ≡ b
+pub same_by_lines : (d : Dir) (a b : ℕ) → line_of d a ≡ line_of d b → line_of (other_dir d) a ≡ line_of (other_dir d) b → a ≡ b
 same_by_lines d a b l o = same_square d a b l (sym (other_line d a) ∙ o ∙ other_line d b)
 
 -- in the other direction the lines of a play rise with its tiles

@@ -1,10 +1,12 @@
 -- A play has no fault exactly where it is legal.
-use Rattle.std.proofs.Common.{◌≡◌, ℕ, zero, suc, ◌+◌, ◌-◌, ◌<◌, ◌≤◌, Bool, true, false, not, ◌||◌, nat_lt, List, [], ◌∷◌, length, refl, sym, ap, ◌∙◌, subst, arith, ◌⊎◌, inl, inr, ⊎_elim, Option, Some, None, is_some, Result, Ok, Err, is_ok}
+use Rattle.std.proofs.Common.{◌≡◌, ℕ, zero, suc, ◌-◌, ◌<◌, ◌≤◌, true, false, not, nat_lt, List, [], ◌∷◌, length, refl, sym, ap, ◌∙◌, subst, arith, ◌⊎◌, inl, inr, ⊎_elim, Option, Some, None, is_some, Result, Ok, Err, is_ok}
 use Rattle.std.specs.Prelude.{Contains, All, ◌↔◌, is_none}
 use Rattle.std.specs.List.{list_any, list_all, range_with_len}
 use Rattle.std.proofs.lemmas.List.Elements.{All-weaker}
 use Rattle.std.proofs.lemmas.List.Folds.{list_any_none}
-use Rattle.std.proofs.lemmas.Bool.{false≢true, cases_eq, cases_Bool, or_cases, or_left, or_right, and_parts, and_from, and_left, and_right, and_cases, both_ways, ltb-true, lt-ltb, not-false, not_from_true, false_from_ne_true}
+use Rattle.std.proofs.lemmas.Bool.{false≢true, cases_eq, cases_Bool, and_parts, and_from, and_left, and_right, and_cases, both_ways, not-false, not_from_true, false_from_ne_true}
+use Rattle.check_lists.specs.Checks.{Refuses}
+use Rattle.check_lists.proofs.CheckLaws.{check-none, check-from}
 use Rattle.ref_tiles.specs.declared.tiles.Tile.{Tile}
 use Rattle.ref_board.specs.declared.directions.Dir.{Dir}
 use Rattle.ref_board.specs.declared.directions.Dir.TheVariants.{Across, Down}
@@ -15,11 +17,14 @@ use Rattle.ref_play.specs.declared.runs.Run.{Run}
 use Rattle.ref_play.specs.declared.faults.PlayFault.{PlayFault}
 use Rattle.ref_play.specs.Placements.{are_rising, are_in_line, is_play, with_tiles, covers}
 use Rattle.ref_play.specs.Formed.{MeetsRun, runs_formed}
-use Rattle.ref_play.specs.Legality.{centre, AreBeside, HasNoGap, IsLegal, follows_tile, precedes_tile, touches, last_square, overlaps, has_gap, has_no_tile, misses_centre, is_too_short, is_apart, check, fault_of, Refuses}
+use Rattle.ref_board.specs.Anchors.{centre, AreBeside, touches}
+use Rattle.ref_board.proofs.AnchorLaws.{touches-beside, beside-touches}
+use Rattle.ref_play.specs.Legality.{HasNoGap, IsLegal, last_square, overlaps, has_gap, has_no_tile, misses_centre, is_too_short, is_apart, fault_of}
 use Rattle.ref_play.proofs.RangeLaws.{list_any-found, list_any-in, list_any-none, Contains-here, some_element, not_empty}
-use Rattle.ref_play.proofs.LineLaws.{line_of-square_at, place_of-square_at, square_at-of, line_below, place_below, same_square, place_rises, list_all_at, list_all_from}
+use Rattle.ref_play.proofs.LineLaws.{square_at-of, place_rises, list_all_at, list_all_from}
 use Rattle.ref_play.proofs.RunLaws.{runs_formed-meet}
-use Rattle.ref_play.proofs.PlaceLaws.{is_play-parts, on_board, on_one_line, behind_first, before_last, last_is_there, with_tiles-holds, holds_within}
+use Rattle.ref_play.proofs.FormedRuns.{same_by_lines}
+use Rattle.ref_play.proofs.PlaceLaws.{is_play-parts, on_board, on_one_line, behind_first, before_last, last_is_there, with_tiles-holds}
 
 none_from_is_some : (tile : Option Tile) → is_some tile ≡ false → tile ≡ None
 none_from_is_some None e = refl
@@ -38,12 +43,7 @@ overlaps-from board ps h =
     list_any_none (λ (p : Placed). holds board p.square) ps
     (All-weaker (λ (p : Placed). tile_at board p.square ≡ None) (λ (p : Placed). holds board p.square ≡ false) (λ p s. ap is_some s) ps h)
 
--- a square is known by its two lines
-turned : (d : Dir) (a b : ℕ) → line_of d a ≡ line_of d b → line_of (other_dir d) a ≡ line_of (other_dir d) b → a ≡ b
-turned Across a b l p = same_square Across a b l p
-turned Down a b l p = same_square Down a b l p
-
-dir_cases : (d e : Dir) → (e ≡ d) ⊎ (e ≡ other_dir d)
+pub dir_cases : (d e : Dir) → (e ≡ d) ⊎ (e ≡ other_dir d)
 dir_cases Across Across = inl refl
 dir_cases Across Down = inr refl
 dir_cases Down Across = inr refl
@@ -89,7 +89,7 @@ has_gap-false d after (first ∷ ps) rising line gap =
     let turned_line : are_in_line (other_dir d) (first ∷ ps) ≡ true = subst (λ (x : Dir). are_in_line x (first ∷ ps) ≡ true) s in_line in
     let one_line = on_one_line d first ps p line has_p ∙ sym (on_one_line d first ps q line has_q) in
     let other_line = on_one_line (other_dir d) first ps p turned_line has_p ∙ sym (on_one_line (other_dir d) first ps q turned_line has_q) in
-    let same = ap (place_of e) (turned d p.square q.square one_line other_line) in
+    let same = ap (place_of e) (same_by_lines d p.square q.square one_line other_line) in
     absurd (omega arith))
     (dir_cases d e)
 
@@ -147,79 +147,6 @@ empty-from : (board : List (Option Tile)) → HasNoTile board → has_no_tile bo
 unfolding has_no_tile
 empty-from board h = all_none-from board h
 
--- a tile orthogonally beside a square
-follows-beside : (d : Dir) (board : List (Option Tile)) (a : ℕ) → a < 225 → follows_tile d board a ≡ true → (b : ℕ) × AreBeside a b × (holds board b ≡ true)
-follows-beside d board a h e =
-    let line = line_of d a in
-    let place = place_of d a in
-    let parts = and_parts (nat_lt 0 place) (occupied_on d board line (place - 1)) e in
-    let positive = ltb-true 0 place parts.0 in
-    let line_on = line_below d a h in
-    let place_on = place_below d a h in
-    let there = place_of-square_at d line (place - 1) line_on (omega arith) in (
-      square_at d line (place - 1),
-      (d, sym (line_of-square_at d line (place - 1) line_on (omega arith)), inr (omega arith)),
-      parts.1,
-    )
-
-precedes-beside : (d : Dir) (board : List (Option Tile)) (a : ℕ) → a < 225 → precedes_tile d board a 1 ≡ true → (b : ℕ) × AreBeside a b × (holds board b ≡ true)
-precedes-beside d board a h e =
-    let line = line_of d a in
-    let place = place_of d a in
-    let parts = and_parts (nat_lt (place + 1) 15) (occupied_on d board line (place + 1)) e in
-    let within = ltb-true (place + 1) 15 parts.0 in
-    let line_on = line_below d a h in
-    let there = place_of-square_at d line (place + 1) line_on within in (
-      square_at d line (place + 1),
-      (d, sym (line_of-square_at d line (place + 1) line_on within), inl (omega arith)),
-      parts.1,
-    )
-
-touches-beside : (board : List (Option Tile)) (a : ℕ) → a < 225 → touches board a ≡ true → (b : ℕ) × AreBeside a b × (holds board b ≡ true)
-touches-beside board a h e =
-    let fa = follows_tile Across board a in
-    let pa = precedes_tile Across board a 1 in
-    let fd = follows_tile Down board a in
-    let pd = precedes_tile Down board a 1 in
-    ⊎_elim
-    (λ (s : (fa || pa || fd) ≡ true). ⊎_elim
-    (λ (t : (fa || pa) ≡ true). ⊎_elim
-    (λ (u : fa ≡ true). follows-beside Across board a h u)
-    (λ (u : pa ≡ true). precedes-beside Across board a h u)
-    (or_cases fa pa t))
-    (λ (t : fd ≡ true). follows-beside Down board a h t)
-    (or_cases (fa || pa) fd s))
-    (λ (s : pd ≡ true). precedes-beside Down board a h s)
-    (or_cases (fa || pa || fd) pd e)
-
-touches-from : (d : Dir) (board : List (Option Tile)) (a : ℕ) → (follows_tile d board a || precedes_tile d board a 1) ≡ true → touches board a ≡ true
-touches-from Across board a e = or_left _ _ (or_left _ _ e)
-touches-from Down board a e =
-    let fa = follows_tile Across board a in
-    let pa = precedes_tile Across board a 1 in
-    let fd = follows_tile Down board a in
-    let pd = precedes_tile Down board a 1 in
-    ⊎_elim
-    (λ (s : fd ≡ true). or_left (fa || pa || fd) pd (or_right (fa || pa) fd s))
-    (λ (s : pd ≡ true). or_right (fa || pa || fd) pd s)
-    (or_cases fd pd e)
-
-beside-touches : (board : List (Option Tile)) (a b : ℕ) → length board ≡ 225 → AreBeside a b → holds board b ≡ true → touches board a ≡ true
-beside-touches board a b size (d, line, near) e =
-    let within = holds_within board b e in
-    let place_on = place_below d b (omega arith) in
-    let at : (k : ℕ) → k ≡ place_of d b → occupied_on d board (line_of d a) k ≡ true =
-    λ k s. ap (λ (l : ℕ). holds board (square_at d l k)) line ∙ ap (λ (p : ℕ). holds board (square_at d (line_of d b) p)) s ∙ ap (holds board) (square_at-of d b) ∙ e in
-    touches-from d board a
-    (⊎_elim
-    (λ (s : place_of d a + 1 ≡ place_of d b).
-    or_right (follows_tile d board a) (precedes_tile d board a 1)
-    (and_from (nat_lt (place_of d a + 1) 15) (occupied_on d board (line_of d a) (place_of d a + 1)) (lt-ltb (place_of d a + 1) 15 (omega arith)) (at (place_of d a + 1) s)))
-    (λ (s : place_of d b + 1 ≡ place_of d a).
-    or_left (follows_tile d board a) (precedes_tile d board a 1)
-    (and_from (nat_lt 0 (place_of d a)) (occupied_on d board (line_of d a) (place_of d a - 1)) (lt-ltb 0 (place_of d a) (omega arith)) (at (place_of d a - 1) (omega arith))))
-    near)
-
 -- the centre on an empty board, a tile beside an old one on any other
 Anchored : List (Option Tile) → List Placed → Type 0
 Anchored board ps =
@@ -262,18 +189,7 @@ is_apart-from board ps size (inr h) =
     (not_from_true (list_any (λ (p : Placed). touches board p.square) ps)
     (list_any-in (λ (p : Placed). touches board p.square) ps h.0 h.2 (beside-touches board (h.0).square h.1 size h.3 h.4)))
 
--- the chain of tests
-check-none : (test : Bool) (why : PlayFault) (rest : Option PlayFault) → check test why rest ≡ None → (test ≡ false) × (rest ≡ None)
-unfolding check
-check-none true why rest e = cc
-check-none false why rest e = (refl, e)
-
-pub check-from : (test : Bool) (why : PlayFault) (rest : Option PlayFault) → test ≡ false → rest ≡ None → check test why rest ≡ None
-unfolding check
-check-from true why rest s e = cc
-check-from false why rest s e = e
-
-in_line_of : (d : Dir) (ps : List Placed) → are_in_line d ps ≡ true → (are_in_line Across ps ≡ true) ⊎ (are_in_line Down ps ≡ true)
+pub in_line_of : (d : Dir) (ps : List Placed) → are_in_line d ps ≡ true → (are_in_line Across ps ≡ true) ⊎ (are_in_line Down ps ≡ true)
 in_line_of Across ps e = inl e
 in_line_of Down ps e = inr e
 

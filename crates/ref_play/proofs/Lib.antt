@@ -12,8 +12,14 @@ pub mod DirectionLaws
 pub mod ScoreLemmas
 pub mod Taking
 pub mod Stretches
+pub mod Laying
 pub mod Directing
+pub mod Wanting
 pub mod Reading
+pub mod Agreeing
+pub mod Crossing
+pub mod ScoreLaws
+pub mod PlayLines
 pub mod Naming
 pub mod WrittenTexts
 pub mod WrittenRuns

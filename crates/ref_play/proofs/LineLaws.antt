@@ -1,53 +1,12 @@
--- Squares and lines, and the whole stretches of one line.
+-- The whole stretches of one line.
 use Rattle.std.proofs.Common.{◌≡◌, ℕ, zero, suc, ◌+◌, ◌-◌, ◌<◌, ◌≤◌, Bool, true, false, not, ◌&&◌, ◌||◌, ◌==◌, nat_le, List, [], ◌∷◌, map, refl, sym, ap, ◌∙◌, arith, ◌⊎◌, ⊎_elim}
 use Rattle.std.specs.Prelude.{filter}
 use Rattle.std.specs.List.{flat_map, range_with_len, list_any, list_all}
 use Rattle.std.proofs.lemmas.Bool.{cases_eq, cases_order, or_cases, and_parts, and_from, or_left, or_right, both_ways, leb-true, le-leb, eqb-true, eq-eqb, not-true, not_from_false, false_from_ne_true}
-use Rattle.ref_board.specs.declared.directions.Dir.{Dir}
-use Rattle.ref_board.specs.declared.directions.Dir.TheVariants.{Across, Down}
-use Rattle.ref_board.specs.Lines.{line_of, place_of, square_at}
+pub use Rattle.ref_board.proofs.LineLaws.{line_of-square_at, place_of-square_at, square_at-of, line_below, place_below, square_at_below, square_at_rises, same_square, place_rises}
 use Rattle.ref_board.specs.Runs.{IsWhole}
 use Rattle.ref_play.specs.Formed.{is_whole, is_formed, stretches_on}
 use Rattle.ref_play.proofs.RangeLaws.{flat_map-only, flat_map-none, filter-only, filter-none}
-
-pub line_of-square_at : (d : Dir) (line place : ℕ) → line < 15 → place < 15 → line_of d (square_at d line place) ≡ line
-line_of-square_at Across line place l p = omega arith
-line_of-square_at Down line place l p = omega arith
-
-pub place_of-square_at : (d : Dir) (line place : ℕ) → line < 15 → place < 15 → place_of d (square_at d line place) ≡ place
-place_of-square_at Across line place l p = omega arith
-place_of-square_at Down line place l p = omega arith
-
-pub square_at-of : (d : Dir) (square : ℕ) → square_at d (line_of d square) (place_of d square) ≡ square
-square_at-of Across square = omega arith
-square_at-of Down square = omega arith
-
-pub line_below : (d : Dir) (square : ℕ) → square < 225 → line_of d square < 15
-line_below Across square h = omega arith
-line_below Down square h = omega arith
-
-pub place_below : (d : Dir) (square : ℕ) → square < 225 → place_of d square < 15
-place_below Across square h = omega arith
-place_below Down square h = omega arith
-
-pub square_at_below : (d : Dir) (line place : ℕ) → line < 15 → place < 15 → square_at d line place < 225
-square_at_below Across line place l p = omega arith
-square_at_below Down line place l p = omega arith
-
--- on one line, the squares rise as the places do
-pub square_at_rises : (d : Dir) (line a b : ℕ) → a < b → square_at d line a < square_at d line b
-square_at_rises Across line a b h = omega arith
-square_at_rises Down line a b h = omega arith
-
--- a square is known by its line and its place
-pub same_square : (d : Dir) (a b : ℕ) → line_of d a ≡ line_of d b → place_of d a ≡ place_of d b → a ≡ b
-same_square Across a b l p = omega arith
-same_square Down a b l p = omega arith
-
--- on one line, the places rise as the squares do
-pub place_rises : (d : Dir) (a b : ℕ) → line_of d a ≡ line_of d b → a < b → place_of d a < place_of d b
-place_rises Across a b l h = omega arith
-place_rises Down a b l h = omega arith
 
 -- what a test of all places, or of some place, of a stretch says
 pub list_all_at : (p : ℕ → Bool) (a n k : ℕ) → list_all p (range_with_len a n) ≡ true → a ≤ k → k < a + n → p k ≡ true

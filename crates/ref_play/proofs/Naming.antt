@@ -5,6 +5,7 @@ use Rattle.std.specs.List.{list_all, range_with_len}
 use Rattle.std.proofs.lemmas.List.Elements.{All-contains}
 use Rattle.std.proofs.lemmas.List.Folds.{list_all-map}
 use Rattle.std.proofs.lemmas.Bool.{cases_lt, and_left, and_right, or_from, both_ways, le-ltb, ne_eqb, not_from_true, false_from_ne_true}
+use Rattle.check_lists.proofs.CheckLaws.{check-from}
 use Rattle.ref_tiles.specs.declared.tiles.Tile.{Tile}
 use Rattle.ref_tiles.specs.declared.kinds.Kind.{Kind}
 use Rattle.ref_tiles.specs.declared.kinds.Kind.TheVariants as kind
@@ -18,14 +19,15 @@ use Rattle.ref_play.specs.declared.runs.Run.{Run}
 use Rattle.ref_play.specs.declared.faults.PlayFault.TheVariants as fault
 use Rattle.ref_play.specs.Placements.{is_play, with_tiles, covers}
 use Rattle.ref_play.specs.Formed.{along, run_of}
-use Rattle.ref_play.specs.Legality.{IsLegal, follows_tile, precedes_tile}
+use Rattle.ref_board.specs.Anchors.{follows_tile, precedes_tile}
+use Rattle.ref_board.proofs.AnchorLaws.{holds_within}
+use Rattle.ref_play.specs.Legality.{IsLegal}
 use Rattle.ref_play.specs.Texts.{symbol_fits, fits_board, placement_of, mismatches, is_open_ended, text_fault}
 use Rattle.ref_play.specs.Directions.{direction_of, LiesIn, RunsAlong}
 use Rattle.ref_play.specs.Notations.{symbol_by, symbol_for, tile_in, text_on, Written, written_on, notation_of}
 use Rattle.ref_play.proofs.RangeLaws.{some_element}
 use Rattle.ref_play.proofs.LineLaws.{line_of-square_at, place_of-square_at, list_all_from}
-use Rattle.ref_play.proofs.PlaceLaws.{is_play-parts, is_play-few, with_tiles-kept, holds_within}
-use Rattle.ref_play.proofs.LegalLaws.{check-from}
+use Rattle.ref_play.proofs.PlaceLaws.{is_play-parts, is_play-few, with_tiles-kept}
 use Rattle.ref_play.proofs.Taking.{with-kept}
 use Rattle.ref_play.proofs.Directing.{written_along}
 use Rattle.ref_play.proofs.Reading.{along_at, tile_in-cases, cell_on, length-text_on, cells_on, read_back}
@@ -152,6 +154,13 @@ notation_faultless e board ps size play legal =
     let r = written_along e board ps size play legal in
     subst (λ (w : Written). text_fault board w.dir w.at w.word ≡ None) (sym (notation_is board ps r))
     (text_faultless (direction_of board ps) board ps r.line r.first r.len r.below r.play legal r.lies)
+
+-- a notation has the direction in which the placement is written
+pub notation_direction : (e : Dir) (board : List (Option Tile)) (ps : List Placed) → length board ≡ 225 → is_play e ps ≡ true → IsLegal board ps → (notation_of board ps).dir ≡ direction_of board ps
+unfolding notation_of
+notation_direction e board ps size play legal =
+    let run = written_along e board ps size play legal in
+    ap (λ runs. (written_on ps runs).dir) run.runs
 
 -- different placements have different notations
 pub notation_tells : (e f : Dir) (board : List (Option Tile)) (a b : List Placed) → length board ≡ 225 → is_play e a ≡ true → is_play f b ≡ true → IsLegal board a → IsLegal board b

@@ -2,8 +2,8 @@
 use Rattle.std.proofs.Common.{◌≡◌, ℕ, ◌<◌, ◌≤◌, true, ◌&&◌, ◌==◌, nat_le, nat_lt, List, [], ◌∷◌, length, refl, sym, ap, ◌∙◌, arith, ⊎_elim, Option, Some, None, is_some}
 use Rattle.std.specs.Prelude.{Contains}
 use Rattle.std.specs.List.{list_all}
-use Rattle.std.proofs.lemmas.List.{length-set, get_or-set_same, get_or-set_other, get_or_past}
-use Rattle.std.proofs.lemmas.Bool.{cases_eq, cases_lt, and_parts, eqb-true, ltb-true, leb-true, both_ways}
+use Rattle.std.proofs.lemmas.List.{length-set, get_or-set_same, get_or-set_other}
+use Rattle.std.proofs.lemmas.Bool.{cases_eq, and_parts, eqb-true, ltb-true, leb-true}
 use Rattle.ref_tiles.specs.declared.tiles.Tile.{Tile}
 use Rattle.ref_board.specs.declared.directions.Dir.{Dir}
 use Rattle.ref_board.specs.Lines.{line_of}
@@ -96,14 +96,6 @@ with_tiles-holds (q ∷ ps) board p h c =
     ∙ ap is_some (get_or-set_same board q.square (Some q.tile) None (omega arith))))
     (λ (s : Contains ps p). with_tiles-holds ps (with_tile board q.square (Some q.tile)) p (omega arith) s)
     (Contains-cases q ps p c)
-
--- a tile lies within the list
-pub holds_within : (board : List (Option Tile)) (square : ℕ) → holds board square ≡ true → square < length board
-holds_within board square e =
-    ⊎_elim
-    (λ (h : square < length board). h)
-    (λ (h : length board ≤ square). absurd (both_ways (holds board square) (ap is_some (get_or_past board square None h)) e))
-    (cases_lt square (length board))
 
 pub is_play-few : (d : Dir) (ps : List Placed) → is_play d ps ≡ true → length ps ≤ 7
 unfolding is_play

@@ -105,7 +105,7 @@ cells_on ps run =
     ∙ zip_maps (along run.dir run.start) (λ k. symbol_for (tile_in ps (along run.dir run.start k))) (range_with_len 0 run.len)
 
 -- along one line the places of a rising placement rise
-places_rise : (d : Dir) (line first : ℕ) (ps : List Placed) → ((q : Placed) → Contains ps q → line_of d q.square ≡ line)
+pub places_rise : (d : Dir) (line first : ℕ) (ps : List Placed) → ((q : Placed) → Contains ps q → line_of d q.square ≡ line)
     → ((q : Placed) → Contains ps q → first ≤ place_of d q.square) → are_rising ps ≡ true → KeysRise (λ q. place_of d q.square - first) ps
 places_rise d line first [] in_line low rising = tt
 places_rise d line first (p ∷ ps) in_line low rising =
@@ -118,7 +118,7 @@ places_rise d line first (p ∷ ps) in_line low rising =
       places_rise d line first ps (λ q c. in_line q (Contains-there p ps q c)) (λ q c. low q (Contains-there p ps q c)) parts.1,
     )
 
-join_itself : {X : Type 0} (xs : List X) → flat_map (λ x. x ∷ []) xs ≡ xs
+pub join_itself : {X : Type 0} (xs : List X) → flat_map (λ x. x ∷ []) xs ≡ xs
 join_itself [] = refl
 join_itself (x ∷ xs) = ap (λ rest. x ∷ rest) (join_itself xs)
 

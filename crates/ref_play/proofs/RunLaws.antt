@@ -14,20 +14,15 @@ use Rattle.ref_play.specs.declared.placed.Placed.{Placed}
 use Rattle.ref_play.specs.declared.runs.Run.{Run}
 use Rattle.ref_play.specs.Placements.{fresh_on}
 use Rattle.ref_play.specs.Formed.{is_formed, stretches_on, run_of, runs_of_line, runs_along, runs_formed, is_on, MeetsRun}
+use Rattle.ref_play.specs.Directions.{same_dir}
 use Rattle.ref_play.proofs.RangeLaws.{tally, once, tally-append, tally-map, tally-filter, tally-range_none, tally-range_only, tally-flat_map_none, tally-flat_map_only, tally-never, list_any-found, list_any-in, All-filter_range, All-flat_map_range, Contains-from_tally, AllPairs-from_tally}
 use Rattle.ref_play.proofs.LineLaws.{line_of-square_at, place_of-square_at, square_at-of, line_below, square_at_below, stretches_within, stretches_on-is, is_formed-parts, is_formed-from}
 
 -- the same run
-abbrev pub same_dir : Dir → Dir → Bool
-same_dir Across Across = true
-same_dir Across Down = false
-same_dir Down Across = false
-same_dir Down Down = true
-
 abbrev pub same_run : Run → Run → Bool
 same_run a b = a.start == b.start && same_dir a.dir b.dir && a.len == b.len
 
-same_dir-true : (a b : Dir) → same_dir a b ≡ true → a ≡ b
+pub same_dir-true : (a b : Dir) → same_dir a b ≡ true → a ≡ b
 same_dir-true Across Across e = refl
 same_dir-true Across Down e = cc
 same_dir-true Down Across e = cc

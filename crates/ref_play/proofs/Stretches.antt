@@ -19,7 +19,7 @@ use Rattle.ref_play.proofs.PlaceLaws.{is_play-parts, on_board, on_one_line, with
 use Rattle.ref_play.proofs.FormedRuns.{reach, covered}
 
 -- the first of the tiles directly before a place, and the place behind those directly behind it
-first_back : (occupied : ℕ → Bool) (place : ℕ) → (first : ℕ) × IsFirstBack occupied place first
+pub first_back : (occupied : ℕ → Bool) (place : ℕ) → (first : ℕ) × IsFirstBack occupied place first
 first_back occupied zero = (0, record { not_after = omega arith; filled = λ k low high. absurd (omega arith); before = λ some. absurd (omega arith) })
 first_back occupied (suc n) =
     ⊎_elim
@@ -39,7 +39,7 @@ first_back occupied (suc n) =
     (suc n, record { not_after = omega arith; filled = λ k low high. absurd (omega arith); before = λ some. ap occupied here ∙ e }))
     (cases_Bool (occupied n))
 
-end_on : (occupied : ℕ → Bool) (place room : ℕ) → place + suc room ≡ 15 → (end : ℕ) × IsEndOn occupied place end
+pub end_on : (occupied : ℕ → Bool) (place room : ℕ) → place + suc room ≡ 15 → (end : ℕ) × IsEndOn occupied place end
 end_on occupied place zero e =
     (15, record { behind = omega arith; inside = omega arith; filled = λ k low high. absurd (omega arith); after = λ more. absurd (omega arith) })
 end_on occupied place (suc room) e =

@@ -15,7 +15,7 @@ use Rattle.ref_board.specs.Runs.{IsWhole}
 use Rattle.ref_play.specs.declared.placed.Placed.{Placed}
 use Rattle.ref_play.specs.Placements.{with_tiles}
 use Rattle.ref_play.specs.Formed.{along}
-use Rattle.ref_play.specs.Legality.{follows_tile, precedes_tile}
+use Rattle.ref_board.specs.Anchors.{follows_tile, precedes_tile}
 use Rattle.ref_play.specs.Texts.{fits_board, new_tiles, placed_on, tile_of, symbol_fits, text_cells, placement_of, is_open_ended}
 use Rattle.ref_play.proofs.RangeLaws.{Contains-here, Contains-there}
 use Rattle.ref_play.proofs.PlaceLaws.{with_tiles-kept, with_tiles-holds}

@@ -1,5 +1,5 @@
 -- Along which line a placement runs, and in which direction it is written.
-use Rattle.std.specs.Prelude.{◌≡◌, ℕ, ◌+◌, ◌<◌, ◌≤◌, ◌==◌, ◌&&◌, not, true, List, [], ◌∷◌, length, Option, Contains, if◌then◌else◌}
+use Rattle.std.specs.Prelude.{◌≡◌, ℕ, ◌+◌, ◌<◌, ◌≤◌, ◌==◌, ◌&&◌, not, nat_le, Bool, true, false, List, [], ◌∷◌, length, Option, Contains, if◌then◌else◌}
 use Rattle.ref_tiles.specs.declared.tiles.Tile.{Tile}
 use Rattle.ref_board.specs.declared.directions.Dir.{Dir}
 use Rattle.ref_board.specs.declared.directions.Dir.TheVariants.{Across, Down}
@@ -15,6 +15,17 @@ use Rattle.ref_play.specs.Formed.{run_of, runs_along}
 -- two tiles.
 abbrev pub direction_of : List (Option Tile) → List Placed → Dir
 direction_of board ps = if are_in_line Across ps && not (length (runs_along Across (with_tiles board ps) ps) == 0) then Across else Down
+
+-- whether two directions are the same
+abbrev pub same_dir : Dir → Dir → Bool
+same_dir Across Across = true
+same_dir Across Down = false
+same_dir Down Across = false
+same_dir Down Down = true
+
+-- whether a placement is written in this direction, and has seven tiles at the most
+abbrev pub is_wanted : List (Option Tile) → Dir → List Placed → Bool
+is_wanted board d ps = same_dir (direction_of board ps) d && nat_le (length ps) 7
 
 -- the tiles of a placement lie on one line of the direction, in one whole stretch of it
 pub record LiesIn (d : Dir) (after : List (Option Tile)) (ps : List Placed) (line first len : ℕ) : Type 0 where

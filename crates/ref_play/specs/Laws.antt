@@ -1,18 +1,23 @@
 -- Laws: the definitions that compute say what the rules say.
-use Rattle.std.specs.Prelude.{◌≡◌, ◌≢◌, ◌↔◌, ◌⊎◌, true, false, List, [], ◌∷◌, Option, None, length, Contains, IsPermutation}
-use Rattle.std.specs.List.{AllPairs}
+use Rattle.std.specs.Prelude.{◌≡◌, ◌≢◌, ℕ, ◌+◌, ◌<◌, ◌↔◌, ◌⊎◌, true, false, List, [], ◌∷◌, ◌++◌, map, sum_by, Option, None, length, Contains, IsPermutation}
+use Rattle.std.specs.List.{AllPairs, flat_map}
 use Rattle.ref_tiles.specs.declared.tiles.Tile.{Tile}
+use Rattle.ref_tiles.specs.declared.rulebook.Rules.{Rules}
 use Rattle.ref_board.specs.declared.directions.Dir.{Dir}
 use Rattle.ref_board.specs.declared.directions.Dir.TheVariants.{Across, Down}
+use Rattle.ref_board.specs.Lines.{other_dir}
 use Rattle.ref_play.specs.declared.placed.Placed.{Placed}
 use Rattle.ref_play.specs.declared.runs.Run.{Run}
 use Rattle.ref_play.specs.Placements.{is_play, with_tiles, without_tiles}
 use Rattle.ref_play.specs.Formed.{MeetsRun, runs_formed}
-use Rattle.ref_play.specs.Words.{words_formed}
+use Rattle.ref_play.specs.Words.{letters_of, words_formed}
 use Rattle.ref_play.specs.Legality.{IsLegal, overlaps, fault_of}
 use Rattle.ref_play.specs.Texts.{text_fault, placement_of}
 use Rattle.ref_play.specs.Directions.{direction_of, RunsAlong}
 use Rattle.ref_play.specs.Notations.{notation_of, ComesBefore}
+use Rattle.ref_play.specs.Scores.{run_score, bonus_score, score_of}
+use Rattle.ref_play.specs.Crosses.{run_in, cross_words, cross_score}
+use Rattle.ref_play.specs.Soundness.{IsSound}
 
 -- the list of runs holds the runs of the board that have a tile of the placement, and no other
 abbrev pub RunsAreThoseMet : Type 0
@@ -79,3 +84,30 @@ abbrev pub OneComesBefore : Type 0
 OneComesBefore =
     (d e : Dir) (board : List (Option Tile)) (a b : List Placed) → length board ≡ 225 → is_play d a ≡ true → is_play e b ≡ true → IsLegal board a → IsLegal board b
     → (a ≡ b) ⊎ (ComesBefore board a b ⊎ ComesBefore board b a)
+
+-- a play is legal exactly where it is sound: where its tiles lie on empty squares, in one whole stretch of their line, some
+-- run is formed, and an anchor is covered
+abbrev pub LegalIsSound : Type 0
+LegalIsSound = (d : Dir) (board : List (Option Tile)) (ps : List Placed) → length board ≡ 225 → is_play d ps ≡ true → IsLegal board ps ↔ IsSound d board ps
+
+-- its words are that of its stretch of the line, and then the cross words of its tiles, in their order
+abbrev pub WordsAreOfLines : Type 0
+WordsAreOfLines =
+    (d : Dir) (board : List (Option Tile)) (ps : List Placed) → length board ≡ 225 → is_play d ps ≡ true → (sound : IsSound d board ps)
+    → words_formed d board ps
+    ≡ map (letters_of (with_tiles board ps)) (run_in d sound.line sound.first sound.len)
+    ++ flat_map (λ (p : Placed). cross_words (other_dir d) board p.square p.tile) ps
+
+-- its score is that of its stretch of the line, those of the cross runs of its tiles, and the bonus
+abbrev pub ScoreIsOfLines : Type 0
+ScoreIsOfLines =
+    (d : Dir) (rules : Rules) (board : List (Option Tile)) (ps : List Placed) → length board ≡ 225 → is_play d ps ≡ true → (sound : IsSound d board ps)
+    → score_of rules board ps
+    ≡ sum_by (run_score rules (with_tiles board ps) ps) (run_in d sound.line sound.first sound.len)
+    + sum_by (λ (p : Placed). cross_score rules (other_dir d) board p.square p.tile) ps
+    + bonus_score rules ps
+
+-- a blank makes the same cross word as the letter that it shows
+abbrev pub BlanksCrossAlike : Type 0
+BlanksCrossAlike =
+    (d : Dir) (board : List (Option Tile)) (square : ℕ) (a b : Tile) → square < length board → a.shown ≡ b.shown → cross_words d board square a ≡ cross_words d board square b

@@ -9,4 +9,6 @@ pub mod Directions
 pub mod Notations
 pub mod Candidates
 pub mod Best
+pub mod Crosses
+pub mod Soundness
 pub mod Laws

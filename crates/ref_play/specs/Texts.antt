@@ -1,6 +1,7 @@
 -- The text of a play: symbols on successive squares of a line, the tiles that it puts down, and its first fault.
 use Rattle.std.specs.Prelude.{ℕ, ◌+◌, ◌==◌, ◌||◌, not, Bool, true, false, List, [], ◌∷◌, length, map, Option, Some, None, nat_lt}
 use Rattle.std.specs.List.{list_all, flat_map, zip, range_with_len}
+use Rattle.check_lists.specs.Checks.{fails, first_fault}
 use Rattle.ref_tiles.specs.declared.tiles.Tile.{Tile}
 use Rattle.ref_tiles.specs.declared.symbols.Symbol.{Symbol}
 use Rattle.ref_tiles.specs.declared.symbols.Symbol.TheVariants as symbol
@@ -12,7 +13,7 @@ use Rattle.ref_play.specs.declared.placed.Placed.{Placed}
 use Rattle.ref_play.specs.declared.faults.PlayFault.{PlayFault}
 use Rattle.ref_play.specs.declared.faults.PlayFault.TheVariants as fault
 use Rattle.ref_play.specs.Formed.{along}
-use Rattle.ref_play.specs.Legality.{check, follows_tile, precedes_tile}
+use Rattle.ref_board.specs.Anchors.{follows_tile, precedes_tile}
 
 -- the squares from a first one on, in a direction
 abbrev pub squares_from : Dir → ℕ → ℕ → List ℕ
@@ -63,8 +64,10 @@ is_open_ended board d at word = follows_tile d board at || precedes_tile d board
 -- the first fault of a text; none where it names a placement and covers its whole run
 unfoldable pub text_fault : List (Option Tile) → Dir → ℕ → List Symbol → Option PlayFault
 text_fault board d at word =
-    check (nat_lt 15 (place_of d at + length word)) fault.OffBoard
-    (check (mismatches board d at word) fault.Mismatch
-    (check (length (placement_of board d at word) == 0) fault.NoNewTile
-    (check (nat_lt 7 (length (placement_of board d at word))) fault.TooManyTiles
-    (check (is_open_ended board d at word) fault.NotWhole None))))
+    first_fault (
+    fails (nat_lt 15 (place_of d at + length word)) fault.OffBoard
+    ∷ fails (mismatches board d at word) fault.Mismatch
+    ∷ fails (length (placement_of board d at word) == 0) fault.NoNewTile
+    ∷ fails (nat_lt 7 (length (placement_of board d at word))) fault.TooManyTiles
+    ∷ fails (is_open_ended board d at word) fault.NotWhole
+    ∷ [])

@@ -2,7 +2,8 @@ ghost use Rattle.std.specs.Prelude.{◌≡◌, ◌↔◌, true, false, IsOk, All
 ghost use Rattle.ref_play.specs.Placements.{with_tiles, without_tiles, are_rising, HasTiles, EmptiesSquares};
 ghost use Rattle.ref_play.specs.Formed.{runs_formed};
 ghost use Rattle.ref_play.specs.Words.{IsWithin};
-ghost use Rattle.ref_play.specs.Legality.{IsLegal, IsLaid, Refuses, fault_of, is_too_short, overlaps};
+ghost use Rattle.check_lists.specs.Checks.{Refuses};
+ghost use Rattle.ref_play.specs.Legality.{IsLegal, IsLaid, fault_of, is_too_short, overlaps};
 
 use crate::faults::PlayFault;
 use crate::legality::{has_gap, is_apart, misses_centre, overlaps, with_tiles};
@@ -30,7 +31,7 @@ fn is_too_short(after: &Board, dir: Dir, tiles: &[Placed]) -> bool
 }
 
 /// The tests of a play in their order.
-#[tactic(auto, unfolding(crate::specs::Legality::fault_of, crate::specs::Legality::check))]
+#[tactic(auto, unfolding(crate::specs::Legality::fault_of))]
 fn try_play(board: &Board, play: &Play) -> Result<(), PlayFault>
     ensures { Refuses result (fault_of play.now.dir board.now play.now.tiles.items) }
 {

@@ -1,5 +1,5 @@
 //! Laws about the definitions that the contracts of plays cite. Each function does nothing: its contract is the law.
-ghost use Rattle.ref_play.specs.Laws.{RunsAreThoseMet, RunsAreDistinct, FaultlessIsLegal, OneTileFitsBoth, OneTileHasOneFault, WordsFitBoth, MoreTilesFitOne, TakingBackRestores, WrittenAlongItsRun, NotationsReadBack, NotationsTell, NoneBeforeItself, BeforeIsTransitive, OneComesBefore};
+ghost use Rattle.ref_play.specs.Laws.{RunsAreThoseMet, RunsAreDistinct, FaultlessIsLegal, OneTileFitsBoth, OneTileHasOneFault, WordsFitBoth, MoreTilesFitOne, TakingBackRestores, WrittenAlongItsRun, NotationsReadBack, NotationsTell, NoneBeforeItself, BeforeIsTransitive, OneComesBefore, LegalIsSound, WordsAreOfLines, ScoreIsOfLines, BlanksCrossAlike};
 
 /// The runs that a placement forms are the maximal stretches of two tiles or more, in a row or a column, that have
 /// one of its tiles, each once.
@@ -44,4 +44,16 @@ pub fn law_of_before()
     ensures irreflexive { NoneBeforeItself }
     ensures transitive { BeforeIsTransitive }
     ensures one_first { OneComesBefore }
+{}
+
+/// A play is told by its own line and the cross lines of its tiles. It is legal exactly where its tiles lie on empty
+/// squares, in one whole stretch of their line, some run is formed, and an anchor is covered (Appel and Jacobson 1988,
+/// The World's Fastest Scrabble Program). Its words are that of the stretch, where it has two tiles, and then the cross
+/// word of each new tile, which the board and that tile alone tell, and whether the tile is a blank does not matter.
+/// Its score is that of the stretch, those of the cross runs, and the bonus.
+pub fn law_of_lines()
+    ensures sound { LegalIsSound }
+    ensures words { WordsAreOfLines }
+    ensures score { ScoreIsOfLines }
+    ensures blanks { BlanksCrossAlike }
 {}

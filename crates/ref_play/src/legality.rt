@@ -1,11 +1,12 @@
 ghost use Rattle.std.specs.Prelude.{◌≡◌, ◌-◌, ◌<◌, ◌≤◌, true, false, length};
 ghost use Rattle.ref_board.specs.Cells.{holds, occupied_on};
 ghost use Rattle.ref_play.specs.Placements.{with_tiles, are_rising, covers};
-ghost use Rattle.ref_play.specs.Legality.{overlaps, has_gap, has_no_tile, misses_centre, is_apart, touches, follows_tile, precedes_tile, last_square};
+ghost use Rattle.ref_board.specs.Anchors.{touches};
+ghost use Rattle.ref_play.specs.Legality.{overlaps, has_gap, has_no_tile, misses_centre, is_apart, last_square};
 ghost use Rattle.std.specs.List.{list_all, list_any, range_with_len};
 
 use crate::placed::Placed;
-use ref_board::{Board, Dir, SIDE, Square};
+use ref_board::{Board, Dir, Square, touches};
 
 /// Whether a tile of a placement lies on an occupied square.
 #[tactic(auto, unfolding(crate::specs::Legality::overlaps))]
@@ -86,35 +87,6 @@ pub fn misses_centre(board: &Board, tiles: &[Placed]) -> bool
     ensures { result ≡ misses_centre board.now tiles.now }
 {
     has_no_tile(board) && !covers(tiles, Square::on_line(Dir::Across, 7, 7))
-}
-
-/// Whether the square before this one on its line has a tile.
-pub fn follows_tile(board: &Board, dir: Dir, square: Square) -> bool
-    ensures { result ≡ follows_tile dir board.now square }
-{
-    let line = square.line(dir);
-    let place = square.place(dir);
-    place > 0 && board.at(Square::on_line(dir, line, place - 1)).is_some()
-}
-
-/// Whether the place at a distance behind this square on its line has a tile.
-pub fn precedes_tile(board: &Board, dir: Dir, square: Square, len: usize) -> bool
-    requires { len ≤ 15 }
-    ensures { result ≡ precedes_tile dir board.now square len }
-{
-    let line = square.line(dir);
-    let place = square.place(dir) + len;
-    place < SIDE && board.at(Square::on_line(dir, line, place)).is_some()
-}
-
-/// Whether an orthogonal neighbour of a square has a tile.
-fn touches(board: &Board, square: Square) -> bool
-    ensures { result ≡ touches board.now square }
-{
-    follows_tile(board, Dir::Across, square)
-        || precedes_tile(board, Dir::Across, square, 1)
-        || follows_tile(board, Dir::Down, square)
-        || precedes_tile(board, Dir::Down, square, 1)
 }
 
 /// Whether a tile of the placement is orthogonally beside an old one.

@@ -17,14 +17,14 @@ mod writing;
 pub use faults::PlayFault;
 pub use judging::{apply, judge, undo};
 pub use laws::{
-    law_of_before, law_of_directions, law_of_legality, law_of_notations, law_of_runs,
+    law_of_before, law_of_directions, law_of_legality, law_of_lines, law_of_notations, law_of_runs,
     law_of_undoing,
 };
 pub use notations::Notation;
 pub use placed::Placed;
 pub use plays::{Play, RACK};
 pub use runs::Run;
-pub use scoring::score;
+pub use scoring::{points_on, score};
 pub use spelling::{Word, Words, words};
-pub use texts::{along, from_text};
+pub use texts::{along, from_text, shortened};
 pub use writing::{before, notation};

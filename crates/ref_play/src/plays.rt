@@ -30,3 +30,23 @@ impl Play {
         }
     }
 }
+
+/// A blank that stands for A, on 1A.
+impl Default for Play {
+    ghost use Rattle.std.specs.Prelude.{◌≡◌, [], ◌∷◌};
+    ghost use Rattle.ref_play.specs.declared.placed.Placed.{Placed};
+    ghost use Rattle.ref_tiles.specs.Faces.{blank_tile, letter_a};
+    ghost use Rattle.ref_board.specs.declared.directions.Dir.TheVariants.{Across};
+
+    ghost is_default = { λ play. (play.dir ≡ Across) × (play.tiles.items ≡ record { square = 0; tile = blank_tile letter_a } ∷ []) };
+
+    #[tactic(auto, unfolding(crate::specs::Placements::is_play))]
+    fn default() -> Play {
+        let mut tiles = ArrayVec::new();
+        tiles.push(Placed::default());
+        Play {
+            dir: Dir::Across,
+            tiles,
+        }
+    }
+}

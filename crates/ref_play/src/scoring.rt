@@ -13,8 +13,8 @@ use crate::texts::along;
 use ref_board::{Board, Square};
 use ref_tiles::{Rules, Tile};
 
-/// The points of what lies on a square; a blank has none.
-fn points_on(rules: &Rules, cell: Option<Tile>) -> u8
+/// The points of what lies on a square; a blank has none, whatever it stands for.
+pub fn points_on(rules: &Rules, cell: Option<Tile>) -> u8
     ensures points { result ≡ points_on rules.now cell }
     ensures limit { result ≤ 99 }
 {

@@ -8,11 +8,10 @@ ghost use Rattle.ref_play.specs.Formed.{along};
 ghost use Rattle.ref_play.specs.Texts.{symbol_fits, tile_of, fits_board, text_cells, placement_of, is_open_ended, text_fault};
 
 use crate::faults::PlayFault;
-use crate::legality::{follows_tile, precedes_tile};
 use crate::placed::Placed;
 use crate::plays::{Play, RACK};
 use arrayvec::ArrayVec;
-use ref_board::{Board, Dir, SIDE, Square};
+use ref_board::{Board, Dir, SIDE, Square, follows_tile, precedes_tile};
 use ref_tiles::{Symbol, Tile};
 
 /// The square so many places further on its line.
@@ -116,7 +115,7 @@ pub fn shortened(tiles: &[Placed]) -> ArrayVec<Placed, RACK>
 ///
 /// The fault is the first of: the text leaves the board, a symbol does not agree with the board, no tile is new,
 /// more than seven are, a tile lies directly before or after the text.
-#[tactic(auto, unfolding(crate::specs::Texts::text_fault, crate::specs::Texts::mismatches, crate::specs::Legality::check))]
+#[tactic(auto, unfolding(crate::specs::Texts::text_fault, crate::specs::Texts::mismatches))]
 pub fn from_text(board: &Board, at: Square, dir: Dir, word: &[Symbol]) -> Result<Play, PlayFault>
     ensures fault { IfErr result (λ why. text_fault board.now dir at word.now ≡ Some why) }
     ensures named { IfOk result (λ play. (text_fault board.now dir at word.now ≡ None)

@@ -1,2 +1,3 @@
 pub mod LetterLemmas
 pub mod SymbolLemmas
+pub mod Counted

@@ -1,11 +1,16 @@
 -- Counts of tiles as multisets of kinds: a list of 27 numbers, A to Z and then blanks.
-use Rattle.std.specs.Prelude.{ℕ, ◌≤◌, List, replicate, slice_index, slice_set}
+use Rattle.std.specs.Prelude.{ℕ, ◌≤◌, ◌==◌, List, map, replicate, slice_index, slice_set}
+use Rattle.std.specs.List.{count_by, range_with_len}
 use Rattle.ref_tiles.specs.Kinds.{number_of}
 use Rattle.ref_tiles.specs.declared.kinds.Kind.{Kind}
 
 -- no tile
 unfoldable pub no_tiles : List ℕ
 no_tiles = replicate 27 0
+
+-- the multiset of a list of kinds: how often each of the 27 is in it
+unfoldable pub counted : List Kind → List ℕ
+counted kinds = map (λ k. count_by (λ kind. number_of kind == k) kinds) (range_with_len 0 27)
 
 -- how many tiles of this kind there are
 abbrev pub count_of : List ℕ → Kind → ℕ

@@ -1,8 +1,10 @@
 -- The English game, by the tables of the rules.
-use Rattle.std.specs.Prelude.{ℕ, ◌+◌, ◌/◌, ◌%◌, ◌==◌, ◌&&◌, ◌||◌, Bool, List, [], ◌∷◌, map, if◌then◌else◌}
+use Rattle.std.specs.Prelude.{ℕ, ◌+◌, ◌/◌, ◌%◌, ◌==◌, ◌&&◌, ◌||◌, Bool, List, [], ◌∷◌, map, if◌then◌else◌, refl}
 use Rattle.std.specs.List.{list_any, range_with_len}
 use Rattle.ref_tiles.specs.declared.premiums.Premium.{Premium}
 use Rattle.ref_tiles.specs.declared.premiums.Premium.TheVariants as premium
+use Rattle.ref_tiles.specs.declared.rulebook.Rules.{Rules}
+use Rattle.ref_tiles.specs.Limits.{most_tiles}
 
 -- how many tiles of A to Z there are, and of blanks
 abbrev pub english_counts : List ℕ
@@ -46,3 +48,24 @@ premium_of row column =
 -- the premiums of the 225 squares, row by row
 unfoldable pub english_premiums : List Premium
 english_premiums = map (λ square. premium_of (square / 15 + 1) (square % 15 + 1)) (range_with_len 0 225)
+
+-- the English game as one value
+unfoldable pub english : Rules
+unfolding most_tiles
+english = record {
+  counts = english_counts;
+  points = english_points;
+  premiums = english_premiums;
+  bonus = 50;
+  exchange_min = 7;
+  zero_limit = 6;
+  challenge_unit = 5;
+  time_step = 5;
+  tiles_in_limits = refl;
+  points_in_limits = refl;
+  bonus_in_limits = refl;
+  exchange_in_limits = refl;
+  zero_in_limits = refl;
+  challenge_in_limits = refl;
+  time_in_limits = refl;
+}

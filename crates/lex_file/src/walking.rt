@@ -1,0 +1,18 @@
+ghost use Rattle.std.specs.Prelude.{◌≡◌, ℕ, List, ◌∷◌, false, IfSome, IfNone};
+ghost use Rattle.lex_file.specs.Walking.{strings, IsOpen};
+
+use crate::lexicons::{PathLex, Step};
+
+/// One more label behind a step: what stands behind it, or None where no string goes on so. The step's node is one that
+/// this lexicon gave.
+pub fn advance<L: PathLex>(lex: &L, at: Step<L::Node>, label: u8) -> Option<Step<L::Node>>
+    requires { IsOpen (L.is_node lex.now) at.next }
+    ensures none { IfNone result ((t : List ℕ) → strings (L.tail lex.now) at (label ∷ t) ≡ false) }
+    ensures some { IfSome result (λ s. (t : List ℕ) → strings (L.tail lex.now) at (label ∷ t) ≡ strings (L.tail lex.now) s t) }
+    ensures open { IfSome result (λ s. IsOpen (L.is_node lex.now) s.next) }
+{
+    match at.next {
+        None => None,
+        Some(node) => lex.step(node, label),
+    }
+}

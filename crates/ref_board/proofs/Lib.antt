@@ -1,0 +1,4 @@
+pub mod LineLaws
+pub mod AnchorLaws
+pub mod Transposing
+pub mod Examples
