@@ -1,0 +1,86 @@
+-- Cross values as the definitions give them, computed: an A on 8G and an A on 8I of an empty board, and the words AT, TA, ABAS,
+-- TABA. Squares are numbered row by row from 1A, which is 0: 8F is 110, 8H is 112 and 8J is 114.
+use Rattle.std.proofs.Common.{◌≡◌, ℕ, Bool, true, false, List, [], ◌∷◌, map, Option, Some, refl, lit<}
+use Rattle.std.specs.Prelude.{codes}
+use Rattle.std.specs.List.{list_all}
+use Rattle.ref_tiles.specs.declared.tiles.Tile.{Tile}
+use Rattle.ref_tiles.specs.declared.letters.Letter.{Letter}
+use Rattle.ref_tiles.specs.declared.rulebook.Rules.{Rules}
+use Rattle.ref_tiles.specs.English.{english_counts, english_points, english_premiums}
+use Rattle.ref_tiles.specs.Faces.{letter_tile, blank_tile, letter_a}
+use Rattle.ref_tiles.specs.Limits.{most_tiles}
+use Rattle.ref_board.specs.declared.directions.Dir.TheVariants.{Across, Down}
+use Rattle.ref_board.specs.Cells.{empty_board, with_tile}
+use Rattle.lex_list.specs.Words.{is_listed}
+use Rattle.ref_play.specs.Formed.{stretches_on}
+use Rattle.ref_play.specs.Words.{letters_of}
+use Rattle.ref_play.specs.Crosses.{cross_words}
+use Rattle.gen_cross.specs.Values.{side_points}
+
+-- the points of the English game
+english : Rules
+unfolding most_tiles
+english = record {
+  counts = english_counts;
+  points = english_points;
+  premiums = english_premiums;
+  bonus = 50;
+  exchange_min = 7;
+  zero_limit = 6;
+  challenge_unit = 5;
+  time_step = 5;
+  tiles_in_limits = refl;
+  points_in_limits = refl;
+  bonus_in_limits = refl;
+  exchange_in_limits = refl;
+  zero_in_limits = refl;
+  challenge_in_limits = refl;
+  time_in_limits = refl;
+}
+
+abbrev two_tiles : List (Option Tile)
+two_tiles = with_tile (with_tile empty_board 111 (Some (letter_tile letter_a))) 113 (Some (letter_tile letter_a))
+
+abbrev four_words : List (List ℕ)
+four_words = codes "AT" ∷ codes "TA" ∷ codes "ABAS" ∷ codes "TABA" ∷ []
+
+abbrev letter_b : Letter
+letter_b = record { index = 1; in_range = lit< tt }
+
+abbrev letter_t : Letter
+letter_t = record { index = 19; in_range = lit< tt }
+
+-- whether the cross words of some letters, in a play down, are listed
+abbrev allowed : ℕ → List Bool
+allowed square = map (λ l. list_all (is_listed four_words) (cross_words Across two_tiles square (letter_tile l))) (letter_a ∷ letter_b ∷ letter_t ∷ [])
+
+before_both : allowed 110 ≡ false ∷ false ∷ true ∷ []
+unfolding is_listed empty_board stretches_on letters_of
+before_both = refl
+
+between_both : allowed 112 ≡ false ∷ false ∷ false ∷ []
+unfolding is_listed empty_board stretches_on letters_of
+between_both = refl
+
+behind_both : allowed 114 ≡ false ∷ false ∷ true ∷ []
+unfolding is_listed empty_board stretches_on letters_of
+behind_both = refl
+
+-- a row below, no tile lies beside: any letter
+apart : allowed 127 ≡ true ∷ true ∷ true ∷ []
+unfolding is_listed empty_board stretches_on letters_of
+apart = refl
+
+-- the points beside, in a play down, and in a play across
+sides_down : map (side_points english Down two_tiles) (110 ∷ 112 ∷ 114 ∷ 127 ∷ []) ≡ 1 ∷ 2 ∷ 1 ∷ 0 ∷ []
+unfolding english empty_board stretches_on
+sides_down = refl
+
+sides_across : map (side_points english Across two_tiles) (110 ∷ 112 ∷ 114 ∷ 127 ∷ []) ≡ 0 ∷ 0 ∷ 0 ∷ 0 ∷ []
+unfolding english empty_board stretches_on
+sides_across = refl
+
+-- blanks count nothing
+blanks_beside : side_points english Down (with_tile empty_board 111 (Some (blank_tile letter_b))) 112 ≡ 0
+unfolding english empty_board stretches_on
+blanks_beside = refl

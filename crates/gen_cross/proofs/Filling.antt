@@ -1,0 +1,12 @@
+-- Values that are filled in one by one.
+use Rattle.std.proofs.Common.{ℕ, ◌+◌, ◌<◌, ◌≢◌, List, length, get_or, sym, subst, arith, below_more}
+use Rattle.std.specs.Prelude.{slice_set}
+use Rattle.std.proofs.lemmas.List.{get_or-set_same, get_or-set_other}
+
+-- what holds of each value below a place, and of the one that is filled in there, holds of each below the next
+pub values_more : {X : Type 0} (P : ℕ → X → Type 0) (xs : List X) (d v : X) (n : ℕ) → n < length xs → ((k : ℕ) → k < n → P k (get_or xs k d)) → P n v
+    → (k : ℕ) → k < n + 1 → P k (get_or (slice_set xs n v) k d)
+values_more P xs d v n within below here =
+    below_more (λ k. P k (get_or (slice_set xs n v) k d)) n
+    (λ k h. let ne : k ≢ n = omega arith in subst (P k) (sym (get_or-set_other xs n k v d ne)) (below k h))
+    (subst (P n) (sym (get_or-set_same xs n v d within)) here)

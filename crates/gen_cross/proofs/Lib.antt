@@ -1,0 +1,9 @@
+pub mod Backwards
+pub mod MaskLaws
+pub mod SideLaws
+pub mod ValueLaws
+pub mod RunsWith
+pub mod Steps
+pub mod Filling
+pub mod CrossLaws
+mod Examples

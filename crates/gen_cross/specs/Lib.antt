@@ -1,0 +1,4 @@
+pub mod Values
+pub mod Paths
+pub mod CrossRuns
+pub mod Laws

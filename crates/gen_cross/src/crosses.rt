@@ -1,0 +1,81 @@
+ghost use Rattle.std.specs.Prelude.{◌≡◌, ◌<◌, ℕ, List, slice_index_or};
+ghost use Rattle.lex_list.specs.RotatedPaths.{StandsFor};
+ghost use Rattle.gen_cross.specs.Values.{no_value, value_at, IsValue, IsRight};
+
+use crate::masks::LETTERS;
+use crate::values::{nothing, value_of};
+use lex_file::PathLex;
+use ref_board::{Board, Dir, SIDE, Square};
+use ref_tiles::Rules;
+
+/// How many squares the board has.
+const SQUARES: usize = SIDE * SIDE;
+
+/// What a square is for a play of one direction.
+#[derive(Clone, Copy)]
+pub struct Value {
+    /// Which letters, A to Z, make a listed word across the play; none at all where the square has a tile.
+    pub mask: [bool; LETTERS],
+    /// The points of the old tiles of that word.
+    pub side: u16,
+}
+
+/// The cross-sets of a board: for each direction of play and each square, the letters that may be put there, and the
+/// points beside. An empty square with no tile beside it, across the direction, has all letters and no points; a square
+/// with a tile has neither.
+#[derive(Clone, Copy)]
+pub struct Cross {
+    across: [Value; SQUARES],
+    down: [Value; SQUARES],
+}
+
+impl Cross {
+    /// The cross-sets of a board, made afresh: right for the board by the list of words that the lexicon stands for. It
+    /// takes no memory.
+    pub fn scratch<L: PathLex>(rules: &Rules, board: &Board, lex: &L) -> Cross
+        ensures { (words : List (List ℕ)) → StandsFor (L.language lex.now) words → IsRight rules.now words board.now result }
+    {
+        Cross {
+            across: values_along(rules, board, lex, Dir::Across),
+            down: values_along(rules, board, lex, Dir::Down),
+        }
+    }
+
+    /// The letters, A first, that make a listed word across a play of the direction through an empty square; all 26 where no
+    /// tile lies beside it across the play, and none at all on a square with a tile.
+    pub fn mask(&self, dir: Dir, square: Square) -> [bool; LETTERS]
+        ensures { result ≡ (value_at self.now dir square).mask }
+    {
+        self.value(dir, square).mask
+    }
+
+    /// The points of the tiles beside an empty square that would be in one word with a tile put there, across a play of the
+    /// direction. Blanks count 0, and no premium counts.
+    pub fn side(&self, dir: Dir, square: Square) -> u16
+        ensures { result ≡ (value_at self.now dir square).side }
+    {
+        self.value(dir, square).side
+    }
+
+    /// The value of a square.
+    fn value(&self, dir: Dir, square: Square) -> Value
+        ensures { result ≡ value_at self.now dir square }
+    {
+        match dir {
+            Dir::Across => self.across[square.number()],
+            Dir::Down => self.down[square.number()],
+        }
+    }
+}
+
+/// The values of all squares, for plays of a direction.
+fn values_along<L: PathLex>(rules: &Rules, board: &Board, lex: &L, dir: Dir) -> [Value; SQUARES]
+    ensures { (words : List (List ℕ)) → StandsFor (L.language lex.now) words → (square : ℕ) → square < 225 → IsValue rules.now words dir board.now square (slice_index_or result square no_value) }
+{
+    let mut values = [nothing(); SQUARES];
+    for number in 0..SQUARES {
+        let square = Square::on_line(Dir::Across, number / SIDE, number % SIDE);
+        values[number] = value_of(rules, board, lex, dir, square);
+    }
+    values
+}

@@ -1,0 +1,10 @@
+//! Laws about the definitions that the contracts of cross-sets cite. The function does nothing: its contract is the laws.
+ghost use Rattle.gen_cross.specs.Laws.{MasksTellWords, SidesTellScores};
+
+/// What a cross-set tells of any tile put on an empty square, a blank or not: the mask has the letter that it shows exactly
+/// where the words that it makes across a play are listed; and where it makes a run of two tiles or more these words
+/// score the side score and the tile's points times the letter premium, together times the word premium.
+pub fn law_of_crosses()
+    ensures words { MasksTellWords }
+    ensures score { SidesTellScores }
+{}

@@ -1,0 +1,12 @@
+//! Cross-sets: for each square and direction of play the letters that may be put there, and the points beside (Andrew
+//! Appel and Guy Jacobson, The World's Fastest Scrabble Program, 1988).
+#![tactic(auto)]
+
+mod crosses;
+mod laws;
+mod masks;
+mod stretches;
+mod values;
+
+pub use crosses::Cross;
+pub use laws::law_of_crosses;

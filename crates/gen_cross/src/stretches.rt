@@ -1,0 +1,15 @@
+ghost use Rattle.std.specs.Prelude.{◌<◌, ◌≤◌};
+
+use ref_board::Dir;
+
+/// Successive places of a line, from `first` up to just before `end`.
+#[derive(Clone, Copy)]
+pub struct Stretch {
+    pub dir: Dir,
+    pub line: usize,
+    pub first: usize,
+    pub end: usize,
+    pub ghost on_board: { line < 15 },
+    pub ghost order: { first ≤ end },
+    pub ghost inside: { end ≤ 15 },
+}
