@@ -1,0 +1,15 @@
+pub mod Meaning
+pub mod Counts
+pub mod Joins
+pub mod Means
+pub mod Shaping
+pub mod Sides
+pub mod Owing
+pub mod Lines
+pub mod GivenMoves
+pub mod Sinks
+pub mod Walks
+pub mod LeftWalks
+pub mod Anchoring
+pub mod Anchors
+pub mod Examples

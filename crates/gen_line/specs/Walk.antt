@@ -1,0 +1,81 @@
+-- What the walk over a line gives to a sink.
+use Rattle.std.specs.Prelude.{◌≡◌, ℕ, zero, suc, ◌+◌, ◌==◌, Bool, List, [], ◌∷◌, ◌++◌, map, drop, slice_set, Result, Ok, Err, if◌then◌else◌}
+use Rattle.gen_line.specs.declared.cells.Cell.{Cell}
+use Rattle.gen_line.specs.declared.cells.Cell.TheVariants.{Old, Free}
+use Rattle.gen_line.specs.declared.cells.Open.{Open}
+use Rattle.gen_line.specs.Entries.{label_of}
+use Rattle.gen_line.specs.Cells.{cell_at}
+use Rattle.gen_line.specs.Model.{right, left, turn, after, less, one_try, join_range, left_of}
+
+-- a line with the entries of the places walked
+abbrev pub put : List ℕ → ℕ → ℕ → List ℕ
+put fresh place e = if e == 0 then fresh else slice_set fresh place e
+
+unfoldable pub finish_right : ℕ → List ℕ → List ℕ → List ℕ
+finish_right place fresh [] = fresh
+finish_right place fresh (e ∷ os) = finish_right (place + 1) (put fresh place e) os
+
+unfoldable pub finish_left : ℕ → ℕ → List ℕ → List ℕ → List ℕ
+finish_left h zero fresh os = finish_right (h + 1) fresh os
+finish_left h (suc k) fresh [] = fresh
+finish_left h (suc k) fresh (e ∷ os) = finish_left h k (put fresh k e) os
+
+-- what the walk gives
+abbrev pub gives_right : (List ℕ → Bool) → List Cell → ℕ → List ℕ → List ℕ → List (List ℕ)
+gives_right g line place fresh rack = map (finish_right place fresh) (right g (drop place line) rack)
+
+abbrev pub one_right_of : (List ℕ → Bool) → List Cell → ℕ → List ℕ → ℕ → List (List ℕ)
+one_right_of g line place rack e = right (after g (label_of e)) (drop (place + 1) line) (less rack e)
+
+unfoldable pub gives_one_right : (List ℕ → Bool) → List Cell → ℕ → Open → List ℕ → List ℕ → ℕ → List (List ℕ)
+gives_one_right g line place m fresh rack e = map (finish_right place fresh) (one_try m rack (one_right_of g line place rack) e)
+
+unfoldable pub gives_tries_right : (List ℕ → Bool) → List Cell → ℕ → Open → List ℕ → List ℕ → List (List ℕ)
+gives_tries_right g line place m fresh rack = join_range (gives_one_right g line place m fresh rack) 1 52
+
+abbrev pub gives_leaf : Bool → List ℕ → List (List ℕ)
+gives_leaf ok fresh = if ok then fresh ∷ [] else []
+
+abbrev pub gives_turn : (List ℕ → Bool) → List Cell → ℕ → List ℕ → List ℕ → List (List ℕ)
+gives_turn g line h fresh rack = map (finish_right (h + 1) fresh) (turn g (drop (h + 1) line) rack)
+
+abbrev pub gives_left : (List ℕ → Bool) → List Cell → ℕ → ℕ → List ℕ → List ℕ → List (List ℕ)
+gives_left g line h k fresh rack = map (finish_left h k fresh) (left g (left_of line k) (drop (h + 1) line) rack)
+
+abbrev pub one_left_of : (List ℕ → Bool) → List Cell → ℕ → ℕ → List ℕ → ℕ → List (List ℕ)
+one_left_of g line h k rack e = left (after g (label_of e)) (left_of line k) (drop (h + 1) line) (less rack e)
+
+unfoldable pub gives_one_left : (List ℕ → Bool) → List Cell → ℕ → ℕ → Open → List ℕ → List ℕ → ℕ → List (List ℕ)
+gives_one_left g line h k m fresh rack e = map (finish_left h (suc k) fresh) (one_try m rack (one_left_of g line h k rack) e)
+
+unfoldable pub gives_tries_left : (List ℕ → Bool) → List Cell → ℕ → ℕ → Open → List ℕ → List ℕ → List (List ℕ)
+gives_tries_left g line h k m fresh rack = join_range (gives_one_left g line h k m fresh rack) 1 52
+
+abbrev pub gives_cell : (List ℕ → Bool) → List Cell → ℕ → List ℕ → List ℕ → Cell → List (List ℕ)
+gives_cell g line h fresh rack (Old a) = []
+gives_cell g line h fresh rack (Free m) = if m.anchor then gives_tries_left g line h h m fresh rack else []
+
+-- what the walk from one place gives: its anchor is the first place walked
+unfoldable pub gives_anchor : (List ℕ → Bool) → List Cell → List ℕ → List ℕ → ℕ → List (List ℕ)
+gives_anchor g line fresh rack h = gives_cell g line h fresh rack (cell_at line h)
+
+-- ---- sinks
+
+abbrev pub add_all : {I X : Type 0} → (I → X → I) → I → List X → I
+add_all add items [] = items
+add_all add items (x ∷ xs) = add_all add (add items x) xs
+
+pub record Front {I X : Type 0} (add : I → X → I) (old : I) (xs : List X) (new : I) : Type 0 where
+  pub front : List X
+  pub rest : List X
+  pub parts : xs ≡ front ++ rest
+  pub items : new ≡ add_all add old front
+
+-- all were added, or, where the sink refused, a front of them
+abbrev pub Took : {I X U E : Type 0} → (I → X → I) → I → List X → I → Result U E → Type 0
+Took add old xs new (Ok u) = new ≡ add_all add old xs
+Took add old xs new (Err e) = Front add old xs new
+
+abbrev pub Every : {X : Type 0} → (X → Type 0) → List X → Type 0
+Every P [] = Unit {0}
+Every P (x ∷ xs) = P x × Every P xs

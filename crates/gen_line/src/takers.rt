@@ -1,0 +1,42 @@
+ghost use Rattle.std.specs.Prelude.{◌≡◌, ℕ, List, [], ◌∷◌, Bool, true, false, IsOk};
+ghost use Rattle.gen_line.specs.Walk.{Took};
+
+use std::alloc::AllocError as NoMemory;
+
+/// What takes the moves of a line: it makes of each what a sink keeps, and gives it to the sink.
+///
+/// A move is an entry for each place of the line. 0 stands for no new tile, else the entry is 1 + 2 * letter, A being
+/// 0, and one more where a blank shows the letter.
+pub trait Taker<S> {
+    // How the sink is seen.
+    ghost Items: { Type 0 };
+
+    // What the sink has.
+    ghost items: { S → Items };
+
+    // What tells which moves the sink takes, and what it makes of them.
+    ghost Purpose: { Type 0 };
+
+    // What the sink was made for.
+    ghost made_for: { S → Purpose };
+
+    // Whether a sink takes a move.
+    ghost can_take: { Self → Purpose → List ℕ → Type 0 };
+
+    // What a sink has after one more move.
+    ghost tell: { Self → Purpose → Items → List ℕ → Items };
+
+    // Whether the sink may be refused memory.
+    ghost grows: { Bool };
+
+    /// Gives a sink a move.
+    ///
+    /// # Errors
+    ///
+    /// Where the sink was refused memory. It then has what it had.
+    fn take(&self, fresh: &[u8; 15], sink: &mut S) -> Result<(), NoMemory>
+        requires { can_take self.now (made_for sink.old) fresh.now }
+        ensures made_for { made_for sink.new ≡ made_for sink.old }
+        ensures took { Took (tell self.now (made_for sink.old)) (items sink.old) (fresh.now ∷ []) (items sink.new) result }
+        ensures steady { grows ≡ false → IsOk result };
+}

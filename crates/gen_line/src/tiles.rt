@@ -1,0 +1,72 @@
+ghost use Rattle.std.specs.Prelude.{◌≡◌, ◌<◌, slice_index, slice_set};
+ghost use Rattle.gen_line.specs.Entries.{letter_of, kind_of, label_of};
+ghost use Rattle.gen_line.specs.Model.{may, less};
+
+use crate::cells::Open;
+
+/// The entries of new tiles are those from 1 on that are below this one.
+pub const ENTRIES: u8 = 53;
+
+/// The tiles of a walk. What an entry says is told at [`crate::Taker`].
+#[derive(Clone, Copy)]
+pub struct Tiles {
+    /// The new tiles on the places of the line.
+    pub fresh: [u8; 15],
+    /// How many tiles of each kind are left on the rack: A to Z, and then blanks.
+    pub rack: [u8; 27],
+}
+
+/// The letter that a new tile shows, 0 for A to 25 for Z.
+fn letter(entry: u8) -> u8
+    requires { 0 < entry }
+    ensures { result ≡ letter_of entry }
+{
+    (entry - 1) / 2
+}
+
+/// The label of that letter in a lexicon.
+pub fn label(entry: u8) -> u8
+    requires { 0 < entry }
+    ensures { result ≡ label_of entry }
+{
+    letter(entry) + 1
+}
+
+/// The kind of a new tile.
+fn kind(entry: u8) -> u8
+    requires { 0 < entry }
+    ensures { result ≡ kind_of entry }
+{
+    if (entry - 1) % 2 == 1 {
+        26
+    } else {
+        letter(entry)
+    }
+}
+
+impl Tiles {
+    /// Whether a square and the rack allow a new tile.
+    pub fn allow(&self, free: &Open, entry: u8) -> bool
+        requires low { 0 < entry }
+        requires high { entry < 53 }
+        ensures { result ≡ may free.now self.now.rack entry }
+    {
+        self.rack[usize::from(kind(entry))] > 0 && free.mask[usize::from(letter(entry))]
+    }
+
+    /// The tiles once a new one was put on a place.
+    pub fn with(&self, place: usize, entry: u8) -> Tiles
+        requires place { place < 15 }
+        requires low { 0 < entry }
+        requires high { entry < 53 }
+        requires left { 0 < slice_index self.now.rack (kind_of entry) }
+        ensures fresh { result.fresh ≡ slice_set self.now.fresh place entry }
+        ensures rack { result.rack ≡ less self.now.rack entry }
+    {
+        let mut fresh = self.fresh;
+        fresh[place] = entry;
+        let mut rack = self.rack;
+        rack[usize::from(kind(entry))] -= 1;
+        Tiles { fresh, rack }
+    }
+}

@@ -1,0 +1,326 @@
+ghost use Rattle.std.specs.Prelude.{◌≡◌, ◌<◌, ◌≤◌, ◌+◌, ◌&&◌, ℕ, List, false, IsOk, drop, length};
+ghost use Rattle.gen_line.specs.Model.{starts_free, line_moves};
+ghost use Rattle.lex_file.specs.Walking.{IsOpen, strings};
+ghost use Rattle.gen_line.specs.Walk.{Took, Every, gives_leaf, gives_right, gives_tries_right, gives_one_right, gives_turn, gives_left, gives_tries_left, gives_one_left, gives_anchor};
+
+use crate::cells::{Cell, Open};
+use crate::takers::Taker;
+use crate::tiles::{ENTRIES, Tiles, label};
+use lex_file::{PathLex, Step, advance};
+use std::alloc::AllocError as NoMemory;
+
+/// The label between the two parts of a rotated word.
+const MARK: u8 = 0;
+
+/// A walk over a line from one of its anchors: to the left, and then, behind the mark, to the right.
+#[derive(Drop)]
+pub struct LineWalk<'a, L, T> {
+    pub lex: &'a L,
+    pub line: &'a [Cell; 15],
+    pub anchor: usize,
+    pub taker: &'a T,
+    ghost size: { length line.now ≡ 15 },
+}
+
+/// Whether what a lexicon accepts may end before a place: no old tile lies there.
+fn ends_at(line: &[Cell; 15], place: usize, accepts: bool) -> bool
+    ensures { result ≡ (starts_free (drop place line.now) && accepts) }
+{
+    match line.get(place) {
+        Some(Cell::Old(_)) => false,
+        _ => accepts,
+    }
+}
+
+impl<L: PathLex, T> LineWalk<'_, L, T> {
+    /// Gives the sink the tiles that lie on the line, where they are a move.
+    fn offer<S>(&self, is_move: bool, tiles: &Tiles, sink: &mut S) -> Result<(), NoMemory>
+    where
+        T: Taker<S>,
+        requires can { Every (T.can_take self.now.taker.now (T.made_for sink.old)) (gives_leaf is_move tiles.now.fresh) }
+        ensures made_for { T.made_for sink.new ≡ T.made_for sink.old }
+        ensures took { Took (T.tell self.now.taker.now (T.made_for sink.old)) (T.items sink.old) (gives_leaf is_move tiles.now.fresh) (T.items sink.new) result }
+        ensures steady { T.grows ≡ false → IsOk result }
+    {
+        if is_move {
+            return self.taker.take(&tiles.fresh, sink);
+        }
+        Ok(())
+    }
+
+    /// Gives the moves that go on to the right.
+    #[cycle(right)]
+    fn right<S>(
+        &self,
+        at: Step<L::Node>,
+        place: usize,
+        tiles: &Tiles,
+        sink: &mut S,
+    ) -> Result<(), NoMemory>
+    where
+        T: Taker<S>,
+        requires node { IsOpen (L.is_node self.now.lex.now) at.next }
+        requires place { place ≤ 15 }
+        requires can { Every (T.can_take self.now.taker.now (T.made_for sink.old)) (gives_right (strings (L.tail self.now.lex.now) at) self.now.line.now place tiles.now.fresh tiles.now.rack) }
+        ensures made_for { T.made_for sink.new ≡ T.made_for sink.old }
+        ensures took { Took (T.tell self.now.taker.now (T.made_for sink.old)) (T.items sink.old) (gives_right (strings (L.tail self.now.lex.now) at) self.now.line.now place tiles.now.fresh tiles.now.rack) (T.items sink.new) result }
+        ensures steady { T.grows ≡ false → IsOk result }
+    {
+        if place == self.line.len() {
+            return self.offer(at.accepts, tiles, sink);
+        }
+        match &self.line[place] {
+            Cell::Old(label) => match advance(self.lex, at, *label) {
+                Some(next) => self.right(next, place + 1, tiles, sink),
+                None => Ok(()),
+            },
+            Cell::Free(free) => {
+                self.offer(at.accepts, tiles, sink)?;
+                self.tries_right(at, place, free, tiles, sink)
+            }
+        }
+    }
+
+    /// Gives the moves with a new tile here.
+    #[cycle(right)]
+    fn tries_right<S>(
+        &self,
+        at: Step<L::Node>,
+        place: usize,
+        free: &Open,
+        tiles: &Tiles,
+        sink: &mut S,
+    ) -> Result<(), NoMemory>
+    where
+        T: Taker<S>,
+        requires node { IsOpen (L.is_node self.now.lex.now) at.next }
+        requires place { place < 15 }
+        requires can { Every (T.can_take self.now.taker.now (T.made_for sink.old)) (gives_tries_right (strings (L.tail self.now.lex.now) at) self.now.line.now place free.now tiles.now.fresh tiles.now.rack) }
+        ensures made_for { T.made_for sink.new ≡ T.made_for sink.old }
+        ensures took { Took (T.tell self.now.taker.now (T.made_for sink.old)) (T.items sink.old) (gives_tries_right (strings (L.tail self.now.lex.now) at) self.now.line.now place free.now tiles.now.fresh tiles.now.rack) (T.items sink.new) result }
+        ensures steady { T.grows ≡ false → IsOk result }
+    {
+        if at.next.is_none() {
+            return Ok(());
+        }
+        for entry in 1..ENTRIES {
+            self.one_right(at, place, free, entry, tiles, sink)?;
+        }
+        Ok(())
+    }
+
+    /// Gives the moves with this new tile here, where the square, the rack and the lexicon allow it.
+    #[cycle(right)]
+    fn one_right<S>(
+        &self,
+        at: Step<L::Node>,
+        place: usize,
+        free: &Open,
+        entry: u8,
+        tiles: &Tiles,
+        sink: &mut S,
+    ) -> Result<(), NoMemory>
+    where
+        T: Taker<S>,
+        requires node { IsOpen (L.is_node self.now.lex.now) at.next }
+        requires place { place < 15 }
+        requires low { 0 < entry }
+        requires high { entry < 53 }
+        requires can { Every (T.can_take self.now.taker.now (T.made_for sink.old)) (gives_one_right (strings (L.tail self.now.lex.now) at) self.now.line.now place free.now tiles.now.fresh tiles.now.rack entry) }
+        ensures made_for { T.made_for sink.new ≡ T.made_for sink.old }
+        ensures took { Took (T.tell self.now.taker.now (T.made_for sink.old)) (T.items sink.old) (gives_one_right (strings (L.tail self.now.lex.now) at) self.now.line.now place free.now tiles.now.fresh tiles.now.rack entry) (T.items sink.new) result }
+        ensures steady { T.grows ≡ false → IsOk result }
+    {
+        if !tiles.allow(free, entry) {
+            return Ok(());
+        }
+        match advance(self.lex, at, label(entry)) {
+            Some(next) => self.right(next, place + 1, &tiles.with(place, entry), sink),
+            None => Ok(()),
+        }
+    }
+
+    /// Gives the moves that begin at the left end of what was walked: those that end at the anchor, and those that go on
+    /// behind the mark.
+    fn turn<S>(&self, at: Step<L::Node>, tiles: &Tiles, sink: &mut S) -> Result<(), NoMemory>
+    where
+        T: Taker<S>,
+        requires node { IsOpen (L.is_node self.now.lex.now) at.next }
+        requires anchor { self.now.anchor < 15 }
+        requires can { Every (T.can_take self.now.taker.now (T.made_for sink.old)) (gives_turn (strings (L.tail self.now.lex.now) at) self.now.line.now self.now.anchor tiles.now.fresh tiles.now.rack) }
+        ensures made_for { T.made_for sink.new ≡ T.made_for sink.old }
+        ensures took { Took (T.tell self.now.taker.now (T.made_for sink.old)) (T.items sink.old) (gives_turn (strings (L.tail self.now.lex.now) at) self.now.line.now self.now.anchor tiles.now.fresh tiles.now.rack) (T.items sink.new) result }
+        ensures steady { T.grows ≡ false → IsOk result }
+    {
+        self.offer(ends_at(self.line, self.anchor + 1, at.accepts), tiles, sink)?;
+        match advance(self.lex, at, MARK) {
+            Some(behind) => {
+                let onward = Step {
+                    accepts: false,
+                    next: behind.next,
+                };
+                self.right(onward, self.anchor + 1, tiles, sink)
+            }
+            None => Ok(()),
+        }
+    }
+
+    /// Gives the moves that go on to the left, where there are so many places before what was walked.
+    #[cycle(left)]
+    fn left<S>(
+        &self,
+        at: Step<L::Node>,
+        places: usize,
+        tiles: &Tiles,
+        sink: &mut S,
+    ) -> Result<(), NoMemory>
+    where
+        T: Taker<S>,
+        requires node { IsOpen (L.is_node self.now.lex.now) at.next }
+        requires anchor { self.now.anchor < 15 }
+        requires places { places ≤ self.now.anchor }
+        requires can { Every (T.can_take self.now.taker.now (T.made_for sink.old)) (gives_left (strings (L.tail self.now.lex.now) at) self.now.line.now self.now.anchor places tiles.now.fresh tiles.now.rack) }
+        ensures made_for { T.made_for sink.new ≡ T.made_for sink.old }
+        ensures took { Took (T.tell self.now.taker.now (T.made_for sink.old)) (T.items sink.old) (gives_left (strings (L.tail self.now.lex.now) at) self.now.line.now self.now.anchor places tiles.now.fresh tiles.now.rack) (T.items sink.new) result }
+        ensures steady { T.grows ≡ false → IsOk result }
+    {
+        if places == 0 {
+            return self.turn(at, tiles, sink);
+        }
+        match &self.line[places - 1] {
+            Cell::Old(label) => match advance(self.lex, at, *label) {
+                Some(next) => self.left(next, places - 1, tiles, sink),
+                None => Ok(()),
+            },
+            Cell::Free(free) => {
+                self.turn(at, tiles, sink)?;
+                if free.anchor {
+                    return Ok(());
+                }
+                self.tries_left(at, places - 1, free, tiles, sink)
+            }
+        }
+    }
+
+    /// Gives the moves with a new tile here.
+    #[cycle(left)]
+    fn tries_left<S>(
+        &self,
+        at: Step<L::Node>,
+        place: usize,
+        free: &Open,
+        tiles: &Tiles,
+        sink: &mut S,
+    ) -> Result<(), NoMemory>
+    where
+        T: Taker<S>,
+        requires node { IsOpen (L.is_node self.now.lex.now) at.next }
+        requires anchor { self.now.anchor < 15 }
+        requires place { place ≤ self.now.anchor }
+        requires can { Every (T.can_take self.now.taker.now (T.made_for sink.old)) (gives_tries_left (strings (L.tail self.now.lex.now) at) self.now.line.now self.now.anchor place free.now tiles.now.fresh tiles.now.rack) }
+        ensures made_for { T.made_for sink.new ≡ T.made_for sink.old }
+        ensures took { Took (T.tell self.now.taker.now (T.made_for sink.old)) (T.items sink.old) (gives_tries_left (strings (L.tail self.now.lex.now) at) self.now.line.now self.now.anchor place free.now tiles.now.fresh tiles.now.rack) (T.items sink.new) result }
+        ensures steady { T.grows ≡ false → IsOk result }
+    {
+        if at.next.is_none() {
+            return Ok(());
+        }
+        for entry in 1..ENTRIES {
+            self.one_left(at, place, free, entry, tiles, sink)?;
+        }
+        Ok(())
+    }
+
+    /// Gives the moves with this new tile here, where the square, the rack and the lexicon allow it.
+    #[cycle(left)]
+    fn one_left<S>(
+        &self,
+        at: Step<L::Node>,
+        place: usize,
+        free: &Open,
+        entry: u8,
+        tiles: &Tiles,
+        sink: &mut S,
+    ) -> Result<(), NoMemory>
+    where
+        T: Taker<S>,
+        requires node { IsOpen (L.is_node self.now.lex.now) at.next }
+        requires anchor { self.now.anchor < 15 }
+        requires place { place ≤ self.now.anchor }
+        requires low { 0 < entry }
+        requires high { entry < 53 }
+        requires can { Every (T.can_take self.now.taker.now (T.made_for sink.old)) (gives_one_left (strings (L.tail self.now.lex.now) at) self.now.line.now self.now.anchor place free.now tiles.now.fresh tiles.now.rack entry) }
+        ensures made_for { T.made_for sink.new ≡ T.made_for sink.old }
+        ensures took { Took (T.tell self.now.taker.now (T.made_for sink.old)) (T.items sink.old) (gives_one_left (strings (L.tail self.now.lex.now) at) self.now.line.now self.now.anchor place free.now tiles.now.fresh tiles.now.rack entry) (T.items sink.new) result }
+        ensures steady { T.grows ≡ false → IsOk result }
+    {
+        if !tiles.allow(free, entry) {
+            return Ok(());
+        }
+        match advance(self.lex, at, label(entry)) {
+            Some(next) => self.left(next, place, &tiles.with(place, entry), sink),
+            None => Ok(()),
+        }
+    }
+
+    /// Gives the moves of which the anchor of the walk is the first anchor covered, where it is one.
+    pub fn from_anchor<S>(&self, tiles: &Tiles, sink: &mut S) -> Result<(), NoMemory>
+    where
+        T: Taker<S>,
+        requires anchor { self.now.anchor < 15 }
+        requires can { Every (T.can_take self.now.taker.now (T.made_for sink.old)) (gives_anchor (L.language self.now.lex.now) self.now.line.now tiles.now.fresh tiles.now.rack self.now.anchor) }
+        ensures made_for { T.made_for sink.new ≡ T.made_for sink.old }
+        ensures took { Took (T.tell self.now.taker.now (T.made_for sink.old)) (T.items sink.old) (gives_anchor (L.language self.now.lex.now) self.now.line.now tiles.now.fresh tiles.now.rack self.now.anchor) (T.items sink.new) result }
+        ensures steady { T.grows ≡ false → IsOk result }
+    {
+        match &self.line[self.anchor] {
+            Cell::Old(_) => Ok(()),
+            Cell::Free(free) => {
+                if !free.anchor {
+                    return Ok(());
+                }
+                let start = Step {
+                    accepts: false,
+                    next: Some(self.lex.root()),
+                };
+                self.tries_left(start, self.anchor, free, tiles, sink)
+            }
+        }
+    }
+}
+
+/// Gives a sink the moves of a line, each once: the new tiles lie on free places that allow them, in one whole stretch
+/// that spells a word of the lexicon, and one of them on an anchor; the rack has them.
+///
+/// A rack has a number for each kind of tile: A to Z, and then blanks.
+///
+/// # Errors
+///
+/// Where the sink was refused memory. It then has a front of the moves.
+pub fn walk_line<L: PathLex, S, T: Taker<S>>(
+    lex: &L,
+    line: &[Cell; 15],
+    rack: &[u8; 27],
+    taker: &T,
+    sink: &mut S,
+) -> Result<(), NoMemory>
+    requires can { Every (T.can_take taker.now (T.made_for sink.old)) (line_moves (L.language lex.now) line.now rack.now) }
+    ensures made_for { T.made_for sink.new ≡ T.made_for sink.old }
+    ensures took { Took (T.tell taker.now (T.made_for sink.old)) (T.items sink.old) (line_moves (L.language lex.now) line.now rack.now) (T.items sink.new) result }
+    ensures steady { T.grows ≡ false → IsOk result }
+{
+    let tiles = Tiles {
+        fresh: [0; 15],
+        rack: *rack,
+    };
+    for anchor in 0..line.len() {
+        let walk = LineWalk {
+            lex,
+            line,
+            anchor,
+            taker,
+        };
+        walk.from_anchor(&tiles, sink)?;
+    }
+    Ok(())
+}

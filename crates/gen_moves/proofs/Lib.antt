@@ -1,0 +1,11 @@
+pub mod Lists
+pub mod Entering
+pub mod MovePlaces
+pub mod Moving
+pub mod Finding
+pub mod Gathering
+pub mod Settings
+pub mod Fitting
+pub mod CellLaws
+pub mod Writing
+pub mod Taking

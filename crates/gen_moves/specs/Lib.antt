@@ -1,0 +1,5 @@
+pub mod BoardLines
+pub mod LineTiles
+pub mod Findings
+pub mod Laws
+pub mod Telling

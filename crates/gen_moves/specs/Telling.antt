@@ -1,0 +1,44 @@
+-- What the moves of a line tell a sink, and the lines of a whole board.
+use Rattle.std.specs.Prelude.{◌≡◌, ℕ, ◌<◌, ◌≤◌, true, false, List, [], length, slice_index_or, Option, Some, None}
+use Rattle.ref_tiles.specs.declared.tiles.Tile.{Tile}
+use Rattle.ref_tiles.specs.declared.rulebook.Rules.{Rules}
+use Rattle.ref_board.specs.declared.directions.Dir.{Dir}
+use Rattle.ref_board.specs.declared.directions.Dir.TheVariants.{Across, Down}
+use Rattle.ref_play.specs.declared.plays.Play.{Play}
+use Rattle.ref_play.specs.Directions.{is_wanted, RunsAlong}
+use Rattle.ref_play.specs.Legality.{IsLegal}
+use Rattle.ref_play.specs.Best.{Given}
+use Rattle.gen_line.specs.declared.cells.Cell.{Cell}
+use Rattle.gen_line.specs.Walk.{add_all}
+use Rattle.gen_moves.specs.declared.spots.Spot.{Spot}
+use Rattle.gen_moves.specs.LineTiles.{tiles_of}
+use Rattle.gen_moves.specs.Findings.{told}
+
+-- these entries put down a tile, and where they are not too many a legal play with its run along the line
+abbrev pub IsFit : Spot → List ℕ → Type 0
+IsFit spot y =
+    (spot.line < 15) × ((1 ≤ length (tiles_of spot.dir spot.line y))
+    × (length (tiles_of spot.dir spot.line y) ≤ 7 → IsLegal spot.board (tiles_of spot.dir spot.line y) × RunsAlong spot.dir spot.board (tiles_of spot.dir spot.line y)))
+
+-- a sink's items after the entries of a line are told to it
+abbrev pub tell : Rules → Spot → (List Given → Given → List Given) → List Given → List ℕ → List Given
+tell rules spot add items y = add_all add items (told rules spot.board spot.dir spot.line y)
+
+-- the play of the entries, where it is wanted
+abbrev pub PlayIs : Spot → List ℕ → Option Play → Type 0
+PlayIs spot y None = is_wanted spot.board spot.dir (tiles_of spot.dir spot.line y) ≡ false
+PlayIs spot y (Some play) =
+    (is_wanted spot.board spot.dir (tiles_of spot.dir spot.line y) ≡ true) × (play.dir ≡ spot.dir) × (play.tiles.items ≡ tiles_of spot.dir spot.line y)
+
+-- ---- the lines of a board, one direction after the other
+abbrev pub spot_of : List (Option Tile) → Dir → ℕ → Spot
+spot_of board d line = record { board = board; dir = d; line = line }
+
+-- the same lines for both directions
+abbrev pub same_cells : List (List Cell) → Dir → ℕ → List Cell
+same_cells lines d line = slice_index_or lines line []
+
+-- the lines of both
+abbrev pub both_cells : List (List Cell) → List (List Cell) → Dir → ℕ → List Cell
+both_cells across down Across line = slice_index_or across line []
+both_cells across down Down line = slice_index_or down line []

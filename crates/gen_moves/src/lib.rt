@@ -1,0 +1,12 @@
+//! Every legal, valid play that a rack allows on a board, each exactly once (Steven Gordon, A Faster Scrabble Move
+//! Generation Algorithm, 1994).
+#![tactic(auto)]
+
+mod generating;
+mod laws;
+mod lines;
+mod spots;
+mod telling;
+
+pub use generating::generate;
+pub use laws::law_of_moves;

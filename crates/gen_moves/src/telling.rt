@@ -1,0 +1,43 @@
+use crate::spots::Spot;
+use gen_line::Taker;
+use gen_sinks::{NoMemory, Sink};
+use ref_board::SIDE;
+use ref_play::score;
+use ref_tiles::Rules;
+
+/// What makes plays of the moves of a line, each with its score, and gives them to a sink.
+#[derive(Drop)]
+pub struct LinePlays<'a> {
+    pub rules: &'a Rules,
+    pub spot: &'a Spot,
+}
+
+impl<S: Sink> Taker<S> for LinePlays<'_> {
+    ghost use Rattle.std.specs.Prelude.{List, Option};
+    ghost use Rattle.ref_tiles.specs.declared.tiles.Tile.{Tile};
+    ghost use Rattle.ref_play.specs.Best.{Given};
+    ghost use Rattle.gen_sinks.specs.Sinks.{IsFor};
+    ghost use Rattle.gen_moves.specs.Telling.{IsFit, tell};
+
+    ghost Items = { List Given };
+
+    ghost items = { S.items };
+
+    ghost Purpose = { Option (List (Option Tile)) };
+
+    ghost made_for = { S.made_for };
+
+    ghost can_take = { λ plays board entries. IsFor board plays.spot.now.board × IsFit plays.spot.now entries };
+
+    ghost tell = { λ plays board items entries. tell plays.rules.now plays.spot.now (S.add board) items entries };
+
+    ghost grows = { S.grows };
+
+    fn take(&self, fresh: &[u8; SIDE], sink: &mut S) -> Result<(), NoMemory> {
+        let Some(play) = self.spot.play_of(fresh) else {
+            return Ok(());
+        };
+        let points = score(self.rules, &self.spot.board, &play);
+        sink.take(&play, points)
+    }
+}

@@ -1,0 +1,4 @@
+pub mod Sinks
+pub mod Ranks
+pub mod Laws
+pub mod Legals

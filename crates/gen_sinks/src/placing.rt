@@ -1,0 +1,55 @@
+ghost use Rattle.std.specs.Prelude.{◌≡◌, ◌≤◌, IsTrue, length, map, take, insert};
+ghost use Rattle.ref_play.specs.Legality.{IsLegal};
+ghost use Rattle.gen_sinks.specs.Sinks.{seen, seen_pair};
+ghost use Rattle.gen_sinks.specs.Ranks.{ranks_before, put_in};
+ghost use Rattle.gen_sinks.specs.Legals.{are_legal};
+
+use arrayvec::ArrayVec;
+use ref_board::Board;
+use ref_play::{Play, before};
+
+/// Whether a play ranks before another: it scores more, or as much and its notation comes first.
+fn ranks_before(board: &Board, play: &Play, score: i32, other: &(Play, i32)) -> bool
+    requires legal { IsLegal board.now play.now.tiles.items }
+    requires other { IsLegal board.now other.now.0.tiles.items }
+    ensures { result ≡ ranks_before board.now (seen play.now score) (seen_pair other.now) }
+{
+    let (second, points) = other;
+    score > *points || (score == *points && before(board, play, second))
+}
+
+/// The place of a play among those that are kept: that of the first one that it ranks before, else behind them all.
+pub fn place_of(board: &Board, kept: &[(Play, i32)], play: &Play, score: i32) -> usize
+    requires legal { IsLegal board.now play.now.tiles.items }
+    requires kept { IsTrue (are_legal board.now kept.now) }
+    ensures inside { result ≤ length kept.now }
+    ensures place { put_in (ranks_before board.now) (seen play.now score) (map seen_pair kept.now)
+        ≡ insert (map seen_pair kept.now) result (seen play.now score) }
+{
+    let _size = board.len();
+    for place in 0..kept.len() {
+        if ranks_before(board, play, score, &kept[place]) {
+            return place;
+        }
+    }
+    kept.len()
+}
+
+/// Puts a play at its place, where that is among the first N. The last one leaves where there is no room for it.
+pub fn put_at<const N: usize>(
+    kept: &mut ArrayVec<(Play, i32), N>,
+    place: usize,
+    scored: (Play, i32),
+)
+    requires { place ≤ length kept.old.items }
+    ensures { kept.new.items ≡ take N (insert kept.old.items place scored) }
+{
+    if !kept.is_full() {
+        kept.insert(place, scored);
+        return;
+    }
+    if place < N {
+        kept.pop();
+        kept.insert(place, scored);
+    }
+}

@@ -1,0 +1,36 @@
+ghost use Rattle.std.specs.Prelude.{◌≡◌, List, Option, Bool, false, IsOk, OnOk, OnErr};
+ghost use Rattle.ref_tiles.specs.declared.tiles.Tile.{Tile};
+ghost use Rattle.ref_play.specs.Best.{Given};
+ghost use Rattle.gen_sinks.specs.Sinks.{seen, CanTake};
+
+use ref_play::Play;
+
+/// Memory ran out.
+pub use std::alloc::AllocError as NoMemory;
+
+/// What takes plays one by one, each with its score.
+pub trait Sink {
+    // The board whose plays it takes, where it was made for one.
+    ghost made_for: { Self → Option (List (Option Tile)) };
+
+    // Whether it takes memory.
+    ghost grows: { Bool };
+
+    // The plays that it has, with their scores.
+    ghost items: { Self → List Given };
+
+    // What plays it has with one more, on its board.
+    ghost add: { Option (List (Option Tile)) → List Given → Given → List Given };
+
+    /// Takes a play with its score. A sink that was made for a board asks that the play is legal on that board.
+    ///
+    /// # Errors
+    ///
+    /// Where memory was refused. The sink then has what it had.
+    fn take(&mut self, play: &Play, score: i32) -> Result<(), NoMemory>
+        requires { CanTake (made_for self.old) play.now.tiles.items }
+        ensures board { made_for self.new ≡ made_for self.old }
+        ensures taken { OnOk result (items self.new ≡ add (made_for self.old) (items self.old) (seen play.now score)) }
+        ensures refused { OnErr result (items self.new ≡ items self.old) }
+        ensures steady { grows ≡ false → IsOk result };
+}

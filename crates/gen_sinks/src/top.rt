@@ -1,0 +1,65 @@
+ghost use Rattle.std.specs.Prelude.{◌≡◌, IsTrue};
+ghost use Rattle.gen_sinks.specs.Legals.{are_legal};
+
+use crate::placing::{place_of, put_at};
+use crate::sinks::{NoMemory, Sink};
+use arrayvec::ArrayVec;
+use ref_board::Board;
+use ref_play::Play;
+
+/// A sink that keeps the best N plays of one board, best first: those that score most, and of those that score as much the
+/// first by their notations.
+#[derive(Drop)]
+pub struct Top<const N: usize> {
+    board: Board,
+    kept: ArrayVec<(Play, i32), N>,
+    ghost legal: { IsTrue (are_legal board kept.items) },
+}
+
+/// A sink that keeps the best play of one board.
+pub type Best = Top<1>;
+
+impl<const N: usize> Top<N> {
+    ghost use Rattle.std.specs.Prelude.{[], Some, map};
+    ghost use Rattle.gen_sinks.specs.Sinks.{seen_pair};
+
+    /// A sink without plays, for the plays of this board.
+    #[tactic(auto, unfolding(crate::specs::Legals::are_legal))]
+    pub fn new(board: &Board) -> Top<N>
+        ensures board { ⟦<Top<N> as Sink>⟧.made_for result ≡ Some board.now }
+        ensures items { ⟦<Top<N> as Sink>⟧.items result ≡ [] }
+    {
+        Top {
+            board: *board,
+            kept: ArrayVec::new(),
+        }
+    }
+
+    /// The plays with their scores, best first.
+    pub fn items(&self) -> &[(Play, i32)]
+        ensures { map seen_pair result.now ≡ ⟦<Top<N> as Sink>⟧.items self.now }
+    {
+        &self.kept
+    }
+}
+
+impl<const N: usize> Sink for Top<N> {
+    ghost use Rattle.std.specs.Prelude.{Some, false, map};
+    ghost use Rattle.gen_sinks.specs.Sinks.{seen_pair};
+    ghost use Rattle.gen_sinks.specs.Ranks.{add_ranked};
+
+    ghost made_for = { λ sink. Some sink.board };
+
+    ghost grows = { false };
+
+    ghost items = { λ sink. map seen_pair sink.kept.items };
+
+    ghost add = { add_ranked N };
+
+    fn take(&mut self, play: &Play, score: i32) -> Result<(), NoMemory> {
+        let _size = self.board.len();
+        let place = place_of(&self.board, &self.kept, play, score);
+        put_at(&mut self.kept, place, (play.copy(), score));
+        Ok(())
+    }
+}
