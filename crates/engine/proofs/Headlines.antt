@@ -1,6 +1,6 @@
 -- That a game is legal means what the headline says.
-use Rattle.std.proofs.Common.{◌≡◌, ◌↔◌, ◌<◌, ◌≤◌, ℕ, pos, Bool, true, false, List, [], ◌∷◌, ◌++◌, length, refl, sym, ap, subst, ◌∙◌, arith, ◌⊎◌, inl, inr, ⊎_elim, Option, Some, None, slice_get, Ok, if◌then◌else◌}
-use Rattle.std.specs.Prelude.{codes, decimal, nat_lt, slice_index_or}
+use Rattle.std.proofs.Common.{◌≡◌, ◌<◌, ◌≤◌, ℕ, pos, Bool, true, false, List, [], ◌∷◌, ◌++◌, length, ap, subst, ◌∙◌, arith, ◌⊎◌, inl, inr, ⊎_elim, Option, Some, None, Ok, if◌then◌else◌}
+use Rattle.std.specs.Prelude.{codes, nat_lt, slice_index_or}
 use Rattle.std.specs.Fmt.{signed_decimal}
 use Rattle.std.specs.Option.{IsSomeAnd}
 use Rattle.std.proofs.lemmas.Option.{slice_get_within}
@@ -9,9 +9,7 @@ use Rattle.ref_tiles.specs.declared.rulebook.Rules.{Rules}
 use Rattle.ref_play.specs.declared.placed.Placed.{Placed}
 use Rattle.ref_play.specs.Scores.{score_of}
 use Rattle.ref_play.specs.Notations.{notation_of, ComesBefore}
-use Rattle.ref_play.specs.Candidates.{IsCandidate}
 use Rattle.ref_play.specs.Best.{Given, Outranks, IsAnnotation}
-use Rattle.gcg_read.specs.declared.events.Event.{Event}
 use Rattle.gcg_read.specs.declared.records.Record.{Record}
 use Rattle.gcg_read.specs.Records.{record_of}
 use Rattle.lex_list.specs.Lists.{list_of}
@@ -22,15 +20,12 @@ use Rattle.lex_check.specs.Laws.{LexiconsAreExact}
 use Rattle.deal_completion.specs.Completion.{dealt}
 use Rattle.deal_steps.specs.Fitting.{Fits}
 use Rattle.game_deal.specs.Recorded.{steps_of}
-use Rattle.game_turns.specs.Tallies.{State, tally_at}
-use Rattle.game_report.specs.BestPlays.{is_judged, full_rack, notation_text, best_text, TellsByRack, TellsBestAt}
-use Rattle.game_report.specs.EventLines.{AreEventLines}
-use Rattle.engine.specs.declared.verdicts.Verdict.TheVariants as verdict
-use Rattle.engine.specs.Verdicts.{IsVerdictOn}
-use Rattle.engine.specs.Lexicons.{IsLexicon, file_fault, most_lexicon_bytes}
-use Rattle.engine.specs.Judging.{Texts, IsDecided}
+use Rattle.game_turns.specs.Tallies.{tally_at}
+use Rattle.game_report.specs.BestPlays.{full_rack, notation_text, best_text, TellsByRack}
+use Rattle.engine.specs.Lexicons.{file_fault, most_lexicon_bytes}
+use Rattle.engine.specs.Judging.{Texts}
 use Rattle.engine.specs.Reports.{IsLegalReport, IsLegalText, legal_line}
-use Rattle.engine.specs.Headlines.{IsBestPrinted, IsLegalGame, LegalMeansLegal}
+use Rattle.engine.specs.Headlines.{IsBestPrinted, LegalMeansLegal}
 
 -- a value of which something holds
 some_of : {T : Type 0} (o : Option T) (P : T → Type 0) → IsSomeAnd o P → (x : T) × P x

@@ -8,3 +8,4 @@ pub mod CheckedFiles
 pub mod Headlines
 pub mod Examples
 pub mod BuiltFiles
+pub mod Toppings

@@ -1,5 +1,5 @@
 -- The headline: what it means that the referee answers legal.
-use Rattle.std.specs.Prelude.{◌≡◌, ◌↔◌, ◌⊎◌, ◌≤◌, ℕ, Bool, true, List, [], ◌∷◌, ◌++◌, length, codes, decimal, slice_get, slice_index_or, Option, Some, Ok}
+use Rattle.std.specs.Prelude.{◌≡◌, ◌↔◌, ◌⊎◌, ◌≤◌, ℕ, Bool, true, List, [], ◌∷◌, ◌++◌, codes, decimal, slice_get, slice_index_or, Option, Some, Ok}
 use Rattle.ref_tiles.specs.declared.tiles.Tile.{Tile}
 use Rattle.ref_tiles.specs.declared.rulebook.Rules.{Rules}
 use Rattle.ref_play.specs.declared.placed.Placed.{Placed}

@@ -1,5 +1,5 @@
 -- The verdict on the inputs of a game, with its report.
-use Rattle.std.specs.Prelude.{◌≡◌, ◌≢◌, ℕ, List, [], Ok}
+use Rattle.std.specs.Prelude.{◌≡◌, ◌≢◌, ℕ, List}
 use Rattle.ref_tiles.specs.declared.rulebook.Rules.{Rules}
 use Rattle.lex_list.specs.declared.faults.ListFault.{ListFault}
 use Rattle.lex_list.specs.declared.faults.ListWhy.TheVariants as list_why
@@ -15,7 +15,7 @@ use Rattle.engine.specs.declared.verdicts.GameFault.TheVariants as game
 use Rattle.engine.specs.declared.verdicts.Verdict.{Verdict}
 use Rattle.engine.specs.declared.verdicts.Verdict.TheVariants as verdict
 use Rattle.engine.specs.Verdicts.{Judged, IsVerdictOn}
-use Rattle.engine.specs.Lexicons.{IsLexicon, IsWrongFile}
+use Rattle.engine.specs.Lexicons.{IsWrongFile}
 use Rattle.engine.specs.Reports.{IsLegalReport, IsLegalText, illegal_line, unsettled_line, bad_record_line, bad_record_text, bad_list_line, bad_list_text}
 
 -- the report of a verdict on a record
@@ -79,19 +79,6 @@ pub record IsDecided (rules : Rules) (texts : Texts) (v : Verdict) (bytes : List
 pub record LaterTexts : Type 0 where
   pub lexicon : List ℕ
   pub game : List ℕ
-
--- by the words of a list that was read
-pub record IsDecidedByList (rules : Rules) (words : List (List ℕ)) (texts : LaterTexts) (v : Verdict) (bytes : List ℕ) : Type 0 where
-  pub past_list : v ≢ verdict.BadList
-  pub holds : (listing : List ℕ) → list_of listing ≡ Ok words
-      → IsDecided rules (record { words = listing; lexicon = texts.lexicon; game = texts.game }) v bytes
-
--- by the words of a list that was read and of which a file that was read is the lexicon
-pub record IsDecidedByPair (rules : Rules) (words : List (List ℕ)) (text : List ℕ) (v : Verdict) (bytes : List ℕ) : Type 0 where
-  pub past_list : v ≢ verdict.BadList
-  pub past_file : v ≢ verdict.BadFile
-  pub holds : (listing lexicon : List ℕ) → list_of listing ≡ Ok words → IsLexicon words lexicon
-      → IsDecided rules (record { words = listing; lexicon = lexicon; game = text }) v bytes
 
 -- the record has this fault, which is not want of memory
 pub record IsRefused (fault : ReadFault) (v : Verdict) (bytes : List ℕ) : Type 0 where

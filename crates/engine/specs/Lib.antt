@@ -2,6 +2,8 @@ pub mod Verdicts
 pub mod Reports
 pub mod Judging
 pub mod Tidying
+pub mod Topping
+pub mod Tasks
 pub mod Runs
 pub mod WordLists
 pub mod Lexicons

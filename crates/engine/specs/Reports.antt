@@ -77,6 +77,10 @@ lexicon_text lexicon.TooManyArcs = codes "TooManyArcs"
 unfoldable pub bad_file_line : LexiconFault → List ℕ
 bad_file_line fault = codes "bad lexicon: " ++ lexicon_text fault ++ 10 ∷ []
 
+-- the line that a rack is none
+unfoldable pub bad_rack_line : List ℕ
+bad_rack_line = codes "bad rack\n"
+
 -- the line that tells the number of the words
 unfoldable pub ok_line : ℕ → List ℕ
 ok_line words = codes "ok " ++ decimal words ++ 10 ∷ []

@@ -1,5 +1,5 @@
 ghost use Rattle.std.specs.Prelude.{◌≡◌, ◌↔◌, IsTrue, IfOk, None};
-ghost use Rattle.game_turns.specs.Passing.{rules_in, record_in, list_in};
+ghost use Rattle.game_turns.specs.Passing.{rules_in, record_in};
 ghost use Rattle.game_turns.specs.Places.{AreAllowed, is_finished};
 ghost use Rattle.deal_steps.specs.Bounds.{first_bound};
 ghost use Rattle.game_deal.specs.Needing.{passed_in};
@@ -22,7 +22,7 @@ use ref_tiles::Rules;
 use std::alloc::{AllocError, Global};
 
 /// The verdict that a game is illegal.
-fn illegal(alloc: Global, line: u32, fault: GameFault) -> Result<Decision, AllocError>
+pub fn illegal(alloc: Global, line: u32, fault: GameFault) -> Result<Decision, AllocError>
     ensures { IfOk result (λ d. IsTold (verdict.Illegal line fault) (reports.illegal_line line fault) d.verdict d.report.items) }
 {
     let report = illegal_line(alloc, line, &fault)?;
@@ -33,11 +33,11 @@ fn illegal(alloc: Global, line: u32, fault: GameFault) -> Result<Decision, Alloc
 }
 
 /// The verdict that a game is legal.
-fn legal(alloc: Global, passed: &Passed<'_>) -> Result<Decision, AllocError>
-    ensures { IfOk result (λ d. IsToldLegal (rules_in passed.now) (list_in passed.now) (record_in passed.now) d.verdict d.report.items) }
+fn legal(alloc: Global, passed: &Passed<'_>, pair: &Checked<'_>) -> Result<Decision, AllocError>
+    ensures { IfOk result (λ d. IsToldLegal (rules_in passed.now) (pairs.list_in pair.now) (record_in passed.now) d.verdict d.report.items) }
 {
     let complete = passed.complete();
-    let report = legal_report(alloc, passed)?;
+    let report = legal_report(alloc, passed, pair)?;
     Ok(Decision {
         verdict: Verdict::Legal { complete },
         report,
@@ -70,14 +70,19 @@ fn is_dealt(alloc: Global, passed: &Passed<'_>, needs: &Needs<'_>) -> Result<boo
 
 /// The verdict on a record that exceeds no bound, by the deal that it is tried with.
 #[tactic(auto, using(crate::proofs::Deals::judged_dealt, crate::proofs::Deals::judged_undealt))]
-fn settle(alloc: Global, passed: &Passed<'_>, needs: &Needs<'_>) -> Result<Decision, AllocError>
+fn settle(
+    alloc: Global,
+    passed: &Passed<'_>,
+    pair: &Checked<'_>,
+    needs: &Needs<'_>,
+) -> Result<Decision, AllocError>
     requires needs { passed_in needs.now ≡ passed.now }
     requires bounded { first_bound (rules_in passed.now) (steps_of (rules_in passed.now) (record_in passed.now).events) ≡ None }
-    requires allowed { AreAllowed (rules_in passed.now) (list_in passed.now) (record_in passed.now).events }
-    ensures { IfOk result (λ d. IsJudged (rules_in passed.now) (list_in passed.now) (record_in passed.now) d.verdict d.report.items) }
+    requires allowed { AreAllowed (rules_in passed.now) (pairs.list_in pair.now) (record_in passed.now).events }
+    ensures { IfOk result (λ d. IsJudged (rules_in passed.now) (pairs.list_in pair.now) (record_in passed.now) d.verdict d.report.items) }
 {
     if is_dealt(alloc, passed, needs)? {
-        legal(alloc, passed)
+        legal(alloc, passed, pair)
     } else {
         unsettled(alloc)
     }
@@ -98,13 +103,17 @@ fn exceeded(alloc: Global, bound: &DealFault) -> Result<Decision, AllocError>
 
 /// The verdict on a record of which every event is allowed, by the bounds of its racks and by a deal.
 #[tactic(auto, using(crate::proofs::Deals::judged_bound))]
-fn judge_passed(alloc: Global, passed: &Passed<'_>) -> Result<Decision, AllocError>
-    requires { AreAllowed (rules_in passed.now) (list_in passed.now) (record_in passed.now).events }
-    ensures { IfOk result (λ d. IsJudged (rules_in passed.now) (list_in passed.now) (record_in passed.now) d.verdict d.report.items) }
+fn judge_passed(
+    alloc: Global,
+    passed: &Passed<'_>,
+    pair: &Checked<'_>,
+) -> Result<Decision, AllocError>
+    requires { AreAllowed (rules_in passed.now) (pairs.list_in pair.now) (record_in passed.now).events }
+    ensures { IfOk result (λ d. IsJudged (rules_in passed.now) (pairs.list_in pair.now) (record_in passed.now) d.verdict d.report.items) }
 {
     law_of_bounds();
     match bounds(alloc, &*passed) {
-        Ok(needs) => settle(alloc, passed, &needs),
+        Ok(needs) => settle(alloc, passed, pair, &needs),
         Err(bound) => exceeded(alloc, &bound),
     }
 }
@@ -120,7 +129,7 @@ pub fn judge_record(
     ensures { IfOk result (λ d. IsJudged rules.now (pairs.list_in pair.now) game.now d.verdict d.report.items) }
 {
     match play_through(rules, game, pair.list()) {
-        Ok(passed) => judge_passed(alloc, &passed),
+        Ok(passed) => judge_passed(alloc, &passed, pair),
         Err(refusal) => illegal(alloc, refusal.line, GameFault::Rule(refusal.fault)),
     }
 }

@@ -1,5 +1,5 @@
 ghost use Rattle.std.specs.Prelude.{◌≡◌, IfOk};
-ghost use Rattle.lex_file.specs.Faults.{Refuses};
+ghost use Rattle.check_lists.specs.Checks.{Refuses};
 ghost use Rattle.lex_file.specs.Files.{bytes_of};
 ghost use Rattle.engine.specs.Lexicons.{file_fault, IsPaired, IsRefusedFile, IsRefusedPair};
 

@@ -1,9 +1,10 @@
 //! The engine of the referee: it reads its inputs, judges the game by the rules, and writes the report.
 //!
-//! [`run`], [`run_build`], [`run_check`] and [`run_tidy`] are the calls that the program makes. The contract of [`run`]
+//! [`run`], [`run_build`], [`run_check`], [`run_top`] and [`run_tidy`] are the calls that the program makes. The contract of [`run`]
 //! is the theorem of the whole, from the bytes of the inputs to the bytes of the output.
 #![tactic(auto)]
 
+mod best_plays;
 mod building;
 mod checking;
 mod decisions;
@@ -13,7 +14,9 @@ mod laws;
 mod lexicons;
 mod reports;
 mod running;
+mod tasks;
 mod tidying;
+mod topping;
 mod transfers;
 mod verdicts;
 mod word_lists;
@@ -24,4 +27,5 @@ pub use faults::RunFault;
 pub use laws::law_of_legal;
 pub use running::run;
 pub use tidying::run_tidy;
+pub use topping::run_top;
 pub use verdicts::{GameFault, Verdict};

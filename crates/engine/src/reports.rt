@@ -1,9 +1,10 @@
 ghost use Rattle.std.specs.Prelude.{◌≡◌, ◌++◌, ◌∷◌, [], OnOk, IfOk, codes, map};
 ghost use Rattle.std.specs.Fmt.{signed_decimal};
 ghost use Rattle.lex_check.specs.Checks.{symbol_of};
-ghost use Rattle.game_turns.specs.Passing.{rules_in, record_in, list_in};
+ghost use Rattle.game_turns.specs.Passing.{rules_in, record_in};
+ghost use Rattle.lex_check.specs.Pairs as pairs;
 ghost use Rattle.game_turns.specs.Places.{is_finished};
-ghost use Rattle.engine.specs.Reports.{rule_text, kind_byte, fault_text, line_text, illegal_line, unsettled_line, bad_record_line, bad_list_line, lexicon_text, bad_file_line, ok_line, legal_line, IsLegalReport};
+ghost use Rattle.engine.specs.Reports.{rule_text, kind_byte, fault_text, line_text, illegal_line, unsettled_line, bad_record_line, bad_list_line, lexicon_text, bad_file_line, bad_rack_line, ok_line, legal_line, IsLegalReport};
 
 use crate::lexicons::LexiconFault;
 use crate::verdicts::GameFault;
@@ -11,7 +12,7 @@ use game_report::push_event_lines;
 use game_turns::{Passed, RuleFault};
 use gcg_read::ReadFault;
 use itoa::Buffer;
-use lex_check::{Path, text_of};
+use lex_check::{Checked, Path, text_of};
 use lex_list::ListFault;
 use ref_tiles::Kind;
 use std::alloc::{AllocError, Global};
@@ -174,6 +175,14 @@ pub fn bad_file_line(alloc: Global, fault: &LexiconFault) -> Result<Vec<u8>, All
     Ok(text)
 }
 
+/// `bad rack`.
+#[tactic(auto, unfolding(crate::specs::Reports::bad_rack_line))]
+pub fn bad_rack_line(alloc: Global) -> Result<Vec<u8>, AllocError>
+    ensures { IfOk result (λ text. text.items ≡ bad_rack_line) }
+{
+    Vec::from_slice(alloc, b"bad rack\n")
+}
+
 /// `ok N`, the number of words.
 #[tactic(auto, unfolding(crate::specs::Reports::ok_line))]
 pub fn ok_line(alloc: Global, words: usize) -> Result<Vec<u8>, AllocError>
@@ -198,11 +207,15 @@ fn legal_line(complete: bool) -> &'static [u8]
 }
 
 /// The verdict on a legal game, and then a line for each of its events.
-pub fn legal_report(alloc: Global, passed: &Passed<'_>) -> Result<Vec<u8>, AllocError>
-    ensures { IfOk result (λ text. IsLegalReport (rules_in passed.now) (list_in passed.now)
+pub fn legal_report(
+    alloc: Global,
+    passed: &Passed<'_>,
+    pair: &Checked<'_>,
+) -> Result<Vec<u8>, AllocError>
+    ensures { IfOk result (λ text. IsLegalReport (rules_in passed.now) (pairs.list_in pair.now)
         (is_finished (rules_in passed.now) (record_in passed.now).events) (record_in passed.now) text.items) }
 {
     let mut text = Vec::from_slice(alloc, legal_line(passed.complete()))?;
-    push_event_lines(&mut text, passed)?;
+    push_event_lines(&mut text, passed, pair)?;
     Ok(text)
 }

@@ -1,5 +1,1 @@
-pub mod Keeping
-pub mod LaidTexts
-pub mod Spelling
-pub mod NamedTexts
-pub mod Meeting
+pub mod FirstPlays

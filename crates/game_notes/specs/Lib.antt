@@ -1,2 +1,2 @@
 pub mod Keeping
-pub mod Spellings
+pub mod Tops

@@ -1,9 +1,12 @@
-//! The best play that a rack allows on a board.
+//! The best plays that a rack allows on a board.
 #![tactic(auto)]
 
-mod candidates;
-mod finding;
-mod positions;
-mod ranking;
+mod annotating;
+mod crossing;
+mod searching;
+mod tops;
 
-pub use finding::annotate;
+pub use annotating::annotate;
+pub use crossing::cross_sets;
+pub use searching::best_plays;
+pub use tops::{MANY, top};

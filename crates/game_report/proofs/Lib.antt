@@ -1,2 +1,3 @@
 pub mod ReportLines
 pub mod Examples
+pub mod TopLines

@@ -1,5 +1,5 @@
 -- The event lines of a report, one after the other.
-use Rattle.std.proofs.Common.{◌≡◌, ℕ, ◌+◌, ◌<◌, Bool, true, false, List, [], ◌∷◌, ◌++◌, length, get_or, refl, sym, ap, ◌∙◌, subst, arith, ◌-◌, slice_get, Option, Some, None, ⊎_elim}
+use Rattle.std.proofs.Common.{◌≡◌, ℕ, ◌+◌, ◌<◌, Bool, true, false, List, [], ◌∷◌, ◌++◌, length, get_or, refl, sym, ap, ◌∙◌, subst, arith, ◌-◌, slice_get, Some, ⊎_elim}
 use Rattle.std.specs.Prelude.{codes, decimal, slice_index_or}
 use Rattle.std.specs.List.{list_all, flat_map, HoldsAt}
 use Rattle.std.proofs.lemmas.Bool.{cases_eq}

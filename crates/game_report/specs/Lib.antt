@@ -1,2 +1,3 @@
 pub mod BestPlays
 pub mod EventLines
+pub mod TopPlays

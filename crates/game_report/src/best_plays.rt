@@ -4,16 +4,17 @@ ghost use Rattle.ref_play.specs.Legality.{IsLegal};
 ghost use Rattle.ref_play.specs.Notations.{notation_of};
 ghost use Rattle.ref_play.specs.Best.{IsAnnotation};
 ghost use Rattle.game_turns.specs.Machines.{state_of};
-ghost use Rattle.game_turns.specs.Passing.{rules_in, list_in};
+ghost use Rattle.game_turns.specs.Passing.{rules_in};
+ghost use Rattle.lex_check.specs.Pairs.{list_in};
 ghost use Rattle.game_report.specs.BestPlays.{is_judged, full_rack, notation_text, best_text, TellsByRack, TellsBest, Appends};
 ghost use Rattle.game_notes.specs.Keeping.{given_by};
 
-use game_notes::annotate;
+use game_notes::{annotate, cross_sets};
 use game_turns::{Machine, Passed};
 use gcg_read::{Event, EventKind, Seat};
 use gcg_write::play_text;
 use itoa::Buffer;
-use lex_list::WordList;
+use lex_check::Checked;
 use ref_board::Board;
 use ref_play::{Play, notation};
 use ref_tiles::{Counts, Rules};
@@ -44,7 +45,12 @@ fn full_rack(machine: &Machine, event: &Event) -> Option<Counts>
 }
 
 /// Appends the notation of a play and its score.
-fn push_scored(text: &mut Vec<u8>, board: &Board, play: &Play, score: i32) -> Result<(), AllocError>
+pub fn push_scored(
+    text: &mut Vec<u8>,
+    board: &Board,
+    play: &Play,
+    score: i32,
+) -> Result<(), AllocError>
     requires { IsLegal board.now play.now.tiles.items }
     ensures { OnOk result (text.new.items ≡ text.old.items
         ++ (notation_text (notation_of board.now play.now.tiles.items) ++ 32 ∷ signed_decimal score)) }
@@ -60,14 +66,15 @@ fn push_scored(text: &mut Vec<u8>, board: &Board, play: &Play, score: i32) -> Re
 fn push_best_play(
     text: &mut Vec<u8>,
     rules: &Rules,
-    list: &WordList,
+    pair: &Checked<'_>,
     board: &Board,
     rack: &Counts,
 ) -> Result<(), AllocError>
-    ensures { OnOk result (Appends (TellsByRack rules.now list.now board.now (Some rack.now)) text.old.items text.new.items) }
+    ensures { OnOk result (Appends (TellsByRack rules.now (list_in pair.now) board.now (Some rack.now)) text.old.items text.new.items) }
 {
     let mut held = *board;
-    match annotate(rules, list, &mut held, rack) {
+    let cross = cross_sets(rules, pair, board);
+    match annotate(rules, pair, &mut held, rack, &cross) {
         Some((play, score)) => {
             text.extend_from_slice(b" best ")?;
             push_scored(text, board, &play, score)
@@ -80,17 +87,18 @@ fn push_best_play(
 pub fn push_best(
     text: &mut Vec<u8>,
     passed: &Passed<'_>,
+    pair: &Checked<'_>,
     machine: &Machine,
     event: &Event,
 ) -> Result<(), AllocError>
-    ensures { OnOk result (Appends (TellsBest (rules_in passed.now) (list_in passed.now) (state_of machine.now) event.now)
+    ensures { OnOk result (Appends (TellsBest (rules_in passed.now) (list_in pair.now) (state_of machine.now) event.now)
         text.old.items text.new.items) }
 {
     if !is_judged(&event.kind, machine.out()) {
         return Ok(());
     }
     match full_rack(machine, event) {
-        Some(rack) => push_best_play(text, passed.rules(), passed.list(), machine.board(), &rack),
+        Some(rack) => push_best_play(text, passed.rules(), pair, machine.board(), &rack),
         None => text.extend_from_slice(b" best -"),
     }
 }

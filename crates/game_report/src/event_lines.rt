@@ -1,7 +1,8 @@
 ghost use Rattle.std.specs.Prelude.{◌≡◌, ◌<◌, ◌∷◌, ◌++◌, ◌+◌, [], OnOk, length, decimal};
 ghost use Rattle.ref_play.specs.Words.{items_of};
 ghost use Rattle.game_turns.specs.Machines.{rules_of, state_of};
-ghost use Rattle.game_turns.specs.Passing.{rules_in, record_in, list_in};
+ghost use Rattle.game_turns.specs.Passing.{rules_in, record_in};
+ghost use Rattle.lex_check.specs.Pairs.{list_in};
 ghost use Rattle.game_turns.specs.Tallies.{tally_at};
 ghost use Rattle.game_report.specs.BestPlays.{Appends};
 ghost use Rattle.game_report.specs.EventLines.{unlisted_word, unlisted_text, AreEventLines, IsEventLine};
@@ -10,6 +11,7 @@ use crate::best_plays::push_best;
 use game_turns::{Machine, Passed, all_listed};
 use gcg_write::event_text;
 use itoa::Buffer;
+use lex_check::Checked;
 use lex_list::WordList;
 use ref_play::Word;
 use std::alloc::AllocError;
@@ -58,6 +60,7 @@ fn push_unlisted(text: &mut Vec<u8>, list: &WordList, words: &[Word]) -> Result<
 fn push_event_line(
     text: &mut Vec<u8>,
     passed: &Passed<'_>,
+    pair: &Checked<'_>,
     machine: &mut Machine,
     place: usize,
 ) -> Result<(), AllocError>
@@ -66,7 +69,7 @@ fn push_event_line(
     requires state { state_of machine.old ≡ tally_at (rules_in passed.now) (record_in passed.now).events place }
     ensures rules { rules_of machine.new ≡ rules_in passed.now }
     ensures state { OnOk result (state_of machine.new ≡ tally_at (rules_in passed.now) (record_in passed.now).events (place + 1)) }
-    ensures line { OnOk result (Appends (IsEventLine (rules_in passed.now) (list_in passed.now) (record_in passed.now) place)
+    ensures line { OnOk result (Appends (IsEventLine (rules_in passed.now) (list_in pair.now) (record_in passed.now) place)
         text.old.items text.new.items) }
 {
     let game = passed.record();
@@ -77,14 +80,14 @@ fn push_event_line(
         game.players.of(event.player).nick.as_bytes(),
     )?;
     event_text(game, place, text)?;
-    push_best(text, passed, machine, event)?;
+    push_best(text, passed, pair, machine, event)?;
     passed.take_event(machine, place);
-    push_unlisted(text, passed.list(), machine.standing_words())?;
+    push_unlisted(text, pair.list(), machine.standing_words())?;
     text.push(b'\n')?;
     Ok(())
 }
 
-/// Appends the lines of all events of a record that passed, by its rules and its word list: a line `N NICK EVENT SCORE
+/// Appends the lines of all events of a record that passed, by its rules and the word list of a pair: a line `N NICK EVENT SCORE
 /// TOTAL` for each, N its line in the record. Behind that of a play, an exchange or a pass stands ` best NOTATION SCORE`
 /// with the play that scores most by the stated rack, of several the first by their notations; ` best none` where there is
 /// no legal play with words of the list; ` best -` where the stated rack is not the whole rack. Behind that of a play that
@@ -92,13 +95,17 @@ fn push_event_line(
 ///
 /// It fails only where the growth of `text` was refused.
 #[tactic(auto, using(crate::proofs::ReportLines::one_more_line, crate::proofs::ReportLines::start_of_game, crate::proofs::ReportLines::no_lines))]
-pub fn push_event_lines(text: &mut Vec<u8>, passed: &Passed<'_>) -> Result<(), AllocError>
-    ensures { OnOk result (Appends (AreEventLines (rules_in passed.now) (list_in passed.now) (record_in passed.now)
+pub fn push_event_lines(
+    text: &mut Vec<u8>,
+    passed: &Passed<'_>,
+    pair: &Checked<'_>,
+) -> Result<(), AllocError>
+    ensures { OnOk result (Appends (AreEventLines (rules_in passed.now) (list_in pair.now) (record_in passed.now)
         (length (record_in passed.now).events)) text.old.items text.new.items) }
 {
     let mut machine = Machine::new(passed.rules());
     for place in 0..passed.record().events.len() {
-        push_event_line(text, passed, &mut machine, place)?;
+        push_event_line(text, passed, pair, &mut machine, place)?;
     }
     Ok(())
 }

@@ -1,8 +1,10 @@
 //! The lines of a legal game's report: each event as the record has it, the best play of each turn, and the words of a play
-//! that are not in the list.
+//! that are not in the list. And the lines of the best plays on the board after a record.
 #![tactic(auto)]
 
 mod best_plays;
 mod event_lines;
+mod top_plays;
 
 pub use event_lines::push_event_lines;
+pub use top_plays::top_report;

@@ -2,7 +2,7 @@ use clap::error::ErrorKind;
 use clap::{Arg, ArgMatches, Command, Error};
 use std::alloc::{AllocError, Global};
 
-/// What the command line asks for. Files are told by their names.
+/// What the command line asks for. Files are told by their names, a rack by its tiles.
 #[derive(Clone, Copy)]
 pub enum Request<'a> {
     /// To judge the game of a record by a word list and its lexicon.
@@ -20,6 +20,13 @@ pub enum Request<'a> {
     Check {
         words: &'a str,
         lexicon: &'a str,
+    },
+    /// To tell the best plays by a rack on the board after a record.
+    Top {
+        words: &'a str,
+        lexicon: &'a str,
+        game: &'a str,
+        rack: &'a str,
     },
     /// To write the normal form of a record.
     Tidy {
@@ -60,6 +67,7 @@ fn command<'a>(alloc: Global) -> Result<Command<'a>, AllocError> {
         .subcommand(judge_command(alloc)?)?
         .subcommand(build_command(alloc)?)?
         .subcommand(check_command(alloc)?)?
+        .subcommand(top_command(alloc)?)?
         .subcommand(tidy_command(alloc)?)
 }
 
@@ -94,6 +102,16 @@ fn check_command<'a>(alloc: Global) -> Result<Command<'a>, AllocError> {
         .arg(name(alloc, "LEXICON", "the lexicon file"))
 }
 
+/// `top WORDS LEXICON GAME RACK`.
+fn top_command<'a>(alloc: Global) -> Result<Command<'a>, AllocError> {
+    Command::new(alloc, "top")
+        .about("Tells the ten best plays by a rack on the board after a record")
+        .arg(name(alloc, "WORDS", "the word list"))?
+        .arg(name(alloc, "LEXICON", "the lexicon file of the words"))?
+        .arg(name(alloc, "GAME", "the GCG record"))?
+        .arg(name(alloc, "RACK", "1 to 7 tiles: A to Z, and ? for a blank"))
+}
+
 /// `tidy GAME`.
 fn tidy_command<'a>(alloc: Global) -> Result<Command<'a>, AllocError> {
     Command::new(alloc, "tidy")
@@ -101,12 +119,12 @@ fn tidy_command<'a>(alloc: Global) -> Result<Command<'a>, AllocError> {
         .arg(name(alloc, "GAME", "the GCG record"))
 }
 
-/// The name of a file, which the command needs.
+/// An argument that the command needs.
 fn name<'a>(alloc: Global, name: &'a str, help: &'a str) -> Arg<'a> {
     Arg::new(alloc, name).required(true).help(help)
 }
 
-/// What the matches of a parse ask for: there is always something, since every name is required.
+/// What the matches of a parse ask for: there is always something, since every argument is required.
 fn request_of<'a>(matches: &ArgMatches<'a>) -> Option<Request<'a>> {
     let (command, names) = matches.subcommand()?;
     match command {
@@ -122,6 +140,12 @@ fn request_of<'a>(matches: &ArgMatches<'a>) -> Option<Request<'a>> {
         "check" => Some(Request::Check {
             words: names.get_str("WORDS")?,
             lexicon: names.get_str("LEXICON")?,
+        }),
+        "top" => Some(Request::Top {
+            words: names.get_str("WORDS")?,
+            lexicon: names.get_str("LEXICON")?,
+            game: names.get_str("GAME")?,
+            rack: names.get_str("RACK")?,
         }),
         _ => Some(Request::Tidy {
             game: names.get_str("GAME")?,

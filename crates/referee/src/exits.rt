@@ -12,7 +12,7 @@ pub enum Exit {
     Illegal,
     /// Whether the game is legal was not settled.
     Unsettled,
-    /// An input is no word list, no lexicon or no record.
+    /// An input is no word list, no lexicon, no record or no rack.
     BadInput,
     /// A device failed, or memory was refused.
     Broken,

@@ -3,7 +3,7 @@ use crate::exits::{Exit, Trouble};
 use clap::Error;
 use clap::error::ErrorKind;
 use devices::{FromRead, FromWrite};
-use engine::{Verdict, run, run_build, run_check, run_tidy};
+use engine::{Verdict, run, run_build, run_check, run_tidy, run_top};
 use ref_tiles::english_rules;
 use std::alloc::AllocError;
 use std::rt::{Files, Runtime};
@@ -55,6 +55,12 @@ fn answer<R: Runtime + AllocGlobal>(rt: &R, request: Request<'_>) -> Exit {
         } => judge(rt, words, lexicon, game),
         Request::Build { words, out } => build(rt, words, out),
         Request::Check { words, lexicon } => check(rt, words, lexicon),
+        Request::Top {
+            words,
+            lexicon,
+            game,
+            rack,
+        } => top(rt, words, lexicon, game, rack),
         Request::Tidy { game } => tidy(rt, game),
     };
     match outcome {
@@ -107,6 +113,31 @@ fn check<'a, R: Runtime + AllocGlobal>(
     let mut lexicon = FromRead::new(open(rt, lexicon)?);
     let mut out = FromWrite::new(io::writer(rt));
     let verdict = run_check(rt.alloc(), &mut words, &mut lexicon, &mut out)?;
+    Ok(verdict)
+}
+
+/// Tells the best plays by a rack on the board after the record of a file, by a word list and its lexicon. They go to
+/// standard output. The files are opened before the rack is looked at.
+fn top<'a, R: Runtime + AllocGlobal>(
+    rt: &R,
+    words: &'a str,
+    lexicon: &'a str,
+    game: &'a str,
+    rack: &str,
+) -> Result<Verdict, Trouble<'a>> {
+    let mut words = FromRead::new(open(rt, words)?);
+    let mut lexicon = FromRead::new(open(rt, lexicon)?);
+    let mut game = FromRead::new(open(rt, game)?);
+    let mut out = FromWrite::new(io::writer(rt));
+    let verdict = run_top(
+        rt.alloc(),
+        &mut words,
+        &mut lexicon,
+        &mut game,
+        rack.as_bytes(),
+        &mut out,
+        &english_rules(),
+    )?;
     Ok(verdict)
 }
 

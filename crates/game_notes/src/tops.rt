@@ -1,0 +1,23 @@
+ghost use Rattle.std.specs.Prelude.{◌≡◌, Some};
+ghost use Rattle.lex_check.specs.Pairs.{list_in};
+ghost use Rattle.game_notes.specs.Tops.{AreTop};
+
+use crate::crossing::cross_sets;
+use crate::searching::best_plays;
+use gen_sinks::{Sink, Top};
+use lex_check::Checked;
+use ref_board::Board;
+use ref_tiles::{Counts, Rules};
+
+/// How many plays [`top`] gives.
+pub const MANY: usize = 10;
+
+/// The ten best plays that a rack allows on a board, by the words of a list and their lexicon, best first: those that score
+/// most, and of those that score as much the first by their notations. There are fewer where there are fewer plays.
+pub fn top(rules: &Rules, pair: &Checked<'_>, board: &Board, rack: &Counts) -> Top<MANY>
+    ensures { AreTop rules.now (list_in pair.now) board.now rack.now (⟦<Top<10> as Sink>⟧.items result) }
+{
+    let mut held = *board;
+    let cross = cross_sets(rules, pair, board);
+    best_plays(rules, pair, &mut held, rack, &cross)
+}

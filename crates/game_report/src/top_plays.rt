@@ -1,0 +1,78 @@
+ghost use Rattle.std.specs.Prelude.{◌≡◌, ◌++◌, IfOk, OnOk, map};
+ghost use Rattle.ref_play.specs.Legality.{IsLegal};
+ghost use Rattle.gen_sinks.specs.Sinks.{seen, seen_pair};
+ghost use Rattle.game_turns.specs.Passing.{rules_in, record_in};
+ghost use Rattle.game_report.specs.TopPlays.{play_line, top_text, AreLegal, board_after, TellsTop};
+ghost use Rattle.lex_check.specs.Pairs.{list_in};
+
+use crate::best_plays::push_scored;
+use game_notes::top;
+use game_turns::{Machine, Passed};
+use lex_check::Checked;
+use ref_board::Board;
+use ref_play::Play;
+use ref_tiles::Counts;
+use std::alloc::{AllocError, Global};
+
+/// The board after the last event of a record that passed. A play that is the last event stands.
+#[tactic(auto, using(crate::proofs::ReportLines::start_of_game))]
+fn board_after(passed: &Passed<'_>) -> Board
+    ensures { result ≡ board_after (rules_in passed.now) (record_in passed.now).events }
+{
+    let mut machine = Machine::new(passed.rules());
+    for place in 0..passed.record().events.len() {
+        passed.take_event(&mut machine, place);
+    }
+    *machine.board()
+}
+
+/// Appends the line of a play.
+fn push_play_line(
+    text: &mut Vec<u8>,
+    board: &Board,
+    play: &Play,
+    score: i32,
+) -> Result<(), AllocError>
+    requires { IsLegal board.now play.now.tiles.items }
+    ensures { OnOk result (text.new.items ≡ text.old.items ++ play_line board.now (seen play.now score)) }
+{
+    push_scored(text, board, play, score)?;
+    text.push(b'\n')?;
+    Ok(())
+}
+
+/// The lines of plays, one `NOTATION SCORE` for each, in their order; `none` where there are none.
+///
+/// It fails only where memory was refused.
+fn top_lines(alloc: Global, board: &Board, plays: &[(Play, i32)]) -> Result<Vec<u8>, AllocError>
+    requires { AreLegal board.now plays.now }
+    ensures { IfOk result (λ text. text.items ≡ top_text board.now (map seen_pair plays.now)) }
+{
+    if plays.is_empty() {
+        return Vec::from_slice(alloc, b"none\n");
+    }
+    let mut text = Vec::new(alloc);
+    for scored in plays {
+        push_play_line(&mut text, board, &scored.0, scored.1)?;
+    }
+    Ok(text)
+}
+
+/// The ten best plays by a rack on the board after a record that passed, by its rules and by the words of a pair, one line
+/// `NOTATION SCORE` for each: the greatest score first, and of equal ones the first by their notations; `none` where there
+/// is no legal play with words of the list.
+///
+/// It fails only where memory was refused.
+pub fn top_report(
+    alloc: Global,
+    passed: &Passed<'_>,
+    pair: &Checked<'_>,
+    rack: &Counts,
+) -> Result<Vec<u8>, AllocError>
+    ensures { IfOk result (λ text. TellsTop (rules_in passed.now) (list_in pair.now)
+        (board_after (rules_in passed.now) (record_in passed.now).events) rack.now text.items) }
+{
+    let board = board_after(passed);
+    let plays = top(passed.rules(), pair, &board, rack);
+    top_lines(alloc, &board, plays.items())
+}
