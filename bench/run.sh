@@ -89,7 +89,15 @@ echo '>A: - +0 0' > "$work/unknown"
 measure 'judge of a pass without a rack' 1 "$program" judge "$work/dictionary" "$work/lexicon" "$work/unknown"
 measure 'judge of a pass with a full rack' 1 "$program" judge "$work/dictionary" "$work/lexicon" "$work/turn"
 measure 'judge of a pass with a blank' 1 "$program" judge "$work/dictionary" "$work/lexicon" "$work/blank"
-measure 'judge of the example game' 1 "$program" judge "$work/dictionary" "$work/lexicon" "$here/../examples/game.gcg"
+# The words of the example game among them: the whole game, and the ten best plays in the middle of it.
+{ cat "$here/../examples/words.txt"; awk 'NR % 150' "$work/dictionary"; } | sort -u > "$work/merged"
+"$program" build "$work/merged" "$work/merged-lexicon"
+head -n 24 "$here/../examples/game.gcg" > "$work/half"
+measure 'check of the lexicon with the words of a game' 1 "$program" check "$work/merged" "$work/merged-lexicon"
+measure 'judge of the example game' 1 "$program" judge "$work/merged" "$work/merged-lexicon" "$here/../examples/game.gcg"
+for rack in AEINRST 'AEINRS?' 'AEINR??'; do
+    measure "top of $rack in the middle of it" 1 "$program" top "$work/merged" "$work/merged-lexicon" "$work/half" "$rack"
+done
 measure 'sort of the rotated paths' 1 sort --parallel=1 "$work/paths"
 measure 'build of 400,000 random words' 1 "$program" build "$work/words" "$work/built"
 measure 'check of the lexicon of these' 1 "$program" check "$work/words" "$work/harsh"

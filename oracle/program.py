@@ -182,6 +182,28 @@ def built_and_checked(run):
         run.row(["check", "at", f"front-{size}.gad"], 3, f"bad lexicon: {'Short' if size < 16 else 'Length'}\n")
 
 
+def topped(run):
+    """`top`, by its verdicts."""
+    by_at = lambda game, rack, status, out: run.row(["top", "at", "at.gad", game, rack], status, out)
+    by_at("nothing", "?A", 0, "8G At 2\n8H At 2\nH7 At 2\nH8 At 2\n")
+    ten = "8G AT 4\n8H AT 4\nH7 AT 4\nH8 AT 4\n8G At 2\n8G aT 2\n8H At 2\n8H aT 2\nH7 At 2\nH7 aT 2\n"
+    by_at("nothing", "AT?", 0, ten)
+    by_at("nothing", "Q", 0, "none\n")
+    by_at("line-17", "AT", 1, "illegal line 1: WrongTotal 16\n")
+    # Deals are not judged: three blanks are shown, of which there are two.
+    by_at("blanks", "?A", 0, "8G At 2\n8H At 2\nH7 At 2\nH8 At 2\n")
+    by_at("number", "AT", 3, "bad record line 1: Number\n")
+    for rack in ("", "A1", "at", "AAAAAAAA"):
+        by_at("number", rack, 3, "bad rack\n")
+    run.row(["top", "nothing", "nothing.gad", "nothing", "A"], 0, "none\n")
+    run.row(["top", "digit", "extra.gad", "number", "A"], 3, "bad word list line 2: BadLetter\n")
+    run.row(["top", "at", "extra.gad", "number", "A"], 3, "bad lexicon: Extra A\n")
+    # The files are opened before the rack is looked at, and none is read behind a rack that is none.
+    run.row(["top", "at", "at.gad", "nowhere", "A1"], 4, error="cannot open nowhere")
+    run.row(["top", "folder", "folder", "folder", "A1"], 3, "bad rack\n")
+    run.row(["top", "at", "at.gad", "folder", "A"], 4, error="read failed")
+
+
 def tidied(run):
     """`tidy`, and names of files."""
     normal = "#player1 A Ann Lee\n>A: AADEORW 8E WORD +16 16\n"
@@ -229,7 +251,7 @@ def misused(run):
     """Status 64: no request, and help. The text is not fixed, but there is some, and nothing on standard output."""
     for words in ([], ["help"], ["--help"], ["-h"], ["judge", "--help"], ["--version"], ["top"], ["Judge", "at", "at.gad", "line"]):
         run.row(words, 64, error=None)
-    for command, count in [("judge", 3), ("build", 2), ("check", 2), ("tidy", 1)]:
+    for command, count in [("judge", 3), ("build", 2), ("check", 2), ("top", 4), ("tidy", 1)]:
         for names in range(count):
             run.row([command, *["at"] * names], 64, error=None)
         run.row([command, *["at"] * (count + 1)], 64, error=None)
@@ -241,7 +263,7 @@ def main():
     with tempfile.TemporaryDirectory() as folder:
         files(folder)
         run = Runner(os.path.abspath(sys.argv[1]), folder)
-        for part in (judged, built_and_checked, tidied, broken, misused):
+        for part in (judged, built_and_checked, topped, tidied, broken, misused):
             part(run)
     print(f"{run.rows} command lines, {run.failures} not as they have to be")
     sys.exit(run.failures > 0)

@@ -8,6 +8,8 @@
 #[cfg(test)]
 mod boards;
 #[cfg(test)]
+mod generated;
+#[cfg(test)]
 mod normal_forms;
 #[cfg(test)]
 mod notations;

@@ -1,13 +1,15 @@
 use crate::notations::assert_written;
 use crate::plays::{AT, Text, WORD, after};
-use game_notes::annotate;
+use game_notes::{annotate, cross_sets};
+use lex_build::build;
+use lex_check::pair;
+use lex_file::LexFile;
 use lex_list::WordList;
 use ref_board::Dir;
 use ref_play::notation;
 use ref_tiles::{Counts, Kind, Letter, Rules, english_rules};
 use std::alloc::Global;
 use std::process::Abort;
-use std::test::Fail;
 
 /// The best play that a rack allows: the words of the list, the plays before it, the rack, where `?` is a blank, and the
 /// play as it is written, with its score in the English game; none where there is no play.
@@ -82,7 +84,7 @@ const ROWS: [Row; 10] = [
 ];
 
 /// The tiles of a rack.
-fn tiles(rt: &impl Abort, rack: &[u8]) -> Counts {
+pub fn tiles(rt: &impl Abort, rack: &[u8]) -> Counts {
     let mut counts = Counts::new();
     for byte in rack {
         let kind = match Letter::counted_from(b'A', *byte) {
@@ -95,11 +97,15 @@ fn tiles(rt: &impl Abort, rack: &[u8]) -> Counts {
     counts
 }
 
-fn assert_best(rt: &impl Abort, alloc: Global, rules: &Rules, row: &Row) -> Result<(), Fail> {
-    let list = WordList::read(alloc, row.words)?;
+fn assert_best(rt: &impl Abort, alloc: Global, rules: &Rules, row: &Row) {
+    let list = WordList::read(alloc, row.words).expect(rt, "a word list");
+    let bytes = build(alloc, &list).expect(rt, "a lexicon");
+    let file = LexFile::open(bytes.as_slice()).expect(rt, "a file");
+    let pair = pair(alloc, &list, file).expect(rt, "a pair");
     let start = after(rt, alloc, row.before);
     let mut board = start;
-    let best = annotate(rules, &list, &mut board, &tiles(rt, row.rack));
+    let cross = cross_sets(rules, &pair, &board);
+    let best = annotate(rules, &pair, &mut board, &tiles(rt, row.rack), &cross);
     assert_eq!(rt; board, start);
     match (best, row.best) {
         (Some((play, score)), Some((written, points))) => {
@@ -109,14 +115,12 @@ fn assert_best(rt: &impl Abort, alloc: Global, rules: &Rules, row: &Row) -> Resu
         (None, None) => {}
         _ => assert!(rt; false, "{:?}", row.rack),
     }
-    Ok(())
 }
 
 #[test]
-fn best_plays(rt: HostRuntime) -> Result<(), Fail> {
+fn best_plays(rt: HostRuntime) {
     let rules = english_rules();
     for row in &ROWS {
-        assert_best(&rt, rt.alloc(), &rules, row)?;
+        assert_best(&rt, rt.alloc(), &rules, row);
     }
-    Ok(())
 }

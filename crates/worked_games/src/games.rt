@@ -47,7 +47,7 @@ pub fn judged_by(
 }
 
 /// The lexicon that is built for a word list; no bytes where the text is none.
-fn lexicon_of(rt: &impl Abort, alloc: Global, words: &[u8]) -> Vec<u8> {
+pub fn lexicon_of(rt: &impl Abort, alloc: Global, words: &[u8]) -> Vec<u8> {
     match WordList::read(alloc, words) {
         Ok(list) => build(alloc, &list).expect(rt, "a lexicon"),
         Err(_) => Vec::new(alloc),

@@ -22,4 +22,6 @@ mod plays;
 #[cfg(test)]
 mod tidying;
 #[cfg(test)]
+mod topping;
+#[cfg(test)]
 mod turns;
