@@ -5,10 +5,8 @@ use Rattle.std.specs.Prelude.{codes}
 use Rattle.std.specs.List.{list_all}
 use Rattle.ref_tiles.specs.declared.tiles.Tile.{Tile}
 use Rattle.ref_tiles.specs.declared.letters.Letter.{Letter}
-use Rattle.ref_tiles.specs.declared.rulebook.Rules.{Rules}
-use Rattle.ref_tiles.specs.English.{english_counts, english_points, english_premiums}
+use Rattle.ref_tiles.specs.English.{english}
 use Rattle.ref_tiles.specs.Faces.{letter_tile, blank_tile, letter_a}
-use Rattle.ref_tiles.specs.Limits.{most_tiles}
 use Rattle.ref_board.specs.declared.directions.Dir.TheVariants.{Across, Down}
 use Rattle.ref_board.specs.Cells.{empty_board, with_tile}
 use Rattle.lex_list.specs.Words.{is_listed}
@@ -16,27 +14,6 @@ use Rattle.ref_play.specs.Formed.{stretches_on}
 use Rattle.ref_play.specs.Words.{letters_of}
 use Rattle.ref_play.specs.Crosses.{cross_words}
 use Rattle.gen_cross.specs.Values.{side_points}
-
--- the points of the English game
-english : Rules
-unfolding most_tiles
-english = record {
-  counts = english_counts;
-  points = english_points;
-  premiums = english_premiums;
-  bonus = 50;
-  exchange_min = 7;
-  zero_limit = 6;
-  challenge_unit = 5;
-  time_step = 5;
-  tiles_in_limits = refl;
-  points_in_limits = refl;
-  bonus_in_limits = refl;
-  exchange_in_limits = refl;
-  zero_in_limits = refl;
-  challenge_in_limits = refl;
-  time_in_limits = refl;
-}
 
 abbrev two_tiles : List (Option Tile)
 two_tiles = with_tile (with_tile empty_board 111 (Some (letter_tile letter_a))) 113 (Some (letter_tile letter_a))
