@@ -463,8 +463,8 @@ known_after s past known is =
 
 -- ---- room for the tiles on the board
 
--- a game has at most 100 tiles of a kind
-pub few_counts : (rules : Rules) → length rules.counts ≡ 27 → (k : ℕ) → k < 27 → get_or rules.counts k 0 ≤ 100
+-- a game has fewer tiles of a kind than a byte counts
+pub few_counts : (rules : Rules) → length rules.counts ≡ 27 → (k : ℕ) → k < 27 → get_or rules.counts k 0 < 256
 unfolding most_tiles
 few_counts rules long k below =
     let limits = (and_parts (nat_le 14 (sum rules.counts)) (nat_le (sum rules.counts) most_tiles) rules.tiles_in_limits).1 in

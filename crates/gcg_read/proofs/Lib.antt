@@ -1,4 +1,3 @@
-pub mod Decimals
 pub mod Lists
 pub mod Cuts
 pub mod Steps

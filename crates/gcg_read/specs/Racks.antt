@@ -1,15 +1,8 @@
 -- Racks, as the bytes of a record write them.
-use Rattle.std.specs.Prelude.{ℕ, Bool, ◌&&◌, ◌==◌, nat_le, List, length, Option, Some, None, is_some, if◌then◌else◌}
+use Rattle.std.specs.Prelude.{ℕ, Bool, ◌&&◌, nat_le, List, length, Option, Some, None, is_some, if◌then◌else◌}
 use Rattle.std.specs.List.{list_all, filter_map}
-use Rattle.std.specs.Option.{option_map}
-use Rattle.ref_tiles.specs.declared.kinds.Kind.{Kind}
-use Rattle.ref_tiles.specs.declared.kinds.Kind.TheVariants as kind
 use Rattle.ref_tiles.specs.Counting.{counted}
-use Rattle.ref_tiles.specs.Letters.{letter_from}
-
--- A to Z are letter tiles, '?' (63) is a blank
-abbrev pub kind_of : ℕ → Option Kind
-kind_of byte = if byte == 63 then Some kind.Blank else option_map kind.Letter (letter_from 65 byte)
+pub use Rattle.ref_tiles.specs.Kinds.{kind_of}
 
 -- A to Z or '?'
 abbrev pub is_tile : ℕ → Bool

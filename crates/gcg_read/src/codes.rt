@@ -2,8 +2,8 @@ ghost use Rattle.std.specs.Prelude.{◌≡◌};
 ghost use Rattle.gcg_read.specs.Codes.{unknown_of, dashed_of, bracketed_of, code_of};
 
 use crate::events::EventKind;
-use crate::numerals::numeral;
 use crate::racks::{MAX_TILES, read_rack};
+use text_lines::numeral;
 
 /// What the code of an event says that is no play; none for bytes that are no code.
 ///

@@ -13,7 +13,6 @@ mod events;
 mod faults;
 mod laws;
 mod names;
-mod numerals;
 mod players;
 mod points;
 mod positions;

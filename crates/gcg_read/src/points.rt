@@ -1,8 +1,8 @@
 ghost use Rattle.std.specs.Prelude.{◌≡◌, ◌↔◌, IsSome, IfSome, pos, neg_ℤ, option_map};
 ghost use Rattle.gcg_read.specs.Numerals.{IsPoints, numeral, points_of};
 
-use crate::numerals::numeral;
 use std::marker::Model;
+use text_lines::numeral;
 
 /// A number of a record, from -999,999 to 999,999: the score of an event or a running total.
 #[derive(Clone, Copy, Debug, PartialEq, Eq)]

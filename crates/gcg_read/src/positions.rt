@@ -1,8 +1,8 @@
 ghost use Rattle.std.specs.Prelude.{◌≡◌, ◌<◌, IfSome, option_map};
 ghost use Rattle.gcg_read.specs.Positions.{row_of, column_of, across_of, down_of, position_of};
 
-use crate::numerals::numeral;
 use ref_board::{Dir, SIDE, Square};
+use text_lines::numeral;
 
 /// Where a play begins, and in which direction it goes.
 #[derive(Clone, Copy)]

@@ -1,5 +1,7 @@
 -- Kinds of tiles and their numbers.
-use Rattle.std.specs.Prelude.{ℕ}
+use Rattle.std.specs.Prelude.{ℕ, ◌==◌, Option, Some, if◌then◌else◌}
+use Rattle.std.specs.Option.{option_map}
+use Rattle.ref_tiles.specs.Letters.{letter_from}
 use Rattle.ref_tiles.specs.declared.kinds.Kind.{Kind}
 use Rattle.ref_tiles.specs.declared.kinds.Kind.TheVariants as kind
 
@@ -7,3 +9,7 @@ use Rattle.ref_tiles.specs.declared.kinds.Kind.TheVariants as kind
 abbrev pub number_of : Kind → ℕ
 number_of (kind.Letter l) = l.index
 number_of kind.Blank = 26
+
+-- A to Z write letter tiles, '?' (63) a blank; no other byte writes a tile
+abbrev pub kind_of : ℕ → Option Kind
+kind_of byte = if byte == 63 then Some kind.Blank else option_map kind.Letter (letter_from 65 byte)

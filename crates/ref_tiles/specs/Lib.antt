@@ -8,3 +8,7 @@ pub mod Limits
 pub mod Rulebook
 pub mod English
 pub mod Parts
+pub mod RulesFaults
+pub mod Codes
+pub mod Statements
+pub mod RulesTexts

@@ -4,7 +4,7 @@ use Rattle.std.specs.List.{list_all}
 
 -- no tile set has more tiles
 unfoldable pub most_tiles : ℕ
-most_tiles = 100
+most_tiles = 200
 
 -- two full racks at the least
 abbrev pub is_tile_set : List ℕ → Bool

@@ -1,5 +1,5 @@
 ghost use Rattle.std.specs.Prelude.{◌≡◌};
-ghost use Rattle.ref_tiles.specs.Kinds.{number_of};
+ghost use Rattle.ref_tiles.specs.Kinds.{number_of, kind_of};
 
 use crate::letters::Letter;
 
@@ -13,6 +13,17 @@ pub enum Kind {
 }
 
 impl Kind {
+    /// The kind that a byte writes, `A` to `Z` or `?` for a blank; none for any other byte.
+    pub fn of_byte(byte: u8) -> Option<Kind>
+        ensures { result ≡ kind_of byte }
+    {
+        if byte == b'?' {
+            Some(Kind::Blank)
+        } else {
+            Letter::counted_from(b'A', byte).map(Kind::Letter)
+        }
+    }
+
     /// The number of the kind: 0 to 25 for A to Z, 26 for a blank.
     pub fn number(&self) -> usize
         ensures { result ≡ number_of self.now }

@@ -11,13 +11,13 @@ use crate::rulebook::{Rules, SQUARES};
 const MIN_TILES: usize = 14;
 
 /// The most tiles of a game.
-const MAX_TILES: usize = 100;
+const MAX_TILES: usize = 200;
 
 /// The most points of a letter.
 const MAX_POINTS: u8 = 99;
 
 /// The greatest bonus of a play of seven tiles.
-const MAX_BONUS: u16 = 999;
+pub const MAX_BONUS: u16 = 999;
 
 /// The parts of [`Rules`], within their limits or not.
 #[derive(Clone, Copy, Debug, PartialEq, Eq)]
@@ -40,7 +40,7 @@ pub struct RuleParts {
     pub time_step: u8,
 }
 
-/// Whether a tile set has 14 to 100 tiles.
+/// Whether a tile set has 14 to 200 tiles.
 #[tactic(auto, unfolding(crate::specs::Limits::most_tiles))]
 fn is_tile_set(counts: &Counts) -> bool
     ensures { result ≡ is_tile_set counts.now }
@@ -64,7 +64,7 @@ fn is_parameter(number: u8) -> bool
 }
 
 impl Rules {
-    /// The rules with these parts: exactly where there are 14 to 100 tiles, each letter has at most 99 points, the
+    /// The rules with these parts: exactly where there are 14 to 200 tiles, each letter has at most 99 points, the
     /// bonus is at most 999, and the other four numbers are 1 to 99.
     pub fn checked(parts: RuleParts) -> Option<Rules>
         ensures limits { IsSome result ↔ IsTrue (are_in_limits parts) }

@@ -13,7 +13,7 @@ pub const SQUARES: usize = 225;
 /// Only [`ENGLISH`](crate::ENGLISH) and [`Rules::checked`] make one: the limits are part of the type.
 #[derive(Clone, Copy, Debug, PartialEq, Eq)]
 pub struct Rules {
-    /// How many tiles of each kind the game has: 14 to 100 together.
+    /// How many tiles of each kind the game has: 14 to 200 together.
     pub counts: Counts,
     /// The points of A to Z, 0 to 99. A blank has none.
     pub points: [u8; 26],

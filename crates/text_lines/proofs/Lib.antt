@@ -1,3 +1,5 @@
 pub mod Cuts
 pub mod LineCuts
 pub mod FieldCuts
+pub mod Decimals
+pub mod Fronts

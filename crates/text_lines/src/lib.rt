@@ -1,4 +1,4 @@
-//! The lines of a text and the fields of a line, cut off one by one.
+//! The lines of a text and the fields of a line, cut off one by one, and the numbers that digits write.
 //!
 //! A line ends at LF or at the end of the text; one CR at its end is dropped, and a byte order mark at the front
 //! of the text is passed over. Fields are parted by runs of spaces and tabs.
@@ -6,6 +6,8 @@
 
 mod fields;
 mod lines;
+mod numerals;
 
 pub use fields::{Field, find_blank, find_filled, next_field};
 pub use lines::{Cut, cut_line, without_mark};
+pub use numerals::numeral;

@@ -14,7 +14,7 @@ pub add-requires : goal.add-requires
 add-requires c =
     let front = take c.loop-byte.byte-index c.args.bytes.now in
     let kinds = filter_map kind_of front in
-    let kind = c.in_ok-kind.field-0 in
+    let kind = c.in_ok-of_byte.field-0 in
     let same : count_of c.loop-byte.counts kind ≡ count_of (counted kinds) kind = ap (λ counts. count_of counts kind) c.loop-byte.invariant.counts in
     omega (arith, same, counted_small kinds kind, filter_map_len kind_of front, length-take c.loop-byte.byte-index c.args.bytes.now)
 
@@ -23,9 +23,9 @@ loop-byte-preserved c =
     let bytes = c.args.bytes.now in
     let place = c.loop-byte.byte-index in
     let kinds = filter_map kind_of (take place bytes) in
-    let kind = c.in_ok-kind.field-0 in
+    let kind = c.in_ok-of_byte.field-0 in
     let lt : place < length bytes = c.loop-byte-test.true in
-    let found : kind_of (get_or bytes place 0) ≡ Some kind = sym c.kind.ensures ∙ c.in_ok-kind.was in
+    let found : kind_of (get_or bytes place 0) ≡ Some kind = sym c.of_byte.ensures ∙ c.in_ok-of_byte.was in
     let more = ap (λ counts. with_count counts kind (count_of counts kind + 1)) c.loop-byte.invariant.counts in
     record {
       counts = c.add.ensures ∙ more ∙ counted_push kinds kind ∙ ap counted (sym (filter_map_step kind_of bytes place 0 kind lt found));

@@ -1,6 +1,6 @@
 use Rattle.std.proofs.Common.{arith}
-use Rattle.gcg_read.proofs.Decimals.{ten_bound, digit_in, value_more}
-use Rattle.gcg_read.proofs.numerals.value.Goals as goal
+use Rattle.text_lines.proofs.Decimals.{ten_bound, digit_in, value_more}
+use Rattle.text_lines.proofs.numerals.value.Goals as goal
 
 pub overflow_sub-value : goal.overflow_sub-value
 overflow_sub-value c = let d = digit_in c.args.digits.now c.loop-digit.digit-index c.requires.digits c.loop-digit-test.true in omega arith

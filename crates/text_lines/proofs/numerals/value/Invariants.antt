@@ -1,6 +1,6 @@
 use Rattle.std.proofs.Common.{◌≡◌, ◌<◌, ◌^◌, take}
 use Rattle.std.specs.Str.Parse.{digits_value}
-use Rattle.gcg_read.proofs.numerals.value.Given as goal
+use Rattle.text_lines.proofs.numerals.value.Given as goal
 
 abbrev pub invariant-loop-digit : goal.invariant-loop-digit
 invariant-loop-digit l =

@@ -1,5 +1,5 @@
 use Rattle.std.proofs.Common.{rules}
-use Rattle.gcg_read.proofs.racks.kind.Goals as goal
+use Rattle.ref_tiles.proofs.kinds.Kind.of_byte.Goals as goal
 
 pub returns-then-byte-eq63 : goal.returns-then-byte-eq63
 returns-then-byte-eq63 c = search rules

@@ -1,0 +1,179 @@
+-- The lines of a rules text read one after the other.
+use Rattle.std.specs.Prelude.{IfSome, option_map, is_some, slice_set}
+use Rattle.std.proofs.Common.{◌≡◌, ◌≢◌, ℕ, ◌+◌, ◌<◌, ◌≤◌, cond, eqb, arith, List, [], ◌∷◌, ◌++◌, length, get_or, replicate, Option, Some, None, Result, Ok, Err, sym, subst, ap, ◌∙◌, refl, inl, inr, append_assoc, append-nil}
+use Rattle.std.specs.Borrow.{Bor}
+use Rattle.std.specs.Option.{option_or}
+use Rattle.std.proofs.lemmas.List.{length_push, get_or-set_same, get_or-set_other, length-set}
+use Rattle.std.proofs.lemmas.List.FromFn.{length-map-range_with_len, get_or-map-range_with_len, fill_by_all}
+use Rattle.std.proofs.lemmas.Bool.Decides.{eqb_tells, nat_tests}
+use Rattle.text_lines.specs.Lines.{lines_in, lines_behind}
+use Rattle.ref_tiles.specs.declared.rules_faults.RulesWhy.{RulesWhy}
+use Rattle.ref_tiles.specs.declared.rules_faults.RulesWhy.TheVariants as why
+use Rattle.ref_tiles.specs.declared.rules_faults.RulesFault.{RulesFault}
+use Rattle.ref_tiles.specs.declared.statements.Statement.{Statement}
+use Rattle.ref_tiles.specs.declared.statements.Entry.{Entry}
+use Rattle.ref_tiles.specs.RulesFaults.{at_line}
+use Rattle.ref_tiles.specs.Statements.{statement_of, IsLinePlace}
+use Rattle.ref_tiles.specs.RulesTexts.{stated_by, entry_in, entries_in, repeats, fault_behind, first_bad_line, or_fault, more_by, drafted}
+
+-- ---- what one more line states
+
+pub entry_in-append : (before : List (List ℕ)) (line : List ℕ) (item : ℕ) → entry_in (before ++ line ∷ []) item ≡ option_or (entry_in before item) (stated_by item (statement_of line))
+unfolding entry_in
+entry_in-append [] line item = by (stated_by item (statement_of line))
+  where
+    by : (o : Option Entry) → option_or o None ≡ o
+    by None = refl
+    by (Some x) = refl
+entry_in-append (x ∷ before) line item = ap (option_or (stated_by item (statement_of x))) (entry_in-append before line item) ∙ by (stated_by item (statement_of x)) (entry_in before item) (stated_by item (statement_of line))
+  where
+    by : (a b c : Option Entry) → option_or a (option_or b c) ≡ option_or (option_or a b) c
+    by None b c = refl
+    by (Some x) b c = refl
+
+pub entries_at : (lines : List (List ℕ)) (item : ℕ) → item < 47 → get_or (entries_in lines) item None ≡ entry_in lines item
+unfolding entries_in
+entries_at lines item below = get_or-map-range_with_len (entry_in lines) 0 47 item item None below (omega arith)
+
+pub length-entries : (lines : List (List ℕ)) → length (entries_in lines) ≡ 47
+unfolding entries_in
+length-entries lines = length-map-range_with_len (entry_in lines) 0 47
+
+or-none : (o : Option Entry) → option_or o None ≡ o
+or-none None = refl
+or-none (Some x) = refl
+
+-- nothing
+nothing_more : (before : List (List ℕ)) (line : List ℕ) → statement_of line ≡ Ok None → entries_in (before ++ line ∷ []) ≡ entries_in before
+unfolding entries_in
+nothing_more before line e =
+    sym (fill_by_all (entry_in (before ++ line ∷ [])) (entries_in before) 47 None (length-entries before)
+    (λ k below. entries_at before k below ∙ sym (entry_in-append before line k ∙ rw e (or-none (entry_in before k)))))
+
+-- something of an item of which nothing was stated
+put_at : (before : List (List ℕ)) (line : List ℕ) (s : Statement) → statement_of line ≡ Ok (Some s) → entry_in before s.item ≡ None
+    → (k : ℕ) → k < 47 → get_or (slice_set (entries_in before) s.item (Some s.entry)) k None ≡ entry_in (before ++ line ∷ []) k
+put_at before line s e none k below =
+    let size = length-entries before in
+    let more = entry_in-append before line k in
+    elim (eqb_tells s.item k) [
+      | inl same ↦
+          let inside : s.item < length (entries_in before) = omega (arith, size, same.1) in
+          let placed = get_or-set_same (entries_in before) s.item (Some s.entry) None inside in
+          let here : option_or (entry_in before s.item) (stated_by s.item (statement_of line)) ≡ Some s.entry = rw (none, e) (own s) in
+          let moved = subst (λ i. get_or (slice_set (entries_in before) s.item (Some s.entry)) i None ≡ entry_in (before ++ line ∷ []) i) same.1 (placed ∙ sym (entry_in-append before line s.item ∙ here)) in
+          moved
+      | inr other ↦
+          let apart : k ≢ s.item = λ e. other.1 (sym e) in
+          let placed = get_or-set_other (entries_in before) s.item k (Some s.entry) None apart in
+          let same : option_or (entry_in before k) (stated_by k (statement_of line)) ≡ entry_in before k = rw (e, other.0) (or-none (entry_in before k)) in
+          placed ∙ entries_at before k below ∙ sym (more ∙ same)
+    ]
+  where
+    own : (s : Statement) → cond (eqb s.item s.item) (Some s.entry) None ≡ Some s.entry
+    own s = grind (arith, nat_tests)
+
+put_more : (before : List (List ℕ)) (line : List ℕ) (s : Statement) → statement_of line ≡ Ok (Some s) → entry_in before s.item ≡ None
+    → entries_in (before ++ line ∷ []) ≡ slice_set (entries_in before) s.item (Some s.entry)
+unfolding entries_in
+put_more before line s e none =
+    sym (fill_by_all (entry_in (before ++ line ∷ [])) (slice_set (entries_in before) s.item (Some s.entry)) 47 None
+    (length-set (entries_in before) s.item (Some s.entry) ∙ length-entries before) (put_at before line s e none))
+
+-- what a line makes of the entries of the lines before it: those with the line, unless it has a fault
+pub line_more : (before : List (List ℕ)) (line : List ℕ) (n : ℕ) → IsLinePlace (statement_of line)
+    → more_by (entries_in before) n (statement_of line) ≡ or_fault (option_map (at_line n) (fault_behind before line)) (entries_in (before ++ line ∷ []))
+unfolding fault_behind
+line_more before line n place = by (statement_of line) refl place
+  where
+    placed : (s : Statement) (o : Option Entry) → statement_of line ≡ Ok (Some s) → entry_in before s.item ≡ o
+        → cond (is_some o) (Err (at_line n why.Twice)) (Ok (slice_set (entries_in before) s.item (Some s.entry)))
+        ≡ or_fault (option_map (at_line n) (cond (is_some o) (Some why.Twice) None)) (entries_in (before ++ line ∷ []))
+    placed s None e none = ap Ok (sym (put_more before line s e none))
+    placed s (Some x) e some = refl
+
+    by : (r : Result (Option Statement) RulesWhy) → statement_of line ≡ r → IsLinePlace r
+        → more_by (entries_in before) n r ≡ or_fault (option_map (at_line n) (repeats before r)) (entries_in (before ++ line ∷ []))
+    by (Err w) e place = refl
+    by (Ok None) e place = ap Ok (sym (nothing_more before line e))
+    by (Ok (Some s)) e place = rw (entries_at before s.item place) (placed s (entry_in before s.item) e refl)
+
+-- ---- how far a reading has come
+
+-- how much of a text is left
+abbrev pub size_of : Option (Bor (List ℕ)) → ℕ
+size_of None = 0
+size_of (Some rest) = length rest.now + 1
+
+-- how far a reading has come: these are the entries of the lines so far, of which there are so many, and what is wrong
+-- with the whole is wrong with what stands behind
+pub record Progress (lines : List (List ℕ)) (entries : List (Option Entry)) (line : ℕ) (behind : List (List ℕ)) : Type 0 where
+  pub before : List (List ℕ)
+  pub count : length before ≡ line
+  pub there : entries ≡ entries_in before
+  pub same : first_bad_line before behind ≡ first_bad_line [] lines
+  pub whole : before ++ behind ≡ lines
+
+-- no line yet
+pub progress_empty : (lines : List (List ℕ)) (entries : List (Option Entry)) → entries ≡ replicate 47 None → Progress lines entries 0 lines
+unfolding entries_in entry_in
+progress_empty lines entries none = record { before = []; count = refl; there = none ∙ refl; same = refl; whole = refl }
+
+-- a line without a fault
+no_fault : (o : Option RulesWhy) (n : ℕ) (entries next : List (Option Entry)) → or_fault (option_map (at_line n) o) entries ≡ Ok next → (o ≡ None) × (entries ≡ next)
+no_fault None n entries next e = (refl, cc)
+no_fault (Some w) n entries next e = absurd cc
+
+-- a line with a fault
+some_fault : (o : Option RulesWhy) (n : ℕ) (entries : List (Option Entry)) (fault : RulesFault) → or_fault (option_map (at_line n) o) entries ≡ Err fault
+    → option_map (at_line n) o ≡ Some fault
+some_fault None n entries fault e = absurd cc
+some_fault (Some w) n entries fault e = cc
+
+-- one more line
+pub progress_more : (lines : List (List ℕ)) (entries next : List (Option Entry)) (n : ℕ) (left : Option (Bor (List ℕ))) (rest : Bor (List ℕ)) (text : List ℕ) (others : List (List ℕ))
+    → left ≡ Some rest → lines_in rest.now ≡ text ∷ others → IsLinePlace (statement_of text) → more_by entries (n + 1) (statement_of text) ≡ Ok next
+    → Progress lines entries n (lines_behind left) → Progress lines next (n + 1) others
+unfolding first_bad_line
+progress_more lines entries next n left rest text others at cut place step p =
+    let made = sym (line_more p.before text (n + 1) place) ∙ ap (λ d. more_by d (n + 1) (statement_of text)) (sym p.there) ∙ step in
+    let fine = no_fault (fault_behind p.before text) (n + 1) (entries_in (p.before ++ text ∷ [])) next made in
+    let behind : lines_behind left ≡ text ∷ others = rw at cut in
+    let here : first_bad_line p.before (text ∷ others) ≡ first_bad_line (p.before ++ text ∷ []) others = rw fine.0 refl in
+    record {
+      before = p.before ++ text ∷ [];
+      count = omega (arith, length_push p.before text, p.count);
+      there = sym fine.1;
+      same = sym here ∙ ap (first_bad_line p.before) (sym behind) ∙ p.same;
+      whole = append_assoc p.before (text ∷ []) others ∙ ap (λ rest. p.before ++ rest) (sym behind) ∙ p.whole;
+    }
+
+-- a line with a fault
+pub progress_fails : (lines : List (List ℕ)) (entries : List (Option Entry)) (n : ℕ) (left : Option (Bor (List ℕ))) (rest : Bor (List ℕ)) (text : List ℕ) (others : List (List ℕ)) (fault : RulesFault)
+    → left ≡ Some rest → lines_in rest.now ≡ text ∷ others → IsLinePlace (statement_of text) → more_by entries (n + 1) (statement_of text) ≡ Err fault
+    → Progress lines entries n (lines_behind left) → drafted lines ≡ Err fault
+unfolding first_bad_line drafted
+progress_fails lines entries n left rest text others fault at cut place step p =
+    let made = sym (line_more p.before text (n + 1) place) ∙ ap (λ d. more_by d (n + 1) (statement_of text)) (sym p.there) ∙ step in
+    let found = some_fault (fault_behind p.before text) (n + 1) (entries_in (p.before ++ text ∷ [])) fault made in
+    let behind : lines_behind left ≡ text ∷ others = rw at cut in
+    let here : option_map (at_line (length p.before + 1)) (fault_behind p.before text) ≡ Some fault = rw p.count found in
+    let first : first_bad_line p.before (text ∷ others) ≡ Some fault = rw here refl in
+    let whole : first_bad_line [] lines ≡ Some fault = sym p.same ∙ ap (first_bad_line p.before) behind ∙ first in
+    rw whole refl
+
+-- what is left grows shorter by more than the lines count up
+pub room_more : (left after : Option (Bor (List ℕ))) (rest : Bor (List ℕ)) (n limit : ℕ) → left ≡ Some rest → IfSome left (λ text. n + length text.now ≤ limit)
+    → IfSome after (λ text. length text.now < length rest.now) → IfSome after (λ text. n + 1 + length text.now ≤ limit) × (n + 1 ≤ limit + 1)
+room_more left None rest n limit at room shorter = let here = rw at at room in (tt, omega arith)
+room_more left (Some text) rest n limit at room shorter = let here = rw at at room in (omega arith, omega arith)
+
+-- no more lines
+pub progress_done : (lines : List (List ℕ)) (entries : List (Option Entry)) (n : ℕ) (left : Option (Bor (List ℕ))) → left ≡ None → Progress lines entries n (lines_behind left)
+    → drafted lines ≡ Ok entries
+unfolding first_bad_line drafted
+progress_done lines entries n left at p =
+    let none : lines_behind left ≡ [] = rw at refl in
+    let fine : first_bad_line [] lines ≡ None = sym p.same ∙ ap (first_bad_line p.before) none in
+    let all : p.before ≡ lines = sym (append-nil p.before) ∙ ap (λ rest. p.before ++ rest) (sym none) ∙ p.whole in
+    rw fine (ap Ok (sym (p.there ∙ ap entries_in all)))

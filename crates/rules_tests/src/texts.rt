@@ -1,0 +1,213 @@
+use bstr::ByteSlice;
+use ref_tiles::{
+    ENGLISH, ENGLISH_TEXT, MAX_RULES_BYTES, Premium, Rules, RulesFault, RulesWhy, english_rules,
+};
+use std::alloc::Global;
+use std::process::Abort;
+
+/// Texts and their first faults.
+const FAULTS: [(&[u8], u32, RulesWhy); 33] = [
+    (b"tiles A 9 1", 1, RulesWhy::Unknown),
+    (b"Bonus 50", 1, RulesWhy::Unknown),
+    (b" # a remark", 1, RulesWhy::Unknown),
+    (b"tile", 1, RulesWhy::Fields),
+    (b"tile A 9", 1, RulesWhy::Fields),
+    (b"tile A 9 1 1", 1, RulesWhy::Fields),
+    (b"row 1", 1, RulesWhy::Fields),
+    (b"row 1 ............... .", 1, RulesWhy::Fields),
+    (b"bonus", 1, RulesWhy::Fields),
+    (b"bonus 5 0", 1, RulesWhy::Fields),
+    (b"tile a 9 1", 1, RulesWhy::Name),
+    (b"tile AB 9 1", 1, RulesWhy::Name),
+    (b"tile @ 1000 1", 1, RulesWhy::Name),
+    (b"row 0 ...............", 1, RulesWhy::Name),
+    (b"row 16 ...............", 1, RulesWhy::Name),
+    (b"row 001 ...............", 1, RulesWhy::Name),
+    (b"row 1 ..............", 1, RulesWhy::Name),
+    (b"row 1 ................", 1, RulesWhy::Name),
+    (b"row 1 ..............W", 1, RulesWhy::Name),
+    (b"tile ? 2 1", 1, RulesWhy::Number),
+    (b"tile A 1000 1", 1, RulesWhy::Number),
+    (b"tile A 9 +1", 1, RulesWhy::Number),
+    (b"bonus 0050", 1, RulesWhy::Number),
+    (b"bonus 5O", 1, RulesWhy::Number),
+    (b"bonus 50\nbonus 50", 2, RulesWhy::Twice),
+    (b"bonus 50\nbonus x", 2, RulesWhy::Number),
+    (
+        b"row 7 ...............\nrow 07 TTTTTTTTTTTTTTT",
+        2,
+        RulesWhy::Twice,
+    ),
+    (b"tile ? 2 0\ntile ? 2 1\ntile", 2, RulesWhy::Number),
+    (
+        b"\xef\xbb\xbf# a\r\n\t \r\n\ntime_step 5\r\ntime_step 6",
+        5,
+        RulesWhy::Twice,
+    ),
+    (b"bonus 50\n\nzero_limit 6 6\nbonus 50", 3, RulesWhy::Fields),
+    (b"", 0, RulesWhy::Missing),
+    (b"#", 0, RulesWhy::Missing),
+    (b"bonus 999\nzero_limit 0\n", 0, RulesWhy::Missing),
+];
+
+#[test]
+fn faults_of_lines(rt: HostRuntime) {
+    for row in &FAULTS {
+        let fault = Rules::read(row.0).err();
+        let expected = RulesFault {
+            line: row.1,
+            why: row.2,
+        };
+        assert_eq!(rt; fault, Some(expected), "{:?}", row.0);
+    }
+}
+
+/// The English text with other bytes in place of some.
+fn changed(rt: &impl Abort, alloc: Global, from: &[u8], to: &[u8]) -> Vec<u8> {
+    ENGLISH_TEXT.replace(alloc, from, to).expect(rt, "memory")
+}
+
+/// Changes of the English text that leave its meaning.
+const SAME: [(&[u8], &[u8]); 6] = [
+    (b"tile A 9 1\n", b"\xef\xbb\xbftile A 9 1\n"),
+    (b"\n", b" \t\r\n"),
+    (b"tile A 9 1\n", b"# A\n \n\ttile\t\tA  009 001 \n"),
+    (b"tile ? 2 0", b"tile ? 2 000"),
+    (b"row 8 ", b"row 08 "),
+    (b"tile A 9 1\ntile B 2 3\n", b"tile B 2 3\ntile A 9 1\n"),
+];
+
+/// A text means the rules of the English game.
+fn assert_english(rt: &impl Abort, text: &[u8]) {
+    let english = english_rules();
+    let read = Rules::read(text).ok();
+    assert_eq!(rt; read.as_ref(), Some(&english), "{:?}", text);
+}
+
+#[test]
+fn english_text(rt: HostRuntime) {
+    assert_english(&rt, ENGLISH_TEXT);
+    for row in &SAME {
+        let text = changed(&rt, rt.alloc(), row.0, row.1);
+        assert_english(&rt, &text);
+    }
+}
+
+/// Changes of the English text, and the fault that it then has.
+const DAMAGED: [(&[u8], &[u8], u32, RulesWhy); 10] = [
+    (b"row 8 T..d...D...d..T\n", b"", 0, RulesWhy::Missing),
+    (
+        b"tile A 9 1\n",
+        b"tile ? 2 1\ntile A 9 1\n",
+        1,
+        RulesWhy::Number,
+    ),
+    (
+        b"time_step 5\n",
+        b"time_step 5\nbonus 50",
+        48,
+        RulesWhy::Twice,
+    ),
+    (b"tile A 9 1", b"tile A 999 1", 0, RulesWhy::Limits),
+    (b"tile A 9 1", b"tile A 110 1", 0, RulesWhy::Limits),
+    (b"tile Z 1 10", b"tile Z 1 100", 0, RulesWhy::Limits),
+    (b"tile Z 1 10", b"tile Z 1 999", 0, RulesWhy::Limits),
+    (b"time_step 5", b"time_step 0", 0, RulesWhy::Limits),
+    (b"zero_limit 6", b"zero_limit 100", 0, RulesWhy::Limits),
+    (
+        b"challenge_unit 5",
+        b"challenge_unit 256",
+        0,
+        RulesWhy::Limits,
+    ),
+];
+
+#[test]
+fn damaged_texts(rt: HostRuntime) {
+    for row in &DAMAGED {
+        let text = changed(&rt, rt.alloc(), row.0, row.1);
+        let expected = RulesFault {
+            line: row.2,
+            why: row.3,
+        };
+        assert_eq!(rt; Rules::read(&text).err(), Some(expected), "{:?}", row.1);
+    }
+}
+
+/// The tiles of two English sets.
+const TWO_SETS: &[u8] = b"tile A 18 1\ntile B 4 3\ntile C 4 3\ntile D 8 2\ntile E 24 1\n\
+tile F 4 4\ntile G 6 2\ntile H 4 4\ntile I 18 1\ntile J 2 8\ntile K 2 5\ntile L 8 1\n\
+tile M 4 3\ntile N 12 1\ntile O 16 1\ntile P 4 3\ntile Q 2 10\ntile R 12 1\ntile S 8 1\n\
+tile T 12 1\ntile U 8 1\ntile V 4 4\ntile W 4 4\ntile X 2 8\ntile Y 4 4\ntile Z 2 10\ntile ? 4 0\n";
+
+/// The lines of the English text behind those of its tiles.
+fn other_lines(rt: &impl Abort) -> &'static [u8] {
+    let tiles = ENGLISH_TEXT.find(b"row 1 ").expect(rt, "rows");
+    &ENGLISH_TEXT[tiles..]
+}
+
+#[test]
+fn two_sets(rt: HostRuntime) {
+    let mut text = Vec::from_slice(rt.alloc(), TWO_SETS).expect(&rt, "memory");
+    text.extend_from_slice(other_lines(&rt))
+        .expect(&rt, "memory");
+    let rules = Rules::read(&text).expect(&rt, "200 tiles");
+    assert_eq!(rt; rules.counts.total(), 200);
+    let english = ENGLISH;
+    let (points, same_points) = (&rules.points, &english.points);
+    assert_eq!(rt; points, same_points);
+    let (premiums, same_premiums) = (&rules.premiums, &english.premiums);
+    assert_eq!(rt; premiums, same_premiums);
+    let over = text
+        .as_slice()
+        .replace(rt.alloc(), b"tile A 18 1", b"tile A 19 1")
+        .expect(&rt, "memory");
+    let limits = RulesFault {
+        line: 0,
+        why: RulesWhy::Limits,
+    };
+    assert_eq!(rt; Rules::read(&over).err(), Some(limits));
+}
+
+#[test]
+fn other_rules(rt: HostRuntime) {
+    let text = changed(&rt, rt.alloc(), b"bonus 50\n", b"bonus 999\n");
+    let rules = Rules::read(&text).expect(&rt, "rules");
+    assert_eq!(rt; rules.bonus, 999);
+    let codes = changed(
+        &rt,
+        rt.alloc(),
+        b"row 9 ..d...d.d...d..",
+        b"row 9 TDtd...........",
+    );
+    let rules = Rules::read(&codes).expect(&rt, "rules");
+    let expected = [
+        Premium::TripleWord,
+        Premium::DoubleWord,
+        Premium::TripleLetter,
+        Premium::DoubleLetter,
+        Premium::Plain,
+    ];
+    for (place, premium) in expected.into_iter().enumerate() {
+        assert_eq!(rt; rules.premium(120 + place), premium);
+    }
+}
+
+#[test]
+fn long_texts(rt: HostRuntime) {
+    let mut text = Vec::new(rt.alloc());
+    for _ in 0..MAX_RULES_BYTES {
+        text.push(b'\n').expect(&rt, "memory");
+    }
+    let missing = RulesFault {
+        line: 0,
+        why: RulesWhy::Missing,
+    };
+    assert_eq!(rt; Rules::read(&text).err(), Some(missing));
+    text.push(b'\n').expect(&rt, "memory");
+    let long = RulesFault {
+        line: 0,
+        why: RulesWhy::TooLong,
+    };
+    assert_eq!(rt; Rules::read(&text).err(), Some(long));
+}
