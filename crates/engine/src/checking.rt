@@ -9,12 +9,13 @@ ghost use Rattle.engine.specs.Runs.{most_list_bytes, Answers, GivesUp, OneHasFai
 
 use crate::decisions::Decision;
 use crate::faults::RunFault;
-use crate::lexicons::{MAX_FILE_BYTES, Paired, pair_file};
+use crate::lexicons::{Paired, pair_file};
 use crate::reports::ok_line;
 use crate::transfers::{read_text, send};
 use crate::verdicts::Verdict;
 use crate::word_lists::{Listed, read_list};
 use devices::{Input, Output};
+use lex_file::MAX_FILE_BYTES;
 use lex_list::WordList;
 use std::alloc::{AllocError, Global};
 

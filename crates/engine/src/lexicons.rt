@@ -7,12 +7,9 @@ use crate::decisions::Decision;
 use crate::reports::bad_file_line;
 use crate::verdicts::Verdict;
 use lex_check::{Checked, Mismatch, Path, pair};
-use lex_file::{FileFault, HEADER_BYTES, LexFile, MAX_ARCS};
+use lex_file::{FileFault, LexFile, MAX_FILE_BYTES};
 use lex_list::WordList;
 use std::alloc::{AllocError, Global};
-
-/// The most bytes of a lexicon file: a header of 16 bytes and 33,554,431 arcs of 4.
-pub const MAX_FILE_BYTES: usize = HEADER_BYTES + 4 * MAX_ARCS as usize;
 
 /// What is wrong with a lexicon.
 #[derive(Debug, Drop, PartialEq, Eq)]

@@ -5,10 +5,11 @@ use Rattle.std.proofs.lemmas.List.{length-append}
 use Rattle.std.proofs.lemmas.Bool.{ltb-true, lt-ltb, le-leb, false≢true, and_parts, and_from}
 use Rattle.lex_file.specs.declared.arcs.Arc.{Arc}
 use Rattle.lex_file.specs.Arcs.{arc_of, is_last, arc_with, accepts_of, target_of}
-use Rattle.lex_file.specs.Nodes.{run_of, node_at, begins, is_first, start_at}
+use Rattle.lex_file.specs.Nodes.{run_of, node_at, begins, is_first, is_node, start_at}
 use Rattle.lex_file.specs.Shapes.{label_before, leads_back, arc_fault, arcs_fault}
 use Rattle.lex_file.specs.Languages.{tail_in}
-use Rattle.lex_file.specs.SoundNodes.{IsFineArc, arc_facts, fine_at, leads_where, arc_known, node_of_first}
+use Rattle.lex_file.specs.Graphs.{arc_sound}
+use Rattle.lex_file.specs.SoundNodes.{IsFineArc, arc_facts, fine_at, leads_where, gad1_graph}
 use Rattle.lex_build.specs.Bodies.{is_target}
 
 -- ---- places before the growth
@@ -115,6 +116,10 @@ target_node : (words more : List ℕ) (n : ℕ) → begins words (length words) 
 target_node words more zero closed is = refl
 target_node words more (suc place) closed is = node_grown words more (suc place) closed is
 
+target_of_node : (words : List ℕ) (n : ℕ) → is_node words n ≡ true → is_target words n ≡ true
+target_of_node words zero is = refl
+target_of_node words (suc place) is = is
+
 -- a target that an arc has is one
 behind : (words : List ℕ) (n label : ℕ) → arcs_fault words (length words) ≡ None → is_target words n ≡ true
     → is_target words (target_of (arc_with label (node_at words n))) ≡ true
@@ -124,9 +129,9 @@ behind words (suc place) label fine is = by (arc_with label (node_at words (suc 
     by : (o : Option Arc) → arc_with label (node_at words (suc place)) ≡ o → is_target words (target_of o) ≡ true
     by None e = refl
     by (Some arc) e =
-        elim (arc_known words (suc place) label arc fine (node_of_first words (suc place) is) e).leads [
+        elim (arc_sound (node_at words) (is_node words) (gad1_graph words fine) (suc place) label arc is e).target [
           | inl none ↦ rw none refl
-          | inr some ↦ target_of_first words arc.target some.1
+          | inr some ↦ target_of_node words arc.target some.1
         ]
 
 pub tails_grown : (words more : List ℕ) (n : ℕ) (string : List ℕ) → arcs_fault words (length words) ≡ None → begins words (length words) ≡ true

@@ -7,9 +7,10 @@ use Rattle.lex_file.specs.FileWords.{words_in, body_of}
 use Rattle.lex_file.specs.Formats.{header_bytes, gad1_magic, most_arcs}
 use Rattle.lex_file.specs.Nodes.{begins, is_node, node_at}
 use Rattle.lex_list.specs.RotatedPaths.{StandsFor}
-use Rattle.lex_file.specs.Shapes.{Gad1, format_of, count_of, root_of, word_count_of, body_fault, header_fault, form_fault, fault_of}
+use Rattle.lex_file.specs.declared.formats.Format.TheVariants as form
+use Rattle.lex_file.specs.Shapes.{format_of, count_of, root_of, word_count_of, body_fault, header_fault, form_fault, fault_of}
 use Rattle.lex_file.specs.Languages.{tail_in}
-use Rattle.lex_file.specs.SoundNodes.{file_tail_is}
+use Rattle.lex_file.specs.SoundFiles.{file_tail_is}
 use Rattle.lex_build.specs.Bodies.{IsBody, IsKept, is_target}
 use Rattle.lex_check.specs.Stretches.{IsPathList, is_one_of}
 use Rattle.smallvec.specs.SmallVec.{SmallVec}
@@ -61,7 +62,7 @@ module _ (rest : List ℕ) (arcs root words : ℕ) (whole : length rest ≡ 4 * 
   unfolding file
   body_is = refl
 
-  format_is : format_of file ≡ Some Gad1
+  format_is : format_of file ≡ Some form.Gad1
   unfolding file
   format_is = refl
 

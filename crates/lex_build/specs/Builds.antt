@@ -6,14 +6,15 @@ use Rattle.std.specs.List.Sorted.{IsStrictlySortedBy}
 use Rattle.std.specs.Ordering.{nat_cmp}
 use Rattle.lex_list.specs.RotatedPaths.{is_path}
 use Rattle.lex_file.specs.Formats.{most_arcs}
-use Rattle.lex_file.specs.Shapes.{Gad1, format_of}
+use Rattle.lex_file.specs.declared.formats.Format.TheVariants as form
+use Rattle.lex_file.specs.Shapes.{format_of}
 pub use Rattle.lex_check.specs.Checks.{IsLexiconOf}
 use Rattle.lex_build.specs.declared.faults.BuildFault.{BuildFault}
 use Rattle.lex_build.specs.declared.faults.BuildFault.TheVariants as why
 
 -- Bytes are the GAD1 file that is built for a list of words: of this format, and the compiled lexicon of the words.
 pub record IsBuiltOf (words : List (List ℕ)) (bytes : List ℕ) : Type 0 where
-  pub format : format_of bytes ≡ Some Gad1
+  pub format : format_of bytes ≡ Some form.Gad1
   pub lexicon : IsLexiconOf words bytes
 
 -- All rotated paths of the words, each once, have together more labels than a file has arcs.

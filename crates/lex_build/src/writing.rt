@@ -9,7 +9,7 @@ use crate::arcs::{Arcs, last_arc_word};
 use crate::faults::BuildFault;
 use byteorder::{ByteOrder, LittleEndian};
 use indexmap::IndexMap;
-use lex_file::{HEADER_BYTES, MAGIC, MAX_ARCS};
+use lex_file::{GAD1_MAGIC, HEADER_BYTES, MAX_ARCS};
 use std::alloc::{AllocError, Global};
 
 /// A file that is being written.
@@ -148,7 +148,7 @@ fn fill_header(bytes: &mut [u8], arcs: u32, root: u32, words: u32)
     requires { header_bytes ≤ length bytes.old }
     ensures { bytes.new ≡ header_of arcs root words ++ drop header_bytes bytes.old }
 {
-    bytes[..4].copy_from_slice(&MAGIC);
+    bytes[..4].copy_from_slice(&GAD1_MAGIC);
     LittleEndian::write_u32(&mut bytes[4..], arcs);
     LittleEndian::write_u32(&mut bytes[8..], root);
     LittleEndian::write_u32(&mut bytes[12..], words);

@@ -4,5 +4,7 @@ pub mod Checks
 pub mod NodeLaws
 pub mod Spellings
 pub mod Walks
+pub mod MaskRuns
+pub mod MaskChecks
 pub mod Trials
 mod Examples

@@ -5,7 +5,7 @@ use Rattle.std.proofs.lemmas.Bool.{ltb-true, lt-ltb, false≢true, and_parts, an
 use Rattle.lex_file.specs.Arcs.{arc_of, is_last}
 use Rattle.lex_file.specs.Nodes.{run_of, node_at, begins, is_first, start_at}
 use Rattle.lex_file.specs.Shapes.{leads_back}
-use Rattle.lex_file.specs.SoundNodes.{start_of_first, leads_where}
+use Rattle.lex_file.specs.SoundNodes.{start_of_first, leads_where, run_filled}
 use Rattle.lex_file.specs.Laws.{EndsBefore, HoldsArc}
 use Rattle.lex_file.proofs.Checks.{start_last, start_same}
 
@@ -17,13 +17,6 @@ run_size words place lt = rw (drop-cons words place 0) (by (is_last (get_or word
   where
     by : (last : Bool) → length (arc_of (get_or words place 0) ∷ cond last [] (run_of (drop (suc place) words))) ≡ cond last 1 (length (run_of (drop (suc place) words)) + 1)
     by true = refl
-    by false = omega arith
-
-run_filled : (words : List ℕ) (place : ℕ) → place < length words → 0 < length (run_of (drop place words))
-run_filled words place lt = rw (run_size words place lt) (by (is_last (get_or words place 0)))
-  where
-    by : (last : Bool) → 0 < cond last 1 (length (run_of (drop (suc place) words)) + 1)
-    by true = omega arith
     by false = omega arith
 
 -- a run ends at the next last arc, or before it

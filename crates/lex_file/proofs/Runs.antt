@@ -6,20 +6,15 @@ use Rattle.std.proofs.lemmas.Bool.{ltb-true, lt-leb, and_parts}
 use Rattle.std.proofs.lemmas.Bool.Decides.{eqb_tells}
 use Rattle.byteorder.specs.Endian.{little_number}
 use Rattle.lex_file.specs.FileWords.{words_in}
+pub use Rattle.lex_file.specs.SoundFiles.{sizes}
 use Rattle.lex_file.specs.Arcs.{arc_of, is_last, arc_with, arc_from}
 use Rattle.lex_file.specs.Nodes.{run_of, node_at, is_node, begins}
 
--- how many words there are: four bytes each
-pub sizes : (bytes : List ℕ) → (4 * length (words_in bytes) ≤ length bytes) × (length bytes < 4 * length (words_in bytes) + 4)
-unfolding words_in
-sizes [] = (omega arith, omega arith)
-sizes (a ∷ []) = (omega arith, omega arith)
-sizes (a ∷ b ∷ []) = (omega arith, omega arith)
-sizes (a ∷ b ∷ c ∷ []) = (omega arith, omega arith)
-sizes (a ∷ b ∷ c ∷ d ∷ rest) = let more = sizes rest in (omega arith, omega arith)
-
 pub count : (bytes : List ℕ) → length bytes / 4 ≡ length (words_in bytes)
 count bytes = let s = sizes bytes in omega arith
+
+pub shorter : (bytes : List ℕ) → length (words_in bytes) ≤ length bytes
+shorter bytes = let s = sizes bytes in omega arith
 
 pub inside : (bytes : List ℕ) (place : ℕ) → place < length (words_in bytes) → 4 * place + 4 ≤ length bytes
 inside bytes place lt = let s = sizes bytes in omega arith

@@ -1,102 +1,28 @@
 -- The recursion on a string tells exactly the strings that arcs spell.
-use Rattle.std.proofs.Common.{◌≡◌, ℕ, zero, suc, ◌+◌, ◌-◌, ◌<◌, ◌≤◌, Bool, true, false, cond, eqb, ltb, List, [], ◌∷◌, length, map, get_or, drop, drop-cons, Option, Some, None, inl, inr, ◌⊎◌, refl, sym, ap, subst, ◌∙◌, add-one, arith, ◌%◌}
+use Rattle.std.proofs.Common.{◌≡◌, ℕ, zero, suc, ◌+◌, ◌-◌, ◌<◌, ◌≤◌, Bool, true, false, eqb, List, [], ◌∷◌, length, map, Option, Some, None, inl, inr, refl, sym, ap, subst, ◌∙◌, add-one, arith}
 use Rattle.std.specs.Prelude.{IsTrue, is_none, ◌↔◌, slice_get}
-use Rattle.std.proofs.Math.ListN.{drop_of_length-le}
-use Rattle.std.proofs.lemmas.Bool.{ltb-true, false≢true, and_parts, eqb-true}
-use Rattle.std.specs.List.{Contains, find}
+use Rattle.std.proofs.lemmas.Bool.{false≢true, eqb-true, eq-eqb}
+use Rattle.std.specs.List.{Contains}
 use Rattle.lex_file.specs.declared.arcs.Arc.{Arc}
-use Rattle.lex_file.specs.Arcs.{arc_of, is_last, has_label, arc_with, accepts_of, target_of}
-use Rattle.lex_file.specs.FileWords.{body_of}
-use Rattle.lex_file.specs.Nodes.{run_of, node_at, begins, is_node}
-use Rattle.lex_file.specs.Shapes.{fault_of, arcs_fault, arc_fault, label_before, is_file_node, file_node}
+use Rattle.lex_file.specs.Arcs.{has_label, arc_with, accepts_of, target_of}
+use Rattle.lex_file.specs.Shapes.{fault_of, is_file_node, file_node}
 use Rattle.lex_file.specs.Languages.{IsSpelt, tail_in, file_tail}
-use Rattle.lex_file.specs.SoundNodes.{sound, same_node, file_node_is, file_tail_is, arc_known, arc_facts, fine_at, found_passes, none_of_zero, node_of_first, or_cases}
-use Rattle.lex_file.proofs.Runs.{here, not_equal}
-
--- ---- an element of a list is its first or one of the others
-
-first_or_other : (arc x : Arc) (arcs : List Arc) → Contains (arc ∷ arcs) x → (arc ≡ x) ⊎ Contains arcs x
-first_or_other arc x arcs (zero, lt, at) = inl at
-first_or_other arc x arcs (suc place, lt, at) = inr (place, omega arith, at)
-
-is_other : (arc x : Arc) (arcs : List Arc) → Contains arcs x → Contains (arc ∷ arcs) x
-is_other arc x arcs (place, lt, at) = (suc place, omega arith, at)
-
-none_there : (x : Arc) → Contains [] x → ⊥
-none_there x (place, lt, at) = absurd (omega arith)
-
-found_there : (test : Arc → Bool) (arcs : List Arc) (arc : Arc) → find test arcs ≡ Some arc → Contains arcs arc
-found_there test [] arc e = absurd cc
-found_there test (first ∷ arcs) arc e = by (test first) e (found_there test arcs arc)
-  where
-    by : (passes : Bool) → cond passes (Some first) (find test arcs) ≡ Some arc → (find test arcs ≡ Some arc → Contains arcs arc) → Contains (first ∷ arcs) arc
-    by true h f = let same : first ≡ arc = cc in (0, omega arith, same)
-    by false h f = is_other first arc arcs (f h)
+use Rattle.lex_file.specs.Graphs.{IsSoundGraph, AreRising, first_or_other, none_there, found_there, found_passes, none_of_zero}
+use Rattle.lex_file.specs.SoundFiles.{sound}
+use Rattle.lex_file.proofs.Runs.{not_equal}
 
 -- ---- the labels of a node rise, so an arc of it is the first with its label
 
--- the first arc of what is left of a node, or one behind it
-run_cases : (words : List ℕ) (place : ℕ) (arc : Arc) → place < length words → Contains (run_of (drop place words)) arc
-    → (arc_of (get_or words place 0) ≡ arc) ⊎ ((is_last (get_or words place 0) ≡ false) × Contains (run_of (drop (suc place) words)) arc)
-unfolding run_of
-run_cases words place arc lt h = by (is_last (get_or words place 0)) refl (rw (drop-cons words place 0 lt) at h)
-  where
-    by : (last : Bool) → is_last (get_or words place 0) ≡ last → Contains (arc_of (get_or words place 0) ∷ cond last [] (run_of (drop (suc place) words))) arc
-        → (arc_of (get_or words place 0) ≡ arc) ⊎ ((is_last (get_or words place 0) ≡ false) × Contains (run_of (drop (suc place) words)) arc)
-    by true is c = elim (first_or_other (arc_of (get_or words place 0)) arc [] c) [
-      | inl same ↦ inl same
-      | inr other ↦ absurd (none_there arc other)
-    ]
-    by false is c = elim (first_or_other (arc_of (get_or words place 0)) arc (run_of (drop (suc place) words)) c) [
-      | inl same ↦ inl same
-      | inr other ↦ inr (is, other)
-    ]
-
-no_arc_past : (words : List ℕ) (place : ℕ) (arc : Arc) → length words ≤ place → Contains (run_of (drop place words)) arc → ⊥
-unfolding run_of
-no_arc_past words place arc le h = none_there arc (rw (drop_of_length-le words le) at h)
-
--- an arc that is not the first of its node is above the one before it
-above_before : (words : List ℕ) (place : ℕ) → arc_fault words (suc place) ≡ None → is_last (get_or words place 0) ≡ false
-    → (arc_of (get_or words place 0)).label < (arc_of (get_or words (suc place) 0)).label
-above_before words place fine last =
-    elim (or_cases (begins words (suc place)) (ltb (label_before words (suc place)) (arc_of (get_or words (suc place) 0)).label) (arc_facts words (suc place) fine).1) [
-      | inl first ↦ absurd (false≢true (sym last ∙ first))
-      | inr above ↦ ltb-true (arc_of (get_or words place 0)).label (arc_of (get_or words (suc place) 0)).label above
-    ]
-
-rises : (words : List ℕ) (left place : ℕ) (arc : Arc) → place + left ≡ length words → arcs_fault words (length words) ≡ None
-    → is_last (get_or words place 0) ≡ false → Contains (run_of (drop (suc place) words)) arc → (arc_of (get_or words place 0)).label < arc.label
-rises words zero place arc size fine last h = absurd (no_arc_past words (suc place) arc (omega arith) h)
-rises words (suc zero) place arc size fine last h = absurd (no_arc_past words (suc place) arc (omega arith) h)
-rises words (suc (suc left)) place arc size fine last h =
-    let step = above_before words place (fine_at words (length words) (suc place) fine (omega arith)) last in
-    elim (run_cases words (suc place) arc (omega arith) h) [
-      | inl same ↦ subst (λ (x : Arc). (arc_of (get_or words place 0)).label < x.label) same step
-      | inr other ↦ let more = rises words (suc left) (suc place) arc (omega arith) fine other.0 other.1 in omega (arith, step, more)
-    ]
-
-first_with_label : (words : List ℕ) (left place : ℕ) (arc : Arc) → place + left ≡ length words → arcs_fault words (length words) ≡ None
-    → Contains (run_of (drop place words)) arc → arc_with arc.label (run_of (drop place words)) ≡ Some arc
-unfolding run_of
-first_with_label words zero place arc size fine h = absurd (no_arc_past words place arc (omega arith) h)
-first_with_label words (suc left) place arc size fine h =
-    let inside : place < length words = omega arith in
-    elim (run_cases words place arc inside h) [
-      | inl same ↦ subst (λ (x : Arc). arc_with x.label (run_of (drop place words)) ≡ Some x) same (here words place (arc_of (get_or words place 0)).label inside refl)
+only_with_label : (arcs : List Arc) (arc : Arc) → AreRising arcs → Contains arcs arc → arc_with arc.label arcs ≡ Some arc
+only_with_label [] arc rising h = absurd (none_there arc h)
+only_with_label (first ∷ arcs) arc rising h =
+    elim (first_or_other first arc arcs h) [
+      | inl same ↦ let equal = eq-eqb first.label arc.label (ap (λ (x : Arc). x.label) same) in rw equal (ap (λ (x : Arc). Some x) same)
       | inr other ↦
-          let above = rises words (suc left) place arc (omega arith) fine other.0 other.1 in
-          let apart : eqb (get_or words place 0 % 32) arc.label ≡ false = not_equal (get_or words place 0 % 32) arc.label (λ e. absurd (omega (arith, above, e))) in
-          let rest = first_with_label words left (suc place) arc (omega arith) fine other.1 in
-          rw (drop-cons words place 0 inside) (rw (apart, other.0) rest)
+          let less = rising.0 arc other in
+          let apart : eqb first.label arc.label ≡ false = not_equal first.label arc.label (λ e. absurd (omega (arith, less, e))) in
+          rw apart (only_with_label arcs arc rising.1 other)
     ]
-
-pub only_with_label : (words : List ℕ) (n : ℕ) (arc : Arc) → arcs_fault words (length words) ≡ None → is_node words n ≡ true
-    → Contains (node_at words n) arc → arc_with arc.label (node_at words n) ≡ Some arc
-only_with_label words zero arc fine is h = absurd (none_there arc h)
-only_with_label words (suc place) arc fine is h =
-    let inside = ltb-true place (length words) (and_parts (ltb place (length words)) (begins words place) is).0 in
-    first_with_label words (length words - place) place arc (omega arith) fine h
 
 -- ---- arcs that spell a string, step by step
 
@@ -162,22 +88,22 @@ chained node from (arc ∷ after ∷ arcs) h = more (chained node arc.target (af
 
 -- ---- chains and the recursion
 
-tail_from_chain : (words : List ℕ) → arcs_fault words (length words) ≡ None → (n : ℕ) (arcs : List Arc) → is_node words n ≡ true
-    → Chain (node_at words) n arcs → tail_in (node_at words) n (map (λ (arc : Arc). arc.label) arcs) ≡ true
+tail_from_chain : (node : ℕ → List Arc) (is_node : ℕ → Bool) → IsSoundGraph node is_node → (n : ℕ) (arcs : List Arc) → IsTrue (is_node n)
+    → Chain node n arcs → tail_in node n (map (λ (arc : Arc). arc.label) arcs) ≡ true
 unfolding tail_in
-tail_from_chain words fine n [] is h = absurd h
-tail_from_chain words fine n (arc ∷ []) is h = rw (only_with_label words n arc fine is h.0) h.1
-tail_from_chain words fine n (arc ∷ after ∷ arcs) is h =
-    let e = only_with_label words n arc fine is h.0 in
-    elim (arc_known words n arc.label arc fine is e).leads [
-      | inl none ↦ absurd (no_chain (node_at words) (after ∷ arcs) refl (subst (λ (m : ℕ). Chain (node_at words) m (after ∷ arcs)) none h.1))
-      | inr there ↦ let rest = tail_from_chain words fine arc.target (after ∷ arcs) (node_of_first words arc.target there.1) h.1 in rw e rest
+tail_from_chain node is_node graph n [] is h = absurd h
+tail_from_chain node is_node graph n (arc ∷ []) is h = rw (only_with_label (node n) arc (graph.rising n is) h.0) h.1
+tail_from_chain node is_node graph n (arc ∷ after ∷ arcs) is h =
+    let e = only_with_label (node n) arc (graph.rising n is) h.0 in
+    elim (graph.arcs n arc is h.0).target [
+      | inl none ↦ absurd (no_chain (after ∷ arcs) (subst (λ (m : ℕ). Chain node m (after ∷ arcs)) none h.1))
+      | inr there ↦ let rest = tail_from_chain node is_node graph arc.target (after ∷ arcs) there.1 h.1 in rw e rest
     ]
   where
-    no_chain : (node : ℕ → List Arc) (more : List Arc) → node 0 ≡ [] → Chain node 0 more → ⊥
-    no_chain node [] empty c = c
-    no_chain node (x ∷ []) empty c = none_there x (rw empty at c.0)
-    no_chain node (x ∷ y ∷ more) empty c = none_there x (rw empty at c.0)
+    no_chain : (more : List Arc) → Chain node 0 more → ⊥
+    no_chain [] c = c
+    no_chain (x ∷ []) c = none_there x (rw (graph.none) at c.0)
+    no_chain (x ∷ y ∷ more) c = none_there x (rw (graph.none) at c.0)
 
 -- the arcs that the recursion goes along
 record Spells (node : ℕ → List Arc) (n : ℕ) (string : List ℕ) : Type 0 where
@@ -222,20 +148,16 @@ spelt_from_tail node empty n string t =
     let c = chained node n s.arcs s.chain in
     record { arcs = s.arcs; some = c.some; labels = s.labels; first = c.first; next = c.next; last = c.last }
 
-tail_from_spelt : (words : List ℕ) → arcs_fault words (length words) ≡ None → (n : ℕ) (string : List ℕ) → is_node words n ≡ true
-    → IsSpelt (node_at words) n string → tail_in (node_at words) n string ≡ true
-tail_from_spelt words fine n string is s =
-    subst (λ (labels : List ℕ). tail_in (node_at words) n labels ≡ true) s.labels
-    (tail_from_chain words fine n s.arcs is (chain_from_spelt (node_at words) n s.arcs s.some s.first s.next s.last))
+tail_from_spelt : (node : ℕ → List Arc) (is_node : ℕ → Bool) → IsSoundGraph node is_node → (n : ℕ) (string : List ℕ) → IsTrue (is_node n)
+    → IsSpelt node n string → tail_in node n string ≡ true
+tail_from_spelt node is_node graph n string is s =
+    subst (λ (labels : List ℕ). tail_in node n labels ≡ true) s.labels
+    (tail_from_chain node is_node graph n s.arcs is (chain_from_spelt node n s.arcs s.some s.first s.next s.last))
 
 pub spelt : (bytes : List ℕ) → IsTrue (is_none (fault_of bytes)) → (n : ℕ) → IsTrue (is_file_node bytes n) → (string : List ℕ)
     → IsTrue (file_tail bytes n string) ↔ IsSpelt (file_node bytes) n string
 spelt bytes shape n is string =
-    let s = sound bytes shape in
-    let same = same_node bytes s.format in (
-      (λ t. subst (λ (node : ℕ → List Arc). IsSpelt node n string) (sym same)
-          (spelt_from_tail (node_at (body_of bytes)) refl n string (sym (file_tail_is bytes n string s.format) ∙ t))),
-      (λ h. file_tail_is bytes n string s.format
-          ∙ tail_from_spelt (body_of bytes) s.fine n string (file_node_is bytes n s.format is)
-          (subst (λ (node : ℕ → List Arc). IsSpelt node n string) same h)),
+    let graph = (sound bytes shape).graph in (
+      spelt_from_tail (file_node bytes) graph.none n string,
+      tail_from_spelt (file_node bytes) (is_file_node bytes) graph n string is,
     )

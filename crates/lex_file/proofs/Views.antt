@@ -1,30 +1,103 @@
--- What an opened file has, and what a step in it gives.
-use Rattle.std.proofs.Common.{◌≡◌, ℕ, ◌^◌, ◌<◌, ◌≤◌, true, List, length, drop, length-drop, refl, arith}
+-- What an opened file has.
+use Rattle.std.proofs.Common.{◌≡◌, ℕ, zero, suc, ◌+◌, ◌-◌, ◌*◌, ◌^◌, ◌<◌, ◌≤◌, Bool, true, false, ◌&&◌, eqb, ltb, List, length, get_or, drop, Option, Some, inl, inr, refl, sym, ap, subst, ◌∙◌, arith}
 use Rattle.std.specs.Prelude.{IsTrue, is_none}
-use Rattle.lex_file.specs.FileWords.{words_in}
-use Rattle.lex_file.specs.Shapes.{fault_of, root_of, is_file_node, arc_count_of}
-use Rattle.lex_file.specs.Nodes.{is_node}
-use Rattle.lex_file.specs.SoundNodes.{sound, file_node_is, file_node_from}
+use Rattle.std.proofs.lemmas.Bool.{ltb-true, and_parts, cases_lt}
+use Rattle.lex_file.specs.declared.arcs.Arc.{Arc}
+use Rattle.lex_file.specs.declared.files.LexFile.{LexFile}
+use Rattle.lex_file.specs.declared.formats.Format.{Format}
+use Rattle.lex_file.specs.declared.formats.Format.TheVariants as form
+use Rattle.lex_file.specs.FileWords.{words_in, body_of}
+use Rattle.lex_file.specs.Formats.{most_body_words}
+use Rattle.lex_file.specs.Nodes.{is_node, begins}
+use Rattle.lex_file.specs.Masks.{is_mask_node, is_marked, labels_within, HasRoom}
+use Rattle.lex_file.specs.Shapes.{format_of, fault_of, root_of, nodes_by, names_node, arcs_by, file_node, is_file_node, arc_count_of}
+use Rattle.lex_file.specs.Files.{IsNextNode}
+use Rattle.lex_file.specs.SoundFiles as files
 use Rattle.lex_file.proofs.Runs as runs
+use Rattle.lex_file.proofs.MaskRuns.{few_within}
 
 pub long : (bytes : List ℕ) → IsTrue (is_none (fault_of bytes)) → 16 ≤ length bytes
-long bytes shape = (sound bytes shape).long
+long bytes shape = (files.formed bytes shape).long
 
 pub header_words : (bytes : List ℕ) → IsTrue (is_none (fault_of bytes)) → 4 ≤ length (words_in bytes)
 header_words bytes shape = runs.header_words bytes (long bytes shape)
 
-pub arc_count : (bytes : List ℕ) → IsTrue (is_none (fault_of bytes)) → arc_count_of bytes ≡ length (words_in (drop 16 bytes))
-unfolding arc_count_of
-arc_count bytes shape = rw ((sound bytes shape).format) refl
-
 pub root_is_node : (bytes : List ℕ) → IsTrue (is_none (fault_of bytes)) → is_file_node bytes (root_of bytes) ≡ true
-root_is_node bytes shape = let s = sound bytes shape in file_node_from bytes (root_of bytes) s.format s.root
+root_is_node bytes shape = (files.sound bytes shape).root
 
-pub node_is : (bytes : List ℕ) (n : ℕ) → IsTrue (is_none (fault_of bytes)) → is_file_node bytes n ≡ true → is_node (words_in (drop 16 bytes)) n ≡ true
-node_is bytes n shape is = let s = sound bytes shape in file_node_is bytes n s.format is
+-- ---- by the format, with the words that are read behind the header
 
-pub few_arcs : (bytes : List ℕ) → IsTrue (is_none (fault_of bytes)) → length (words_in (drop 16 bytes)) < 2 ^ 32
-few_arcs bytes shape =
-    let s = sound bytes shape in
-    let words = runs.sizes (drop 16 bytes) in
-    omega (arith, s.few, s.size, words.0, length-drop 16 bytes)
+is_named : (file : LexFile) (format : Format) → file.format ≡ format → format_of file.bytes.now ≡ Some format
+is_named file format e = file.named ∙ ap (λ (f : Format). Some f) e
+
+pub nodes_are : (file : LexFile) (format : Format) (n : ℕ) (body : List ℕ) → file.format ≡ format → body ≡ drop 16 file.bytes.now
+    → nodes_by (Some format) (words_in body) n ≡ file_node file.bytes.now n
+nodes_are file format n body e is =
+    ap (λ (b : List ℕ). nodes_by (Some format) (words_in b) n) is
+    ∙ sym (ap (λ (node : ℕ → List Arc). node n) (files.nodes_are file.bytes.now format (is_named file format e)))
+
+pub names_are : (file : LexFile) (format : Format) (n : ℕ) (body : List ℕ) → file.format ≡ format → body ≡ drop 16 file.bytes.now
+    → names_node (Some format) (words_in body) n ≡ is_file_node file.bytes.now n
+names_are file format n body e is =
+    ap (λ (b : List ℕ). names_node (Some format) (words_in b) n) is
+    ∙ sym (ap (λ (test : ℕ → Bool). test n) (files.names_are file.bytes.now format (is_named file format e)))
+
+pub arcs_are : (file : LexFile) (format : Format) (body : List ℕ) → file.format ≡ format → body ≡ drop 16 file.bytes.now
+    → arcs_by (Some format) (words_in body) ≡ arc_count_of file.bytes.now
+unfolding arc_count_of
+arcs_are file format body e is =
+    ap (λ (b : List ℕ). arcs_by (Some format) (words_in b)) is
+    ∙ sym (ap (λ (form : Option Format). arcs_by form (body_of file.bytes.now)) (is_named file format e))
+
+pub mask_room : (file : LexFile) (n : ℕ) (body : List ℕ) → file.format ≡ form.Gad2 → body ≡ drop 16 file.bytes.now → is_file_node file.bytes.now n ≡ true
+    → HasRoom (words_in body) n
+mask_room file n body e is names =
+    subst (λ (b : List ℕ). HasRoom (words_in b) n) (sym is)
+    (files.mask_room file.bytes.now file.shape (is_named file form.Gad2 e) n (names_are file form.Gad2 n (drop 16 file.bytes.now) e refl ∙ names))
+
+-- ---- numbers that fit
+
+pub few_words : (bytes : List ℕ) → IsTrue (is_none (fault_of bytes)) → length (words_in (drop 16 bytes)) ≤ most_body_words
+few_words bytes shape = (files.sound bytes shape).few
+
+pub few_labels : (words : List ℕ) → length words ≤ most_body_words → labels_within words (length words) < 2 ^ 32
+few_labels words few = let low = few_within words (length words) in omega (arith, low, few)
+
+-- ---- nodes in the file's order
+
+-- a node has a number of a word behind the header, or 0
+stored : (bytes : List ℕ) (format : Format) (n : ℕ) → format_of bytes ≡ Some format → 0 < n → is_file_node bytes n ≡ true → n ≤ length (words_in (drop 16 bytes))
+stored bytes format zero is some e = absurd (omega arith)
+stored bytes form.Gad1 (suc place) is some e =
+    let inside = and_parts (ltb place (length (body_of bytes))) (begins (body_of bytes) place) (sym (ap (λ (test : ℕ → Bool). test (suc place)) (files.names_are bytes form.Gad1 is)) ∙ e) in
+    omega (arith, ltb-true place (length (body_of bytes)) inside.0)
+stored bytes form.Gad2 (suc place) is some e =
+    let inside = and_parts (ltb place (length (body_of bytes))) (is_marked (get_or (body_of bytes) place 0)) (sym (ap (λ (test : ℕ → Bool). test (suc place)) (files.names_are bytes form.Gad2 is)) ∙ e) in
+    omega (arith, ltb-true place (length (body_of bytes)) inside.0)
+
+not_held : (b : Bool) → (b ≡ true → ⊥) → b ≡ false
+not_held true h = absurd (h refl)
+not_held false h = refl
+
+pub none_yet : (bytes : List ℕ) (low : ℕ) → (n : ℕ) → low < n → n ≤ low → is_file_node bytes n ≡ false
+none_yet bytes low n above le = absurd (omega arith)
+
+pub one_more : (bytes : List ℕ) (low place : ℕ) → ((n : ℕ) → low < n → n ≤ place → is_file_node bytes n ≡ false) → is_file_node bytes (place + 1) ≡ false
+    → (n : ℕ) → low < n → n ≤ place + 1 → is_file_node bytes n ≡ false
+one_more bytes low place before here n above le =
+    elim (cases_lt n (place + 1)) [
+      | inl less ↦ before n above (omega arith)
+      | inr after ↦ let same : n ≡ place + 1 = omega arith in rw same here
+    ]
+
+pub none_above : (bytes : List ℕ) (format : Format) (low place : ℕ) → format_of bytes ≡ Some format → length (words_in (drop 16 bytes)) ≤ place
+    → ((n : ℕ) → low < n → n ≤ place → is_file_node bytes n ≡ false) → (n : ℕ) → low < n → is_file_node bytes n ≡ false
+none_above bytes format low place is le before n above =
+    elim (cases_lt place n) [
+      | inl past ↦ not_held (is_file_node bytes n) (λ e. let inside = stored bytes format n is (omega arith) e in absurd (omega (arith, inside, past, le)))
+      | inr within ↦ before n above within
+    ]
+
+pub next_is : (bytes : List ℕ) (low place : ℕ) → low ≤ place → is_file_node bytes (place + 1) ≡ true → ((n : ℕ) → low < n → n ≤ place → is_file_node bytes n ≡ false)
+    → IsNextNode bytes low (place + 1)
+next_is bytes low place le here before = record { above = omega arith; node = here; next = λ m above less. before m above (omega arith) }

@@ -3,10 +3,15 @@ pub mod FileWords
 pub mod Arcs
 pub mod Faults
 pub mod Nodes
+pub mod Masks
+pub mod MaskShapes
 pub mod Shapes
 pub mod Languages
 pub mod Lexicons
 pub mod Walking
+pub mod Graphs
+pub mod SoundMasks
 pub mod SoundNodes
+pub mod SoundFiles
 pub mod Files
 pub mod Laws

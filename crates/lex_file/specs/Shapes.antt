@@ -6,14 +6,18 @@ use Rattle.check_lists.specs.Checks.{passes, first_fault}
 use Rattle.lex_file.specs.declared.faults.FileFault.{FileFault}
 use Rattle.lex_file.specs.declared.faults.FileFault.TheVariants as why
 use Rattle.lex_file.specs.declared.arcs.Arc.{Arc}
+use Rattle.lex_file.specs.declared.formats.Format.{Format}
+use Rattle.lex_file.specs.declared.formats.Format.TheVariants as form
 use Rattle.lex_file.specs.Arcs.{arc_of}
-use Rattle.lex_file.specs.Formats.{header_bytes, gad1_magic, greatest_label, most_arcs}
+use Rattle.lex_file.specs.Formats.{header_bytes, gad1_magic, gad2_magic, greatest_label, most_arcs, most_body_words}
 use Rattle.lex_file.specs.FileWords.{words_in, body_of}
 use Rattle.lex_file.specs.Nodes.{node_at, begins, is_first, is_node, start_at}
+use Rattle.lex_file.specs.Masks.{mask_node, is_mask_node, labels_within}
+use Rattle.lex_file.specs.MaskShapes.{nodes_fault}
 
 -- ---- the header
 
--- the number of arcs that the header states
+-- the number that the header states, of arcs or of words
 abbrev pub count_of : List ℕ → ℕ
 count_of bytes = slice_index (words_in bytes) 1
 
@@ -25,13 +29,11 @@ root_of bytes = slice_index (words_in bytes) 2
 abbrev pub word_count_of : List ℕ → ℕ
 word_count_of bytes = slice_index (words_in bytes) 3
 
--- the formats of compiled lexicons
-pub data Format : Type 0 where
-  Gad1 : Format
-
 -- the format of a file, by its first four bytes
 abbrev pub format_of : List ℕ → Option Format
-format_of bytes = if starts_with eqb bytes gad1_magic then Some Gad1 else None
+format_of bytes =
+    if starts_with eqb bytes gad1_magic then Some form.Gad1
+    else (if starts_with eqb bytes gad2_magic then Some form.Gad2 else None)
 
 -- ---- GAD1
 
@@ -73,12 +75,23 @@ header_fault bytes =
     ∷ passes (is_node (body_of bytes) (root_of bytes)) why.Root
     ∷ [])
 
+-- ---- GAD2
+
+-- the faults of the header: too many words or a length that is not that of the words, and a root that is no node
+unfoldable pub mask_header_fault : List ℕ → Option FileFault
+mask_header_fault bytes =
+    first_fault
+    (passes (nat_le (count_of bytes) most_body_words && length bytes == header_bytes + 4 * count_of bytes) why.Length
+    ∷ passes (is_mask_node (body_of bytes) (root_of bytes)) why.Root
+    ∷ [])
+
 -- ---- every format
 
 -- the first fault of a file that is not too short to have a header, by its format
 unfoldable pub form_fault : Option Format → List ℕ → Option FileFault
 form_fault None bytes = Some why.Magic
-form_fault (Some Gad1) bytes = option_or (header_fault bytes) (body_fault (body_of bytes))
+form_fault (Some form.Gad1) bytes = option_or (header_fault bytes) (body_fault (body_of bytes))
+form_fault (Some form.Gad2) bytes = option_or (mask_header_fault bytes) (nodes_fault (body_of bytes) (length (body_of bytes)) 0)
 
 -- The first fault of a file. A file has the shape of a compiled lexicon where there is none.
 unfoldable pub fault_of : List ℕ → Option FileFault
@@ -87,17 +100,20 @@ fault_of bytes = if nat_lt (length bytes) header_bytes then Some why.Short else 
 -- the arcs of a node, by the format
 abbrev pub nodes_by : Option Format → List ℕ → ℕ → List Arc
 nodes_by None words n = []
-nodes_by (Some Gad1) words n = node_at words n
+nodes_by (Some form.Gad1) words n = node_at words n
+nodes_by (Some form.Gad2) words n = mask_node words n
 
 -- whether a number names a node, by the format
 abbrev pub names_node : Option Format → List ℕ → ℕ → Bool
 names_node None words n = n == 0
-names_node (Some Gad1) words n = is_node words n
+names_node (Some form.Gad1) words n = is_node words n
+names_node (Some form.Gad2) words n = is_mask_node words n
 
--- the number of stored arcs, by the format
+-- the number of stored arcs, by the format: one a word, or one a label of each node
 abbrev pub arcs_by : Option Format → List ℕ → ℕ
 arcs_by None words = 0
-arcs_by (Some Gad1) words = length words
+arcs_by (Some form.Gad1) words = length words
+arcs_by (Some form.Gad2) words = labels_within words (length words)
 
 -- the arcs of a node of a file
 unfoldable pub file_node : List ℕ → ℕ → List Arc

@@ -1,25 +1,34 @@
-/// Why bytes are no compiled lexicon, in the order in which the faults are looked for. `Label` to `DeadArc` are looked
-/// for arc by arc, in rising order.
+/// Why bytes are no compiled lexicon. `Short` to `Root` are looked for first, in this order. Of a GAD1 file `Label` to
+/// `DeadArc` come next, arc by arc in rising order, and then `OpenRun`; of a GAD2 file `NoMark`, `Mask`, `OpenRun`,
+/// `Accept` and then, label by label, `Target` and `DeadArc`, node by node in rising order.
 #[derive(Clone, Copy, Debug, PartialEq, Eq)]
 pub enum FileFault {
     /// There are fewer than 16 bytes, too few for a header.
     Short,
     /// The first four bytes are those of no format.
     Magic,
-    /// There are more than 33,554,431 arcs, or the length is not that of the header and the arcs.
+    /// There are more than 33,554,431 arcs, or more than 67,108,863 words behind the header of a GAD2 file; or the length
+    /// is not that of the header and the arcs or words.
     Length,
-    /// The root is not the first arc of a node; where there are no arcs, it is not 0.
+    /// The root is not the number of a node; where there are no nodes, it is not 0.
     Root,
     /// The label of an arc is over 26.
     Label,
     /// An arc is not the first of its node, and its label is not above that of the arc before.
     Order,
-    /// The target of an arc is not 0, and not the first arc of a node that ends before the arc's own node begins.
+    /// The target of an arc is not 0, and not the number of a node before the arc's own.
     Target,
     /// An arc neither accepts nor has a target.
     DeadArc,
-    /// The last arc of the file is not the last of its node.
+    /// The last arc of a GAD1 file is not the last of its node; or fewer words follow the label word of a GAD2 node than
+    /// its labels ask for.
     OpenRun,
+    /// The word where a GAD2 node has to begin is no label word.
+    NoMark,
+    /// A label word of a GAD2 node has no label, or one over 26.
+    Mask,
+    /// An accept word of a GAD2 node has a bit that is no label of the node.
+    Accept,
 }
 
 impl FileFault {
@@ -40,6 +49,9 @@ impl FileFault {
             FileFault::Target => "Target",
             FileFault::DeadArc => "DeadArc",
             FileFault::OpenRun => "OpenRun",
+            FileFault::NoMark => "NoMark",
+            FileFault::Mask => "Mask",
+            FileFault::Accept => "Accept",
         }
     }
 }

@@ -1,11 +1,13 @@
-ghost use Rattle.std.specs.Prelude.{IsTrue, is_none};
-ghost use Rattle.lex_file.specs.Shapes.{fault_of};
+ghost use Rattle.std.specs.Prelude.{◌≡◌, Some, IsTrue, is_none};
+ghost use Rattle.lex_file.specs.Shapes.{fault_of, format_of};
 
 use crate::arcs::Arc;
 use crate::faults::FileFault;
+use crate::formats::{Format, HEADER_BYTES};
 use crate::lexicons::{Branch, PathLex, Step};
-use crate::opening::{HEADER_BYTES, check_form};
-use crate::reading::{arc_from, arc_with, word_at, word_count};
+use crate::masks::{arc_from_mask, arc_with_mask, count_labels, is_mask_node};
+use crate::opening::check_form;
+use crate::reading::{arc_from, arc_with, is_node, word_at, word_count};
 
 /// A node of a compiled lexicon, given by its file.
 #[derive(Clone, Copy, Debug, PartialEq, Eq)]
@@ -17,30 +19,39 @@ pub struct Node {
 #[derive(Clone, Copy, Debug)]
 pub struct LexFile<'a> {
     bytes: &'a [u8],
+    format: Format,
     pub ghost shape: { IsTrue (is_none (fault_of bytes.now)) },
+    pub ghost named: { format_of bytes.now ≡ Some format },
 }
 
 impl<'a> LexFile<'a> {
-    ghost use Rattle.std.specs.Prelude.{◌≡◌, ℕ, List, [], ◌∷◌, false, Some, IfOk, IsSome, IsTrue, drop};
-    ghost use Rattle.lex_file.specs.Arcs.{arc_with};
+    ghost use Rattle.std.specs.Prelude.{◌≡◌, ℕ, List, [], ◌∷◌, ◌<◌, false, Some, IfOk, IfSome, IfNone, IsSome, IsTrue, drop};
+    ghost use Rattle.lex_file.specs.Arcs.{arc_with, arc_from};
     ghost use Rattle.check_lists.specs.Checks.{Refuses};
-    ghost use Rattle.lex_file.specs.FileWords.{body_of};
     ghost use Rattle.lex_file.specs.Languages.{file_tail};
     ghost use Rattle.lex_file.specs.Lexicons.{NextGives};
-    ghost use Rattle.lex_file.specs.Nodes.{node_at};
-    ghost use Rattle.lex_file.specs.Shapes.{word_count_of, arc_count_of, is_file_node};
-    ghost use Rattle.lex_file.specs.Files.{bytes_of};
+    ghost use Rattle.lex_file.specs.Shapes.{format_of, word_count_of, arc_count_of, file_node, is_file_node};
+    ghost use Rattle.lex_file.specs.Files.{bytes_of, number_of, IsNextNode};
     ghost use Rattle.lex_file.specs.Formats.{header_bytes};
 
     /// Opens a compiled lexicon. It is refused exactly where it has not the shape of one, with its first fault: the
-    /// header's first, in the order of [`FileFault`], then that of the first arc with one, and then the open run.
-    /// The arcs are gone over once.
+    /// header's first, `Short`, `Magic`, `Length` and `Root`, then by the format. Of a GAD1 file that is the first of
+    /// the first arc with one, `Label`, `Order`, `Target` and `DeadArc`, and then `OpenRun`. Of a GAD2 file it is that
+    /// of the first node with one: `NoMark`, `Mask`, `OpenRun`, `Accept`, and then of its first label with one
+    /// `Target` and `DeadArc`. The words are gone over once.
     pub fn open(bytes: &'a [u8]) -> Result<LexFile<'a>, FileFault>
         ensures shape { Refuses result (fault_of bytes.now) }
         ensures bytes { IfOk result (λ file. bytes_of file ≡ bytes.now) }
     {
-        check_form(bytes)?;
-        Ok(LexFile { bytes })
+        let format = check_form(bytes)?;
+        Ok(LexFile { bytes, format })
+    }
+
+    /// The format of the file.
+    pub fn format(&self) -> Format
+        ensures { format_of (bytes_of self.now) ≡ Some result }
+    {
+        self.format
     }
 
     /// The number of words that the header states.
@@ -51,27 +62,102 @@ impl<'a> LexFile<'a> {
         word_at(self.bytes, 3)
     }
 
-    /// The number of stored arcs.
-    #[tactic(auto, using(crate::proofs::Views::arc_count, crate::proofs::Views::few_arcs))]
+    /// The number of stored arcs; of a GAD2 file, the number of labels over all nodes, for which its words are gone
+    /// over.
+    #[tactic(auto, using(crate::proofs::Views::few_words))]
     pub fn arc_count(&self) -> u32
         ensures { result ≡ arc_count_of (bytes_of self.now) }
     {
-        word_count(self.arcs()) as u32
+        match self.format {
+            Format::Gad1 => word_count(self.body()) as u32,
+            Format::Gad2 => count_labels(self.body()) as u32,
+        }
     }
 
-    /// The bytes of the arcs.
+    /// The stored node that comes first in the file, or None where there is none.
+    pub fn first(&self) -> Option<Node>
+        ensures none { IfNone result ((n : ℕ) → 0 < n → is_file_node (bytes_of self.now) n ≡ false) }
+        ensures some { IfSome result (λ node. IsNextNode (bytes_of self.now) 0 (number_of node)) }
+    {
+        self.next_node(0)
+    }
+
+    /// The stored node that comes next in the file behind one of its nodes, or None behind the last.
+    pub fn after(&self, node: Node) -> Option<Node>
+        ensures none { IfNone result ((n : ℕ) → number_of node < n → is_file_node (bytes_of self.now) n ≡ false) }
+        ensures some { IfSome result (λ next. IsNextNode (bytes_of self.now) (number_of node) (number_of next)) }
+    {
+        self.next_node(node.first)
+    }
+
+    /// The number by which the file names one of its nodes: that of the node's first arc, or of its label word; 0 for the
+    /// root of a file without words.
+    pub fn place(&self, node: Node) -> u32
+        ensures { result ≡ number_of node }
+    {
+        node.first
+    }
+
+    /// The stored node with the least number above one.
+    #[tactic(auto, using(crate::proofs::Views::few_words, crate::proofs::Views::none_yet, crate::proofs::Views::one_more, crate::proofs::Views::next_is))]
+    fn next_node(&self, number: u32) -> Option<Node>
+        ensures none { IfNone result ((n : ℕ) → number < n → is_file_node (bytes_of self.now) n ≡ false) }
+        ensures some { IfSome result (λ next. IsNextNode (bytes_of self.now) number (number_of next)) }
+    {
+        for place in number as usize..word_count(self.body()) {
+            let next = place as u32 + 1;
+            if self.is_node(next) {
+                return Some(Node { first: next });
+            }
+        }
+        None
+    }
+
+    /// Whether a number names a node.
+    fn is_node(&self, number: u32) -> bool
+        ensures { result ≡ is_file_node (bytes_of self.now) number }
+    {
+        match self.format {
+            Format::Gad1 => is_node(self.body(), number),
+            Format::Gad2 => is_mask_node(self.body(), number),
+        }
+    }
+
+    /// The bytes behind the header.
     #[tactic(auto, using(crate::proofs::Views::long))]
-    fn arcs(&self) -> &'a [u8]
+    fn body(&self) -> &'a [u8]
         ensures { result.now ≡ drop header_bytes (bytes_of self.now) }
     {
         &self.bytes[HEADER_BYTES..]
+    }
+
+    /// The arc of a node with a label.
+    fn arc_with(&self, node: Node, label: u8) -> Option<Arc>
+        requires { IsTrue (is_file_node (bytes_of self.now) node.first) }
+        ensures { result ≡ arc_with label (file_node (bytes_of self.now) node.first) }
+    {
+        match self.format {
+            Format::Gad1 => arc_with(self.body(), node.first, label),
+            Format::Gad2 => arc_with_mask(self.body(), node.first, label),
+        }
+    }
+
+    /// The first arc of a node whose label is this one or a higher one.
+    fn arc_from(&self, node: Node, label: u8) -> Option<Arc>
+        requires { IsTrue (is_file_node (bytes_of self.now) node.first) }
+        ensures { result ≡ arc_from label (file_node (bytes_of self.now) node.first) }
+    {
+        match self.format {
+            Format::Gad1 => arc_from(self.body(), node.first, label),
+            Format::Gad2 => arc_from_mask(self.body(), node.first, label),
+        }
     }
 
     /// What stands behind an arc of a node.
     #[tactic(auto, using(crate::proofs::Walks::step_accepts, crate::proofs::Walks::step_ends))]
     fn step_over(&self, node: Node, arc: Arc) -> Step<Node>
         requires node { IsTrue (is_file_node (bytes_of self.now) node.first) }
-        requires arc { arc_with arc.label (node_at (body_of (bytes_of self.now)) node.first) ≡ Some arc }
+        requires arc { arc_with arc.label (file_node (bytes_of self.now) node.first) ≡ Some arc }
         ensures accepts { result.accepts ≡ file_tail (bytes_of self.now) node.first (arc.label ∷ []) }
         ensures next { NextGives (λ (n : Node). IsTrue (is_file_node (bytes_of self.now) n.first)) (λ (n : Node) (string : List ℕ). file_tail (bytes_of self.now) n.first string) (λ (n : Node). n.first) node arc.label result.next }
         ensures alive { result.accepts ≡ false → IsSome result.next }
@@ -92,7 +178,7 @@ impl<'a> PathLex for LexFile<'a> {
     ghost use Rattle.std.specs.Prelude.{◌≡◌, IsTrue};
     ghost use Rattle.lex_file.specs.Shapes.{is_file_node};
     ghost use Rattle.lex_file.specs.Languages.{file_tail, language_of};
-    ghost use Rattle.lex_file.specs.SoundNodes.{file_nonempty, file_labels, file_bounded};
+    ghost use Rattle.lex_file.specs.SoundFiles.{file_nonempty, file_labels, file_bounded};
 
     type Node = Node;
 
@@ -111,15 +197,15 @@ impl<'a> PathLex for LexFile<'a> {
         }
     }
 
-    #[tactic(auto, using(crate::proofs::Views::node_is, crate::proofs::Walks::step_none, crate::proofs::Walks::arc_label, crate::proofs::Walks::arc_itself))]
+    #[tactic(auto, using(crate::proofs::Walks::step_none, crate::proofs::Walks::arc_label, crate::proofs::Walks::arc_itself))]
     fn step(&self, node: Node, label: u8) -> Option<Step<Node>> {
-        let arc = arc_with(self.arcs(), node.first, label)?;
+        let arc = self.arc_with(node, label)?;
         Some(self.step_over(node, arc))
     }
 
-    #[tactic(auto, using(crate::proofs::Views::node_is, crate::proofs::Walks::branch_none, crate::proofs::Walks::branch_reached, crate::proofs::Walks::first_itself))]
+    #[tactic(auto, using(crate::proofs::Walks::branch_none, crate::proofs::Walks::branch_reached, crate::proofs::Walks::first_itself))]
     fn branch_from(&self, node: Node, from: u8) -> Option<Branch<Node>> {
-        let Some(arc) = arc_from(self.arcs(), node.first, from) else {
+        let Some(arc) = self.arc_from(node, from) else {
             return None;
         };
         Some(Branch {

@@ -2,9 +2,11 @@
 //! label by label promises.
 //!
 //! A compiled lexicon is a set of strings of labels, 1 to 26 for the letters A to Z and 0 for a mark between the two
-//! parts of a rotated word (Steven Gordon, A Faster Scrabble Move Generation Algorithm, 1994). A file of the format
-//! GAD1 is a list of words of 32 bits, the lowest byte first. The header has 16 bytes: the bytes `GAD1`, the number of
-//! arcs, the root, the number of words. The arcs follow, numbered from 1:
+//! parts of a rotated word (Steven Gordon, A Faster Scrabble Move Generation Algorithm, 1994). A file is a list of words
+//! of 32 bits, the lowest byte first. The header has 16 bytes: the bytes of the format, `GAD1` or `GAD2`, the number of
+//! arcs of a GAD1 file or of the words behind the header of a GAD2 file, the root, the number of words of the list.
+//!
+//! Behind the header of a GAD1 file stand its arcs, numbered from 1:
 //!
 //! | bits of an arc | meaning |
 //! |---|---|
@@ -14,7 +16,13 @@
 //! | 7 to 31 | target: the first arc of a node, 0 for none |
 //!
 //! A node is a run of arcs up to the first that is last, and is named by its first arc. Its labels rise, and a target
-//! is a node that ends before the arc's own node begins, so every walk ends. Nodes that no walk reaches are allowed.
+//! is a node that ends before the arc's own node begins.
+//!
+//! Behind the header of a GAD2 file stand its nodes without a gap, over words numbered from 1. A node is a label word
+//! (bit 31 set; bit 0 the mark, bits 1 to 26 the letters), an accept word (a bit for each label that accepts), and a
+//! target for each label in rising order, 0 for none. It is named by its label word, and a target is a node before it.
+//!
+//! So every walk ends. Nodes that no walk reaches are allowed.
 //!
 //! [`PathLex`] is what a lexicon promises that is walked label by label: its root, what stands behind a label of a
 //! node, and the first label from one on with which a tail of a node begins. By the last of these a walk goes from
@@ -24,8 +32,11 @@
 mod arcs;
 mod faults;
 mod files;
+mod formats;
 mod laws;
 mod lexicons;
+mod mask_checks;
+mod masks;
 mod opening;
 mod reading;
 mod walking;
@@ -33,7 +44,9 @@ mod walking;
 pub use arcs::Arc;
 pub use faults::FileFault;
 pub use files::{LexFile, Node};
+pub use formats::{
+    Format, GAD1_MAGIC, GAD2_MAGIC, HEADER_BYTES, MAX_ARCS, MAX_BODY_WORDS, MAX_FILE_BYTES,
+};
 pub use laws::{law_of_language, law_of_nodes};
 pub use lexicons::{Branch, LABELS, PathLex, Step};
-pub use opening::{HEADER_BYTES, MAGIC, MAX_ARCS};
 pub use walking::advance;

@@ -1,39 +1,51 @@
-ghost use Rattle.std.specs.Prelude.{◌≡◌, ◌≤◌, ◌<◌, length, slice_index};
+ghost use Rattle.std.specs.Prelude.{◌≡◌, ◌≤◌, ◌<◌, Some, IfOk, length, slice_index};
 ghost use Rattle.lex_file.specs.FileWords.{words_in};
 ghost use Rattle.lex_file.specs.Formats.{header_bytes};
 ghost use Rattle.check_lists.specs.Checks.{Refuses};
 ghost use Rattle.lex_file.specs.Nodes.{start_at};
-ghost use Rattle.lex_file.specs.Shapes.{label_before, leads_back, arc_fault, body_fault, header_fault, fault_of};
+ghost use Rattle.lex_file.specs.Shapes.{label_before, leads_back, arc_fault, body_fault, header_fault, form_fault, format_of, fault_of};
 
 use crate::arcs::Arc;
 use crate::faults::FileFault;
+use crate::formats::{Format, HEADER_BYTES, MAX_ARCS};
+use crate::mask_checks::{check_mask_header, check_nodes};
 use crate::reading::{begins, is_first, is_last, is_node, word_at, word_count};
-
-/// The bytes of the header.
-pub const HEADER_BYTES: usize = 16;
-
-/// The first bytes of a GAD1 file.
-pub const MAGIC: [u8; 4] = *b"GAD1";
-
-/// The most arcs of a file.
-pub const MAX_ARCS: u32 = 33_554_431;
 
 /// The greatest label, that of Z.
 const MAX_LABEL: u8 = 26;
 
-/// Looks for the first fault of a file, in one pass over its arcs.
+/// The format of a file without a fault, or its first fault. The words are gone over once.
 #[tactic(auto, unfolding(crate::specs::Shapes::fault_of, crate::specs::Shapes::form_fault))]
-pub fn check_form(bytes: &[u8]) -> Result<(), FileFault>
-    ensures { Refuses result (fault_of bytes.now) }
+pub fn check_form(bytes: &[u8]) -> Result<Format, FileFault>
+    ensures fault { Refuses result (fault_of bytes.now) }
+    ensures format { IfOk result (λ format. format_of bytes.now ≡ Some format) }
 {
     if bytes.len() < HEADER_BYTES {
         return Err(FileFault::Short);
     }
-    if !bytes.starts_with(&MAGIC) {
+    let Some(format) = Format::of(bytes) else {
         return Err(FileFault::Magic);
+    };
+    check_words(bytes, format)?;
+    Ok(format)
+}
+
+/// Looks for the first fault of a file of a format.
+#[tactic(auto, unfolding(crate::specs::Shapes::form_fault))]
+fn check_words(bytes: &[u8], format: Format) -> Result<(), FileFault>
+    requires { header_bytes ≤ length bytes.now }
+    ensures { Refuses result (form_fault (Some format) bytes.now) }
+{
+    match format {
+        Format::Gad1 => {
+            check_header(bytes)?;
+            check_arcs(&bytes[HEADER_BYTES..])
+        }
+        Format::Gad2 => {
+            check_mask_header(bytes)?;
+            check_nodes(&bytes[HEADER_BYTES..])
+        }
     }
-    check_header(bytes)?;
-    check_arcs(&bytes[HEADER_BYTES..])
 }
 
 /// Looks for the first fault of a header.

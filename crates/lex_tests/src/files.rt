@@ -1,6 +1,6 @@
 ghost use Rattle.std.specs.Prelude.{◌≡◌};
 
-use crate::samples::{AT, AT_IT, EMPTY};
+use crate::samples::{AT, AT_BY_NODES, AT_IT, EMPTY};
 use lex_file::{Branch, FileFault, LexFile, PathLex, Step, law_of_language, law_of_nodes};
 use std::process::Abort;
 use std::test::Fail;
@@ -20,7 +20,7 @@ const CHANGES: [Change; 20] = [
     },
     Change {
         place: 0,
-        word: [0x47, 0x41, 0x44, 0x32],
+        word: [0x47, 0x41, 0x44, 0x30],
         fault: Some(FileFault::Magic),
     },
     Change {
@@ -130,20 +130,26 @@ fn changes(rt: HostRuntime) {
     }
 }
 
-#[test]
-fn truncations(rt: HostRuntime) {
-    for length in 0..AT.len() {
+/// Each front of a file is refused, by its length.
+fn assert_cut(rt: &impl Abort, file: &[u8]) {
+    for length in 0..file.len() {
         let fault = if length < 16 {
             FileFault::Short
         } else {
             FileFault::Length
         };
         assert_eq!(rt;
-            LexFile::open(&AT[..length]).err(),
+            LexFile::open(&file[..length]).err(),
             Some(fault),
             "{length} bytes"
         );
     }
+}
+
+#[test]
+fn truncations(rt: HostRuntime) {
+    assert_cut(&rt, &AT);
+    assert_cut(&rt, &AT_BY_NODES);
 }
 
 #[test]

@@ -1,6 +1,6 @@
 //! The tests of the crates of word lists and compiled lexicons, by what they show: how a text falls into lines
-//! (`lines`), which texts are word lists (`lists`), which bytes are a compiled lexicon and what it holds (`files`),
-//! where a lexicon first differs from a list (`checks`), and the bytes that are built (`builds`).
+//! (`lines`), which texts are word lists (`lists`), which bytes are a compiled lexicon and what it holds (`files`, and
+//! `masks` for the format of label words), where a lexicon first differs from a list (`checks`), and the bytes that are built (`builds`).
 //!
 //! They stand here, and not in the crates that they test, since a crate with tests is proved twice.
 #![tactic(auto)]
@@ -15,5 +15,7 @@ mod files;
 mod lines;
 #[cfg(test)]
 mod lists;
+#[cfg(test)]
+mod masks;
 #[cfg(test)]
 mod samples;

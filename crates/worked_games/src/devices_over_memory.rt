@@ -1,38 +1,13 @@
 ghost use Rattle.std.specs.Prelude.{◌≡◌, ◌++◌, ◌+◌, ◌≤◌, take, None, IfOk};
 ghost use Rattle.devices.specs.Devices.{Device, HasRoom};
 
+use crate::pieces::Pieces;
 use devices::{
     DeviceFailed, FromRead, FromWrite, Input, Output, ReadGaveUp, WriteGaveUp, read_within,
     write_whole,
 };
 use std::alloc::Global;
 use std::io::{self, ErrorKind, Read, Write};
-
-/// An input that gives at most so many bytes a read, and fails from some read on.
-#[derive(Drop)]
-struct Pieces<'a> {
-    rest: &'a [u8],
-    piece: usize,
-    reads: usize,
-    failures: u64,
-}
-
-impl Input for Pieces<'_> {
-    ghost device = { λ s. record { bytes = None; failures = s.failures; stalls = 0 } };
-
-    fn read(&mut self, buf: &mut [u8]) -> Result<usize, DeviceFailed> {
-        if self.reads == 0 {
-            self.failures += 1;
-            return Err(DeviceFailed);
-        }
-        self.reads -= 1;
-        let rest = self.rest;
-        let n = self.piece.min(buf.len()).min(rest.len());
-        buf[..n].copy_from_slice(&rest[..n]);
-        self.rest = &rest[n..];
-        Ok(n)
-    }
-}
 
 /// An output that takes at most so many bytes a write and eight in all, and fails from some write on.
 #[derive(Drop)]

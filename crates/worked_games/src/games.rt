@@ -1,5 +1,6 @@
 //! Records that are judged over memory.
-use devices::{FromRead, FromWrite};
+use crate::pieces::{Pieces, assert_same};
+use devices::FromWrite;
 use engine::{Verdict, run};
 use lex_build::build;
 use lex_list::WordList;
@@ -29,7 +30,8 @@ pub fn judged(
     judged_by(rt, alloc, rules, words, &file, game)
 }
 
-/// Judges a record by words, the bytes of a lexicon and rules, and gives the verdict and what was written.
+/// Judges a record by words, the bytes of a lexicon and rules, and gives the verdict and what was written. Read one by one or
+/// seven at once, the bytes come to the same.
 pub fn judged_by(
     rt: &impl Abort,
     alloc: Global,
@@ -38,9 +40,25 @@ pub fn judged_by(
     lexicon: &[u8],
     game: &[u8],
 ) -> (Verdict, Vec<u8>) {
-    let mut words = FromRead::new(words);
-    let mut lexicon = FromRead::new(lexicon);
-    let mut game = FromRead::new(game);
+    let told = judged_in_pieces(rt, alloc, rules, [words, lexicon, game], usize::MAX);
+    for piece in [1, 7] {
+        let again = judged_in_pieces(rt, alloc, rules, [words, lexicon, game], piece);
+        assert_same(rt, &told, &again);
+    }
+    told
+}
+
+/// The same, by inputs of words, a lexicon and a record that give at most so many bytes a read.
+fn judged_in_pieces(
+    rt: &impl Abort,
+    alloc: Global,
+    rules: &Rules,
+    inputs: [&[u8]; 3],
+    piece: usize,
+) -> (Verdict, Vec<u8>) {
+    let mut words = Pieces::new(inputs[0], piece);
+    let mut lexicon = Pieces::new(inputs[1], piece);
+    let mut game = Pieces::new(inputs[2], piece);
     let mut out = FromWrite::new(Vec::new(alloc));
     let verdict = run(alloc, &mut words, &mut lexicon, &mut game, &mut out, rules);
     (verdict.expect(rt, "a verdict"), out.into_inner())

@@ -3,6 +3,7 @@ ghost use Rattle.devices.specs.Devices.{Device, HasRoom};
 ghost use Rattle.std.specs.Prelude.{None};
 
 use crate::games::judged_by;
+use crate::pieces::{Pieces, assert_same};
 use devices::{DeviceFailed, FromRead, FromWrite, Input};
 use engine::{Verdict, run_build, run_check};
 use ref_tiles::english_rules;
@@ -28,16 +29,17 @@ const EMPTY: [u8; 16] = [
     0x47, 0x41, 0x44, 0x31, 0x00, 0x00, 0x00, 0x00, 0x00, 0x00, 0x00, 0x00, 0x00, 0x00, 0x00, 0x00,
 ];
 
-/// Checks a file by words, and gives the verdict and what was written.
+/// Checks a file by words, and gives the verdict and what was written. The words come with at most so many bytes a read.
 fn checked<L: Input>(
     rt: &impl Abort,
     alloc: Global,
     words: &[u8],
     lexicon: &mut L,
+    piece: usize,
 ) -> (Verdict, Vec<u8>)
     requires { HasRoom (L.device lexicon.old) }
 {
-    let mut words = FromRead::new(words);
+    let mut words = Pieces::new(words, piece);
     let mut out = FromWrite::new(Vec::new(alloc));
     let verdict = run_check(alloc, &mut words, lexicon, &mut out);
     (verdict.expect(rt, "a verdict"), out.into_inner())
@@ -49,15 +51,21 @@ fn expect(rt: &impl Abort, told: &(Verdict, Vec<u8>), verdict: Verdict, written:
     assert_eq!(rt; told.1.as_slice(), written);
 }
 
-/// Checks the bytes of a file by words, and gives the verdict and what was written.
+/// Checks the bytes of a file by words, and gives the verdict and what was written. Read one by one or seven at once, the bytes
+/// come to the same.
 fn checked_bytes(
     rt: &impl Abort,
     alloc: Global,
     words: &[u8],
     lexicon: &[u8],
 ) -> (Verdict, Vec<u8>) {
-    let mut lexicon = FromRead::new(lexicon);
-    checked(rt, alloc, words, &mut lexicon)
+    let told = checked(rt, alloc, words, &mut FromRead::new(lexicon), usize::MAX);
+    for piece in [1, 7] {
+        let mut lexicon = Pieces::new(lexicon, piece);
+        let again = checked(rt, alloc, words, &mut lexicon, piece);
+        assert_same(rt, &told, &again);
+    }
+    told
 }
 
 /// A word list, a file, and what is written of their check.
@@ -269,9 +277,9 @@ impl Input for Zeros {
 #[test]
 fn too_long(rt: HostRuntime) {
     let mut zeros = Zeros { given: 0 };
-    let told = checked(&rt, rt.alloc(), b"AT", &mut zeros);
+    let told = checked(&rt, rt.alloc(), b"AT", &mut zeros, usize::MAX);
     expect(&rt, &told, Verdict::BadFile, b"bad lexicon: Length\n");
-    assert_eq!(rt; zeros.given, 134_217_741);
+    assert_eq!(rt; zeros.given, 268_435_469);
 }
 
 /// A word list, a lexicon and a record, and what is written of them.
@@ -374,9 +382,24 @@ const BUILDS: [Build; 4] = [
     },
 ];
 
-/// Builds the lexicon of words, and gives the verdict and what was written.
+/// Builds the lexicon of words, and gives the verdict and what was written. Read one by one or seven at once, the bytes come to
+/// the same.
 fn built(rt: &impl Abort, alloc: Global, words: &[u8]) -> (Verdict, Vec<u8>) {
-    let mut words = FromRead::new(words);
+    let told = built_in_pieces(rt, alloc, words, usize::MAX);
+    for piece in [1, 7] {
+        assert_same(rt, &told, &built_in_pieces(rt, alloc, words, piece));
+    }
+    told
+}
+
+/// The same, by an input that gives at most so many bytes a read.
+fn built_in_pieces(
+    rt: &impl Abort,
+    alloc: Global,
+    words: &[u8],
+    piece: usize,
+) -> (Verdict, Vec<u8>) {
+    let mut words = Pieces::new(words, piece);
     let mut out = FromWrite::new(Vec::new(alloc));
     let verdict = run_build(alloc, &mut words, &mut out);
     (verdict.expect(rt, "a verdict"), out.into_inner())

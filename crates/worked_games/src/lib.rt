@@ -18,6 +18,8 @@ mod inputs;
 #[cfg(test)]
 mod lexicons;
 #[cfg(test)]
+mod pieces;
+#[cfg(test)]
 mod plays;
 #[cfg(test)]
 mod tidying;

@@ -1,12 +1,27 @@
 //! Records that are tidied.
-use devices::{FromRead, FromWrite};
+use crate::pieces::{Pieces, assert_same};
+use devices::FromWrite;
 use engine::{Verdict, run_tidy};
 use std::alloc::Global;
 use std::process::Abort;
 
-/// Tidies a record, and gives the verdict and what was written.
+/// Tidies a record, and gives the verdict and what was written. Read one by one or seven at once, the bytes come to the same.
 fn tidied(rt: &impl Abort, alloc: Global, game: &[u8]) -> (Verdict, Vec<u8>) {
-    let mut game = FromRead::new(game);
+    let told = tidied_in_pieces(rt, alloc, game, usize::MAX);
+    for piece in [1, 7] {
+        assert_same(rt, &told, &tidied_in_pieces(rt, alloc, game, piece));
+    }
+    told
+}
+
+/// The same, by an input that gives at most so many bytes a read.
+fn tidied_in_pieces(
+    rt: &impl Abort,
+    alloc: Global,
+    game: &[u8],
+    piece: usize,
+) -> (Verdict, Vec<u8>) {
+    let mut game = Pieces::new(game, piece);
     let mut out = FromWrite::new(Vec::new(alloc));
     let verdict = run_tidy(alloc, &mut game, &mut out);
     (verdict.expect(rt, "a verdict"), out.into_inner())

@@ -1,5 +1,6 @@
 //! The best plays on the board after a record.
 use crate::games::lexicon_of;
+use crate::pieces::{Pieces, assert_same};
 use devices::{FromRead, FromWrite, Input};
 use engine::{GameFault, Verdict, run_top};
 use game_turns::RuleFault;
@@ -7,7 +8,8 @@ use ref_tiles::english_rules;
 use std::alloc::Global;
 use std::process::Abort;
 
-/// Asks for the best plays by a rack after a record, and gives the verdict and what was written.
+/// Asks for the best plays by a rack after a record, and gives the verdict and what was written. Read one by one or seven at
+/// once, the bytes come to the same.
 fn topped(
     rt: &impl Abort,
     alloc: Global,
@@ -16,9 +18,25 @@ fn topped(
     game: &[u8],
     rack: &[u8],
 ) -> (Verdict, Vec<u8>) {
-    let mut words = FromRead::new(words);
-    let mut lexicon = FromRead::new(lexicon);
-    let mut game = FromRead::new(game);
+    let told = topped_in_pieces(rt, alloc, [words, lexicon, game], rack, usize::MAX);
+    for piece in [1, 7] {
+        let again = topped_in_pieces(rt, alloc, [words, lexicon, game], rack, piece);
+        assert_same(rt, &told, &again);
+    }
+    told
+}
+
+/// The same, by inputs of words, a lexicon and a record that give at most so many bytes a read.
+fn topped_in_pieces(
+    rt: &impl Abort,
+    alloc: Global,
+    inputs: [&[u8]; 3],
+    rack: &[u8],
+    piece: usize,
+) -> (Verdict, Vec<u8>) {
+    let mut words = Pieces::new(inputs[0], piece);
+    let mut lexicon = Pieces::new(inputs[1], piece);
+    let mut game = Pieces::new(inputs[2], piece);
     let mut out = FromWrite::new(Vec::new(alloc));
     let verdict = run_top(
         alloc,

@@ -4,5 +4,5 @@ use Rattle.lex_file.proofs.files.LexFilePathLex.branch_from.Goals as goal
 
 pub returns-clause-passed : goal.returns-clause-passed
 returns-clause-passed c =
-    let e = sym (rw c.arcs.ensures at c.arc_from.ensures) ∙ c.in-Some.is in
+    let e = sym c.arc_from.ensures ∙ c.in-Some.is in
     branch_passed c.args.self.now.bytes.now c.args.self.now.shape c.args.node.first c.args.from c.in-Some.arc c.requires e

@@ -1,0 +1,121 @@
+//! The nodes of a GAD2 file: label words, accept words and targets.
+ghost use Rattle.std.specs.Prelude.{◌≡◌, ◌<◌, ◌≤◌, ◌*◌, true, length, slice_index};
+ghost use Rattle.lex_file.specs.FileWords.{words_in};
+ghost use Rattle.lex_file.specs.Arcs.{arc_with, arc_from};
+ghost use Rattle.lex_file.specs.Formats.{most_body_words};
+ghost use Rattle.lex_file.specs.Masks.{has_bit, is_marked, labels_below, label_count, node_size, mask_arc, mask_node, is_mask_node, labels_within, HasRoom, IsInside};
+
+use crate::arcs::Arc;
+use crate::lexicons::LABELS;
+use crate::reading::{word_at, word_count};
+
+/// Whether a word has a bit.
+pub fn has_bit(word: u32, bit: u8) -> bool
+    requires { bit < 32 }
+    ensures { result ≡ has_bit word bit }
+{
+    (word >> bit) % 2 == 1
+}
+
+/// Whether a word is a label word.
+pub fn is_marked(word: u32) -> bool
+    ensures { result ≡ is_marked word }
+{
+    has_bit(word, 31)
+}
+
+/// How many labels of a label word are below this one.
+#[tactic(auto, using(crate::proofs::MaskRuns::below, crate::proofs::MaskRuns::one_above))]
+pub fn labels_below(label: u8, word: u32) -> u32
+    requires { label ≤ 27 }
+    ensures { result ≡ labels_below label word }
+{
+    (word & ((1 << label) - 1)).count_ones()
+}
+
+/// The number of labels of a label word.
+#[tactic(auto, using(crate::proofs::MaskRuns::few_labels))]
+pub fn label_count(word: u32) -> usize
+    ensures count { result ≡ label_count word }
+    ensures few { result ≤ 27 }
+{
+    labels_below(LABELS, word) as usize
+}
+
+/// Whether a number names a node.
+pub fn is_mask_node(body: &[u8], number: u32) -> bool
+    ensures { result ≡ is_mask_node (words_in body.now) number }
+{
+    if number == 0 {
+        return word_count(body) == 0;
+    }
+    let place = number as usize - 1;
+    place < word_count(body) && is_marked(word_at(body, place))
+}
+
+/// The arc with a label of the node at a place.
+#[tactic(auto, using(crate::specs::SoundMasks::place_of_label, crate::proofs::Runs::shorter))]
+pub fn mask_arc(body: &[u8], place: usize, label: u8) -> Arc
+    requires room { IsInside (words_in body.now) place }
+    requires label { label < 27 }
+    requires has { has_bit (slice_index (words_in body.now) place) label ≡ true }
+    ensures { result ≡ mask_arc (words_in body.now) place label }
+{
+    let labels = word_at(body, place);
+    Arc {
+        label,
+        accepts: has_bit(word_at(body, place + 1), label),
+        target: word_at(body, place + 2 + labels_below(label, labels) as usize),
+    }
+}
+
+/// The arc of a node with a label.
+#[tactic(auto, using(crate::proofs::MaskRuns::room_at, crate::proofs::MaskRuns::found, crate::proofs::MaskRuns::lacking, crate::proofs::MaskRuns::over))]
+pub fn arc_with_mask(body: &[u8], node: u32, label: u8) -> Option<Arc>
+    requires { HasRoom (words_in body.now) node }
+    ensures { result ≡ arc_with label (mask_node (words_in body.now) node) }
+{
+    if node == 0 || label >= LABELS {
+        return None;
+    }
+    let place = node as usize - 1;
+    if !has_bit(word_at(body, place), label) {
+        return None;
+    }
+    Some(mask_arc(body, place, label))
+}
+
+/// The first arc of a node whose label is this one or a higher one.
+#[tactic(auto, using(crate::proofs::MaskRuns::room_at, crate::proofs::MaskRuns::starts_from, crate::proofs::MaskRuns::here_from, crate::proofs::MaskRuns::further_from, crate::proofs::MaskRuns::past_from))]
+pub fn arc_from_mask(body: &[u8], node: u32, label: u8) -> Option<Arc>
+    requires { HasRoom (words_in body.now) node }
+    ensures { result ≡ arc_from label (mask_node (words_in body.now) node) }
+{
+    if node == 0 {
+        return None;
+    }
+    let place = node as usize - 1;
+    let labels = word_at(body, place);
+    for next in label..LABELS {
+        if has_bit(labels, next) {
+            return Some(mask_arc(body, place, next));
+        }
+    }
+    None
+}
+
+/// The number of labels of all nodes.
+#[tactic(auto, using(crate::proofs::MaskRuns::none_within, crate::proofs::MaskRuns::node_within, crate::proofs::MaskRuns::word_within, crate::proofs::MaskRuns::few_within))]
+pub fn count_labels(body: &[u8]) -> usize
+    requires { length (words_in body.now) ≤ most_body_words }
+    ensures { result ≡ labels_within (words_in body.now) (length (words_in body.now)) }
+{
+    let mut labels = 0;
+    for place in 0..word_count(body) {
+        let word = word_at(body, place);
+        if is_marked(word) {
+            labels += label_count(word);
+        }
+    }
+    labels
+}

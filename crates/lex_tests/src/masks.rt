@@ -1,0 +1,130 @@
+use crate::samples::{AT, AT_BY_NODES};
+use lex_check::{Mismatch, check, text_of};
+use lex_file::{FileFault, Format, LexFile};
+use lex_list::WordList;
+use std::alloc::Global;
+use std::test::Fail;
+
+/// A change of one word of the GAD2 file of AT, and the fault that it makes. Word 2 of the header is the root.
+struct Change {
+    place: usize,
+    word: [u8; 4],
+    fault: FileFault,
+}
+
+const CHANGES: [Change; 9] = [
+    Change {
+        place: 0,
+        word: [0x47, 0x41, 0x44, 0x30],
+        fault: FileFault::Magic,
+    },
+    Change {
+        place: 1,
+        word: [0x0c, 0x00, 0x00, 0x00],
+        fault: FileFault::Length,
+    },
+    Change {
+        place: 2,
+        word: [0x0b, 0x00, 0x00, 0x00],
+        fault: FileFault::Root,
+    },
+    Change {
+        place: 4,
+        word: [0x00, 0x00, 0x10, 0x88],
+        fault: FileFault::Mask,
+    },
+    Change {
+        place: 7,
+        word: [0x01, 0x00, 0x00, 0x00],
+        fault: FileFault::NoMark,
+    },
+    Change {
+        place: 8,
+        word: [0x02, 0x00, 0x00, 0x00],
+        fault: FileFault::Accept,
+    },
+    Change {
+        place: 9,
+        word: [0x04, 0x00, 0x00, 0x00],
+        fault: FileFault::Target,
+    },
+    Change {
+        place: 5,
+        word: [0x00, 0x00, 0x00, 0x00],
+        fault: FileFault::DeadArc,
+    },
+    Change {
+        place: 13,
+        word: [0x06, 0x00, 0x10, 0x80],
+        fault: FileFault::OpenRun,
+    },
+];
+
+#[test]
+fn changes(rt: HostRuntime) {
+    for row in &CHANGES {
+        let mut bytes = AT_BY_NODES;
+        bytes[4 * row.place..4 * row.place + 4].copy_from_slice(&row.word);
+        assert_eq!(rt;
+            LexFile::open(&bytes).err(),
+            Some(row.fault),
+            "word {}",
+            row.place
+        );
+    }
+}
+
+/// What the check of a file with the list of AT gives; none where the file is refused before it.
+fn outcome(alloc: Global, file: &[u8]) -> Option<Result<(), Mismatch>> {
+    let list = WordList::read(alloc, b"AT").ok()?;
+    let lexicon = LexFile::open(file).ok()?;
+    Some(check(alloc, &list, &lexicon))
+}
+
+#[test]
+fn answers(rt: HostRuntime) {
+    let same = outcome(rt.alloc(), &AT_BY_NODES);
+    assert!(rt; matches!(same, Some(Ok(()))), "{:?}", same);
+    let mut bytes = AT_BY_NODES;
+    bytes[56] = 0x02;
+    let Some(Err(Mismatch::Extra(path))) = outcome(rt.alloc(), &bytes) else {
+        panic!(rt; "A is accepted");
+    };
+    assert_eq!(rt; text_of(&path).as_slice(), b"A".as_slice());
+}
+
+#[test]
+fn one_bit_changed(rt: HostRuntime) {
+    for bit in 0..8 * AT_BY_NODES.len() {
+        let mut bytes = AT_BY_NODES;
+        bytes[bit / 8] ^= 1 << (bit % 8);
+        let told = outcome(rt.alloc(), &bytes);
+        assert!(rt; !matches!(told, Some(Ok(()))), "bit {bit}");
+    }
+}
+
+/// The numbers of the stored nodes, in the file's order, and 0 where there are less.
+fn places(file: &LexFile<'_>) -> [u32; 6] {
+    let mut numbers = [0; 6];
+    let mut node = file.first();
+    for number in &mut numbers {
+        if let Some(here) = node {
+            *number = file.place(here);
+            node = file.after(here);
+        }
+    }
+    numbers
+}
+
+#[test]
+fn stored_nodes(rt: HostRuntime) -> Result<(), Fail> {
+    let by_nodes = LexFile::open(&AT_BY_NODES).ok().ok_or("a file")?;
+    assert_eq!(rt; by_nodes.format(), Format::Gad2);
+    assert_eq!(rt; by_nodes.arc_count(), 5);
+    assert_eq!(rt; by_nodes.word_count(), 1);
+    assert_eq!(rt; places(&by_nodes), [1, 4, 7, 10, 0, 0]);
+    let by_arcs = LexFile::open(&AT).ok().ok_or("a file")?;
+    assert_eq!(rt; by_arcs.format(), Format::Gad1);
+    assert_eq!(rt; places(&by_arcs), [1, 2, 3, 4, 0, 0]);
+    Ok(())
+}
