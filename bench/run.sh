@@ -1,9 +1,11 @@
 #!/bin/sh
-# Measures the program beside cat and sort, on inputs that it makes: sh bench/run.sh [PROGRAM]
-# The program is crates/referee/out/referee, which `rt run` makes, unless another is named.
+# Measures the program beside cat and sort, on inputs that it makes: sh bench/run.sh [PROGRAM [CROSSES]]
+# The program is crates/referee/out/referee, which `rt run` makes, unless another is named. So is what measures cross-sets,
+# crates/cross_bench/out/cross_bench.
 set -e
 here=$(cd "$(dirname "$0")" && pwd)
 program=${1:-$here/../crates/referee/out/referee}
+crosses=${2:-$here/../crates/cross_bench/out/cross_bench}
 work=$(mktemp -d)
 trap 'rm -rf "$work"' EXIT
 export LC_ALL=C
@@ -102,3 +104,5 @@ measure 'sort of the rotated paths' 1 sort --parallel=1 "$work/paths"
 measure 'build of 400,000 random words' 1 "$program" build "$work/words" "$work/built"
 measure 'check of the lexicon of these' 1 "$program" check "$work/words" "$work/harsh"
 measure 'sort of their rotated paths' 1 sort --parallel=1 "$work/harsh-paths"
+# Cross-sets in the middle of that game, made afresh and brought up after plays of two and of seven tiles, beside one check.
+for _ in 1 2 3; do "$crosses" "$work/merged"; done

@@ -6,4 +6,6 @@ pub mod RunsWith
 pub mod Steps
 pub mod Filling
 pub mod CrossLaws
+pub mod Renewing
+pub mod OneCross
 mod Examples

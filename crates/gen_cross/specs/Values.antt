@@ -33,6 +33,10 @@ pub record IsValue (rules : Rules) (words : List (List ℕ)) (d : Dir) (board : 
   pub mask : tile_at board square ≡ None → IsMask words d board square v.mask
   pub side : tile_at board square ≡ None → v.side ≡ side_points rules d board square
 
+-- the values of all squares for a play of a direction
+abbrev pub AreValues : Rules → List (List ℕ) → Dir → List (Option Tile) → List Value → Type 0
+AreValues rules words d board values = (square : ℕ) → square < 225 → IsValue rules words d board square (slice_index_or values square no_value)
+
 -- the value of a square for a direction
 abbrev pub value_at : Cross → Dir → ℕ → Value
 value_at cross Across square = slice_index_or cross.across square no_value

@@ -1,6 +1,9 @@
-ghost use Rattle.std.specs.Prelude.{◌≡◌, ◌<◌, ℕ, List, slice_index_or};
+ghost use Rattle.std.specs.Prelude.{◌≡◌, ◌<◌, ℕ, List, Option, slice_index_or};
+ghost use Rattle.ref_tiles.specs.declared.tiles.Tile.{Tile};
+ghost use Rattle.ref_board.specs.Cells.{with_tile};
 ghost use Rattle.lex_list.specs.RotatedPaths.{StandsFor};
-ghost use Rattle.gen_cross.specs.Values.{no_value, value_at, IsValue, IsRight};
+ghost use Rattle.gen_cross.specs.Values.{no_value, value_at, IsValue, AreValues, IsRight};
+ghost use Rattle.gen_cross.specs.Changes.{IsPut, IsLifted};
 
 use crate::masks::LETTERS;
 use crate::values::{nothing, value_of};
@@ -41,6 +44,33 @@ impl Cross {
         }
     }
 
+    /// Brings the cross-sets up to a board on which a tile was put on an empty square: where they were right for the board
+    /// before, they are right for the board after. It takes no memory.
+    pub fn after_put<L: PathLex>(&mut self, rules: &Rules, board: &Board, lex: &L, square: Square)
+        ensures { (words : List (List ℕ)) (before : List (Option Tile)) → StandsFor (L.language lex.now) words
+            → IsPut square before board.now → IsRight rules.now words before self.old → IsRight rules.now words board.now self.new }
+    {
+        self.renew(rules, board, lex, square);
+    }
+
+    /// Brings the cross-sets up to a board from which the tile of a square was lifted: where they were right for the board
+    /// before, they are right for the board after. It takes no memory.
+    pub fn after_lift<L: PathLex>(&mut self, rules: &Rules, board: &Board, lex: &L, square: Square)
+        ensures { (words : List (List ℕ)) (before : List (Option Tile)) → StandsFor (L.language lex.now) words
+            → IsLifted square before board.now → IsRight rules.now words before self.old → IsRight rules.now words board.now self.new }
+    {
+        self.renew(rules, board, lex, square);
+    }
+
+    /// Renews the values that the content of one square decides.
+    fn renew<L: PathLex>(&mut self, rules: &Rules, board: &Board, lex: &L, square: Square)
+        ensures { (words : List (List ℕ)) (before : List (Option Tile)) (cell : Option Tile) → StandsFor (L.language lex.now) words
+            → board.now ≡ with_tile before square cell → IsRight rules.now words before self.old → IsRight rules.now words board.now self.new }
+    {
+        renew_along(rules, board, lex, Dir::Across, square, &mut self.across);
+        renew_along(rules, board, lex, Dir::Down, square, &mut self.down);
+    }
+
     /// The letters, A first, that make a listed word across a play of the direction through an empty square; all 26 where no
     /// tile lies beside it across the play, and none at all on a square with a tile.
     pub fn mask(&self, dir: Dir, square: Square) -> [bool; LETTERS]
@@ -70,7 +100,7 @@ impl Cross {
 
 /// The values of all squares, for plays of a direction.
 fn values_along<L: PathLex>(rules: &Rules, board: &Board, lex: &L, dir: Dir) -> [Value; SQUARES]
-    ensures { (words : List (List ℕ)) → StandsFor (L.language lex.now) words → (square : ℕ) → square < 225 → IsValue rules.now words dir board.now square (slice_index_or result square no_value) }
+    ensures { (words : List (List ℕ)) → StandsFor (L.language lex.now) words → AreValues rules.now words dir board.now result }
 {
     let mut values = [nothing(); SQUARES];
     for number in 0..SQUARES {
@@ -78,4 +108,59 @@ fn values_along<L: PathLex>(rules: &Rules, board: &Board, lex: &L, dir: Dir) -> 
         values[number] = value_of(rules, board, lex, dir, square);
     }
     values
+}
+
+/// Renews, for plays of a direction, the values that the content of one square decides. They lie on the line across the
+/// play through the square: its own value, and those of the places next to the run through it, or to the runs beside it
+/// where it is empty. At the edge of the board the last place stands for the one beyond it.
+fn renew_along<L: PathLex>(
+    rules: &Rules,
+    board: &Board,
+    lex: &L,
+    dir: Dir,
+    square: Square,
+    values: &mut [Value; SQUARES],
+)
+    ensures { (words : List (List ℕ)) (before : List (Option Tile)) (cell : Option Tile) → StandsFor (L.language lex.now) words
+        → board.now ≡ with_tile before square cell → AreValues rules.now words dir before values.old → AreValues rules.now words dir board.now values.new }
+{
+    let _squares = board.len();
+    let across = dir.other();
+    let line = square.line(across);
+    let place = square.place(across);
+    let low = board.first_of_run(across, line, place).saturating_sub(1);
+    let high = board.end_of_run(across, line, place).min(SIDE - 1);
+    renew_value(rules, board, lex, dir, square, values);
+    renew_value(
+        rules,
+        board,
+        lex,
+        dir,
+        Square::on_line(across, line, low),
+        values,
+    );
+    renew_value(
+        rules,
+        board,
+        lex,
+        dir,
+        Square::on_line(across, line, high),
+        values,
+    );
+}
+
+/// Renews the value of one square for plays of a direction, and no other.
+fn renew_value<L: PathLex>(
+    rules: &Rules,
+    board: &Board,
+    lex: &L,
+    dir: Dir,
+    square: Square,
+    values: &mut [Value; SQUARES],
+)
+    ensures { (words : List (List ℕ)) → StandsFor (L.language lex.now) words → (other : ℕ) → other < 225
+        → ((other ≡ square → ⊥) → IsValue rules.now words dir board.now other (slice_index_or values.old other no_value))
+        → IsValue rules.now words dir board.now other (slice_index_or values.new other no_value) }
+{
+    values[square.number()] = value_of(rules, board, lex, dir, square);
 }

@@ -1,5 +1,6 @@
-//! Laws about the definitions that the contracts of cross-sets cite. The function does nothing: its contract is the laws.
+//! Laws about the definitions that the contracts of cross-sets cite. Each function does nothing: its contract is the laws.
 ghost use Rattle.gen_cross.specs.Laws.{MasksTellWords, SidesTellScores};
+ghost use Rattle.gen_cross.specs.Following.{RightAreSame, KeptAreSame};
 
 /// What a cross-set tells of any tile put on an empty square, a blank or not: the mask has the letter that it shows exactly
 /// where the words that it makes across a play are listed; and where it makes a run of two tiles or more these words
@@ -7,4 +8,12 @@ ghost use Rattle.gen_cross.specs.Laws.{MasksTellWords, SidesTellScores};
 pub fn law_of_crosses()
     ensures words { MasksTellWords }
     ensures score { SidesTellScores }
+{}
+
+/// Cross-sets that are right for one board are the same. So where boards follow one another by puts and lifts, each followed
+/// by its call, cross-sets that are right for the first board become those that `Cross::scratch` makes of the last, in all
+/// 450 values.
+pub fn law_of_renewing()
+    ensures one { RightAreSame }
+    ensures kept { KeptAreSame }
 {}

@@ -9,4 +9,4 @@ mod stretches;
 mod values;
 
 pub use crosses::Cross;
-pub use laws::law_of_crosses;
+pub use laws::{law_of_crosses, law_of_renewing};

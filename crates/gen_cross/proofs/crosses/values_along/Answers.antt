@@ -13,3 +13,6 @@ loop-number-preserved g c =
           (c.loop-number.invariant.passed words stands)
           (subst (λ k. IsValue c.args.rules.now words c.args.dir c.args.board.now k c.value_of.result) here (c.value_of.ensures words stands));
     }
+
+pub returns : goal.returns
+returns g c = λ words stands square below. c.loop-number.invariant.passed words stands square (omega arith)

@@ -1,0 +1,280 @@
+-- What a change of one square leaves as it was: the value of each square whose run across the play, once a tile lies there, does
+-- not come beside the square that changed.
+use Rattle.std.proofs.Common.{◌≡◌, ◌↔◌, ℕ, ◌+◌, ◌-◌, ◌<◌, ◌≤◌, true, false, List, [], ◌∷◌, length, map, get_or, All, sum_by, refl, sym, ap, subst, ◌∙◌, arith, ◌⊎◌, ⊎_elim, Option, Some, None, is_some}
+use Rattle.std.specs.Prelude.{Contains}
+use Rattle.std.specs.List.{range_with_len}
+use Rattle.std.proofs.lemmas.Bool.{both_ways, cases_Bool, cases_eq, cases_lt, cases_order}
+use Rattle.std.proofs.lemmas.List.{get_or-set_same, get_or-set_other, length-set}
+use Rattle.ref_tiles.specs.declared.tiles.Tile.{Tile}
+use Rattle.ref_tiles.specs.declared.rulebook.Rules.{Rules}
+use Rattle.ref_tiles.specs.Faces.{letter_tile, blank_tile, letter_a}
+use Rattle.ref_board.specs.declared.directions.Dir.{Dir}
+use Rattle.ref_board.specs.Lines.{line_of, place_of, square_at, other_dir}
+use Rattle.ref_board.specs.Cells.{tile_at, holds, with_tile, occupied_on}
+use Rattle.ref_board.specs.Runs.{IsFirstBack, IsEndOn}
+use Rattle.ref_play.specs.declared.runs.Run.{Run}
+use Rattle.ref_play.specs.Formed.{along}
+use Rattle.ref_play.specs.Words.{capital_shown, letters_of}
+use Rattle.ref_play.specs.Scores.{points_on}
+use Rattle.ref_play.specs.Crosses.{cross_runs, cross_words, old_points}
+use Rattle.ref_play.proofs.Agreeing.{map_agree, sum_agree, All-range}
+use Rattle.ref_play.proofs.FormedRuns.{run_through, no_run_through}
+use Rattle.ref_play.proofs.LineLaws.{line_of-square_at, place_of-square_at, square_at-of, line_below, place_below, same_square}
+use Rattle.ref_play.proofs.Stretches.{first_back, end_on}
+use Rattle.gen_cross.specs.declared.crosses.Value.{Value}
+use Rattle.gen_cross.specs.Values.{IsValue}
+use Rattle.gen_cross.specs.CrossRuns.{IsRunWith}
+use Rattle.gen_cross.proofs.MaskLaws.{along_place}
+use Rattle.gen_cross.proofs.RunsWith.{run_with_is}
+use Rattle.gen_cross.proofs.SideLaws.{sum_of_one}
+
+strictly : (a b : ℕ) → a ≤ b → (a ≡ b → ⊥) → a < b
+strictly a b le ne =
+    ⊎_elim
+    (λ (e : a ≡ b). absurd (ne e))
+    (λ (o : (a < b) ⊎ (b < a)). ⊎_elim (λ (h : a < b). h) (λ (h : b < a). absurd (omega arith)) o)
+    (cases_order a b)
+
+-- two boards have the same tiles on the places of a line from the one before `first` up to `end`
+abbrev AgreeAround : Dir → ℕ → ℕ → ℕ → List (Option Tile) → List (Option Tile) → Type 0
+AgreeAround e line first end a b = (place : ℕ) → place < 15 → first ≤ place + 1 → place ≤ end → tile_at a (square_at e line place) ≡ tile_at b (square_at e line place)
+
+back_agree : (e : Dir) (a b : List (Option Tile)) (line place first end : ℕ) → place < 15 → place ≤ end → AgreeAround e line first end a b
+    → IsFirstBack (occupied_on e a line) place first → IsFirstBack (occupied_on e b line) place first
+back_agree e a b line place first end on upto same back =
+    let low = back.not_after in
+    record {
+      not_after = low;
+      filled = λ k from below. sym (ap is_some (same k (omega arith) (omega arith) (omega arith))) ∙ back.filled k from below;
+      before = λ some. sym (ap is_some (same (first - 1) (omega arith) (omega arith) (omega arith))) ∙ back.before some;
+    }
+
+ahead_agree : (e : Dir) (a b : List (Option Tile)) (line place first end : ℕ) → first ≤ place → AgreeAround e line first end a b
+    → IsEndOn (occupied_on e a line) place end → IsEndOn (occupied_on e b line) place end
+ahead_agree e a b line place first end from same ahead =
+    let high = ahead.behind in
+    let inside = ahead.inside in
+    record {
+      behind = high;
+      inside = inside;
+      filled = λ k above below. sym (ap is_some (same k (omega arith) (omega arith) (omega arith))) ∙ ahead.filled k above below;
+      after = λ more. sym (ap is_some (same end more (omega arith) (omega arith))) ∙ ahead.after more;
+    }
+
+-- a tile put on both boards
+put_on_both : (a b : List (Option Tile)) (square n : ℕ) (t : Tile) → square < length a → square < length b → tile_at a n ≡ tile_at b n
+    → tile_at (with_tile a square (Some t)) n ≡ tile_at (with_tile b square (Some t)) n
+put_on_both a b square n t in_a in_b same =
+    ⊎_elim
+    (λ (s : n ≡ square).
+    ap (tile_at (with_tile a square (Some t))) s ∙ get_or-set_same a square (Some t) None in_a
+    ∙ sym (get_or-set_same b square (Some t) None in_b) ∙ ap (tile_at (with_tile b square (Some t))) (sym s))
+    (λ (ne : n ≡ square → ⊥). get_or-set_other a square n (Some t) None ne ∙ same ∙ sym (get_or-set_other b square n (Some t) None ne))
+    (cases_eq n square)
+
+-- the run through a square is the same on two boards that have the same tiles around it
+module _ (e : Dir) (a b : List (Option Tile)) (square first end : ℕ) (size_a : length a ≡ 225) (size_b : length b ≡ 225) (on : square < 225) (back : IsFirstBack (occupied_on e a (line_of e square)) (place_of e square) first) (ahead : IsEndOn (occupied_on e a (line_of e square)) (place_of e square) end) (same : AgreeAround e (line_of e square) first end a b) where
+  abbrev shared : Run
+  shared = record { start = square_at e (line_of e square) first; dir = e; len = end - first }
+
+  on_first : IsRunWith a square shared
+  on_first = run_with_is a e square first end size_a on back ahead shared refl refl refl
+
+  on_second : IsRunWith b square shared
+  on_second =
+      let low = back.not_after in
+      let high = ahead.behind in
+      let in_place = place_below e square on in
+      run_with_is b e square first end size_b on
+      (back_agree e a b (line_of e square) (place_of e square) first end in_place (omega arith) same back)
+      (ahead_agree e a b (line_of e square) (place_of e square) first end low same ahead)
+      shared refl refl refl
+
+  same_along : (k : ℕ) → k < end - first → tile_at a (along e shared.start k) ≡ tile_at b (along e shared.start k)
+  same_along k below =
+      let low = back.not_after in
+      let high = ahead.behind in
+      let inside = ahead.inside in
+      let line = line_of e square in
+      let in_line = line_below e square on in
+      let there : along e shared.start k ≡ square_at e line (first + k) =
+      along_place e shared.start k
+      ∙ ap (λ x. square_at e x (place_of e shared.start + k)) (line_of-square_at e line first in_line (omega arith))
+      ∙ ap (λ x. square_at e line (x + k)) (place_of-square_at e line first in_line (omega arith)) in
+      ap (tile_at a) there ∙ same (first + k) (omega arith) (omega arith) (omega arith) ∙ sym (ap (tile_at b) there)
+
+  same_letters : (t : Tile) → letters_of (with_tile a square (Some t)) shared ≡ letters_of (with_tile b square (Some t)) shared
+  unfolding letters_of
+  same_letters t =
+      map_agree (λ k. k < end - first)
+      (λ k. capital_shown (tile_at (with_tile a square (Some t)) (along e shared.start k)))
+      (λ k. capital_shown (tile_at (with_tile b square (Some t)) (along e shared.start k)))
+      (λ k below. ap capital_shown (put_on_both a b square (along e shared.start k) t (omega arith) (omega arith) (same_along k below)))
+      (range_with_len 0 (end - first))
+      (All-range (λ k. k < end - first) 0 (end - first) (λ k low high. omega arith))
+
+  same_points : (rules : Rules) → old_points rules a shared ≡ old_points rules b shared
+  same_points rules =
+      sum_agree (λ k. k < end - first) (λ k. points_on rules (tile_at a (along e shared.start k))) (λ k. points_on rules (tile_at b (along e shared.start k)))
+      (λ k below. ap (points_on rules) (same_along k below))
+      (range_with_len 0 (end - first))
+      (All-range (λ k. k < end - first) 0 (end - first) (λ k low high. omega arith))
+
+  same_words : (t : Tile) → cross_words e a square t ≡ cross_words e b square t
+  same_words t =
+      let in_a = with_tile a square (Some t) in
+      let in_b = with_tile b square (Some t) in
+      ⊎_elim
+      (λ (short : end - first < 2).
+      ap (map (letters_of in_a)) (no_run_through e in_a square shared.start (end - first) (on_first.through t) short)
+      ∙ sym (ap (map (letters_of in_b)) (no_run_through e in_b square shared.start (end - first) (on_second.through t) short)))
+      (λ (long : 2 ≤ end - first).
+      ap (map (letters_of in_a)) (run_through e in_a square shared.start (end - first) on (on_first.through t) long)
+      ∙ ap (λ (w : List ℕ). w ∷ []) (same_letters t)
+      ∙ sym (ap (map (letters_of in_b)) (run_through e in_b square shared.start (end - first) on (on_second.through t) long)))
+      (cases_lt (end - first) 2)
+
+  same_beside : (rules : Rules) (t : Tile) → sum_by (old_points rules a) (cross_runs e a square t) ≡ sum_by (old_points rules b) (cross_runs e b square t)
+  same_beside rules t =
+      let in_a = with_tile a square (Some t) in
+      let in_b = with_tile b square (Some t) in
+      ⊎_elim
+      (λ (short : end - first < 2).
+      ap (sum_by (old_points rules a)) (no_run_through e in_a square shared.start (end - first) (on_first.through t) short)
+      ∙ sym (ap (sum_by (old_points rules b)) (no_run_through e in_b square shared.start (end - first) (on_second.through t) short)))
+      (λ (long : 2 ≤ end - first).
+      ap (sum_by (old_points rules a)) (run_through e in_a square shared.start (end - first) on (on_first.through t) long)
+      ∙ sum_of_one (old_points rules a) shared ∙ same_points rules ∙ sym (sum_of_one (old_points rules b) shared)
+      ∙ sym (ap (sum_by (old_points rules b)) (run_through e in_b square shared.start (end - first) on (on_second.through t) long)))
+      (cases_lt (end - first) 2)
+
+-- so is its value
+value_around : (rules : Rules) (words : List (List ℕ)) (d : Dir) (a b : List (Option Tile)) (square first end : ℕ) → length a ≡ 225 → length b ≡ 225 → square < 225
+    → IsFirstBack (occupied_on (other_dir d) a (line_of (other_dir d) square)) (place_of (other_dir d) square) first
+    → IsEndOn (occupied_on (other_dir d) a (line_of (other_dir d) square)) (place_of (other_dir d) square) end
+    → AgreeAround (other_dir d) (line_of (other_dir d) square) first end a b → tile_at a square ≡ tile_at b square
+    → (v : Value) → IsValue rules words d a square v → IsValue rules words d b square v
+value_around rules words d a b square first end size_a size_b on back ahead same here v is =
+    let e = other_dir d in
+    record {
+      occupied = λ h. is.occupied (ap is_some here ∙ h);
+      mask = λ free l.
+          subst (λ (ws : List (List ℕ)). (get_or v.mask l.index false ≡ true) ↔ All (Contains words) ws)
+          (same_words e a b square first end size_a size_b on back ahead same (letter_tile l)) (is.mask (here ∙ free) l);
+      side = λ free. is.side (here ∙ free) ∙ same_beside e a b square first end size_a size_b on back ahead same rules (blank_tile letter_a);
+    }
+
+-- and a square with a tile has no value on either
+value_held : (rules : Rules) (words : List (List ℕ)) (d : Dir) (a b : List (Option Tile)) (square : ℕ) → tile_at a square ≡ tile_at b square → holds a square ≡ true
+    → (v : Value) → IsValue rules words d a square v → IsValue rules words d b square v
+value_held rules words d a b square here held v is =
+    let none : tile_at b square ≡ None → ⊥ = λ free. both_ways (holds a square) (ap is_some here ∙ ap is_some free) held in
+    record { occupied = λ h. is.occupied held; mask = λ free. absurd (none free); side = λ free. absurd (none free) }
+
+-- A board with another content of one square. `first` and `end` are the ends of the run of the second board through that
+-- square, or of the runs beside it, across the play; `low` and `high` the places beyond them.
+module _ (rules : Rules) (words : List (List ℕ)) (d : Dir) (before after : List (Option Tile)) (square : ℕ) (cell : Option Tile) (size : length after ≡ 225) (on : square < 225) (put : after ≡ with_tile before square cell) (first end low high : ℕ) (back : IsFirstBack (occupied_on (other_dir d) after (line_of (other_dir d) square)) (place_of (other_dir d) square) first) (ahead : IsEndOn (occupied_on (other_dir d) after (line_of (other_dir d) square)) (place_of (other_dir d) square) end) (is_low : 0 < first → low ≡ first - 1) (is_high : end < 15 → high ≡ end) where
+  size_before : length before ≡ 225
+  size_before = sym (length-set before square cell) ∙ sym (ap length put) ∙ size
+
+  elsewhere : (n : ℕ) → (n ≡ square → ⊥) → tile_at before n ≡ tile_at after n
+  elsewhere n ne = sym (ap (λ (x : List (Option Tile)). tile_at x n) put ∙ get_or-set_other before square n cell None ne)
+
+  -- the same tiles on a line, away from the square
+  on_line : (line place : ℕ) → line < 15 → place < 15 → ((line ≡ line_of (other_dir d) square) → (place ≡ place_of (other_dir d) square) → ⊥)
+      → tile_at before (square_at (other_dir d) line place) ≡ tile_at after (square_at (other_dir d) line place)
+  on_line line place l p ne =
+      let e = other_dir d in
+      elsewhere (square_at e line place)
+      (λ (s : square_at e line place ≡ square). ne (sym (line_of-square_at e line place l p) ∙ ap (line_of e) s) (sym (place_of-square_at e line place l p) ∙ ap (place_of e) s))
+
+  -- the run through an empty square beyond the places next to the ends does not come beside the square that changed
+  apart : (s : ℕ) → s < 225 → (s ≡ square → ⊥) → (s ≡ square_at (other_dir d) (line_of (other_dir d) square) low → ⊥)
+      → (s ≡ square_at (other_dir d) (line_of (other_dir d) square) high → ⊥) → holds before s ≡ false → line_of (other_dir d) s ≡ line_of (other_dir d) square
+      → (f n : ℕ) → IsFirstBack (occupied_on (other_dir d) before (line_of (other_dir d) s)) (place_of (other_dir d) s) f
+      → IsEndOn (occupied_on (other_dir d) before (line_of (other_dir d) s)) (place_of (other_dir d) s) n
+      → (place : ℕ) → f ≤ place + 1 → place ≤ n → place ≡ place_of (other_dir d) square → ⊥
+  apart s below ne not_low not_high free same_line f n s_back s_ahead place from upto at =
+      let e = other_dir d in
+      let line = line_of e square in
+      let middle = place_of e square in
+      let k = place_of e s in
+      let in_line = line_below e square on in
+      let in_place = place_below e s below in
+      let in_middle = place_below e square on in
+      let not_after = back.not_after in
+      let behind = ahead.behind in
+      let is_s : square_at e line k ≡ s = ap (λ x. square_at e x k) (sym same_line) ∙ square_at-of e s in
+      let empty : occupied_on e after line k ≡ false = ap (holds after) is_s ∙ sym (ap is_some (elsewhere s ne)) ∙ free in
+      let clear : (m : ℕ) → m < 15 → (m ≡ middle → ⊥) → occupied_on e after line m ≡ false → occupied_on e before (line_of e s) m ≡ false =
+      λ m bound other none. ap (λ x. occupied_on e before x m) same_line ∙ ap is_some (on_line line m in_line bound (λ one. other)) ∙ none in
+      ⊎_elim
+      (λ (same : k ≡ middle). ne (same_square e s square same_line same))
+      (λ (o : (k < middle) ⊎ (middle < k)). ⊎_elim
+      (λ (lt : k < middle).
+      let past : k < first = ⊎_elim (λ (h : k < first). h) (λ (h : first ≤ k). absurd (both_ways (occupied_on e after line k) empty (back.filled k h lt))) (cases_lt k first) in
+      let lowest : low ≡ first - 1 = is_low (omega arith) in
+      let other : k ≡ low → ⊥ = λ same. not_low (sym is_s ∙ ap (square_at e line) same) in
+      let none : occupied_on e before (line_of e s) low ≡ false =
+      clear low (omega arith) (λ same. absurd (omega arith)) (ap (occupied_on e after line) lowest ∙ back.before (omega arith)) in
+      let short : n ≤ low = ⊎_elim
+      (λ (h : low < n). absurd (both_ways (occupied_on e before (line_of e s) low) none (s_ahead.filled low (strictly k low (omega arith) other) h))) (λ (h : n ≤ low). h) (cases_lt low n) in
+      absurd (omega arith))
+      (λ (lt : middle < k).
+      let past : end ≤ k = ⊎_elim (λ (h : k < end). absurd (both_ways (occupied_on e after line k) empty (ahead.filled k lt h))) (λ (h : end ≤ k). h) (cases_lt k end) in
+      let highest : high ≡ end = is_high (omega arith) in
+      let other : high ≡ k → ⊥ = λ same. not_high (sym is_s ∙ ap (square_at e line) (sym same)) in
+      let none : occupied_on e before (line_of e s) high ≡ false =
+      clear high (omega arith) (λ same. absurd (omega arith)) (ap (occupied_on e after line) highest ∙ ahead.after (omega arith)) in
+      let short : high < f = ⊎_elim
+      (λ (h : high < f). h)
+      (λ (h : f ≤ high). absurd (both_ways (occupied_on e before (line_of e s) high) none (s_back.filled high h (strictly high k (omega arith) other)))) (cases_lt high f) in
+      absurd (omega arith))
+      o)
+      (cases_order k middle)
+
+  value_free : (s : ℕ) → s < 225 → (s ≡ square → ⊥) → (s ≡ square_at (other_dir d) (line_of (other_dir d) square) low → ⊥)
+      → (s ≡ square_at (other_dir d) (line_of (other_dir d) square) high → ⊥) → holds before s ≡ false
+      → (v : Value) → IsValue rules words d before s v → IsValue rules words d after s v
+  value_free s below ne not_low not_high free v is =
+      let e = other_dir d in
+      let line = line_of e s in
+      let k = place_of e s in
+      let in_line = line_below e s below in
+      let in_place = place_below e s below in
+      let s_back = first_back (occupied_on e before line) k in
+      let s_ahead = end_on (occupied_on e before line) k (14 - k) (omega arith) in
+      value_around rules words d before after s s_back.0 s_ahead.0 size_before size below s_back.1 s_ahead.1
+      (λ place p from upto. on_line line place in_line p
+      (λ same_line at. apart s below ne not_low not_high free same_line s_back.0 s_ahead.0 s_back.1 s_ahead.1 place from upto at))
+      (elsewhere s ne) v is
+
+  value_kept : (s : ℕ) → s < 225 → (s ≡ square → ⊥) → (s ≡ square_at (other_dir d) (line_of (other_dir d) square) low → ⊥)
+      → (s ≡ square_at (other_dir d) (line_of (other_dir d) square) high → ⊥)
+      → (v : Value) → IsValue rules words d before s v → IsValue rules words d after s v
+  value_kept s below ne not_low not_high v is =
+      ⊎_elim
+      (λ (held : holds before s ≡ true). value_held rules words d before after s (elsewhere s ne) held v is)
+      (λ (free : holds before s ≡ false). value_free s below ne not_low not_high free v is)
+      (cases_Bool (holds before s))
+
+-- the same where the direction, the line, the places and the squares come by other names
+pub value_stays : (rules : Rules) (words : List (List ℕ)) (d : Dir) (before after : List (Option Tile)) (square : ℕ) (cell : Option Tile) → length after ≡ 225 → square < 225
+    → after ≡ with_tile before square cell → (e : Dir) (line place first end low high low_square high_square : ℕ) → e ≡ other_dir d → line ≡ line_of e square → place ≡ place_of e square
+    → IsFirstBack (occupied_on e after line) place first → IsEndOn (occupied_on e after line) place end → (0 < first → low ≡ first - 1) → (end < 15 → high ≡ end)
+    → low_square ≡ square_at e line low → high_square ≡ square_at e line high
+    → (s : ℕ) → s < 225 → (s ≡ square → ⊥) → (s ≡ low_square → ⊥) → (s ≡ high_square → ⊥) → (v : Value) → IsValue rules words d before s v → IsValue rules words d after s v
+value_stays rules words d before after square cell size on put e line place first end low high low_square high_square is_e is_line is_place back ahead is_low is_high at_low at_high s below ne not_low not_high v is =
+    let o = other_dir d in
+    let line_is : line ≡ line_of o square = is_line ∙ ap (λ x. line_of x square) is_e in
+    let place_is : place ≡ place_of o square = is_place ∙ ap (λ x. place_of x square) is_e in
+    let back_o : IsFirstBack (occupied_on o after (line_of o square)) (place_of o square) first =
+    subst (λ x. IsFirstBack (occupied_on o after (line_of o square)) x first) place_is
+    (subst (λ x. IsFirstBack (occupied_on o after x) place first) line_is (subst (λ x. IsFirstBack (occupied_on x after line) place first) is_e back)) in
+    let ahead_o : IsEndOn (occupied_on o after (line_of o square)) (place_of o square) end =
+    subst (λ x. IsEndOn (occupied_on o after (line_of o square)) x end) place_is
+    (subst (λ x. IsEndOn (occupied_on o after x) place end) line_is (subst (λ x. IsEndOn (occupied_on x after line) place end) is_e ahead)) in
+    let low_is : low_square ≡ square_at o (line_of o square) low = at_low ∙ ap (λ x. square_at x line low) is_e ∙ ap (λ x. square_at o x low) line_is in
+    let high_is : high_square ≡ square_at o (line_of o square) high = at_high ∙ ap (λ x. square_at x line high) is_e ∙ ap (λ x. square_at o x high) line_is in
+    value_kept rules words d before after square cell size on put first end low high back_o ahead_o is_low is_high
+    s below ne (λ same. not_low (same ∙ sym low_is)) (λ same. not_high (same ∙ sym high_is)) v is

@@ -1,0 +1,48 @@
+-- Boards and cross-sets that follow one another, one put or lift after another.
+use Rattle.std.specs.Prelude.{◌≡◌, ◌⊎◌, ℕ, ◌<◌, false, List, [], ◌∷◌, Option, slice_index_or}
+use Rattle.ref_tiles.specs.declared.letters.Letter.{Letter}
+use Rattle.ref_tiles.specs.declared.tiles.Tile.{Tile}
+use Rattle.ref_tiles.specs.declared.rulebook.Rules.{Rules}
+use Rattle.ref_board.specs.declared.directions.Dir.{Dir}
+use Rattle.gen_cross.specs.declared.crosses.Cross.{Cross}
+use Rattle.gen_cross.specs.Values.{value_at, IsRight}
+use Rattle.gen_cross.specs.Changes.{IsPut, IsLifted}
+
+-- a board, and the cross-sets that are kept for it
+pub record Moment : Type 0 where
+  pub board : List (Option Tile)
+  pub cross : Cross
+
+-- One put or lift, and then the call that brings the cross-sets up: it keeps them right where they were.
+pub record IsNext (rules : Rules) (words : List (List ℕ)) (before after : Moment) : Type 0 where
+  pub square : ℕ
+  pub changed : IsPut square before.board after.board ⊎ IsLifted square before.board after.board
+  pub renewed : IsRight rules words before.board before.cross → IsRight rules words after.board after.cross
+
+-- each moment follows the one before it
+abbrev pub AreNext : Rules → List (List ℕ) → Moment → List Moment → Type 0
+AreNext rules words first [] = Unit {0}
+AreNext rules words first (next ∷ rest) = IsNext rules words first next × AreNext rules words next rest
+
+-- the last moment
+abbrev pub last_of : Moment → List Moment → Moment
+last_of first [] = first
+last_of first (next ∷ rest) = last_of next rest
+
+-- all 450 values are the same: the answer for each letter, and the points beside
+abbrev pub AreSame : Cross → Cross → Type 0
+AreSame a b =
+    (d : Dir) (square : ℕ) → square < 225
+    → ((letter : Letter) → slice_index_or (value_at a d square).mask letter.index false ≡ slice_index_or (value_at b d square).mask letter.index false)
+    × ((value_at a d square).side ≡ (value_at b d square).side)
+
+-- two crosses that are right for one board are the same
+abbrev pub RightAreSame : Type 0
+RightAreSame =
+    (rules : Rules) (words : List (List ℕ)) (board : List (Option Tile)) (a b : Cross) → IsRight rules words board a → IsRight rules words board b → AreSame a b
+
+-- what is right at the first moment is right at the last, and so the same as any cross that is right for the last board
+abbrev pub KeptAreSame : Type 0
+KeptAreSame =
+    (rules : Rules) (words : List (List ℕ)) (first : Moment) (rest : List Moment) (made : Cross) → IsRight rules words first.board first.cross → AreNext rules words first rest
+    → IsRight rules words (last_of first rest).board made → AreSame (last_of first rest).cross made
