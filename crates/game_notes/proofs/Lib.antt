@@ -1,1 +1,2 @@
 pub mod FirstPlays
+pub mod FollowLaws

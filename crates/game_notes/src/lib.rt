@@ -3,10 +3,12 @@
 
 mod annotating;
 mod crossing;
+mod following;
 mod searching;
 mod tops;
 
 pub use annotating::annotate;
 pub use crossing::cross_sets;
+pub use following::Follow;
 pub use searching::best_plays;
 pub use tops::{MANY, top};

@@ -105,7 +105,7 @@ line_parts rules list r place e best stands =
     ap (λ at. line_with r.players at (best ++ unlisted_text list (standing_words (tally_at rules r.events (place + 1)).latest))) stands
 
 -- the event at a place is the one that was read there
-read_there : (shown events : List Event) (place : ℕ) (e : Event) → shown ≡ events → place < length events → e ≡ get_or shown place e → slice_get events place ≡ Some e
+pub read_there : (shown events : List Event) (place : ℕ) (e : Event) → shown ≡ events → place < length events → e ≡ get_or shown place e → slice_get events place ≡ Some e
 read_there shown events place e same below read =
     let here : get_or events place e ≡ e = ap (λ (es : List Event). get_or es place e) (sym same) ∙ sym read in
     slice_get-get_or events place e below ∙ ap Some here

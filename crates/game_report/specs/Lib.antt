@@ -1,3 +1,4 @@
 pub mod BestPlays
 pub mod EventLines
 pub mod TopPlays
+pub mod Beside

@@ -6,10 +6,12 @@ ghost use Rattle.ref_play.specs.Best.{IsAnnotation};
 ghost use Rattle.game_turns.specs.Machines.{state_of};
 ghost use Rattle.game_turns.specs.Passing.{rules_in};
 ghost use Rattle.lex_check.specs.Pairs.{list_in};
+ghost use Rattle.game_report.specs.Beside.{StandsBeside};
 ghost use Rattle.game_report.specs.BestPlays.{is_judged, full_rack, notation_text, best_text, TellsByRack, TellsBest, Appends};
 ghost use Rattle.game_notes.specs.Keeping.{given_by};
+ghost use Rattle.game_notes.specs.Following.{board_of, Follows};
 
-use game_notes::{annotate, cross_sets};
+use game_notes::Follow;
 use game_turns::{Machine, Passed};
 use gcg_read::{Event, EventKind, Seat};
 use gcg_write::play_text;
@@ -62,35 +64,36 @@ pub fn push_scored(
     text.extend_from_slice(buffer.format(score).as_bytes())
 }
 
-/// Appends the best play by a rack, or that there is none.
+/// Appends the best play by a rack on the board, or that there is none.
 fn push_best_play(
     text: &mut Vec<u8>,
     rules: &Rules,
     pair: &Checked<'_>,
-    board: &Board,
+    follow: &Follow,
     rack: &Counts,
 ) -> Result<(), AllocError>
-    ensures { OnOk result (Appends (TellsByRack rules.now (list_in pair.now) board.now (Some rack.now)) text.old.items text.new.items) }
+    requires { Follows rules.now (list_in pair.now) follow.now }
+    ensures { OnOk result (Appends (TellsByRack rules.now (list_in pair.now) (board_of follow.now) (Some rack.now)) text.old.items text.new.items) }
 {
-    let mut held = *board;
-    let cross = cross_sets(rules, pair, board);
-    match annotate(rules, pair, &mut held, rack, &cross) {
+    match follow.annotate(rules, pair, rack) {
         Some((play, score)) => {
             text.extend_from_slice(b" best ")?;
-            push_scored(text, board, &play, score)
+            push_scored(text, follow.board(), &play, score)
         }
         None => text.extend_from_slice(b" best none"),
     }
 }
 
-/// Appends what the line of an event tells of the best play; `machine` stands before the event.
+/// Appends what the line of an event tells of the best play; `machine` stands before the event, and `follow` beside it.
 pub fn push_best(
     text: &mut Vec<u8>,
     passed: &Passed<'_>,
     pair: &Checked<'_>,
     machine: &Machine,
+    follow: &Follow,
     event: &Event,
 ) -> Result<(), AllocError>
+    requires { StandsBeside (rules_in passed.now) (list_in pair.now) (state_of machine.now) follow.now }
     ensures { OnOk result (Appends (TellsBest (rules_in passed.now) (list_in pair.now) (state_of machine.now) event.now)
         text.old.items text.new.items) }
 {
@@ -98,7 +101,7 @@ pub fn push_best(
         return Ok(());
     }
     match full_rack(machine, event) {
-        Some(rack) => push_best_play(text, passed.rules(), pair, machine.board(), &rack),
+        Some(rack) => push_best_play(text, passed.rules(), pair, follow, &rack),
         None => text.extend_from_slice(b" best -"),
     }
 }

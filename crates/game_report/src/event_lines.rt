@@ -5,9 +5,12 @@ ghost use Rattle.game_turns.specs.Passing.{rules_in, record_in};
 ghost use Rattle.lex_check.specs.Pairs.{list_in};
 ghost use Rattle.game_turns.specs.Tallies.{tally_at};
 ghost use Rattle.game_report.specs.BestPlays.{Appends};
+ghost use Rattle.game_report.specs.Beside.{StandsBeside};
 ghost use Rattle.game_report.specs.EventLines.{unlisted_word, unlisted_text, AreEventLines, IsEventLine};
 
 use crate::best_plays::push_best;
+use crate::replaying::follow_event;
+use game_notes::Follow;
 use game_turns::{Machine, Passed, all_listed};
 use gcg_write::event_text;
 use itoa::Buffer;
@@ -62,13 +65,16 @@ fn push_event_line(
     passed: &Passed<'_>,
     pair: &Checked<'_>,
     machine: &mut Machine,
+    follow: &mut Follow,
     place: usize,
 ) -> Result<(), AllocError>
     requires place { place < length (record_in passed.now).events }
     requires rules { rules_of machine.old ≡ rules_in passed.now }
     requires state { state_of machine.old ≡ tally_at (rules_in passed.now) (record_in passed.now).events place }
+    requires beside { StandsBeside (rules_in passed.now) (list_in pair.now) (state_of machine.old) follow.old }
     ensures rules { rules_of machine.new ≡ rules_in passed.now }
     ensures state { OnOk result (state_of machine.new ≡ tally_at (rules_in passed.now) (record_in passed.now).events (place + 1)) }
+    ensures beside { OnOk result (StandsBeside (rules_in passed.now) (list_in pair.now) (state_of machine.new) follow.new) }
     ensures line { OnOk result (Appends (IsEventLine (rules_in passed.now) (list_in pair.now) (record_in passed.now) place)
         text.old.items text.new.items) }
 {
@@ -80,8 +86,8 @@ fn push_event_line(
         game.players.of(event.player).nick.as_bytes(),
     )?;
     event_text(game, place, text)?;
-    push_best(text, passed, pair, machine, event)?;
-    passed.take_event(machine, place);
+    push_best(text, passed, pair, machine, follow, event)?;
+    follow_event(passed, pair, machine, follow, place);
     push_unlisted(text, pair.list(), machine.standing_words())?;
     text.push(b'\n')?;
     Ok(())
@@ -94,7 +100,7 @@ fn push_event_line(
 /// stands then come ` unlisted` and its words that are not in the list, where there are some.
 ///
 /// It fails only where the growth of `text` was refused.
-#[tactic(auto, using(crate::proofs::ReportLines::one_more_line, crate::proofs::ReportLines::start_of_game, crate::proofs::ReportLines::no_lines))]
+#[tactic(auto, using(crate::proofs::ReportLines::one_more_line))]
 pub fn push_event_lines(
     text: &mut Vec<u8>,
     passed: &Passed<'_>,
@@ -104,8 +110,9 @@ pub fn push_event_lines(
         (length (record_in passed.now).events)) text.old.items text.new.items) }
 {
     let mut machine = Machine::new(passed.rules());
+    let mut follow = Follow::new(passed.rules(), pair);
     for place in 0..passed.record().events.len() {
-        push_event_line(text, passed, pair, &mut machine, place)?;
+        push_event_line(text, passed, pair, &mut machine, &mut follow, place)?;
     }
     Ok(())
 }

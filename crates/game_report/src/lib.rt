@@ -4,6 +4,7 @@
 
 mod best_plays;
 mod event_lines;
+mod replaying;
 mod top_plays;
 
 pub use event_lines::push_event_lines;

@@ -2,11 +2,13 @@ ghost use Rattle.std.specs.Prelude.{◌≡◌, ◌++◌, IfOk, OnOk, map};
 ghost use Rattle.ref_play.specs.Legality.{IsLegal};
 ghost use Rattle.gen_sinks.specs.Sinks.{seen, seen_pair};
 ghost use Rattle.game_turns.specs.Passing.{rules_in, record_in};
+ghost use Rattle.game_notes.specs.Following.{board_of, Follows};
 ghost use Rattle.game_report.specs.TopPlays.{play_line, top_text, AreLegal, board_after, TellsTop};
 ghost use Rattle.lex_check.specs.Pairs.{list_in};
 
 use crate::best_plays::push_scored;
-use game_notes::top;
+use crate::replaying::follow_event;
+use game_notes::Follow;
 use game_turns::{Machine, Passed};
 use lex_check::Checked;
 use ref_board::Board;
@@ -14,16 +16,18 @@ use ref_play::Play;
 use ref_tiles::Counts;
 use std::alloc::{AllocError, Global};
 
-/// The board after the last event of a record that passed. A play that is the last event stands.
-#[tactic(auto, using(crate::proofs::ReportLines::start_of_game))]
-fn board_after(passed: &Passed<'_>) -> Board
-    ensures { result ≡ board_after (rules_in passed.now) (record_in passed.now).events }
+/// The board after the last event of a record that passed, with its cross-sets. A play that is the last event stands.
+#[tactic(auto, using(crate::proofs::BesideLaws::board_at_the_end))]
+fn follow_all(passed: &Passed<'_>, pair: &Checked<'_>) -> Follow
+    ensures board { board_of result ≡ board_after (rules_in passed.now) (record_in passed.now).events }
+    ensures follows { Follows (rules_in passed.now) (list_in pair.now) result }
 {
     let mut machine = Machine::new(passed.rules());
+    let mut follow = Follow::new(passed.rules(), pair);
     for place in 0..passed.record().events.len() {
-        passed.take_event(&mut machine, place);
+        follow_event(passed, pair, &mut machine, &mut follow, place);
     }
-    *machine.board()
+    follow
 }
 
 /// Appends the line of a play.
@@ -72,7 +76,7 @@ pub fn top_report(
     ensures { IfOk result (λ text. TellsTop (rules_in passed.now) (list_in pair.now)
         (board_after (rules_in passed.now) (record_in passed.now).events) rack.now text.items) }
 {
-    let board = board_after(passed);
-    let plays = top(passed.rules(), pair, &board, rack);
-    top_lines(alloc, &board, plays.items())
+    let follow = follow_all(passed, pair);
+    let plays = follow.top(passed.rules(), pair, rack);
+    top_lines(alloc, follow.board(), plays.items())
 }

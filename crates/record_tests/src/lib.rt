@@ -8,7 +8,7 @@
 #[cfg(test)]
 mod boards;
 #[cfg(test)]
-mod generated;
+mod following;
 #[cfg(test)]
 mod normal_forms;
 #[cfg(test)]

@@ -1,5 +1,18 @@
-use Rattle.std.proofs.Common.{rules}
+use Rattle.std.proofs.Common.{rules, ◌≡◌, false, List, [], ℕ, refl, sym, ◌∙◌}
+use Rattle.std.proofs.lemmas.Bool.{false≢true}
+use Rattle.std.proofs.lemmas.List.{append-nil}
+use Rattle.game_turns.specs.Machines.{state_of}
+use Rattle.game_report.specs.BestPlays.{is_judged}
 use Rattle.game_report.proofs.best_plays.push_best.Goals as goal
+
+pub returns-then-not-is_judged : goal.returns-then-not-is_judged
+returns-then-not-is_judged c =
+    let silent : is_judged (state_of c.args.machine.now).out c.args.event.now.kind ≡ false = search rules in
+    record {
+      told = [];
+      is_told = record { judged = λ is. absurd (false≢true (sym silent ∙ is)); silent = λ none. refl };
+      behind = sym (append-nil c.args.text.now.items);
+    }
 
 pub returns-in-Some : goal.returns-in-Some
 returns-in-Some c = search rules
