@@ -8,5 +8,6 @@ mod lines;
 mod spots;
 mod telling;
 
+pub use gen_sinks::{All, Best, NoMemory, Sink, Top};
 pub use generating::generate;
 pub use laws::law_of_moves;

@@ -1,4 +1,4 @@
-//! Tests of the crates that find plays: cross-sets, sinks and the generator.
+//! Tests of the crates that find plays: cross-sets, sinks, the generator and the best plays.
 //!
 //! Each module has the tables of one crate, each table shows one rule.
 #![tactic(auto)]
@@ -7,3 +7,9 @@
 mod boards;
 #[cfg(test)]
 mod crosses;
+#[cfg(test)]
+mod generating;
+#[cfg(test)]
+mod increments;
+#[cfg(test)]
+mod searching;

@@ -1,0 +1,140 @@
+//! Cross-sets that are kept up by puts and lifts: a tile between two others, and boards whose tiles are put and lifted in several
+//! orders, all values beside those that are made afresh.
+use crate::boards::{Laid, at, laid, list_of};
+use gen_cross::Cross;
+use lex_check::SortedPaths;
+use ref_board::{Board, Dir, SIDE, Square};
+use ref_tiles::{Letter, Rules, Tile, english_rules};
+use std::process::Abort;
+
+/// A on 8G and on 8I.
+const TWO: [Laid; 2] = [(7, 6, Dir::Across, b"A"), (7, 8, Dir::Across, b"A")];
+
+/// What squares of row 8 have for a play down: the column, the letters and the points beside.
+type Beside = (usize, &'static [u8], u16);
+
+const APART: [Beside; 3] = [(5, b"T", 1), (7, b"", 2), (9, b"T", 1)];
+
+/// The same with a B between the two, on 8H.
+const JOINED: [Beside; 3] = [(5, b"T", 5), (7, b"", 0), (9, b"S", 5)];
+
+/// The tile of a capital.
+fn tile_of(rt: &impl Abort, byte: u8) -> Tile {
+    Tile::of_letter(Letter::counted_from(b'A', byte).expect(rt, "a letter"))
+}
+
+/// Puts a tile on a square, or lifts the one that lies there, and brings the cross-sets up.
+fn turn(
+    rt: &impl Abort,
+    rules: &Rules,
+    board: &mut Board,
+    cross: &mut Cross,
+    paths: &SortedPaths,
+    tile: (usize, usize, u8),
+) {
+    let square = at(rt, tile.0, tile.1);
+    match board.at(square) {
+        None => {
+            board.put(square, tile_of(rt, tile.2));
+            cross.after_put(rules, board, paths, square);
+        }
+        Some(there) => {
+            assert_eq!(rt; board.lift(square), there, "{:?}", square);
+            cross.after_lift(rules, board, paths, square);
+        }
+    }
+}
+
+/// Asserts what a square has for a play down.
+fn assert_beside(rt: &impl Abort, cross: &Cross, beside: Beside) {
+    let square = at(rt, 7, beside.0);
+    assert_eq!(rt; cross.side(Dir::Down, square), beside.2, "{:?}", square);
+    for (letter, may) in cross.mask(Dir::Down, square).iter().enumerate() {
+        let listed = beside
+            .1
+            .iter()
+            .any(|byte| usize::from(*byte) == letter.saturating_add(65));
+        assert_eq!(rt; *may, listed, "{:?} {}", square, letter);
+    }
+}
+
+/// Asserts that two crosses have one value of a square.
+fn assert_value(rt: &impl Abort, kept: &Cross, made: &Cross, dir: Dir, square: Square) {
+    assert_eq!(rt;
+        kept.mask(dir, square),
+        made.mask(dir, square),
+        "{:?}",
+        square
+    );
+    assert_eq!(rt;
+        kept.side(dir, square),
+        made.side(dir, square),
+        "{:?}",
+        square
+    );
+}
+
+/// Asserts that two crosses have the same 450 values.
+fn assert_same(rt: &impl Abort, kept: &Cross, made: &Cross) {
+    for number in 0..SIDE * SIDE {
+        let square = at(rt, number / SIDE, number % SIDE);
+        assert_value(rt, kept, made, Dir::Across, square);
+        assert_value(rt, kept, made, Dir::Down, square);
+    }
+}
+
+#[test]
+fn tile_between_two(rt: HostRuntime) {
+    let rules = english_rules();
+    let list = list_of(&rt, rt.alloc(), b"AT\nTA\nABAS\nTABA\n");
+    let paths = SortedPaths::new(rt.alloc(), &list).expect(&rt, "the paths");
+    let mut board = laid(&rt, &TWO);
+    let before = Cross::scratch(&rules, &board, &paths);
+    let mut cross = before;
+    let middle = (7, 7, b'B');
+    for beside in APART {
+        assert_beside(&rt, &cross, beside);
+    }
+    turn(&rt, &rules, &mut board, &mut cross, &paths, middle);
+    for beside in JOINED {
+        assert_beside(&rt, &cross, beside);
+    }
+    turn(&rt, &rules, &mut board, &mut cross, &paths, middle);
+    assert_same(&rt, &cross, &before);
+}
+
+/// 8E WORD, 9G AT and 9F E.
+const TILES: [(usize, usize, u8); 7] = [
+    (7, 4, b'W'),
+    (7, 5, b'O'),
+    (7, 6, b'R'),
+    (7, 7, b'D'),
+    (8, 6, b'A'),
+    (8, 7, b'T'),
+    (8, 5, b'E'),
+];
+
+/// Orders of these tiles: each that lies on the board is lifted, each other one put. The first is that of a game in which AT
+/// was withdrawn and played again.
+const ORDERS: [&[usize]; 4] = [
+    &[0, 1, 2, 3, 4, 5, 4, 5, 4, 5, 6],
+    &[6, 5, 4, 3, 2, 1, 0, 0, 1, 2, 3, 4, 5, 6],
+    &[0, 3, 1, 2, 6, 5, 4, 1, 2, 3, 0],
+    &[1, 4, 6, 2, 1, 0, 3, 5, 1, 2, 6, 4],
+];
+
+#[test]
+fn orders_of_tiles(rt: HostRuntime) {
+    let rules = english_rules();
+    let list = list_of(&rt, rt.alloc(), b"AT\nEAT\nOE\nRA\nWORD\n");
+    let paths = SortedPaths::new(rt.alloc(), &list).expect(&rt, "the paths");
+    for order in ORDERS {
+        let mut board = Board::empty();
+        let mut cross = Cross::scratch(&rules, &board, &paths);
+        for place in order {
+            let tile = *TILES.get(*place).expect(&rt, "a tile");
+            turn(&rt, &rules, &mut board, &mut cross, &paths, tile);
+            assert_same(&rt, &cross, &Cross::scratch(&rules, &board, &paths));
+        }
+    }
+}

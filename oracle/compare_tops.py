@@ -1,0 +1,79 @@
+"""Compares `referee top` with the second judge's search, on the boards of random games that were dealt for real:
+compare_tops.py PROGRAM CASES SEED
+
+The search finds all plays that a rack allows on the board after the record; the program has to print the first ten of them, by the
+greater score and then as they are written, one a line, or `none`.
+"""
+import random
+import subprocess
+import sys
+import tempfile
+from collections import Counter
+from pathlib import Path
+
+from best import Found, Search
+from dealing import Dealer, in_order, likely, line, words_in_reach
+from deals import ENGLISH
+from lexicons import build
+
+MANY = 10
+
+
+def best_plays(board, rack, listed):
+    """What is told of a rack on a board."""
+    plays = sorted(Search(listed).plays(board, rack), key=Found.rank)
+    return plays, "".join(f"{play}\n" for play in plays[:MANY]) or "none\n"
+
+
+def random_rack(tiles):
+    """A rack of up to seven tiles, sometimes with blanks."""
+    rack = random.sample(tiles, random.choice([1, 3, 5, 6, 7, 7]))
+    return in_order(rack[1:] + ["?"] if likely(0.3) else rack)
+
+
+def cases(number):
+    """Records, their boards, racks, and listed words, of which the racks make some; what was taken back stays unlisted."""
+    tiles = list(ENGLISH.elements())
+    for _ in range(number):
+        dealer = Dealer(ENGLISH, random.choice([0, 1, 4, 12, 30, 60]), random.choice([(), ("known", "unknown")]), "mixed")
+        events, _, listed = dealer.game()
+        rack = random_rack(tiles)
+        listed = (listed | words_in_reach(dealer.board, rack, random.choice([0, 5, 50, 500]))) - dealer.phonies
+        yield "".join(map(line, events)), dealer.board, rack, listed
+
+
+class Tops:
+    """A program, a folder for its inputs, and what was compared so far."""
+
+    def __init__(self, program, folder):
+        self.program, self.differences, self.kinds = program, 0, Counter()
+        self.words, self.lexicon, self.game = (Path(folder, name) for name in ("words", "lexicon", "game"))
+
+    def compare(self, text, board, rack, listed):
+        self.words.write_text("\n".join(sorted(listed)))
+        self.lexicon.write_bytes(build(listed))
+        self.game.write_text(text)
+        words = [self.program, "top", self.words, self.lexicon, self.game, rack]
+        told = subprocess.run(words, capture_output=True, check=False).stdout.decode()
+        plays, expected = best_plays(board, rack, listed)
+        self.kinds["none" if not plays else "fewer than ten" if len(plays) < MANY else "ten" if len(plays) == MANY else "more"] += 1
+        self.kinds["with a blank"] += "?" in rack
+        self.kinds["a tie at the end"] += len(plays) > MANY and plays[MANY - 1].score == plays[MANY].score
+        if told != expected:
+            self.differences += 1
+            print(text, rack, "listed", *sorted(listed), "program", told, "second judge", expected, sep="\n")
+
+
+def main():
+    program, number = sys.argv[1], int(sys.argv[2])
+    random.seed(int(sys.argv[3]))
+    with tempfile.TemporaryDirectory() as folder:
+        tops = Tops(program, folder)
+        for case in cases(number):
+            tops.compare(*case)
+    print(f"{number} racks, {tops.differences} differences", dict(sorted(tops.kinds.items())))
+    sys.exit(tops.differences > 0)
+
+
+if __name__ == "__main__":
+    main()
