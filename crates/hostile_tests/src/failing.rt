@@ -1,0 +1,96 @@
+//! Devices that fail, or move few bytes at once.
+ghost use Rattle.std.specs.Prelude.{◌<◌};
+
+use crate::feeds::{Mishap, NEVER};
+use crate::jobs::{Call, JOBS, Job, attempt, working};
+use engine::RunFault;
+use std::alloc::Global;
+use std::process::Abort;
+
+/// Asserts that a job with working devices does what it is to do.
+fn assert_done(rt: &impl Abort, alloc: Global, job: &Job<'_>, piece: usize) {
+    let outcome = attempt(alloc, job, &working(piece));
+    assert_eq!(rt; outcome.answer, Ok(job.verdict));
+    assert_eq!(rt; outcome.out.as_slice(), job.wrote);
+}
+
+/// However few bytes the devices move at once, the whole output goes out.
+#[test]
+fn few_bytes_at_once(rt: HostRuntime) {
+    for job in &JOBS {
+        for piece in [1, 7, 8192] {
+            assert_done(&rt, rt.alloc(), job, piece);
+        }
+    }
+}
+
+/// Whether a call reads the words, the lexicon and the record.
+fn inputs_of(call: Call) -> [bool; 3] {
+    match call {
+        Call::Judge | Call::Top(_) => [true, true, true],
+        Call::Build => [true, false, false],
+        Call::Check => [true, true, false],
+        Call::Tidy => [false, false, true],
+    }
+}
+
+/// Lets each read of an input fail once, where the other reads work, and tells how many reads there were.
+fn each_read_fails(rt: &impl Abort, alloc: Global, job: &Job<'_>, input: usize) -> usize
+    requires { input < 3 }
+{
+    for read in 0..1000 {
+        let mut manner = working(7);
+        manner.reads[input] = read;
+        let outcome = attempt(alloc, job, &manner);
+        if !outcome.failed {
+            assert_eq!(rt; outcome.answer, Ok(job.verdict));
+            assert_eq!(rt; outcome.out.as_slice(), job.wrote);
+            return read;
+        }
+        assert_eq!(rt; outcome.answer, Err(RunFault::ReadFailed));
+        assert!(rt; outcome.out.as_slice().is_empty());
+    }
+    NEVER
+}
+
+#[test]
+fn failing_reads(rt: HostRuntime) {
+    for job in &JOBS {
+        let read = inputs_of(job.call);
+        for input in 0..3 {
+            let reads = each_read_fails(&rt, rt.alloc(), job, input);
+            assert_eq!(rt; reads > 0, read[input], "{:?} {input}", job.call);
+        }
+    }
+}
+
+/// Lets each write meet with a mishap once, where the other writes work, and tells how many writes there were.
+fn each_write_fails(rt: &impl Abort, alloc: Global, job: &Job<'_>, mishap: Mishap) -> usize {
+    for write in 0..1000 {
+        let mut manner = working(3);
+        manner.writes = write;
+        manner.mishap = mishap;
+        let outcome = attempt(alloc, job, &manner);
+        let wrote = outcome.out.as_slice();
+        if !outcome.out.has_failed() {
+            assert_eq!(rt; outcome.answer, Ok(job.verdict));
+            assert_eq!(rt; wrote, job.wrote);
+            return write;
+        }
+        assert_eq!(rt; outcome.answer, Err(RunFault::WriteFailed));
+        assert_eq!(rt; wrote.len(), 3 * write);
+        assert!(rt; job.wrote.starts_with(wrote));
+    }
+    NEVER
+}
+
+/// Three bytes a write: as many writes as the output has threes, and one for the rest.
+#[test]
+fn failing_writes(rt: HostRuntime) {
+    for job in &JOBS {
+        for mishap in [Mishap::Fails, Mishap::TakesNone] {
+            let writes = each_write_fails(&rt, rt.alloc(), job, mishap);
+            assert_eq!(rt; writes, job.wrote.len().div_ceil(3), "{mishap:?}");
+        }
+    }
+}

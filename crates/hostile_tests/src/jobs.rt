@@ -1,0 +1,217 @@
+//! Worked rows, asked of the calls of the engine.
+use crate::feeds::{Feed, Mishap, NEVER, Sheet};
+use engine::{RunFault, Verdict, run, run_build, run_check, run_tidy, run_top};
+use ref_tiles::english_rules;
+use std::alloc::Global;
+
+/// The file of the word AT.
+pub const AT: [u8; 36] = [
+    0x47, 0x41, 0x44, 0x31, 0x05, 0x00, 0x00, 0x00, 0x04, 0x00, 0x00, 0x00, 0x01, 0x00, 0x00, 0x00,
+    0x74, 0x00, 0x00, 0x00, 0xc0, 0x00, 0x00, 0x00, 0x61, 0x00, 0x00, 0x00, 0x01, 0x01, 0x00, 0x00,
+    0xd4, 0x01, 0x00, 0x00,
+];
+
+/// The file of the word WORD.
+pub const WORD: [u8; 80] = [
+    0x47, 0x41, 0x44, 0x31, 0x10, 0x00, 0x00, 0x00, 0x0d, 0x00, 0x00, 0x00, 0x01, 0x00, 0x00, 0x00,
+    0x77, 0x00, 0x00, 0x00, 0xcf, 0x00, 0x00, 0x00, 0x52, 0x01, 0x00, 0x00, 0x64, 0x00, 0x00, 0x00,
+    0x52, 0x02, 0x00, 0x00, 0xc0, 0x02, 0x00, 0x00, 0x57, 0x03, 0x00, 0x00, 0x40, 0x02, 0x00, 0x00,
+    0x57, 0x04, 0x00, 0x00, 0xcf, 0x04, 0x00, 0x00, 0xcf, 0x02, 0x00, 0x00, 0xc0, 0x05, 0x00, 0x00,
+    0x84, 0x01, 0x00, 0x00, 0x8f, 0x03, 0x00, 0x00, 0x12, 0x05, 0x00, 0x00, 0x57, 0x06, 0x00, 0x00,
+];
+
+/// The file of the words WORD, AT and RA.
+pub const WORD_AT_RA: [u8; 108] = [
+    0x47, 0x41, 0x44, 0x31, 0x17, 0x00, 0x00, 0x00, 0x12, 0x00, 0x00, 0x00, 0x03, 0x00, 0x00, 0x00,
+    0x74, 0x00, 0x00, 0x00, 0x80, 0x00, 0x00, 0x00, 0x72, 0x00, 0x00, 0x00, 0x77, 0x00, 0x00, 0x00,
+    0x4f, 0x02, 0x00, 0x00, 0xd2, 0x02, 0x00, 0x00, 0x64, 0x00, 0x00, 0x00, 0xd2, 0x03, 0x00, 0x00,
+    0x40, 0x04, 0x00, 0x00, 0xd7, 0x04, 0x00, 0x00, 0x61, 0x00, 0x00, 0x00, 0xc0, 0x03, 0x00, 0x00,
+    0x57, 0x06, 0x00, 0x00, 0x80, 0x05, 0x00, 0x00, 0xcf, 0x06, 0x00, 0x00, 0x4f, 0x04, 0x00, 0x00,
+    0x40, 0x08, 0x00, 0x00, 0x01, 0x01, 0x00, 0x00, 0x04, 0x03, 0x00, 0x00, 0x0f, 0x05, 0x00, 0x00,
+    0x12, 0x07, 0x00, 0x00, 0x94, 0x05, 0x00, 0x00, 0xd7, 0x08, 0x00, 0x00,
+];
+
+/// The file of the word RETAINS.
+pub const RETAINS: [u8; 176] = [
+    0x47, 0x41, 0x44, 0x31, 0x28, 0x00, 0x00, 0x00, 0x22, 0x00, 0x00, 0x00, 0x01, 0x00, 0x00, 0x00,
+    0x73, 0x00, 0x00, 0x00, 0xce, 0x00, 0x00, 0x00, 0x49, 0x01, 0x00, 0x00, 0xc0, 0x01, 0x00, 0x00,
+    0x52, 0x02, 0x00, 0x00, 0xc5, 0x02, 0x00, 0x00, 0x54, 0x03, 0x00, 0x00, 0xc1, 0x01, 0x00, 0x00,
+    0x54, 0x04, 0x00, 0x00, 0xc0, 0x04, 0x00, 0x00, 0x52, 0x05, 0x00, 0x00, 0x40, 0x01, 0x00, 0x00,
+    0x52, 0x06, 0x00, 0x00, 0xc5, 0x06, 0x00, 0x00, 0x54, 0x07, 0x00, 0x00, 0xc1, 0x07, 0x00, 0x00,
+    0xc0, 0x00, 0x00, 0x00, 0xd2, 0x08, 0x00, 0x00, 0x45, 0x09, 0x00, 0x00, 0xd4, 0x09, 0x00, 0x00,
+    0x41, 0x0a, 0x00, 0x00, 0xc9, 0x0a, 0x00, 0x00, 0xc5, 0x04, 0x00, 0x00, 0xc0, 0x0b, 0x00, 0x00,
+    0x72, 0x00, 0x00, 0x00, 0xc5, 0x0c, 0x00, 0x00, 0x54, 0x0d, 0x00, 0x00, 0xc1, 0x0d, 0x00, 0x00,
+    0x49, 0x0e, 0x00, 0x00, 0xce, 0x0e, 0x00, 0x00, 0x40, 0x04, 0x00, 0x00, 0xd2, 0x0f, 0x00, 0x00,
+    0x45, 0x10, 0x00, 0x00, 0x81, 0x03, 0x00, 0x00, 0x85, 0x05, 0x00, 0x00, 0x09, 0x08, 0x00, 0x00,
+    0x0e, 0x0b, 0x00, 0x00, 0x12, 0x0c, 0x00, 0x00, 0x13, 0x0f, 0x00, 0x00, 0xd4, 0x10, 0x00, 0x00,
+];
+
+/// The file of no word.
+pub const EMPTY: [u8; 16] = [
+    0x47, 0x41, 0x44, 0x31, 0x00, 0x00, 0x00, 0x00, 0x00, 0x00, 0x00, 0x00, 0x00, 0x00, 0x00, 0x00,
+];
+
+/// A call of the engine.
+#[derive(Clone, Copy, Debug, PartialEq, Eq)]
+pub enum Call {
+    Judge,
+    /// With a rack.
+    Top(&'static str),
+    Build,
+    Check,
+    Tidy,
+}
+
+/// A call, what its inputs hold, and what is answered and written. An input that it has not is empty.
+#[derive(Drop)]
+pub struct Job<'a> {
+    pub call: Call,
+    pub words: &'a [u8],
+    pub lexicon: &'a [u8],
+    pub game: &'a [u8],
+    pub verdict: Verdict,
+    pub wrote: &'a [u8],
+}
+
+/// A play that is the best one.
+pub const ONE_PLAY: Job<'static> = Job {
+    call: Call::Judge,
+    words: b"WORD",
+    lexicon: &WORD,
+    game: b">A: DORWAAE 8E WORD +16 16\n",
+    verdict: Verdict::Legal { complete: false },
+    wrote: b"legal unfinished\n1 A 8E WORD +16 16 best 8E WORD 16\n",
+};
+
+/// A play that is taken back.
+pub const WITHDRAWN: Job<'static> = Job {
+    call: Call::Judge,
+    words: b"WORD\nAT\nRA",
+    lexicon: &WORD_AT_RA,
+    game: b">A: DORWAAE 8E WORD +16 16\n>B: AT 9G AT +9 9\n>B: AT -- -9 0\n>A: AT 9G AT +9 25\n",
+    verdict: Verdict::Legal { complete: false },
+    wrote: b"legal unfinished\n1 A 8E WORD +16 16 best 8E WORD 16\n2 B 9G AT +9 9 best -\n3 B -- -9 0\n4 A 9G AT +9 25 best - unlisted DT\n",
+};
+
+/// Six passes, and both players lose the points of their racks.
+pub const STALE: Job<'static> = Job {
+    call: Call::Judge,
+    words: b"RETAINS",
+    lexicon: &RETAINS,
+    game: b">A: - +0 0\n>B: - +0 0\n>A: - +0 0\n>B: - +0 0\n>A: - +0 0\n>B: - +0 0\n>A: AEINRST (AEINRST) -7 -7\n>B: AEINRST (AEINRST) -7 -7\n",
+    verdict: Verdict::Legal { complete: true },
+    wrote: b"legal complete\n1 A - +0 0 best -\n2 B - +0 0 best -\n3 A - +0 0 best -\n4 B - +0 0 best -\n5 A - +0 0 best -\n6 B - +0 0 best -\n7 A (AEINRST) -7 -7\n8 B (AEINRST) -7 -7\n",
+};
+
+/// The one Q is shown again before it can be drawn.
+pub const UNSETTLED: Job<'static> = Job {
+    call: Call::Judge,
+    words: b"WORD",
+    lexicon: &WORD,
+    game: b">A: Q -Q +0 0\n>B: - +0 0\n>A: Q - +0 0\n",
+    verdict: Verdict::Unsettled,
+    wrote: b"unsettled\n",
+};
+
+/// The best plays with a blank on the empty board.
+pub const BEST_PLAYS: Job<'static> = Job {
+    call: Call::Top("?A"),
+    words: b"AT",
+    lexicon: &AT,
+    game: b"",
+    verdict: Verdict::Done,
+    wrote: b"8G At 2\n8H At 2\nH7 At 2\nH8 At 2\n",
+};
+
+/// A lexicon of one word.
+pub const BUILT: Job<'static> = Job {
+    call: Call::Build,
+    words: b"AT",
+    lexicon: b"",
+    game: b"",
+    verdict: Verdict::Done,
+    wrote: &AT,
+};
+
+/// The same, checked.
+pub const CHECKED: Job<'static> = Job {
+    call: Call::Check,
+    words: b"AT",
+    lexicon: &AT,
+    game: b"",
+    verdict: Verdict::Done,
+    wrote: b"ok 1\n",
+};
+
+/// A record with a mark at its front, a note, small letters and blanks.
+pub const TIDIED: Job<'static> = Job {
+    call: Call::Tidy,
+    words: b"",
+    lexicon: b"",
+    game: b"\xef\xbb\xbf#player1 A  Ann Lee\r\n#note x\n>A:\tDORWAAE  8e WORD 16 16\r\n",
+    verdict: Verdict::Done,
+    wrote: b"#player1 A Ann Lee\n>A: AADEORW 8E WORD +16 16\n",
+};
+
+/// All of them.
+pub const JOBS: [Job<'static>; 8] = [
+    ONE_PLAY, WITHDRAWN, STALE, UNSETTLED, BEST_PLAYS, BUILT, CHECKED, TIDIED,
+];
+
+/// How the devices of a job behave: how many bytes a read or a write moves at most, and the numbers of the read of each input
+/// that fails, and of the write that meets with a mishap.
+#[derive(Clone, Copy, Debug)]
+pub struct Manner {
+    pub piece: usize,
+    pub reads: [usize; 3],
+    pub writes: usize,
+    pub mishap: Mishap,
+}
+
+/// Devices that work, and move at most so many bytes.
+pub fn working(piece: usize) -> Manner {
+    Manner {
+        piece,
+        reads: [NEVER; 3],
+        writes: NEVER,
+        mishap: Mishap::Fails,
+    }
+}
+
+/// What came of a job.
+#[derive(Drop)]
+pub struct Outcome {
+    pub answer: Result<Verdict, RunFault>,
+    pub out: Sheet,
+    /// Whether an input failed.
+    pub failed: bool,
+}
+
+/// Does a job.
+pub fn attempt(alloc: Global, job: &Job<'_>, manner: &Manner) -> Outcome {
+    let mut words = Feed::new(job.words, manner.piece, manner.reads[0]);
+    let mut lexicon = Feed::new(job.lexicon, manner.piece, manner.reads[1]);
+    let mut game = Feed::new(job.game, manner.piece, manner.reads[2]);
+    let mut out = Sheet::new(manner.piece, manner.writes, manner.mishap);
+    let rules = english_rules();
+    let answer = match job.call {
+        Call::Judge => run(alloc, &mut words, &mut lexicon, &mut game, &mut out, &rules),
+        Call::Top(rack) => run_top(
+            alloc,
+            &mut words,
+            &mut lexicon,
+            &mut game,
+            rack.as_bytes(),
+            &mut out,
+            &rules,
+        ),
+        Call::Build => run_build(alloc, &mut words, &mut out),
+        Call::Check => run_check(alloc, &mut words, &mut lexicon, &mut out),
+        Call::Tidy => run_tidy(alloc, &mut game, &mut out),
+    };
+    Outcome {
+        answer,
+        out,
+        failed: words.has_failed() || lexicon.has_failed() || game.has_failed(),
+    }
+}
