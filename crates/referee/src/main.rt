@@ -4,7 +4,6 @@
 #![tactic(auto)]
 
 mod command_line;
-mod exits;
 mod running;
 
 use crate::running::run_program;

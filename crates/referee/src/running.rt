@@ -1,8 +1,8 @@
 use crate::command_line::{Request, mistake, parse_arguments};
-use crate::exits::{Exit, Trouble};
 use clap::Error;
 use clap::error::ErrorKind;
 use devices::{FromRead, FromWrite};
+use endings::{Exit, Trouble};
 use engine::{Verdict, run, run_build, run_check, run_tidy, run_top};
 use ref_tiles::english_rules;
 use std::alloc::AllocError;

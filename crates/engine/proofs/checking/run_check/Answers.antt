@@ -1,3 +1,4 @@
+use Rattle.std.proofs.Common.{rules}
 use Rattle.std.specs.Io.KnownBytes.{Appends}
 use Rattle.engine.proofs.CheckedFiles.{refused_list, refused_list_stops}
 use Rattle.engine.proofs.WordListLaws.{refused_is}
@@ -21,3 +22,9 @@ returns-in-Ok-Refused-clause-gave_up g c =
     refused_list_stops listed.text (g.W.Input.device c.args.words.now) (g.W.Input.device c.read_list.new.words) (g.L.Input.device c.args.lexicon.now)
     c.in-Ok-Refused.decision c.send.result old new
     listed.given none c.in-Ok-Refused.ensures.worked c.send.ensures.fault c.send.ensures.stopped c.send.ensures.front
+
+pub returns-in-Ok-Refused-clause-bad_list : goal.returns-in-Ok-Refused-clause-bad_list
+returns-in-Ok-Refused-clause-bad_list g c = search rules
+
+pub returns-in-Ok-Refused-clause-worked : goal.returns-in-Ok-Refused-clause-worked
+returns-in-Ok-Refused-clause-worked g c = search rules

@@ -15,3 +15,9 @@ returns-in_default-clause-gave_up g c =
     refused_rack_stops c.args.rules.now c.args.rack.now (g.W.Input.device c.args.words.now) (g.L.Input.device c.args.lexicon.now) (g.G.Input.device c.args.game.now)
     c.in-Ok.decision c.send.result (g.O.Output.device c.args.out.now) (g.O.Output.device c.send.new.out) (search rules) c.in-Ok.ensures
     c.send.ensures.fault c.send.ensures.stopped c.send.ensures.front
+
+pub returns-in_default-clause-worked : goal.returns-in_default-clause-worked
+returns-in_default-clause-worked g c = search rules
+
+pub returns-in_default-clause-bad_rack : goal.returns-in_default-clause-bad_rack
+returns-in_default-clause-bad_rack g c = search rules

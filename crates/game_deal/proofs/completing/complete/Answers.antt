@@ -1,4 +1,4 @@
-use Rattle.std.proofs.Common.{◌∙◌}
+use Rattle.std.proofs.Common.{◌∙◌, rules}
 use Rattle.game_deal.proofs.PlainRecords.{run_given, plain_given}
 use Rattle.game_deal.proofs.completing.complete.Goals as goal
 
@@ -13,3 +13,6 @@ returns-clause-plain c =
     let passed = c.args.needs.now.passed.now in
     plain_given c.complete.result passed.rules.now c.rules.result.now passed.record.now.events c.deref.result.now
     c.rules.ensures (c.deref.ensures.value ∙ c.in_ok-steps.ensures) c.args.needs.now.bounded c.complete.ensures.plain
+
+pub returns-clause-dealt : goal.returns-clause-dealt
+returns-clause-dealt c = search rules

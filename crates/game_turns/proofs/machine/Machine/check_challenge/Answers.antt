@@ -1,0 +1,7 @@
+use Rattle.std.proofs.Common.{rules}
+use Rattle.game_turns.specs.Checks.{check_challenge}
+use Rattle.game_turns.proofs.machine.Machine.check_challenge.Goals as goal
+
+pub returns-then-not-any_listed-clause-told : goal.returns-then-not-any_listed-clause-told
+unfolding check_challenge
+returns-then-not-any_listed-clause-told c = search rules
