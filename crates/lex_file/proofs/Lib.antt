@@ -8,3 +8,4 @@ pub mod MaskRuns
 pub mod MaskChecks
 pub mod Trials
 mod Examples
+mod MaskExamples

@@ -1,8 +1,12 @@
 -- The arcs of a GAD2 node as the code reads them.
-use Rattle.std.proofs.Common.{◌≡◌, ℕ, zero, suc, ◌+◌, ◌-◌, ◌*◌, ◌/◌, ◌%◌, ◌^◌, ◌<◌, ◌≤◌, Bool, true, false, cond, eqb, leb, List, [], ◌∷◌, length, get_or, Some, None, inl, inr, refl, sym, ap, subst, ◌∙◌, add-one, arith}
+use Rattle.std.proofs.Common.{◌≡◌, ℕ, zero, suc, ◌+◌, ◌-◌, ◌*◌, ◌/◌, ◌%◌, ◌^◌, ◌<◌, ◌≤◌, Bool, true, false, cond, leb, List, get_or, Some, None, inl, inr, refl, sym, ap, subst, ◌∙◌, add-one, arith}
 use Rattle.std.specs.Prelude.{count_ones, bit_and}
 use Rattle.std.proofs.lemmas.Bool.{eq-eqb, le-leb, lt-leb, cases_lt}
-use Rattle.std.proofs.lemmas.Nat.{and_mask, ones-le, pow_pos, mod_below, one_shl}
+use Rattle.std.proofs.lemmas.Nat.{and_mask, ones-le, pow_pos, pow-add, mod_below, one_shl}
+use Rattle.std.proofs.lemmas.Nat.Bits.{bit_at_lowest, bit_at-suc}
+use Rattle.std.proofs.Math.Nat.{div-div-eq-div-mul}
+use Rattle.std.specs.Int.{bit_at}
+use lib.Count.{count_trailing_zeros, under}
 use Rattle.lex_file.specs.Arcs.{arc_with, arc_from}
 use Rattle.lex_file.specs.Masks.{has_bit, is_marked, labels_below, label_count, mask_arc, arcs_among, mask_node, labels_within, HasRoom, IsInside}
 use Rattle.lex_file.specs.SoundMasks.{among_has, among_lacks, among_none}
@@ -117,28 +121,90 @@ skip words place from (suc count) label le = elim (cases_lt from label) [
         drops ∙ more
     by false first less more = ap (λ arcs. arc_from label arcs) (among_lacks words place from count first) ∙ more
 
-pub starts_from : (words : List ℕ) (node label : ℕ) → 0 < node
+starts_from : (words : List ℕ) (node label : ℕ) → 0 < node
     → arc_from label (mask_node words node) ≡ arc_from label (arcs_among words (node - 1) label (27 - label))
 starts_from words node label some = rw (node_is words node some) (skip words (node - 1) 0 27 label (omega arith))
 
-pub here_from : (words : List ℕ) (place label next : ℕ) → label ≤ next → next < 27 → has_bit (get_or words place 0) next ≡ true
+here_from : (words : List ℕ) (place label next : ℕ) → label ≤ next → next < 27 → has_bit (get_or words place 0) next ≡ true
     → arc_from label (arcs_among words place next (27 - next)) ≡ Some (mask_arc words place next)
 here_from words place label next le lt is =
     let size : 27 - next ≡ suc (26 - next) = omega arith in
     let reached : leb label next ≡ true = le-leb label next le in
     rw size (rw (among_has words place next (26 - next) is) (rw reached refl))
 
-pub further_from : (words : List ℕ) (place label next : ℕ) → next < 27 → has_bit (get_or words place 0) next ≡ false
+further_from : (words : List ℕ) (place label next : ℕ) → next < 27 → has_bit (get_or words place 0) next ≡ false
     → arc_from label (arcs_among words place next (27 - next)) ≡ arc_from label (arcs_among words place (next + 1) (27 - (next + 1)))
 further_from words place label next lt no_bit =
     let size : 27 - next ≡ suc (26 - next) = omega arith in
     let rest : 27 - (next + 1) ≡ 26 - next = omega arith in
     rw (size, rest) (rw (among_lacks words place next (26 - next) no_bit) refl)
 
-pub past_from : (words : List ℕ) (place label next : ℕ) → 27 ≤ next → arc_from label (arcs_among words place next (27 - next)) ≡ None
+past_from : (words : List ℕ) (place label next : ℕ) → 27 ≤ next → arc_from label (arcs_among words place next (27 - next)) ≡ None
 past_from words place label next le =
     let size : 27 - next ≡ zero = omega arith in
     rw size (rw (among_none words place next) refl)
+
+-- ---- the lowest bit of a word behind some others
+
+clear_step : (n i bit rest : ℕ) → n % 2 ≡ bit → i < under bit rest → ((j : ℕ) → j < rest → bit_at (n / 2) j ≡ 0) → bit_at n i ≡ 0
+clear_step n i (suc bit) rest e lt more = absurd (omega arith)
+clear_step n zero zero rest e lt more = bit_at_lowest n ∙ e
+clear_step n (suc i) zero rest e lt more = bit_at-suc n i ∙ more i (omega arith)
+
+clear_below : (width n i : ℕ) → i < count_trailing_zeros width n → bit_at n i ≡ 0
+unfolding count_trailing_zeros
+clear_below zero n i lt = absurd (omega arith)
+clear_below (suc width) n i lt = clear_step n i (n % 2) (count_trailing_zeros width (n / 2)) refl lt (clear_below width (n / 2))
+
+set_step : (n bit rest width : ℕ) → n % 2 ≡ bit → under bit rest < suc width → (rest < width → bit_at (n / 2) rest ≡ 1) → bit_at n (under bit rest) ≡ 1
+set_step n zero rest width e lt more = bit_at-suc n rest ∙ more (omega arith)
+set_step n (suc bit) rest width e lt more = bit_at_lowest n ∙ (let small = mod_below n 2 (omega arith) in omega (arith, e, small))
+
+set_there : (width n : ℕ) → count_trailing_zeros width n < width → bit_at n (count_trailing_zeros width n) ≡ 1
+unfolding count_trailing_zeros
+set_there zero n lt = absurd (omega arith)
+set_there (suc width) n lt = set_step n (n % 2) (count_trailing_zeros width (n / 2)) width refl lt (set_there width (n / 2))
+
+bit_behind : (word label i : ℕ) → bit_at (word / 2 ^ label) i ≡ bit_at word (label + i)
+bit_behind word label i = ap (λ (n : ℕ). n % 2) (div-div-eq-div-mul word (2 ^ label) (2 ^ i) ∙ ap (λ (n : ℕ). word / n) (sym (pow-add 2 label i)))
+
+lacks_before : (word label i : ℕ) → i < count_trailing_zeros 32 (word / 2 ^ label) → has_bit word (label + i) ≡ false
+lacks_before word label i lt = let none = sym (bit_behind word label i) ∙ clear_below 32 (word / 2 ^ label) i lt in rw none refl
+
+pub has_next : (word label : ℕ) → label + count_trailing_zeros 32 (word / 2 ^ label) < 27 → has_bit word (label + count_trailing_zeros 32 (word / 2 ^ label)) ≡ true
+has_next word label lt =
+    let next = count_trailing_zeros 32 (word / 2 ^ label) in
+    let one = sym (bit_behind word label next) ∙ set_there 32 (word / 2 ^ label) (omega arith) in
+    eq-eqb (word / 2 ^ (label + next) % 2) 1 one
+
+over_clear : (words : List ℕ) (place label count : ℕ) → label + count ≤ 27
+    → ((i : ℕ) → i < count → has_bit (get_or words place 0) (label + i) ≡ false)
+    → arc_from label (arcs_among words place label (27 - label)) ≡ arc_from label (arcs_among words place (label + count) (27 - (label + count)))
+over_clear words place label zero le clear = let same : label + zero ≡ label = omega arith in rw same refl
+over_clear words place label (suc count) le clear =
+    let same : label + count + 1 ≡ label + suc count = omega arith in
+    over_clear words place label count (omega arith) (λ i lt. clear i (omega arith))
+    ∙ subst (λ (n : ℕ). arc_from label (arcs_among words place (label + count) (27 - (label + count))) ≡ arc_from label (arcs_among words place n (27 - n))) same
+    (further_from words place label (label + count) (omega arith) (clear count (omega arith)))
+
+pub next_from : (words : List ℕ) (node label : ℕ) → 0 < node → label + count_trailing_zeros 32 (get_or words (node - 1) 0 / 2 ^ label) < 27
+    → arc_from label (mask_node words node) ≡ Some (mask_arc words (node - 1) (label + count_trailing_zeros 32 (get_or words (node - 1) 0 / 2 ^ label)))
+next_from words node label some lt =
+    let next = count_trailing_zeros 32 (get_or words (node - 1) 0 / 2 ^ label) in
+    starts_from words node label some
+    ∙ over_clear words (node - 1) label next (omega arith) (lacks_before (get_or words (node - 1) 0) label)
+    ∙ here_from words (node - 1) label (label + next) (omega arith) lt (has_next (get_or words (node - 1) 0) label lt)
+
+pub none_from : (words : List ℕ) (node label : ℕ) → 0 < node → label < 27 → 27 ≤ label + count_trailing_zeros 32 (get_or words (node - 1) 0 / 2 ^ label)
+    → arc_from label (mask_node words node) ≡ None
+none_from words node label some low le =
+    starts_from words node label some
+    ∙ over_clear words (node - 1) label (27 - label) (omega arith) (λ i lt. lacks_before (get_or words (node - 1) 0) label i (omega arith))
+    ∙ past_from words (node - 1) label (label + (27 - label)) (omega arith)
+
+pub over_from : (words : List ℕ) (node label : ℕ) → 27 ≤ label → arc_from label (mask_node words node) ≡ None
+over_from words zero label le = refl
+over_from words (suc place) label le = starts_from words (suc place) label (omega arith) ∙ past_from words (suc place - 1) label label le
 
 -- ---- the number of labels
 

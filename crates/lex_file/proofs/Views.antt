@@ -1,5 +1,5 @@
 -- What an opened file has.
-use Rattle.std.proofs.Common.{◌≡◌, ℕ, zero, suc, ◌+◌, ◌-◌, ◌*◌, ◌^◌, ◌<◌, ◌≤◌, Bool, true, false, ◌&&◌, eqb, ltb, List, length, get_or, drop, Option, Some, inl, inr, refl, sym, ap, subst, ◌∙◌, arith}
+use Rattle.std.proofs.Common.{◌≡◌, ℕ, zero, suc, ◌+◌, ◌^◌, ◌<◌, ◌≤◌, Bool, true, false, ltb, List, length, get_or, drop, Option, Some, inl, inr, refl, sym, ap, subst, ◌∙◌, arith}
 use Rattle.std.specs.Prelude.{IsTrue, is_none}
 use Rattle.std.proofs.lemmas.Bool.{ltb-true, and_parts, cases_lt}
 use Rattle.lex_file.specs.declared.arcs.Arc.{Arc}
@@ -8,8 +8,8 @@ use Rattle.lex_file.specs.declared.formats.Format.{Format}
 use Rattle.lex_file.specs.declared.formats.Format.TheVariants as form
 use Rattle.lex_file.specs.FileWords.{words_in, body_of}
 use Rattle.lex_file.specs.Formats.{most_body_words}
-use Rattle.lex_file.specs.Nodes.{is_node, begins}
-use Rattle.lex_file.specs.Masks.{is_mask_node, is_marked, labels_within, HasRoom}
+use Rattle.lex_file.specs.Nodes.{begins}
+use Rattle.lex_file.specs.Masks.{is_marked, labels_within, HasRoom}
 use Rattle.lex_file.specs.Shapes.{format_of, fault_of, root_of, nodes_by, names_node, arcs_by, file_node, is_file_node, arc_count_of}
 use Rattle.lex_file.specs.Files.{IsNextNode}
 use Rattle.lex_file.specs.SoundFiles as files

@@ -1,8 +1,8 @@
 -- Graphs of nodes, whatever the format that stores them: each node has a number and arcs. What makes a graph sound, and
 -- what follows for the strings that its arcs spell.
-use Rattle.std.proofs.Common.{◌≡◌, ℕ, zero, suc, ◌+◌, ◌<◌, ◌≤◌, Bool, true, false, cond, ◌||◌, ltb, List, [], ◌∷◌, length, Option, Some, None, inl, inr, ◌⊎◌, refl, sym, ap, subst, ◌∙◌, arith}
+use Rattle.std.proofs.Common.{◌≡◌, ℕ, zero, suc, ◌<◌, ◌≤◌, Bool, true, false, cond, ◌||◌, ltb, List, [], ◌∷◌, length, Option, Some, None, inl, inr, ◌⊎◌, refl, sym, subst, ◌∙◌, arith}
 use Rattle.std.specs.Prelude.{IsTrue}
-use Rattle.std.proofs.lemmas.Bool.{ltb-true, eqb-true, false≢true, and_from, lt-ltb}
+use Rattle.std.proofs.lemmas.Bool.{eqb-true, false≢true, and_from, lt-ltb}
 use Rattle.std.specs.List.{Contains, find, list_all}
 use Rattle.lex_file.specs.declared.arcs.Arc.{Arc}
 use Rattle.lex_file.specs.Arcs.{has_label, arc_with, accepts_of, target_of}

@@ -13,7 +13,7 @@ use Rattle.lex_file.specs.declared.formats.Format.TheVariants as form
 use Rattle.lex_file.specs.FileWords.{words_in, body_of}
 use Rattle.lex_file.specs.Formats.{header_bytes, most_arcs, most_body_words}
 use Rattle.lex_file.specs.Nodes.{node_at, begins, is_node}
-use Rattle.lex_file.specs.Masks.{mask_node, is_mask_node, HasRoom}
+use Rattle.lex_file.specs.Masks.{is_mask_node, HasRoom}
 use Rattle.lex_file.specs.MaskShapes.{nodes_fault}
 use Rattle.lex_file.specs.Shapes.{format_of, arcs_fault, body_fault, header_fault, mask_header_fault, form_fault, fault_of, root_of, count_of, nodes_by, names_node, file_node, is_file_node}
 use Rattle.lex_file.specs.Lexicons.{is_label}

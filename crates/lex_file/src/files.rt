@@ -142,10 +142,10 @@ impl<'a> LexFile<'a> {
         }
     }
 
-    /// The first arc of a node whose label is this one or a higher one.
-    fn arc_from(&self, node: Node, label: u8) -> Option<Arc>
-        requires { IsTrue (is_file_node (bytes_of self.now) node.first) }
-        ensures { result ≡ arc_from label (file_node (bytes_of self.now) node.first) }
+    /// The first stored arc of one of the file's nodes whose label is this one or a higher one, or None where there is none.
+    pub fn arc_from(&self, node: Node, label: u8) -> Option<Arc>
+        requires { IsTrue (is_file_node (bytes_of self.now) (number_of node)) }
+        ensures { result ≡ arc_from label (file_node (bytes_of self.now) (number_of node)) }
     {
         match self.format {
             Format::Gad1 => arc_from(self.body(), node.first, label),
@@ -175,8 +175,9 @@ impl<'a> LexFile<'a> {
 }
 
 impl<'a> PathLex for LexFile<'a> {
-    ghost use Rattle.std.specs.Prelude.{◌≡◌, IsTrue};
-    ghost use Rattle.lex_file.specs.Shapes.{is_file_node};
+    ghost use Rattle.std.specs.Prelude.{◌≡◌, ℕ, List, IsTrue};
+    ghost use Rattle.lex_file.specs.Files.{bytes_of, number_of};
+    ghost use Rattle.lex_file.specs.Shapes.{root_of, is_file_node};
     ghost use Rattle.lex_file.specs.Languages.{file_tail, language_of};
     ghost use Rattle.lex_file.specs.SoundFiles.{file_nonempty, file_labels, file_bounded};
 
@@ -191,7 +192,11 @@ impl<'a> PathLex for LexFile<'a> {
     ghost height = { λ file node. node.first };
 
     #[tactic(auto, using(crate::proofs::Views::header_words, crate::proofs::Views::root_is_node))]
-    fn root(&self) -> Node {
+    fn root(&self) -> Node
+        ensures node { IsTrue (is_file_node (bytes_of self.now) (number_of result)) }
+        ensures tails { (string : List ℕ) → file_tail (bytes_of self.now) (number_of result) string ≡ language_of (bytes_of self.now) string }
+        ensures number { number_of result ≡ root_of (bytes_of self.now) }
+    {
         Node {
             first: word_at(self.bytes, 2),
         }

@@ -86,22 +86,20 @@ pub fn arc_with_mask(body: &[u8], node: u32, label: u8) -> Option<Arc>
 }
 
 /// The first arc of a node whose label is this one or a higher one.
-#[tactic(auto, using(crate::proofs::MaskRuns::room_at, crate::proofs::MaskRuns::starts_from, crate::proofs::MaskRuns::here_from, crate::proofs::MaskRuns::further_from, crate::proofs::MaskRuns::past_from))]
+#[tactic(auto, using(crate::proofs::MaskRuns::room_at, crate::proofs::MaskRuns::has_next, crate::proofs::MaskRuns::next_from, crate::proofs::MaskRuns::none_from, crate::proofs::MaskRuns::over_from))]
 pub fn arc_from_mask(body: &[u8], node: u32, label: u8) -> Option<Arc>
     requires { HasRoom (words_in body.now) node }
     ensures { result ≡ arc_from label (mask_node (words_in body.now) node) }
 {
-    if node == 0 {
+    if node == 0 || label >= LABELS {
         return None;
     }
     let place = node as usize - 1;
-    let labels = word_at(body, place);
-    for next in label..LABELS {
-        if has_bit(labels, next) {
-            return Some(mask_arc(body, place, next));
-        }
+    let next = label + (word_at(body, place) >> label).trailing_zeros() as u8;
+    if next >= LABELS {
+        return None;
     }
-    None
+    Some(mask_arc(body, place, next))
 }
 
 /// The number of labels of all nodes.

@@ -1,7 +1,6 @@
 use Rattle.std.proofs.Common.{ℕ, List, length, ap, ◌∙◌, arith}
 use Rattle.lex_file.specs.declared.formats.Format.TheVariants as form
 use Rattle.lex_file.specs.FileWords.{words_in}
-use Rattle.lex_file.specs.Masks.{labels_within}
 use Rattle.lex_file.proofs.Views.{arcs_are, few_words, few_labels}
 use Rattle.lex_file.proofs.files.LexFile.arc_count.Goals as goal
 
