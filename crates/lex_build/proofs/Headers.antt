@@ -4,18 +4,20 @@ use Rattle.std.proofs.Math.ListN.{length-drop, drop_of_length-le}
 use Rattle.std.proofs.lemmas.Bool.{le-leb, eq-eqb, ltb-true, and_parts}
 use Rattle.byteorder.specs.Endian.{little_number, little_bytes}
 use Rattle.lex_file.specs.FileWords.{words_in, body_of}
-use Rattle.lex_file.specs.Formats.{header_bytes, gad1_magic, most_arcs}
+use Rattle.lex_file.specs.Formats.{header_bytes, gad1_magic, gad2_magic, most_arcs, most_body_words}
 use Rattle.lex_file.specs.Nodes.{begins, is_node, node_at}
 use Rattle.lex_list.specs.RotatedPaths.{StandsFor}
+use Rattle.lex_file.specs.declared.formats.Format.{Format}
 use Rattle.lex_file.specs.declared.formats.Format.TheVariants as form
-use Rattle.lex_file.specs.Shapes.{format_of, count_of, root_of, word_count_of, body_fault, header_fault, form_fault, fault_of}
+use Rattle.lex_file.specs.Shapes.{format_of, count_of, root_of, word_count_of, body_fault, header_fault, mask_header_fault, form_fault, fault_of, names_node}
 use Rattle.lex_file.specs.Languages.{tail_in}
 use Rattle.lex_file.specs.SoundFiles.{file_tail_is}
-use Rattle.lex_build.specs.Bodies.{IsBody, IsKept, is_target}
+use Rattle.lex_build.specs.Bodies.{IsKept, is_target}
 use Rattle.lex_check.specs.Stretches.{IsPathList, is_one_of}
 use Rattle.smallvec.specs.SmallVec.{SmallVec}
 use Rattle.lex_build.specs.Builds.{IsBuiltOf, IsUnbuilt}
-use Rattle.lex_build.specs.Headers.{header_of, IsFileOf}
+use Rattle.lex_build.specs.Headers.{magic_of, header_of, IsFileOf}
+use Rattle.lex_build.specs.Stores.{limit_of, IsSoundBody}
 use Rattle.lex_build.specs.Walks.{IsWritten, IsUnwritten}
 use Rattle.lex_build.specs.declared.faults.BuildFault.{BuildFault}
 use Rattle.lex_build.specs.declared.faults.BuildFault.TheVariants as why
@@ -31,79 +33,114 @@ not_below n m le = by (ltb n m) refl
 
 -- ---- the words of a header
 
-header_words : (arcs root words : ℕ) (rest : List ℕ) → arcs < 2 ^ 32 → root < 2 ^ 32 → words < 2 ^ 32
-    → words_in (header_of arcs root words ++ rest) ≡ little_number 4 (gad1_magic) ∷ arcs ∷ root ∷ words ∷ words_in rest
+after_magic : (magic count root words : ℕ) (rest : List ℕ) → count < 2 ^ 32 → root < 2 ^ 32 → words < 2 ^ 32
+    → magic ∷ words_in (little_bytes 4 count ++ little_bytes 4 root ++ little_bytes 4 words ++ rest) ≡ magic ∷ count ∷ root ∷ words ∷ words_in rest
+after_magic magic count root words rest a b c =
+    ap (λ (xs : List ℕ). magic ∷ xs) (word_back count (little_bytes 4 root ++ little_bytes 4 words ++ rest) a)
+    ∙ ap (λ (xs : List ℕ). magic ∷ count ∷ xs) (word_back root (little_bytes 4 words ++ rest) b)
+    ∙ ap (λ (xs : List ℕ). magic ∷ count ∷ root ∷ xs) (word_back words rest c)
+
+header_words : (format : Format) (count root words : ℕ) (rest : List ℕ) → count < 2 ^ 32 → root < 2 ^ 32 → words < 2 ^ 32
+    → words_in (header_of format count root words ++ rest) ≡ little_number 4 (magic_of format) ∷ count ∷ root ∷ words ∷ words_in rest
 unfolding words_in
-header_words arcs root words rest a b c =
-    let first = little_number 4 (gad1_magic) in
-    ap (λ (xs : List ℕ). first ∷ xs) (word_back arcs (little_bytes 4 root ++ little_bytes 4 words ++ rest) a)
-    ∙ ap (λ (xs : List ℕ). first ∷ arcs ∷ xs) (word_back root (little_bytes 4 words ++ rest) b)
-    ∙ ap (λ (xs : List ℕ). first ∷ arcs ∷ root ∷ xs) (word_back words rest c)
+header_words form.Gad1 count root words rest a b c = after_magic (little_number 4 gad1_magic) count root words rest a b c
+header_words form.Gad2 count root words rest a b c = after_magic (little_number 4 gad2_magic) count root words rest a b c
 
-module _ (rest : List ℕ) (arcs root words : ℕ) (whole : length rest ≡ 4 * length (words_in rest)) (body : IsBody (words_in rest))
-    (number : arcs ≡ length (words_in rest)) (node : is_node (words_in rest) root ≡ true) (a : root < 2 ^ 32) (b : words < 2 ^ 32) where
+-- behind the header are the words of its file
+header_body : (format : Format) (count root words : ℕ) (rest : List ℕ) → body_of (header_of format count root words ++ rest) ≡ words_in rest
+header_body form.Gad1 count root words rest = refl
+header_body form.Gad2 count root words rest = refl
+
+header_format : (format : Format) (count root words : ℕ) (rest : List ℕ) → format_of (header_of format count root words ++ rest) ≡ Some format
+header_format form.Gad1 count root words rest = refl
+header_format form.Gad2 count root words rest = refl
+
+header_length : (format : Format) (count root words : ℕ) (rest : List ℕ) → length (header_of format count root words ++ rest) ≡ header_bytes + length rest
+header_length form.Gad1 count root words rest = omega arith
+header_length form.Gad2 count root words rest = omega arith
+
+pub body_few : (format : Format) (words : List ℕ) → IsSoundBody format words → length words ≤ limit_of format
+body_few form.Gad1 words body = body.few
+body_few form.Gad2 words body = body.few
+
+pub few_limit : (format : Format) → limit_of format ≤ most_body_words
+few_limit form.Gad1 = omega arith
+few_limit form.Gad2 = omega arith
+
+-- what the checks of the form ask for
+shape_by : (format : Format) (bytes : List ℕ) → format_of bytes ≡ Some format → count_of bytes ≤ limit_of format → length bytes ≡ header_bytes + 4 * count_of bytes
+    → names_node (Some format) (body_of bytes) (root_of bytes) ≡ true → IsSoundBody format (body_of bytes) → fault_of bytes ≡ None
+unfolding fault_of form_fault header_fault mask_header_fault body_fault
+shape_by form.Gad1 bytes is few size node body =
+    let long : ltb (length bytes) header_bytes ≡ false = not_below (length bytes) header_bytes (omega arith) in
+    let one : leb (count_of bytes) most_arcs ≡ true = le-leb (count_of bytes) most_arcs few in
+    let two : eqb (length bytes) (header_bytes + 4 * count_of bytes) ≡ true = eq-eqb (length bytes) (header_bytes + 4 * count_of bytes) size in
+    let fine = body.fine in
+    let closed = body.closed in
+    rw (long, is, one, two, node, fine, closed) refl
+shape_by form.Gad2 bytes is few size node body =
+    let long : ltb (length bytes) header_bytes ≡ false = not_below (length bytes) header_bytes (omega arith) in
+    let one : leb (count_of bytes) most_body_words ≡ true = le-leb (count_of bytes) most_body_words few in
+    let two : eqb (length bytes) (header_bytes + 4 * count_of bytes) ≡ true = eq-eqb (length bytes) (header_bytes + 4 * count_of bytes) size in
+    let fine = body.fine in
+    rw (long, is, one, two, node, fine) refl
+
+-- A file of a format: its header, and words that are sound in the format.
+pub record IsFiled (format : Format) (count root words : ℕ) (rest : List ℕ) : Type 0 where
+  pub whole : length rest ≡ 4 * length (words_in rest)
+  pub body : IsSoundBody format (words_in rest)
+  pub number : count ≡ length (words_in rest)
+  pub node : names_node (Some format) (words_in rest) root ≡ true
+  pub root_fits : root < 2 ^ 32
+  pub words_fit : words < 2 ^ 32
+
+module _ (format : Format) (rest : List ℕ) (count root words : ℕ) (filed : IsFiled format count root words rest) where
   file : List ℕ
-  file = header_of arcs root words ++ rest
+  file = header_of format count root words ++ rest
 
-  words_are : words_in file ≡ little_number 4 (gad1_magic) ∷ arcs ∷ root ∷ words ∷ words_in rest
+  words_are : words_in file ≡ little_number 4 (magic_of format) ∷ count ∷ root ∷ words ∷ words_in rest
   unfolding file
-  words_are = let few = body.few in header_words arcs root words rest (omega arith) a b
+  words_are =
+      let few = body_few format (words_in rest) filed.body in
+      header_words format count root words rest (omega (arith, few, few_limit format, filed.number)) filed.root_fits filed.words_fit
 
-  count_is : count_of file ≡ arcs
+  count_is : count_of file ≡ count
   count_is = ap (λ (xs : List ℕ). get_or xs 1 0) words_are
 
-  root_is : root_of file ≡ root
+  pub root_is : root_of (header_of format count root words ++ rest) ≡ root
+  unfolding file
   root_is = ap (λ (xs : List ℕ). get_or xs 2 0) words_are
 
-  words_is : word_count_of file ≡ words
+  pub words_is : word_count_of (header_of format count root words ++ rest) ≡ words
+  unfolding file
   words_is = ap (λ (xs : List ℕ). get_or xs 3 0) words_are
 
-  body_is : body_of file ≡ words_in rest
+  pub body_is : body_of (header_of format count root words ++ rest) ≡ words_in rest
+  body_is = header_body format count root words rest
+
+  pub format_is : format_of (header_of format count root words ++ rest) ≡ Some format
+  format_is = header_format format count root words rest
+
+  pub shape_is : fault_of (header_of format count root words ++ rest) ≡ None
   unfolding file
-  body_is = refl
-
-  format_is : format_of file ≡ Some form.Gad1
-  unfolding file
-  format_is = refl
-
-  size_is : length file ≡ header_bytes + length rest
-  unfolding file
-  size_is = omega arith
-
-  header_none : header_fault file ≡ None
-  unfolding header_fault
-  header_none =
-      let few = body.few in
-      let size = size_is in
-      let one : leb (count_of file) most_arcs ≡ true = le-leb (count_of file) most_arcs (rw count_is (omega arith)) in
-      let two : eqb (length file) (header_bytes + 4 * count_of file) ≡ true = eq-eqb (length file) (header_bytes + 4 * count_of file) (rw count_is (omega arith)) in
-      let three : is_node (body_of file) (root_of file) ≡ true = rw (root_is, body_is) node in
-      rw (one, two, three) refl
-
-  body_none : body_fault (body_of file) ≡ None
-  unfolding body_fault
-  body_none = let fine = body.fine in let closed = body.closed in rw (body_is, fine, closed) refl
-
-  shape_is : fault_of file ≡ None
-  unfolding fault_of form_fault
   shape_is =
-      let size = size_is in
-      let long : ltb (length file) header_bytes ≡ false = not_below (length file) header_bytes (omega arith) in
-      rw (long, format_is, header_none, body_none) refl
+      let few = body_few format (words_in rest) filed.body in
+      let whole = filed.whole in
+      shape_by format file format_is (rw count_is (omega (arith, few, filed.number))) (header_length format count root words rest ∙ omega (arith, count_is, whole, filed.number))
+      (rw (root_is, body_is) filed.node) (rw body_is filed.body)
 
-  pub file_is : (has : List ℕ → Bool) (bytes : List ℕ) → ((string : List ℕ) → tail_in (node_at (words_in rest)) root string ≡ has string)
-      → bytes ≡ header_of arcs root words ++ rest → IsFileOf has words bytes
-  unfolding file
-  file_is has bytes tails e = subst (IsFileOf has words) (sym e) (record {
-    format = format_is;
-    shape = shape_is;
-    strings = λ string.
-        file_tail_is file (root_of file) string format_is
-        ∙ ap (λ (n : ℕ). tail_in (node_at (body_of file)) n string) root_is
-        ∙ ap (λ (xs : List ℕ). tail_in (node_at xs) root string) body_is
-        ∙ tails string;
-    count = words_is;
-  })
+file_is : (rest : List ℕ) (count root words : ℕ) → IsFiled form.Gad1 count root words rest → (has : List ℕ → Bool) (bytes : List ℕ)
+    → ((string : List ℕ) → tail_in (node_at (words_in rest)) root string ≡ has string) → bytes ≡ header_of form.Gad1 count root words ++ rest → IsFileOf has words bytes
+file_is rest count root words filed has bytes tails e = subst (IsFileOf has words) (sym e) (record {
+  format = format_is form.Gad1 rest count root words filed;
+  shape = shape_is form.Gad1 rest count root words filed;
+  strings = λ string.
+      let file = header_of form.Gad1 count root words ++ rest in
+      file_tail_is file (root_of file) string (format_is form.Gad1 rest count root words filed)
+      ∙ ap (λ (n : ℕ). tail_in (node_at (words_in rest)) n string) (root_is form.Gad1 rest count root words filed)
+      ∙ tails string;
+  count = words_is form.Gad1 rest count root words filed;
+})
 
 -- ---- what a walk from the root gives
 
@@ -121,16 +158,18 @@ written_back old new len size same =
     let none : drop (length new) old ≡ [] = drop_of_length-le old {i = length new} (omega arith) in
     rw (size, none, append-nil) (take_all new (length old) (omega arith))
 
-pub filled : (arcs root words : ℕ) (old mid new : List ℕ) → mid ≡ old → new ≡ header_of arcs root words ++ drop header_bytes mid → new ≡ header_of arcs root words ++ drop header_bytes old
-filled arcs root words old mid new same e = e ∙ ap (λ (xs : List ℕ). header_of arcs root words ++ drop header_bytes xs) same
+pub filled : (format : Format) (count root words : ℕ) (old mid new : List ℕ) → mid ≡ old → new ≡ header_of format count root words ++ drop header_bytes mid
+    → new ≡ header_of format count root words ++ drop header_bytes old
+filled format count root words old mid new same e = e ∙ ap (λ (xs : List ℕ). header_of format count root words ++ drop header_bytes xs) same
 
-pub header_size : (arcs root words : ℕ) (old new : List ℕ) → header_bytes ≤ length old → new ≡ header_of arcs root words ++ drop header_bytes old → length new ≡ length old
-header_size arcs root words old new long e =
+pub header_size : (format : Format) (count root words : ℕ) (old new : List ℕ) → header_bytes ≤ length old
+    → new ≡ header_of format count root words ++ drop header_bytes old → length new ≡ length old
+header_size format count root words old new long e =
     let size = length-drop header_bytes old in
-    rw e (omega arith)
+    ap length e ∙ header_length format count root words (drop header_bytes old) ∙ omega (arith, size)
 
 pub lexicon_file : (has : List ℕ → Bool) (words : ℕ) (new old kept : List ℕ) (nodes : List (SmallVec ℕ × ℕ)) (tail : List ℕ → Bool) (root : ℕ)
-    → new ≡ header_of (length (body_of kept)) root words ++ drop header_bytes kept → IsKept kept nodes → IsWritten (body_of old) (body_of kept) tail root → body_of old ≡ []
+    → new ≡ header_of form.Gad1 (length (body_of kept)) root words ++ drop header_bytes kept → IsKept kept nodes → IsWritten (body_of old) (body_of kept) tail root → body_of old ≡ []
     → ((string : List ℕ) → tail string ≡ has string) → words < 2 ^ 32 → IsFileOf has words new
 lexicon_file has words new old kept nodes tail root e is written none same small =
     let whole = is.whole in
@@ -138,8 +177,16 @@ lexicon_file has words new old kept nodes tail root e is written none same small
     let few = body.few in
     let size = length-drop header_bytes kept in
     let inside = first_inside (body_of kept) root written.target in
-    file_is (drop header_bytes kept) (length (body_of kept)) root words (omega arith) body refl (root_node (body_of old) (body_of kept) tail root none written) (omega arith) small has new
-    (λ string. written.tails string ∙ same string) e
+    file_is (drop header_bytes kept) (length (body_of kept)) root words
+    (record {
+      whole = omega arith;
+      body = body;
+      number = refl;
+      node = root_node (body_of old) (body_of kept) tail root none written;
+      root_fits = omega arith;
+      words_fit = small;
+    })
+    has new (λ string. written.tails string ∙ same string) e
 
 pub lexicon_fault : (old : List ℕ) (tail has : List ℕ → Bool) (fault : BuildFault) → old ≡ [] → ((string : List ℕ) → tail string ≡ has string)
     → IsUnwritten old tail fault → IsUnwritten [] has fault

@@ -1,6 +1,14 @@
 pub mod Growth
 pub mod Bytes
+pub mod MaskBits
+pub mod MaskNodes
+pub mod MaskGrowth
+pub mod MaskStoring
 pub mod Placing
+pub mod ArcStoring
 pub mod Labels
 pub mod Gathering
 pub mod Headers
+pub mod Renaming
+pub mod Converted
+pub mod NewArcs

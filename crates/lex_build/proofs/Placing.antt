@@ -35,7 +35,7 @@ marked_last word unmarked =
     let other = eqb-false (word / 64 % 2) 1 unmarked in
     eq-eqb ((word + 64) / 64 % 2) 1 (omega arith)
 
-run_length : (arcs : List ℕ) → length (run_with arcs) ≡ length arcs
+pub run_length : (arcs : List ℕ) → length (run_with arcs) ≡ length arcs
 unfolding run_with
 run_length [] = refl
 run_length (word ∷ []) = refl
@@ -57,7 +57,7 @@ run_arc (word ∷ []) (suc place) unmarked lt = absurd (omega arith)
 run_arc (word ∷ next ∷ arcs) zero unmarked lt = refl
 run_arc (word ∷ next ∷ arcs) (suc place) unmarked lt = run_arc (next ∷ arcs) place (λ place lt. unmarked (suc place) (omega arith)) (omega arith)
 
-run_inner : (arcs : List ℕ) (place : ℕ) → ((place : ℕ) → place < length arcs → is_last (get_or arcs place 0) ≡ false) → place + 1 < length arcs
+pub run_inner : (arcs : List ℕ) (place : ℕ) → ((place : ℕ) → place < length arcs → is_last (get_or arcs place 0) ≡ false) → place + 1 < length arcs
     → is_last (get_or (run_with arcs) place 0) ≡ false
 unfolding run_with
 run_inner [] place unmarked lt = absurd (omega arith)
@@ -81,7 +81,7 @@ unfolding start_at
 start_closed words zero is = refl
 start_closed words (suc place) is = rw is (omega arith)
 
-first_inside : (words : List ℕ) (n : ℕ) → is_first words n ≡ true → n ≤ length words
+pub first_inside : (words : List ℕ) (n : ℕ) → is_first words n ≡ true → n ≤ length words
 first_inside words zero is = absurd (false≢true is)
 first_inside words (suc place) is = let lt = ltb-true place (length words) (and_parts (ltb place (length words)) (begins words place) is).0 in omega arith
 

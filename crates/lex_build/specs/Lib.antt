@@ -1,5 +1,9 @@
 pub mod Builds
 pub mod Bodies
+pub mod NodeWords
 pub mod Labels
 pub mod Walks
 pub mod Headers
+pub mod Stores
+pub mod Converts
+pub mod Conversions

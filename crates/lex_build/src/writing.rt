@@ -1,15 +1,17 @@
 ghost use Rattle.std.specs.Prelude.{◌≡◌, ◌+◌, ◌<◌, ◌≤◌, ℕ, [], ◌∷◌, ◌++◌, false, None, length, drop, slice_index, OnOk, IfOk, IfErr};
 ghost use Rattle.lex_file.specs.Arcs.{is_last};
 ghost use Rattle.lex_file.specs.FileWords.{body_of};
+ghost use Rattle.lex_file.specs.declared.formats.Format.TheVariants as form;
 ghost use Rattle.lex_file.specs.Formats.{header_bytes};
 ghost use Rattle.lex_build.specs.Headers.{header_of};
 ghost use Rattle.lex_build.specs.Bodies.{IsWhole, HasAppended, IsArcList, IsKept, IsPlaced, IsUnplaced, run_with, number_in};
 
 use crate::arcs::{Arcs, last_arc_word};
 use crate::faults::BuildFault;
+use crate::heading::with_header;
 use byteorder::{ByteOrder, LittleEndian};
 use indexmap::IndexMap;
-use lex_file::{GAD1_MAGIC, HEADER_BYTES, MAX_ARCS};
+use lex_file::{Format, HEADER_BYTES, MAX_ARCS};
 use std::alloc::{AllocError, Global};
 
 /// A file that is being written.
@@ -92,21 +94,19 @@ impl Writer {
     }
 
     /// The bytes of the file, with a root and a number of words.
-    #[tactic(auto, using(crate::proofs::Headers::written_back, crate::proofs::Headers::filled, crate::proofs::Headers::header_size))]
     pub fn finish(self, root: u32, words: u32) -> Vec<u8>
         requires { IsKept self.bytes.items self.nodes.entries }
-        ensures { result.items ≡ header_of (length (body_of self.bytes.items)) root words ++ drop header_bytes self.bytes.items }
+        ensures { result.items ≡ header_of form.Gad1 (length (body_of self.bytes.items)) root words ++ drop header_bytes self.bytes.items }
     {
         let arcs = self.arc_count() as u32;
-        let Writer { mut bytes, .. } = self;
-        fill_header(&mut bytes, arcs, root, words);
-        bytes
+        let Writer { bytes, .. } = self;
+        with_header(bytes, Format::Gad1, arcs, root, words)
     }
 }
 
 /// Appends the word of an arc.
 #[tactic(auto, using(crate::proofs::Bytes::pushed))]
-fn push_word(bytes: &mut Vec<u8>, word: u32) -> Result<(), AllocError>
+pub fn push_word(bytes: &mut Vec<u8>, word: u32) -> Result<(), AllocError>
     requires { IsWhole bytes.old.items }
     ensures { OnOk result (HasAppended bytes.old.items bytes.new.items (word ∷ [])) }
 {
@@ -141,15 +141,4 @@ fn push_arcs(bytes: &mut Vec<u8>, arcs: &[u32]) -> Result<(), AllocError>
     push_words(bytes, inner)?;
     push_word(bytes, last_arc_word(*last))?;
     Ok(())
-}
-
-/// Fills in the header of a file.
-fn fill_header(bytes: &mut [u8], arcs: u32, root: u32, words: u32)
-    requires { header_bytes ≤ length bytes.old }
-    ensures { bytes.new ≡ header_of arcs root words ++ drop header_bytes bytes.old }
-{
-    bytes[..4].copy_from_slice(&GAD1_MAGIC);
-    LittleEndian::write_u32(&mut bytes[4..], arcs);
-    LittleEndian::write_u32(&mut bytes[8..], root);
-    LittleEndian::write_u32(&mut bytes[12..], words);
 }
