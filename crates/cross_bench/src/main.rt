@@ -1,15 +1,19 @@
-//! Measures cross-sets on the board in the middle of a game: `cross_bench WORDS`. It prints the processor time of one check of the
-//! lexicon of the words, of cross-sets made afresh, and of a copy of them brought up after each tile of a play; and the sum of
-//! some points beside, so that no round is left out.
+//! Measures cross-sets: `cross_bench WORDS RECORD`. It prints the processor time of one check of the lexicon of the words; on the
+//! board in the middle of a game the times of cross-sets made afresh, and of a copy of them brought up to plays of 1 to 7
+//! tiles, once for the play and tile by tile; and for each play of the record, on its own board, how many tiles it has, and the times
+//! of bringing a copy up once and of making cross-sets afresh. The sums of some points stand beside, so that no round is left
+//! out.
 #![tactic(auto)]
 
 use devices::{FromRead, read_within};
+use gcg_read::{EventKind, Record, Text, read};
 use gen_cross::Cross;
 use lex_build::build;
 use lex_check::check;
 use lex_file::LexFile;
 use lex_list::WordList;
 use ref_board::{Board, Dir, SIDE, Square};
+use ref_play::{Play, from_text};
 use ref_tiles::{Letter, Rules, Tile, english_rules};
 use std::process::ExitCode;
 use std::rt::Runtime;
@@ -35,31 +39,23 @@ const ROWS: [&[u8]; 15] = [
     b"...............",
 ];
 
-/// A tile of a play: its row and its column, both from 0, and its letter.
-type Laid = (usize, usize, u8);
+/// Where the text of the plays begins: row 12, column D, below the I of PILE.
+const START: (usize, usize) = (11, 3);
 
-/// The next play of that game, D10 F.G.
-const NEXT: [Laid; 2] = [(9, 3, b'F'), (11, 3, b'G')];
+/// The letters of the longest of these plays; each other one is a front of it. Three of them lie below other tiles.
+const RETAINS: &[u8] = b"RETAINS";
 
-/// A play of seven tiles on row 12, three of them below other tiles.
-const LONG: [Laid; 7] = [
-    (11, 3, b'R'),
-    (11, 4, b'E'),
-    (11, 5, b'T'),
-    (11, 6, b'A'),
-    (11, 7, b'I'),
-    (11, 8, b'N'),
-    (11, 9, b'S'),
-];
+/// How many tiles these plays have.
+const SIZES: [usize; 6] = [1, 2, 3, 4, 5, 7];
 
 /// The most bytes of a word list.
 const LIMIT: usize = 64 << 20;
 
 /// How often cross-sets are made afresh.
-const MADE: u32 = 20_000;
+const MADE: u32 = 2_000;
 
-/// How often they are brought up after a play.
-const KEPT: u32 = 100_000;
+/// How often they are brought up to a play.
+const KEPT: u32 = 20_000;
 
 fn main(rt: HostRuntime) -> ExitCode {
     match measure(&rt) {
@@ -68,45 +64,103 @@ fn main(rt: HostRuntime) -> ExitCode {
     }
 }
 
-/// Measures all three. There is nothing to tell where the words cannot be read.
+/// Measures all. There is nothing to tell where the words or the record cannot be read.
 fn measure<R: Runtime + AllocGlobal + CpuClock>(rt: &R) -> Option<()> {
     let args: Vec<String> = env::args(rt).ok()?.collect(rt.alloc()).ok()?;
     let mut input = FromRead::new(fs::open(rt, args.get(1)?.as_str()).ok()?);
     let text = read_within(rt.alloc(), &mut input, LIMIT).ok()?;
+    let mut game = FromRead::new(fs::open(rt, args.get(2)?.as_str()).ok()?);
+    let game = read_within(rt.alloc(), &mut game, LIMIT).ok()?;
+    let record = read(rt.alloc(), game.as_slice()).ok()?;
     let list = WordList::read(rt.alloc(), text.as_slice()).ok()?;
     let bytes = build(rt.alloc(), &list).ok()?;
     let file = LexFile::open(bytes.as_slice()).ok()?;
     let start = rt.process_cpu_time().ok()?;
     check(rt.alloc(), &list, &file).ok()?;
     tell(rt, "check", start, 1, 0)?;
-    measure_crosses(rt, &file)
+    measure_middle(rt, &file)?;
+    measure_record(rt, &file, &record)
 }
 
-/// Measures the cross-sets by a lexicon.
-fn measure_crosses<R: Runtime + CpuClock>(rt: &R, file: &LexFile<'_>) -> Option<()> {
-    let rules = english_rules();
+/// Measures plays of some sizes on the board in the middle of a game.
+fn measure_middle<R: Runtime + CpuClock>(rt: &R, file: &LexFile<'_>) -> Option<()> {
     let board = middle();
-    let start = rt.process_cpu_time().ok()?;
-    let points = made_points(&rules, &board, file);
-    tell(rt, "scratch", start, MADE, points)?;
-    measure_play(rt, file, "copy alone", &[])?;
-    measure_play(rt, file, "after_put of two tiles", &NEXT)?;
-    measure_play(rt, file, "after_put of seven tiles", &LONG)
+    let at = Square::new(START.0, START.1)?;
+    measure_copy(rt, file, &board)?;
+    for size in SIZES {
+        let text = Text::of_bytes(RETAINS.get(..size)?)?;
+        let play = from_text(&board, at, Dir::Across, text.as_slice()).ok()?;
+        measure_play(rt, file, &board, &play)?;
+        measure_puts(rt, file, &board, &play)?;
+    }
+    Some(())
 }
 
-/// Measures the cross-sets that are brought up after a play.
+/// Measures the plays of a record, each on its own board.
+fn measure_record<R: Runtime + CpuClock>(
+    rt: &R,
+    file: &LexFile<'_>,
+    record: &Record,
+) -> Option<()> {
+    let mut before = Board::empty();
+    let mut board = before;
+    for event in record.events.as_slice() {
+        match &event.kind {
+            EventKind::Play { at, dir, word } => {
+                let play = from_text(&board, *at, *dir, word.as_slice()).ok()?;
+                measure_play(rt, file, &board, &play)?;
+                before = board;
+                board = with_play(&board, &play);
+            }
+            EventKind::Withdraw => board = before,
+            _ => {}
+        }
+    }
+    Some(())
+}
+
+/// Measures the copies that each round below makes.
+fn measure_copy<R: Runtime + CpuClock>(rt: &R, file: &LexFile<'_>, board: &Board) -> Option<()> {
+    let made = Cross::scratch(&english_rules(), board, file);
+    let start = rt.process_cpu_time().ok()?;
+    let mut points: u16 = 0;
+    for _ in 0..KEPT {
+        let cross = made;
+        points = points.wrapping_add(beside(&cross));
+    }
+    tell(rt, "copy alone", start, KEPT, points)
+}
+
+/// Measures cross-sets that are brought up once for a play, and those made afresh of the board with it.
 fn measure_play<R: Runtime + CpuClock>(
     rt: &R,
     file: &LexFile<'_>,
-    what: &str,
-    play: &[Laid],
+    board: &Board,
+    play: &Play,
 ) -> Option<()> {
     let rules = english_rules();
-    let board = middle();
-    let made = Cross::scratch(&rules, &board, file);
+    println!(rt; "tiles: {}", play.tiles.len()).ok()?;
     let start = rt.process_cpu_time().ok()?;
-    let points = kept_points(&rules, board, made, file, play);
-    tell(rt, what, start, KEPT, points)
+    let points = made_points(&rules, &with_play(board, play), file);
+    tell(rt, "scratch", start, MADE, points)?;
+    let made = Cross::scratch(&rules, board, file);
+    let start = rt.process_cpu_time().ok()?;
+    let points = kept_points(&rules, board, &made, file, play);
+    tell(rt, "after_play", start, KEPT, points)
+}
+
+/// Measures cross-sets that are brought up tile by tile.
+fn measure_puts<R: Runtime + CpuClock>(
+    rt: &R,
+    file: &LexFile<'_>,
+    board: &Board,
+    play: &Play,
+) -> Option<()> {
+    let rules = english_rules();
+    let made = Cross::scratch(&rules, board, file);
+    let start = rt.process_cpu_time().ok()?;
+    let points = put_points(&rules, board, &made, file, play);
+    tell(rt, "after_put of each", start, KEPT, points)
 }
 
 /// Tells the time of one round since the start of so many.
@@ -132,14 +186,44 @@ fn made_points(rules: &Rules, board: &Board, file: &LexFile<'_>) -> u16 {
     points
 }
 
-/// The points beside row 13, of cross-sets brought up after it.
-fn kept_points(rules: &Rules, board: Board, made: Cross, file: &LexFile<'_>, play: &[Laid]) -> u16 {
+/// The points beside row 13, of cross-sets brought up once for a play.
+fn kept_points(rules: &Rules, board: &Board, made: &Cross, file: &LexFile<'_>, play: &Play) -> u16 {
     let mut points: u16 = 0;
     for _ in 0..KEPT {
-        let cross = after_play(rules, board, made, file, play);
+        let mut cross = *made;
+        cross.after_play(rules, &with_play(board, play), file, play);
         points = points.wrapping_add(beside(&cross));
     }
     points
+}
+
+/// The points beside row 13, of cross-sets brought up tile by tile.
+fn put_points(rules: &Rules, board: &Board, made: &Cross, file: &LexFile<'_>, play: &Play) -> u16 {
+    let mut points: u16 = 0;
+    for _ in 0..KEPT {
+        points = points.wrapping_add(beside(&after_puts(rules, board, made, file, play)));
+    }
+    points
+}
+
+/// The cross-sets after the tiles of a play were put one by one.
+fn after_puts(rules: &Rules, from: &Board, made: &Cross, file: &LexFile<'_>, play: &Play) -> Cross {
+    let mut board = *from;
+    let mut cross = *made;
+    for placed in &play.tiles {
+        put(&mut board, placed.square, placed.tile);
+        cross.after_put(rules, &board, file, placed.square);
+    }
+    cross
+}
+
+/// The board with the tiles of a play.
+fn with_play(board: &Board, play: &Play) -> Board {
+    let mut after = *board;
+    for placed in &play.tiles {
+        put(&mut after, placed.square, placed.tile);
+    }
+    after
 }
 
 /// The board of the rows.
@@ -168,19 +252,6 @@ fn tile_of(byte: u8) -> Option<Tile> {
         Some(letter) => Some(Tile::of_letter(letter)),
         None => Letter::counted_from(b'a', byte).map(|shown| Tile::of_blank(shown)),
     }
-}
-
-/// The cross-sets after the tiles of a play were put one by one.
-fn after_play(rules: &Rules, from: Board, made: Cross, file: &LexFile<'_>, play: &[Laid]) -> Cross {
-    let mut board = from;
-    let mut cross = made;
-    for (row, column, byte) in play {
-        if let (Some(square), Some(tile)) = (Square::new(*row, *column), tile_of(*byte)) {
-            put(&mut board, square, tile);
-            cross.after_put(rules, &board, file, square);
-        }
-    }
-    cross
 }
 
 /// The points beside the squares of row 13.

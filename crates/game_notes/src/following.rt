@@ -1,7 +1,7 @@
-ghost use Rattle.std.specs.Prelude.{◌≡◌, true, false, Some, None, option_map};
-ghost use Rattle.ref_board.specs.Cells.{empty_board, tile_at, with_tile};
-ghost use Rattle.ref_play.specs.Placements.{are_rising, with_tiles, without_tiles, HasTiles, EmptiesSquares};
-ghost use Rattle.ref_play.specs.Legality.{IsLegal, overlaps};
+ghost use Rattle.std.specs.Prelude.{◌≡◌, Some, option_map};
+ghost use Rattle.ref_board.specs.Cells.{empty_board};
+ghost use Rattle.ref_play.specs.Placements.{with_tiles, without_tiles, HasTiles, EmptiesSquares};
+ghost use Rattle.ref_play.specs.Legality.{IsLegal};
 ghost use Rattle.ref_play.specs.Best.{IsAnnotation};
 ghost use Rattle.lex_check.specs.Pairs.{list_in};
 ghost use Rattle.gen_cross.specs.Values.{value_at};
@@ -16,7 +16,7 @@ use gen_cross::Cross;
 use gen_sinks::{Sink, Top};
 use lex_check::Checked;
 use ref_board::{Board, Dir, Square};
-use ref_play::{Placed, Play};
+use ref_play::{Play, apply, undo};
 use ref_tiles::{Counts, Rules};
 
 /// A board and its cross-sets, which follow a game from its first play to its last. A play that is applied or taken back
@@ -67,7 +67,6 @@ impl Follow {
     }
 
     /// Puts the tiles of a legal play on the board.
-    #[tactic(auto, using(crate::proofs::FollowLaws::free_squares, crate::proofs::FollowLaws::tiles_are_there))]
     pub fn apply(&mut self, rules: &Rules, pair: &Checked<'_>, play: &Play)
         requires legal { IsLegal (board_of self.old) play.now.tiles.items }
         requires follows { Follows rules.now (list_in pair.now) self.old }
@@ -75,13 +74,12 @@ impl Follow {
         ensures there { HasTiles (board_of self.new) play.now.tiles.items }
         ensures follows { Follows rules.now (list_in pair.now) self.new }
     {
-        let _size = self.board.len();
-        self.put_all(rules, pair, &play.tiles);
+        apply(&mut self.board, play);
+        self.cross.after_play(rules, &self.board, pair.file(), play);
     }
 
     /// Takes the tiles of a play off the board that holds them. The squares of the play are empty then, and every other
     /// square is as it was.
-    #[tactic(auto, using(crate::proofs::FollowLaws::squares_are_emptied))]
     pub fn undo(&mut self, rules: &Rules, pair: &Checked<'_>, play: &Play)
         requires there { HasTiles (board_of self.old) play.now.tiles.items }
         requires follows { Follows rules.now (list_in pair.now) self.old }
@@ -89,7 +87,8 @@ impl Follow {
         ensures squares { EmptiesSquares play.now.tiles.items (board_of self.old) (board_of self.new) }
         ensures follows { Follows rules.now (list_in pair.now) self.new }
     {
-        self.lift_all(rules, pair, &play.tiles);
+        undo(&mut self.board, play);
+        self.cross.after_play(rules, &self.board, pair.file(), play);
     }
 
     /// The best play that a rack allows on the board, with its score; none where there is no play. It scores most, and of the
@@ -111,57 +110,5 @@ impl Follow {
     {
         let mut board = self.board;
         best_plays(rules, pair, &mut board, rack, &self.cross)
-    }
-
-    /// Puts a tile on an empty square.
-    fn put(&mut self, rules: &Rules, pair: &Checked<'_>, placed: &Placed)
-        requires free { tile_at (board_of self.old) placed.now.square ≡ None }
-        requires follows { Follows rules.now (list_in pair.now) self.old }
-        ensures board { board_of self.new ≡ with_tile (board_of self.old) placed.now.square (Some placed.now.tile) }
-        ensures follows { Follows rules.now (list_in pair.now) self.new }
-    {
-        let lex = pair.file();
-        let square = placed.square;
-        self.board.put(square, placed.tile);
-        self.cross.after_put(rules, &self.board, lex, square);
-    }
-
-    /// Takes the tile of a square off the board.
-    fn lift(&mut self, rules: &Rules, pair: &Checked<'_>, placed: &Placed)
-        requires there { tile_at (board_of self.old) placed.now.square ≡ Some placed.now.tile }
-        requires follows { Follows rules.now (list_in pair.now) self.old }
-        ensures board { board_of self.new ≡ with_tile (board_of self.old) placed.now.square None }
-        ensures follows { Follows rules.now (list_in pair.now) self.new }
-    {
-        let lex = pair.file();
-        let square = placed.square;
-        self.board.lift(square);
-        self.cross.after_lift(rules, &self.board, lex, square);
-    }
-
-    /// Puts tiles on empty squares.
-    fn put_all(&mut self, rules: &Rules, pair: &Checked<'_>, tiles: &[Placed])
-        requires rising { are_rising tiles.now ≡ true }
-        requires free { overlaps (board_of self.old) tiles.now ≡ false }
-        requires follows { Follows rules.now (list_in pair.now) self.old }
-        ensures board { board_of self.new ≡ with_tiles (board_of self.old) tiles.now }
-        ensures follows { Follows rules.now (list_in pair.now) self.new }
-    {
-        for placed in tiles {
-            self.put(rules, pair, placed);
-        }
-    }
-
-    /// Takes tiles off the board that holds them.
-    fn lift_all(&mut self, rules: &Rules, pair: &Checked<'_>, tiles: &[Placed])
-        requires rising { are_rising tiles.now ≡ true }
-        requires there { HasTiles (board_of self.old) tiles.now }
-        requires follows { Follows rules.now (list_in pair.now) self.old }
-        ensures board { board_of self.new ≡ without_tiles (board_of self.old) tiles.now }
-        ensures follows { Follows rules.now (list_in pair.now) self.new }
-    {
-        for placed in tiles {
-            self.lift(rules, pair, placed);
-        }
     }
 }

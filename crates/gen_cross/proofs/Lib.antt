@@ -7,5 +7,6 @@ pub mod Steps
 pub mod Filling
 pub mod CrossLaws
 pub mod Renewing
+pub mod PlayTiles
 pub mod OneCross
 mod Examples

@@ -1,22 +1,26 @@
--- Boards and cross-sets that follow one another, one put or lift after another.
+-- Boards and cross-sets that follow one another, one put, lift or play after another.
 use Rattle.std.specs.Prelude.{◌≡◌, ◌⊎◌, ℕ, ◌<◌, false, List, [], ◌∷◌, Option, slice_index_or}
 use Rattle.ref_tiles.specs.declared.letters.Letter.{Letter}
 use Rattle.ref_tiles.specs.declared.tiles.Tile.{Tile}
 use Rattle.ref_tiles.specs.declared.rulebook.Rules.{Rules}
 use Rattle.ref_board.specs.declared.directions.Dir.{Dir}
+use Rattle.ref_play.specs.declared.placed.Placed.{Placed}
 use Rattle.gen_cross.specs.declared.crosses.Cross.{Cross}
 use Rattle.gen_cross.specs.Values.{value_at, IsRight}
-use Rattle.gen_cross.specs.Changes.{IsPut, IsLifted}
+use Rattle.gen_cross.specs.Changes.{IsPut, IsLifted, DifferOn}
 
 -- a board, and the cross-sets that are kept for it
 pub record Moment : Type 0 where
   pub board : List (Option Tile)
   pub cross : Cross
 
--- One put or lift, and then the call that brings the cross-sets up: it keeps them right where they were.
+-- a tile was put or lifted, or the tiles of a play were
+abbrev pub IsChanged : (before after : List (Option Tile)) → Type 0
+IsChanged before after = ((square : ℕ) × (IsPut square before after ⊎ IsLifted square before after)) ⊎ ((ps : List Placed) × DifferOn ps before after)
+
+-- One change, and then the call that brings the cross-sets up: it keeps them right where they were.
 pub record IsNext (rules : Rules) (words : List (List ℕ)) (before after : Moment) : Type 0 where
-  pub square : ℕ
-  pub changed : IsPut square before.board after.board ⊎ IsLifted square before.board after.board
+  pub changed : IsChanged before.board after.board
   pub renewed : IsRight rules words before.board before.cross → IsRight rules words after.board after.cross
 
 -- each moment follows the one before it

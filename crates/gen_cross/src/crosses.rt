@@ -1,18 +1,20 @@
-ghost use Rattle.std.specs.Prelude.{◌≡◌, ◌<◌, ℕ, List, Option, slice_index_or};
+ghost use Rattle.std.specs.Prelude.{◌≡◌, ℕ, List, Option};
 ghost use Rattle.ref_tiles.specs.declared.tiles.Tile.{Tile};
 ghost use Rattle.ref_board.specs.Cells.{with_tile};
 ghost use Rattle.lex_list.specs.RotatedPaths.{StandsFor};
-ghost use Rattle.gen_cross.specs.Values.{no_value, value_at, IsValue, AreValues, IsRight};
-ghost use Rattle.gen_cross.specs.Changes.{IsPut, IsLifted};
+ghost use Rattle.gen_cross.specs.Values.{value_at, AreValues, IsRight};
+ghost use Rattle.gen_cross.specs.Changes.{IsPut, IsLifted, DifferOn};
 
 use crate::masks::LETTERS;
+use crate::renewals::{renew_beside, renew_line, renew_tiles};
 use crate::values::{nothing, value_of};
 use lex_file::PathLex;
 use ref_board::{Board, Dir, SIDE, Square};
+use ref_play::Play;
 use ref_tiles::Rules;
 
 /// How many squares the board has.
-const SQUARES: usize = SIDE * SIDE;
+pub const SQUARES: usize = SIDE * SIDE;
 
 /// What a square is for a play of one direction.
 #[derive(Clone, Copy)]
@@ -62,13 +64,46 @@ impl Cross {
         self.renew(rules, board, lex, square);
     }
 
+    /// Brings the cross-sets up to a board on which the tiles of a play were put, or from which they were lifted: where they
+    /// were right for the board before, they are right for the board after. Along the play only the squares next to its run
+    /// have their letters searched, and across it those next to the run through each of its tiles. It takes no memory.
+    pub fn after_play<L: PathLex>(&mut self, rules: &Rules, board: &Board, lex: &L, play: &Play)
+        ensures { (words : List (List ℕ)) (before : List (Option Tile)) → StandsFor (L.language lex.now) words
+            → DifferOn play.now.tiles.items before board.now → IsRight rules.now words before self.old → IsRight rules.now words board.now self.new }
+    {
+        match play.dir {
+            Dir::Across => {
+                renew_tiles(
+                    rules,
+                    board,
+                    lex,
+                    Dir::Across,
+                    &play.tiles,
+                    &mut self.across,
+                );
+                renew_line(rules, board, lex, Dir::Down, &play.tiles, &mut self.down);
+            }
+            Dir::Down => {
+                renew_tiles(rules, board, lex, Dir::Down, &play.tiles, &mut self.down);
+                renew_line(
+                    rules,
+                    board,
+                    lex,
+                    Dir::Across,
+                    &play.tiles,
+                    &mut self.across,
+                );
+            }
+        }
+    }
+
     /// Renews the values that the content of one square decides.
     fn renew<L: PathLex>(&mut self, rules: &Rules, board: &Board, lex: &L, square: Square)
         ensures { (words : List (List ℕ)) (before : List (Option Tile)) (cell : Option Tile) → StandsFor (L.language lex.now) words
             → board.now ≡ with_tile before square cell → IsRight rules.now words before self.old → IsRight rules.now words board.now self.new }
     {
-        renew_along(rules, board, lex, Dir::Across, square, &mut self.across);
-        renew_along(rules, board, lex, Dir::Down, square, &mut self.down);
+        renew_beside(rules, board, lex, Dir::Across, square, &mut self.across);
+        renew_beside(rules, board, lex, Dir::Down, square, &mut self.down);
     }
 
     /// The letters, A first, that make a listed word across a play of the direction through an empty square; all 26 where no
@@ -108,59 +143,4 @@ fn values_along<L: PathLex>(rules: &Rules, board: &Board, lex: &L, dir: Dir) -> 
         values[number] = value_of(rules, board, lex, dir, square);
     }
     values
-}
-
-/// Renews, for plays of a direction, the values that the content of one square decides. They lie on the line across the
-/// play through the square: its own value, and those of the places next to the run through it, or to the runs beside it
-/// where it is empty. At the edge of the board the last place stands for the one beyond it.
-fn renew_along<L: PathLex>(
-    rules: &Rules,
-    board: &Board,
-    lex: &L,
-    dir: Dir,
-    square: Square,
-    values: &mut [Value; SQUARES],
-)
-    ensures { (words : List (List ℕ)) (before : List (Option Tile)) (cell : Option Tile) → StandsFor (L.language lex.now) words
-        → board.now ≡ with_tile before square cell → AreValues rules.now words dir before values.old → AreValues rules.now words dir board.now values.new }
-{
-    let _squares = board.len();
-    let across = dir.other();
-    let line = square.line(across);
-    let place = square.place(across);
-    let low = board.first_of_run(across, line, place).saturating_sub(1);
-    let high = board.end_of_run(across, line, place).min(SIDE - 1);
-    renew_value(rules, board, lex, dir, square, values);
-    renew_value(
-        rules,
-        board,
-        lex,
-        dir,
-        Square::on_line(across, line, low),
-        values,
-    );
-    renew_value(
-        rules,
-        board,
-        lex,
-        dir,
-        Square::on_line(across, line, high),
-        values,
-    );
-}
-
-/// Renews the value of one square for plays of a direction, and no other.
-fn renew_value<L: PathLex>(
-    rules: &Rules,
-    board: &Board,
-    lex: &L,
-    dir: Dir,
-    square: Square,
-    values: &mut [Value; SQUARES],
-)
-    ensures { (words : List (List ℕ)) → StandsFor (L.language lex.now) words → (other : ℕ) → other < 225
-        → ((other ≡ square → ⊥) → IsValue rules.now words dir board.now other (slice_index_or values.old other no_value))
-        → IsValue rules.now words dir board.now other (slice_index_or values.new other no_value) }
-{
-    values[square.number()] = value_of(rules, board, lex, dir, square);
 }

@@ -10,8 +10,8 @@ pub fn law_of_crosses()
     ensures score { SidesTellScores }
 {}
 
-/// Cross-sets that are right for one board are the same. So where boards follow one another by puts and lifts, each followed
-/// by its call, cross-sets that are right for the first board become those that `Cross::scratch` makes of the last, in all
+/// Cross-sets that are right for one board are the same. So where boards follow one another by puts, lifts and plays, each
+/// followed by its call, cross-sets that are right for the first board become those that `Cross::scratch` makes of the last, in all
 /// 450 values.
 pub fn law_of_renewing()
     ensures one { RightAreSame }

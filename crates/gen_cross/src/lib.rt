@@ -5,6 +5,7 @@
 mod crosses;
 mod laws;
 mod masks;
+mod renewals;
 mod stretches;
 mod values;
 

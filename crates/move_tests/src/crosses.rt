@@ -3,7 +3,7 @@ use crate::boards::{Laid, WORD_AT, at, laid, list_of};
 use gen_cross::Cross;
 use lex_build::build;
 use lex_check::SortedPaths;
-use lex_file::LexFile;
+use lex_file::{LexFile, PathLex};
 use lex_list::WordList;
 use ref_board::{Board, Dir, SIDE, Square};
 use ref_tiles::{Letter, Rules, Tile, english_rules};
@@ -236,18 +236,33 @@ const WHOLE: [(&[u8], &[Laid]); 4] = [
     (b"AT\nEAT\nOE\nRA\nWORD\n", &WORD_AT),
 ];
 
+/// Asserts all values that are made afresh over a lexicon.
+fn assert_afresh<L: PathLex>(
+    rt: &impl Abort,
+    alloc: Global,
+    rules: &Rules,
+    list: &WordList,
+    lex: &L,
+    board: &Board,
+) {
+    let cross = Cross::scratch(rules, board, lex);
+    assert_values(rt, alloc, rules, list, &cross, board);
+}
+
+fn assert_whole(rt: &impl Abort, alloc: Global, rules: &Rules, words: &[u8], tiles: &[Laid]) {
+    let list = list_of(rt, alloc, words);
+    let board = laid(rt, tiles);
+    let paths = SortedPaths::new(alloc, &list).expect(rt, "the paths");
+    assert_afresh(rt, alloc, rules, &list, &paths, &board);
+    let bytes = build(alloc, &list).expect(rt, "a lexicon");
+    let file = LexFile::open(bytes.as_slice()).expect(rt, "a file");
+    assert_afresh(rt, alloc, rules, &list, &file, &board);
+}
+
 #[test]
 fn all_values(rt: HostRuntime) {
     let rules = english_rules();
     for (words, tiles) in &WHOLE {
-        let list = list_of(&rt, rt.alloc(), words);
-        let board = laid(&rt, tiles);
-        let paths = SortedPaths::new(rt.alloc(), &list).expect(&rt, "the paths");
-        let cross = Cross::scratch(&rules, &board, &paths);
-        assert_values(&rt, rt.alloc(), &rules, &list, &cross, &board);
-        let bytes = build(rt.alloc(), &list).expect(&rt, "a lexicon");
-        let file = LexFile::open(bytes.as_slice()).expect(&rt, "a file");
-        let cross = Cross::scratch(&rules, &board, &file);
-        assert_values(&rt, rt.alloc(), &rules, &list, &cross, &board);
+        assert_whole(&rt, rt.alloc(), &rules, words, tiles);
     }
 }

@@ -1,9 +1,11 @@
-//! Cross-sets that are kept up by puts and lifts: a tile between two others, and boards whose tiles are put and lifted in several
-//! orders, all values beside those that are made afresh.
+//! Cross-sets that are kept up by puts and lifts: a tile between two others, and boards whose tiles, or whose plays, are put and
+//! lifted in several orders, all values beside those that are made afresh.
 use crate::boards::{Laid, at, laid, list_of};
+use gcg_read::Text;
 use gen_cross::Cross;
 use lex_check::SortedPaths;
 use ref_board::{Board, Dir, SIDE, Square};
+use ref_play::{Play, from_text};
 use ref_tiles::{Letter, Rules, Tile, english_rules};
 use std::process::Abort;
 
@@ -135,6 +137,75 @@ fn orders_of_tiles(rt: HostRuntime) {
             let tile = *TILES.get(*place).expect(&rt, "a tile");
             turn(&rt, &rules, &mut board, &mut cross, &paths, tile);
             assert_same(&rt, &cross, &Cross::scratch(&rules, &board, &paths));
+        }
+    }
+}
+
+/// Plays: 8E WORD, 9G AT, G8 RAES through both and 10E TOES through its E; at the edges 1A ABAS, A1 AA, 15I RETAINS, which has
+/// seven tiles, and O14 AS.
+const PLAYS: [Laid; 8] = [
+    (7, 4, Dir::Across, b"WORD"),
+    (8, 6, Dir::Across, b"AT"),
+    (7, 6, Dir::Down, b"RAES"),
+    (9, 4, Dir::Across, b"TOES"),
+    (0, 0, Dir::Across, b"ABAS"),
+    (14, 8, Dir::Across, b"RETAINS"),
+    (13, 14, Dir::Down, b"AS"),
+    (0, 0, Dir::Down, b"AA"),
+];
+
+/// Orders of these plays.
+const GAMES: [&[usize]; 4] = [
+    &[0, 1, 2, 3, 4, 5, 6, 7],
+    &[3, 2, 1, 0, 7, 4, 6, 5],
+    &[2, 0, 3, 1, 5, 4],
+    &[1, 2, 3, 0, 7, 6],
+];
+
+/// The play that lies so, by the letters of all its squares.
+fn play_of(rt: &impl Abort, board: &Board, laid: Laid) -> Play {
+    let text = Text::of_bytes(laid.3).expect(rt, "a text");
+    from_text(board, at(rt, laid.0, laid.1), laid.2, text.as_slice()).expect(rt, "a play")
+}
+
+/// Puts the tiles of a play where none lie, or lifts those that lie there, and brings the cross-sets up once.
+fn turn_play(
+    rules: &Rules,
+    board: &mut Board,
+    cross: &mut Cross,
+    paths: &SortedPaths,
+    play: &Play,
+) {
+    for placed in &play.tiles {
+        match board.at(placed.square) {
+            None => board.put(placed.square, placed.tile),
+            Some(_) => {
+                board.lift(placed.square);
+            }
+        }
+    }
+    cross.after_play(rules, board, paths, play);
+}
+
+/// Each play is put, lifted and put again.
+#[test]
+fn orders_of_plays(rt: HostRuntime) {
+    let rules = english_rules();
+    let list = list_of(
+        &rt,
+        rt.alloc(),
+        b"AA\nAT\nEAT\nOE\nORE\nRA\nRETAINS\nSTOAE\nTOES\nWORDS\n",
+    );
+    let paths = SortedPaths::new(rt.alloc(), &list).expect(&rt, "the paths");
+    for game in GAMES {
+        let mut board = Board::empty();
+        let mut cross = Cross::scratch(&rules, &board, &paths);
+        for place in game {
+            let play = play_of(&rt, &board, *PLAYS.get(*place).expect(&rt, "a play"));
+            for _ in 0..3 {
+                turn_play(&rules, &mut board, &mut cross, &paths, &play);
+                assert_same(&rt, &cross, &Cross::scratch(&rules, &board, &paths));
+            }
         }
     }
 }
