@@ -2,6 +2,10 @@
 use Rattle.std.specs.Prelude.{ℕ}
 use Rattle.endings.specs.declared.exits.Exit.{Exit}
 use Rattle.endings.specs.declared.exits.Exit.TheVariants.{Fine, Illegal, Unsettled, BadInput, Broken, Usage}
+use Rattle.endings.specs.declared.exits.Trouble.{Trouble}
+use Rattle.endings.specs.declared.exits.Trouble.TheVariants as trouble
+use Rattle.engine.specs.declared.faults.RunFault.{RunFault}
+use Rattle.engine.specs.declared.faults.RunFault.TheVariants as run
 use Rattle.engine.specs.declared.verdicts.Verdict.{Verdict}
 use Rattle.engine.specs.declared.verdicts.Verdict.TheVariants as verdict
 
@@ -24,3 +28,10 @@ exit_of verdict.BadFile = BadInput
 exit_of verdict.BadRecord = BadInput
 exit_of verdict.Done = Fine
 exit_of verdict.BadRack = BadInput
+exit_of verdict.BadRules = BadInput
+
+-- what kept the program from its end, where a call gave up
+abbrev pub trouble_of : RunFault → Trouble
+trouble_of run.ReadFailed = trouble.ReadFailed
+trouble_of run.WriteFailed = trouble.WriteFailed
+trouble_of run.NoMemory = trouble.NoMemory

@@ -12,7 +12,7 @@ pub enum Exit {
     Illegal,
     /// Whether the game is legal was not settled.
     Unsettled,
-    /// An input is no word list, no lexicon, no record or no rack.
+    /// An input is no word list, no lexicon, no record, no rack or no rules text.
     BadInput,
     /// A device failed, or memory was refused.
     Broken,
@@ -63,6 +63,11 @@ impl fmt::Display for Trouble<'_> {
 }
 
 impl From<RunFault> for Trouble<'_> {
+    ghost use Rattle.std.specs.Prelude.{◌≡◌};
+    ghost use Rattle.endings.specs.Exits.{trouble_of};
+
+    ghost from_gives = { λ fault trouble. trouble ≡ trouble_of fault };
+
     fn from(fault: RunFault) -> Self {
         match fault {
             RunFault::ReadFailed => Trouble::ReadFailed,
@@ -83,9 +88,11 @@ impl From<Verdict> for Exit {
             Verdict::Legal { .. } | Verdict::Done => Exit::Fine,
             Verdict::Illegal { .. } => Exit::Illegal,
             Verdict::Unsettled => Exit::Unsettled,
-            Verdict::BadList | Verdict::BadFile | Verdict::BadRecord | Verdict::BadRack => {
-                Exit::BadInput
-            }
+            Verdict::BadList
+            | Verdict::BadFile
+            | Verdict::BadRecord
+            | Verdict::BadRack
+            | Verdict::BadRules => Exit::BadInput,
         }
     }
 }

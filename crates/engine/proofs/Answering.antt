@@ -41,6 +41,7 @@ decided_on rules words listing lexicon text r verdict.BadFile bytes l p e is tol
 decided_on rules words listing lexicon text r verdict.BadRecord bytes l p e is told = absurd is
 decided_on rules words listing lexicon text r verdict.Done bytes l p e is told = absurd is
 decided_on rules words listing lexicon text r verdict.BadRack bytes l p e is told = absurd is
+decided_on rules words listing lexicon text r verdict.BadRules bytes l p e is told = absurd is
 
 -- a verdict on a record is on neither the list nor the file
 never_list : (rules : Rules) (words : List (List ℕ)) (r : Record) (v : Verdict) → IsVerdictOn rules words r v → v ≢ verdict.BadList
@@ -64,6 +65,7 @@ topped_on rules rack words listing lexicon text r verdict.BadRecord bytes l p e 
 topped_on rules rack words listing lexicon text r verdict.Done bytes l p e h =
     record { list = words; listed = l; paired = p; game = r; recorded = e; allowed = h.allowed; told = h.told }
 topped_on rules rack words listing lexicon text r verdict.BadRack bytes l p e h = absurd h
+topped_on rules rack words listing lexicon text r verdict.BadRules bytes l p e h = absurd h
 
 never_list_there : (rules : Rules) (words : List (List ℕ)) (rack : List ℕ) (r : Record) (v : Verdict) (bytes : List ℕ) → IsToppedOn rules words rack r v bytes → v ≢ verdict.BadList
 never_list_there rules words rack r v bytes is same =

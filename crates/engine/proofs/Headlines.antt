@@ -1,11 +1,14 @@
 -- That a game is legal means what the headline says.
-use Rattle.std.proofs.Common.{◌≡◌, ◌<◌, ◌≤◌, ℕ, pos, Bool, true, false, List, [], ◌∷◌, ◌++◌, length, ap, subst, ◌∙◌, arith, ◌⊎◌, inl, inr, ⊎_elim, Option, Some, None, Ok, if◌then◌else◌}
+use Rattle.std.proofs.Common.{◌≡◌, ◌<◌, ◌≤◌, ℕ, pos, Bool, true, false, List, [], ◌∷◌, ◌++◌, length, refl, ap, subst, sym, ◌∙◌, arith, ◌⊎◌, inl, inr, ⊎_elim, Option, Some, None, Result, Ok, Err, if◌then◌else◌}
 use Rattle.std.specs.Prelude.{codes, nat_lt, slice_index_or}
 use Rattle.std.specs.Fmt.{signed_decimal}
 use Rattle.std.specs.Option.{IsSomeAnd}
 use Rattle.std.proofs.lemmas.Option.{slice_get_within}
 use Rattle.ref_tiles.specs.declared.tiles.Tile.{Tile}
 use Rattle.ref_tiles.specs.declared.rulebook.Rules.{Rules}
+use Rattle.ref_tiles.specs.declared.parts.RuleParts.{RuleParts}
+use Rattle.ref_tiles.specs.declared.rules_faults.RulesFault.{RulesFault}
+use Rattle.ref_tiles.specs.RulesTexts.{meaning_of}
 use Rattle.ref_play.specs.declared.placed.Placed.{Placed}
 use Rattle.ref_play.specs.Scores.{score_of}
 use Rattle.ref_play.specs.Notations.{notation_of, ComesBefore}
@@ -23,9 +26,11 @@ use Rattle.game_deal.specs.Recorded.{steps_of}
 use Rattle.game_turns.specs.Tallies.{tally_at}
 use Rattle.game_report.specs.BestPlays.{full_rack, notation_text, best_text, TellsByRack}
 use Rattle.engine.specs.Lexicons.{file_fault, most_lexicon_bytes}
-use Rattle.engine.specs.Judging.{Texts}
+use Rattle.engine.specs.declared.verdicts.Verdict.TheVariants as verdict
+use Rattle.engine.specs.Judging.{Texts, IsDecided}
 use Rattle.engine.specs.Reports.{IsLegalReport, IsLegalText, legal_line}
-use Rattle.engine.specs.Headlines.{IsBestPrinted, LegalMeansLegal}
+use Rattle.engine.specs.Ruling.{IsAnswerBy, IsRuledBy}
+use Rattle.engine.specs.Headlines.{IsBestPrinted, LegalMeansLegal, LegalMeansLegalByText}
 
 -- a value of which something holds
 some_of : {T : Type 0} (o : Option T) (P : T → Type 0) → IsSomeAnd o P → (x : T) × P x
@@ -99,3 +104,16 @@ legal_is exact rules texts complete report decided =
           let tells = lines.is_told.each place (slice_get_within on.game.events place e at) e at in
           by_rack rules on.list (tally_at rules on.game.events place).board rack (slice_index_or lines.is_told.best place []) (full_rack (tally_at rules on.game.events place) e) full (tells.judged judged);
     }
+
+-- ---- the same by the rules of a text
+
+-- a text by whose rules a game is legal means rules
+means_rules : (meaning : Result RuleParts RulesFault) (texts : Texts) (complete : Bool) (report : List ℕ) → IsRuledBy IsDecided meaning texts (verdict.Legal complete) report
+    → (parts : RuleParts) × (meaning ≡ Ok parts) × IsAnswerBy IsDecided parts texts (verdict.Legal complete) report
+means_rules (Ok parts) texts complete report h = (parts, refl, h)
+means_rules (Err fault) texts complete report h = let both : verdict.Legal complete ≡ verdict.BadRules = h.verdict_is in cc
+
+pub legal_by_text : LexiconsAreExact → LegalMeansLegalByText
+legal_by_text exact texts complete report h =
+    let means = means_rules (meaning_of texts.rules) texts.inputs complete report h in
+    (means.2.rules, means.1 ∙ ap Ok (sym means.2.stated), legal_is exact means.2.rules texts.inputs complete report means.2.answer)

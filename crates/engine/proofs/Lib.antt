@@ -8,4 +8,6 @@ pub mod CheckedFiles
 pub mod Headlines
 pub mod Examples
 pub mod BuiltFiles
+pub mod ConvertedFiles
 pub mod Toppings
+pub mod Rulings

@@ -38,6 +38,10 @@ pub unread_two : {E : Type 0} (r : Result Verdict E) (w : Verdict) (d e : Device
 unread_two (Ok v) w d e = λ _. (refl, refl)
 unread_two (Err fault) w d e = tt
 
+pub unread_three : {E : Type 0} (r : Result Verdict E) (w : Verdict) (d e f : Device) → IfOk r (λ v. v ≡ w → (d ≡ d) × (e ≡ e) × (f ≡ f))
+unread_three (Ok v) w d e f = λ _. (refl, refl, refl)
+unread_three (Err fault) w d e f = tt
+
 -- ---- answers over some texts, and over those with one more that was read before
 
 -- how answers over texts of one kind are answers over texts of another

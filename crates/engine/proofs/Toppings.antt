@@ -18,11 +18,11 @@ use Rattle.engine.proofs.Answering.{answers, stops_writing}
 use Rattle.engine.proofs.Sequences.{given_of, some_input, untouched}
 
 -- texts that the inputs give, of which none is read
-abbrev some_texts : (words_in file_in game_in : Device) → Texts
+abbrev pub some_texts : (words_in file_in game_in : Device) → Texts
 some_texts words_in file_in game_in =
     record { words = given_of most_list_bytes words_in.bytes; lexicon = given_of most_lexicon_bytes file_in.bytes; game = given_of most_record_bytes game_in.bytes }
 
-given_so : (words_in file_in game_in : Device) → AreGiven words_in file_in game_in (some_texts words_in file_in game_in)
+pub given_so : (words_in file_in game_in : Device) → AreGiven words_in file_in game_in (some_texts words_in file_in game_in)
 given_so words_in file_in game_in =
     record { words_are = some_input most_list_bytes words_in; lexicon_is = some_input most_lexicon_bytes file_in; game_is = some_input most_record_bytes game_in }
 

@@ -35,6 +35,7 @@ IsBuilt words verdict.BadFile report = IsTooLarge words report
 IsBuilt words verdict.BadRecord report = ⊥
 IsBuilt words verdict.Done report = IsNewFile words report
 IsBuilt words verdict.BadRack report = ⊥
+IsBuilt words verdict.BadRules report = ⊥
 
 -- the same by the list that was read before
 pub record IsBuiltBy (words : List (List ℕ)) (v : Verdict) (report : List ℕ) : Type 0 where

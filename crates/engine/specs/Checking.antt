@@ -37,6 +37,7 @@ IsChecked texts verdict.BadFile report = IsWrongFile texts.words texts.lexicon r
 IsChecked texts verdict.BadRecord report = ⊥
 IsChecked texts verdict.Done report = IsGoodFile texts report
 IsChecked texts verdict.BadRack report = ⊥
+IsChecked texts verdict.BadRules report = ⊥
 
 -- the same by the words of a list that was read before
 pub record IsCheckedBy (words : List (List ℕ)) (lexicon : List ℕ) (v : Verdict) (report : List ℕ) : Type 0 where

@@ -2,6 +2,8 @@
 use Rattle.std.specs.Prelude.{◌≡◌, ◌↔◌, ◌⊎◌, ◌≤◌, ℕ, Bool, true, List, [], ◌∷◌, ◌++◌, codes, decimal, slice_get, slice_index_or, Option, Some, Ok}
 use Rattle.ref_tiles.specs.declared.tiles.Tile.{Tile}
 use Rattle.ref_tiles.specs.declared.rulebook.Rules.{Rules}
+use Rattle.ref_tiles.specs.Parts.{parts_of}
+use Rattle.ref_tiles.specs.RulesTexts.{meaning_of}
 use Rattle.ref_play.specs.declared.placed.Placed.{Placed}
 use Rattle.ref_play.specs.Scores.{score_of}
 use Rattle.ref_play.specs.Notations.{notation_of}
@@ -22,6 +24,7 @@ use Rattle.game_report.specs.EventLines.{lines_from}
 use Rattle.engine.specs.declared.verdicts.Verdict.TheVariants as verdict
 use Rattle.engine.specs.Judging.{Texts, IsDecided}
 use Rattle.engine.specs.Reports.{legal_line}
+use Rattle.engine.specs.Ruling.{RuledTexts, IsRuled}
 
 -- What is printed of a full rack: a play that is legal, with words of the list and tiles of the rack, and that none such
 -- outscores; or that there is no such play.
@@ -56,3 +59,8 @@ pub record IsLegalGame (rules : Rules) (texts : Texts) (complete : Bool) (report
 -- the verdict that a game is legal, with its report, means that
 abbrev pub LegalMeansLegal : Type 0
 LegalMeansLegal = (rules : Rules) (texts : Texts) (complete : Bool) (report : List ℕ) → IsDecided rules texts (verdict.Legal complete) report → IsLegalGame rules texts complete report
+
+-- the verdict that a game is legal by the rules of a text, with its report, means that the text states rules, and that the game is legal by them
+abbrev pub LegalMeansLegalByText : Type 0
+LegalMeansLegalByText = (texts : RuledTexts) (complete : Bool) (report : List ℕ) → IsRuled IsDecided texts (verdict.Legal complete) report
+    → (rules : Rules) × (meaning_of texts.rules ≡ Ok (parts_of rules)) × IsLegalGame rules texts.inputs complete report

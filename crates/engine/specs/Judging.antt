@@ -28,6 +28,7 @@ IsReportOn rules words r verdict.BadFile bytes = ⊥
 IsReportOn rules words r verdict.BadRecord bytes = ⊥
 IsReportOn rules words r verdict.Done bytes = ⊥
 IsReportOn rules words r verdict.BadRack bytes = ⊥
+IsReportOn rules words r verdict.BadRules bytes = ⊥
 
 -- this verdict is given, and these bytes tell it
 pub record IsTold (what : Verdict) (text : List ℕ) (v : Verdict) (bytes : List ℕ) : Type 0 where
@@ -61,6 +62,7 @@ IsReport rules words lexicon text verdict.BadFile bytes = IsWrongFile words lexi
 IsReport rules words lexicon text verdict.BadRecord bytes = bytes ≡ bad_record_text (record_of text)
 IsReport rules words lexicon text verdict.Done bytes = ⊥
 IsReport rules words lexicon text verdict.BadRack bytes = ⊥
+IsReport rules words lexicon text verdict.BadRules bytes = ⊥
 
 -- the bytes of the inputs
 pub record Texts : Type 0 where

@@ -9,4 +9,6 @@ pub mod WordLists
 pub mod Lexicons
 pub mod Checking
 pub mod Building
+pub mod Converting
+pub mod Ruling
 pub mod Headlines

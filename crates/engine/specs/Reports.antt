@@ -4,6 +4,8 @@ use Rattle.std.specs.Fmt.{signed_decimal}
 use Rattle.ref_tiles.specs.declared.rulebook.Rules.{Rules}
 use Rattle.ref_tiles.specs.declared.kinds.Kind.{Kind}
 use Rattle.ref_tiles.specs.declared.kinds.Kind.TheVariants as kind
+use Rattle.ref_tiles.specs.declared.rules_faults.RulesFault.{RulesFault}
+use Rattle.ref_tiles.specs.RulesFaults as stating
 use Rattle.ref_play.specs.Faults as play
 use Rattle.gcg_read.specs.declared.records.Record.{Record}
 use Rattle.gcg_read.specs.declared.faults.ReadFault.{ReadFault}
@@ -62,6 +64,9 @@ unsettled_line = codes "unsettled\n"
 
 unfoldable pub bad_record_line : ReadFault → List ℕ
 bad_record_line fault = codes "bad record" ++ line_text fault.line ++ codes ": " ++ read.name_of fault.why ++ 10 ∷ []
+
+unfoldable pub bad_rules_line : RulesFault → List ℕ
+bad_rules_line fault = codes "bad rules" ++ line_text fault.line ++ codes ": " ++ stating.name_of fault.why ++ 10 ∷ []
 
 unfoldable pub bad_list_line : ListFault → List ℕ
 bad_list_line fault = codes "bad word list" ++ line_text fault.line ++ codes ": " ++ listing.name_of fault.why ++ 10 ∷ []

@@ -56,6 +56,12 @@ OneOfThreeHasFailed first_old first_new second_old second_new third_old third_ne
     HasFailed first_old first_new × HasWorked second_old second_new × HasWorked third_old third_new
     ⊎ HasWorked first_old first_new × OneHasFailed second_old second_new third_old third_new
 
+-- of four inputs that are read one after the other, one failed
+abbrev pub OneOfFourHasFailed : (first_old first_new second_old second_new third_old third_new fourth_old fourth_new : Device) → Type 0
+OneOfFourHasFailed first_old first_new second_old second_new third_old third_new fourth_old fourth_new =
+    HasFailed first_old first_new × HasWorked second_old second_new × HasWorked third_old third_new × HasWorked fourth_old fourth_new
+    ⊎ HasWorked first_old first_new × OneOfThreeHasFailed second_old second_new third_old third_new fourth_old fourth_new
+
 -- the bytes that the inputs of a game give
 pub record AreGiven (words lexicon game : Device) (texts : Texts) : Type 0 where
   pub words_are : IsInput most_list_bytes words texts.words

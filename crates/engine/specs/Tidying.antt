@@ -19,3 +19,4 @@ IsTidied text verdict.BadFile report = ⊥
 IsTidied text verdict.BadRecord report = (fault : ReadFault) × (record_of text ≡ Err fault) × (report ≡ bad_record_line fault)
 IsTidied text verdict.Done report = (r : Record) × (record_of text ≡ Ok r) × (report ≡ normal_of r)
 IsTidied text verdict.BadRack report = ⊥
+IsTidied text verdict.BadRules report = ⊥

@@ -38,6 +38,7 @@ IsToppedBy rules rack texts verdict.BadFile report = IsDecided rules texts verdi
 IsToppedBy rules rack texts verdict.BadRecord report = IsDecided rules texts verdict.BadRecord report
 IsToppedBy rules rack texts verdict.Done report = AreTold rules rack texts report
 IsToppedBy rules rack texts verdict.BadRack report = ⊥
+IsToppedBy rules rack texts verdict.BadRules report = ⊥
 
 -- the same, where there is a rack; else that there is none
 abbrev pub IsToppedOf : Rules → (rack : Option (List ℕ)) → Texts → Verdict → List ℕ → Type 0
@@ -66,3 +67,4 @@ IsToppedOn rules words rack r verdict.BadFile report = ⊥
 IsToppedOn rules words rack r verdict.BadRecord report = ⊥
 IsToppedOn rules words rack r verdict.Done report = AreToldOn rules words rack r report
 IsToppedOn rules words rack r verdict.BadRack report = ⊥
+IsToppedOn rules words rack r verdict.BadRules report = ⊥

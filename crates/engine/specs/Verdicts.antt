@@ -64,6 +64,7 @@ IsVerdictOn rules list r verdict.BadFile = ⊥
 IsVerdictOn rules list r verdict.BadRecord = ⊥
 IsVerdictOn rules list r verdict.Done = ⊥
 IsVerdictOn rules list r verdict.BadRack = ⊥
+IsVerdictOn rules list r verdict.BadRules = ⊥
 
 -- the words are a list, the file is its lexicon, the text is a record, and this is the verdict on it
 pub record IsOnGame (rules : Rules) (words lexicon text : List ℕ) (v : Verdict) : Type 0 where
@@ -98,3 +99,4 @@ Judged rules words lexicon text verdict.BadFile = IsOtherFile words lexicon
 Judged rules words lexicon text verdict.BadRecord = IsBadRecord words lexicon text
 Judged rules words lexicon text verdict.Done = ⊥
 Judged rules words lexicon text verdict.BadRack = ⊥
+Judged rules words lexicon text verdict.BadRules = ⊥

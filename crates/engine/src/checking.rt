@@ -69,7 +69,7 @@ fn check_file<L: Input, O: Output>(
 
 /// Checks that a file is the lexicon of a word list, and writes the number of words, or the line of the first fault.
 ///
-/// The words are read before the lexicon, each to its end, or to one byte past its limit of 16 MiB or 134,217,740 bytes
+/// The words are read before the lexicon, each to its end, or to one byte past its limit of 16 MiB or 268,435,468 bytes
 /// and no further; where the words are no list, the lexicon is not read. A lexicon over its limit has a wrong length,
 /// whatever its bytes are. What is written is made in memory before the first write.
 ///

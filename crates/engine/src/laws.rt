@@ -1,5 +1,6 @@
-//! The headline. The function does nothing: its contract is the law.
-ghost use Rattle.engine.specs.Headlines.{LegalMeansLegal};
+//! The headline, and what conversion keeps. The functions do nothing: their contracts are the laws.
+ghost use Rattle.engine.specs.Converting.{StaysLexicon};
+ghost use Rattle.engine.specs.Headlines.{LegalMeansLegal, LegalMeansLegalByText};
 
 use lex_check::law_of_lexicons;
 
@@ -9,6 +10,19 @@ use lex_check::law_of_lexicons;
 /// rack no legal, valid play scores more than the printed best, which is itself legal and valid.
 pub fn law_of_legal()
     ensures { LegalMeansLegal }
+{
+    law_of_lexicons();
+}
+
+/// What [`run_convert`](crate::run_convert) makes of the lexicon of a word list is the lexicon of that list.
+pub fn law_of_conversions()
+    ensures { StaysLexicon }
+{}
+
+/// What the verdict legal of [`run_ruled`](crate::run_ruled) means, by the bytes that its inputs gave and the report that it
+/// wrote: the rules text states rules, and by these the game is legal, as [`law_of_legal`] says it.
+pub fn law_of_ruled_games()
+    ensures { LegalMeansLegalByText }
 {
     law_of_lexicons();
 }

@@ -22,7 +22,7 @@ pub enum LexiconFault {
     Extra(Path),
     /// The file states another number of words.
     WordCount,
-    /// The lexicon of the list has more arcs than a file can number.
+    /// The file that is asked for would have more arcs, or words, than its format can number.
     TooManyArcs,
 }
 
@@ -37,7 +37,7 @@ pub enum Paired<'a> {
 
 /// Opens a lexicon file. One that has too many bytes is told as such before all else.
 #[tactic(auto, unfolding(crate::specs::Lexicons::file_fault))]
-fn open_within(bytes: &[u8]) -> Result<LexFile<'_>, FileFault>
+pub fn open_within(bytes: &[u8]) -> Result<LexFile<'_>, FileFault>
     ensures form { Refuses result (file_fault bytes.now) }
     ensures bytes { IfOk result (λ file. bytes_of file ≡ bytes.now) }
 {

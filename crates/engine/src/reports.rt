@@ -4,7 +4,7 @@ ghost use Rattle.lex_check.specs.Checks.{symbol_of};
 ghost use Rattle.game_turns.specs.Passing.{rules_in, record_in};
 ghost use Rattle.lex_check.specs.Pairs as pairs;
 ghost use Rattle.game_turns.specs.Places.{is_finished};
-ghost use Rattle.engine.specs.Reports.{rule_text, kind_byte, fault_text, line_text, illegal_line, unsettled_line, bad_record_line, bad_list_line, lexicon_text, bad_file_line, bad_rack_line, ok_line, legal_line, IsLegalReport};
+ghost use Rattle.engine.specs.Reports.{rule_text, kind_byte, fault_text, line_text, illegal_line, unsettled_line, bad_record_line, bad_rules_line, bad_list_line, lexicon_text, bad_file_line, bad_rack_line, ok_line, legal_line, IsLegalReport};
 
 use crate::lexicons::LexiconFault;
 use crate::verdicts::GameFault;
@@ -14,7 +14,7 @@ use gcg_read::ReadFault;
 use itoa::Buffer;
 use lex_check::{Checked, Path, text_of};
 use lex_list::ListFault;
-use ref_tiles::Kind;
+use ref_tiles::{Kind, RulesFault};
 use std::alloc::{AllocError, Global};
 
 /// Appends a name and a number.
@@ -121,6 +121,19 @@ pub fn bad_record_line(alloc: Global, fault: &ReadFault) -> Result<Vec<u8>, Allo
     ensures { IfOk result (λ text. text.items ≡ bad_record_line fault.now) }
 {
     let mut text = Vec::from_slice(alloc, b"bad record")?;
+    push_line(&mut text, fault.line)?;
+    text.extend_from_slice(b": ")?;
+    text.extend_from_slice(fault.why.name().as_bytes())?;
+    text.extend_from_slice(b"\n")?;
+    Ok(text)
+}
+
+/// `bad rules line N: WHY`, without ` line N` where the fault lies on no line.
+#[tactic(auto, unfolding(crate::specs::Reports::bad_rules_line))]
+pub fn bad_rules_line(alloc: Global, fault: &RulesFault) -> Result<Vec<u8>, AllocError>
+    ensures { IfOk result (λ text. text.items ≡ bad_rules_line fault.now) }
+{
+    let mut text = Vec::from_slice(alloc, b"bad rules")?;
     push_line(&mut text, fault.line)?;
     text.extend_from_slice(b": ")?;
     text.extend_from_slice(fault.why.name().as_bytes())?;

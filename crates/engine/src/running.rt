@@ -177,7 +177,7 @@ pub fn run_task<W: Input, L: Input, G: Input, O: Output>(
 /// Judges a game from its record by the words of a list and their lexicon, and writes the report.
 ///
 /// The words are read before the lexicon, and the lexicon before the record, each to its end, or to one byte past its
-/// limit of 16 MiB, 134,217,740 bytes or 1 MiB and no further. Where the words are no list, the lexicon is not read, and
+/// limit of 16 MiB, 268,435,468 bytes or 1 MiB and no further. Where the words are no list, the lexicon is not read, and
 /// where the file is not the lexicon of the list, the record is not read. A lexicon over its limit has a wrong length,
 /// whatever its bytes are. The report is made in memory before the first write.
 ///

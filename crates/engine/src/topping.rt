@@ -23,7 +23,7 @@ use ref_tiles::Rules;
 use std::alloc::{AllocError, Global};
 
 /// The verdict that a rack is none.
-fn bad_rack(alloc: Global) -> Result<Decision, AllocError>
+pub fn bad_rack(alloc: Global) -> Result<Decision, AllocError>
     ensures { IfOk result (λ d. IsTold verdict.BadRack reports.bad_rack_line d.verdict d.report.items) }
 {
     let report = bad_rack_line(alloc)?;

@@ -39,4 +39,6 @@ pub enum Verdict {
     Done,
     /// The rack is not 1 to 7 of A to Z and `?`.
     BadRack,
+    /// The rules text has a fault.
+    BadRules,
 }

@@ -1,12 +1,17 @@
 use clap::error::ErrorKind;
 use clap::{Arg, ArgMatches, Command, Error};
+use lex_file::Format;
 use std::alloc::{AllocError, Global};
+
+/// The names of the formats of a lexicon.
+const FORMATS: [&str; 2] = ["gad1", "gad2"];
 
 /// What the command line asks for. Files are told by their names, a rack by its tiles.
 #[derive(Clone, Copy)]
 pub enum Request<'a> {
-    /// To judge the game of a record by a word list and its lexicon.
+    /// To judge the game of a record by a word list and its lexicon, and by the rules of a text where one is named.
     Judge {
+        rules: Option<&'a str>,
         words: &'a str,
         lexicon: &'a str,
         game: &'a str,
@@ -21,8 +26,15 @@ pub enum Request<'a> {
         words: &'a str,
         lexicon: &'a str,
     },
-    /// To tell the best plays by a rack on the board after a record.
+    /// To write a lexicon in a format to the file `out`.
+    Convert {
+        format: Format,
+        lexicon: &'a str,
+        out: &'a str,
+    },
+    /// To tell the best plays by a rack on the board after a record, by the rules of a text where one is named.
     Top {
+        rules: Option<&'a str>,
         words: &'a str,
         lexicon: &'a str,
         game: &'a str,
@@ -67,11 +79,12 @@ fn command<'a>(alloc: Global) -> Result<Command<'a>, AllocError> {
         .subcommand(judge_command(alloc)?)?
         .subcommand(build_command(alloc)?)?
         .subcommand(check_command(alloc)?)?
+        .subcommand(convert_command(alloc)?)?
         .subcommand(top_command(alloc)?)?
         .subcommand(tidy_command(alloc)?)
 }
 
-/// `judge WORDS LEXICON GAME`.
+/// `judge [--rules FILE] WORDS LEXICON GAME`.
 fn judge_command<'a>(alloc: Global) -> Result<Command<'a>, AllocError> {
     Command::new(alloc, "judge")
         .about(
@@ -79,7 +92,8 @@ fn judge_command<'a>(alloc: Global) -> Result<Command<'a>, AllocError> {
         )
         .arg(name(alloc, "WORDS", "the word list"))?
         .arg(name(alloc, "LEXICON", "the lexicon file of the words"))?
-        .arg(name(alloc, "GAME", "the GCG record"))
+        .arg(name(alloc, "GAME", "the GCG record"))?
+        .arg(rules_option(alloc))
 }
 
 /// `build WORDS OUT`.
@@ -102,14 +116,28 @@ fn check_command<'a>(alloc: Global) -> Result<Command<'a>, AllocError> {
         .arg(name(alloc, "LEXICON", "the lexicon file"))
 }
 
-/// `top WORDS LEXICON GAME RACK`.
+/// `convert FORMAT LEXICON OUT`.
+fn convert_command<'a>(alloc: Global) -> Result<Command<'a>, AllocError> {
+    Command::new(alloc, "convert")
+        .about("Writes a lexicon file in another format, with the same words")
+        .arg(name(alloc, "FORMAT", "the format").value_parser(FORMATS.as_slice()))?
+        .arg(name(alloc, "LEXICON", "the lexicon file"))?
+        .arg(name(
+            alloc,
+            "OUT",
+            "the lexicon file to be written, or emptied first",
+        ))
+}
+
+/// `top [--rules FILE] WORDS LEXICON GAME RACK`.
 fn top_command<'a>(alloc: Global) -> Result<Command<'a>, AllocError> {
     Command::new(alloc, "top")
         .about("Tells the ten best plays by a rack on the board after a record")
         .arg(name(alloc, "WORDS", "the word list"))?
         .arg(name(alloc, "LEXICON", "the lexicon file of the words"))?
         .arg(name(alloc, "GAME", "the GCG record"))?
-        .arg(name(alloc, "RACK", "1 to 7 tiles: A to Z, and ? for a blank"))
+        .arg(name(alloc, "RACK", "1 to 7 tiles: A to Z, and ? for a blank"))?
+        .arg(rules_option(alloc))
 }
 
 /// `tidy GAME`.
@@ -124,11 +152,20 @@ fn name<'a>(alloc: Global, name: &'a str, help: &'a str) -> Arg<'a> {
     Arg::new(alloc, name).required(true).help(help)
 }
 
+/// The option that names a rules text.
+fn rules_option<'a>(alloc: Global) -> Arg<'a> {
+    Arg::new(alloc, "rules")
+        .long("rules")
+        .value_name("FILE")
+        .help("the rules text; without it the rules are the English ones")
+}
+
 /// What the matches of a parse ask for: there is always something, since every argument is required.
 fn request_of<'a>(matches: &ArgMatches<'a>) -> Option<Request<'a>> {
     let (command, names) = matches.subcommand()?;
     match command {
         "judge" => Some(Request::Judge {
+            rules: names.get_str("rules"),
             words: names.get_str("WORDS")?,
             lexicon: names.get_str("LEXICON")?,
             game: names.get_str("GAME")?,
@@ -141,7 +178,13 @@ fn request_of<'a>(matches: &ArgMatches<'a>) -> Option<Request<'a>> {
             words: names.get_str("WORDS")?,
             lexicon: names.get_str("LEXICON")?,
         }),
+        "convert" => Some(Request::Convert {
+            format: format_of(names.get_str("FORMAT")?)?,
+            lexicon: names.get_str("LEXICON")?,
+            out: names.get_str("OUT")?,
+        }),
         "top" => Some(Request::Top {
+            rules: names.get_str("rules"),
             words: names.get_str("WORDS")?,
             lexicon: names.get_str("LEXICON")?,
             game: names.get_str("GAME")?,
@@ -150,5 +193,14 @@ fn request_of<'a>(matches: &ArgMatches<'a>) -> Option<Request<'a>> {
         _ => Some(Request::Tidy {
             game: names.get_str("GAME")?,
         }),
+    }
+}
+
+/// The format of this name.
+fn format_of(name: &str) -> Option<Format> {
+    match name {
+        "gad1" => Some(Format::Gad1),
+        "gad2" => Some(Format::Gad2),
+        _ => None,
     }
 }

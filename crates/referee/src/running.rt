@@ -3,7 +3,10 @@ use clap::Error;
 use clap::error::ErrorKind;
 use devices::{FromRead, FromWrite};
 use endings::{Exit, Trouble};
-use engine::{Verdict, run, run_build, run_check, run_tidy, run_top};
+use engine::{
+    Verdict, run, run_build, run_check, run_convert, run_ruled, run_tidy, run_top, run_top_ruled,
+};
+use lex_file::Format;
 use ref_tiles::english_rules;
 use std::alloc::AllocError;
 use std::rt::{Files, Runtime};
@@ -49,18 +52,38 @@ fn give_up<R: Runtime>(rt: &R, trouble: Trouble<'_>) -> Exit {
 fn answer<R: Runtime + AllocGlobal>(rt: &R, request: Request<'_>) -> Exit {
     let outcome = match request {
         Request::Judge {
+            rules: None,
             words,
             lexicon,
             game,
         } => judge(rt, words, lexicon, game),
+        Request::Judge {
+            rules: Some(rules),
+            words,
+            lexicon,
+            game,
+        } => judge_ruled(rt, rules, words, lexicon, game),
         Request::Build { words, out } => build(rt, words, out),
         Request::Check { words, lexicon } => check(rt, words, lexicon),
+        Request::Convert {
+            format,
+            lexicon,
+            out,
+        } => convert(rt, format, lexicon, out),
         Request::Top {
+            rules: None,
             words,
             lexicon,
             game,
             rack,
         } => top(rt, words, lexicon, game, rack),
+        Request::Top {
+            rules: Some(rules),
+            words,
+            lexicon,
+            game,
+            rack,
+        } => top_ruled(rt, rules, words, lexicon, game, rack),
         Request::Tidy { game } => tidy(rt, game),
     };
     match outcome {
@@ -69,7 +92,7 @@ fn answer<R: Runtime + AllocGlobal>(rt: &R, request: Request<'_>) -> Exit {
     }
 }
 
-/// Judges the game of a file by a word list and its lexicon. The report goes to standard output.
+/// Judges the game of a file by a word list and its lexicon, by the English rules. The report goes to standard output.
 fn judge<'a, R: Runtime + AllocGlobal>(
     rt: &R,
     words: &'a str,
@@ -87,6 +110,30 @@ fn judge<'a, R: Runtime + AllocGlobal>(
         &mut game,
         &mut out,
         &english_rules(),
+    )?;
+    Ok(verdict)
+}
+
+/// The same by the rules of a text, whose file is opened first.
+fn judge_ruled<'a, R: Runtime + AllocGlobal>(
+    rt: &R,
+    rules: &'a str,
+    words: &'a str,
+    lexicon: &'a str,
+    game: &'a str,
+) -> Result<Verdict, Trouble<'a>> {
+    let mut rules = FromRead::new(open(rt, rules)?);
+    let mut words = FromRead::new(open(rt, words)?);
+    let mut lexicon = FromRead::new(open(rt, lexicon)?);
+    let mut game = FromRead::new(open(rt, game)?);
+    let mut out = FromWrite::new(io::writer(rt));
+    let verdict = run_ruled(
+        rt.alloc(),
+        &mut rules,
+        &mut words,
+        &mut lexicon,
+        &mut game,
+        &mut out,
     )?;
     Ok(verdict)
 }
@@ -116,8 +163,21 @@ fn check<'a, R: Runtime + AllocGlobal>(
     Ok(verdict)
 }
 
-/// Tells the best plays by a rack on the board after the record of a file, by a word list and its lexicon. They go to
-/// standard output. The files are opened before the rack is looked at.
+/// Writes a lexicon in a format, or the line of the lexicon's fault, to the file `out`.
+fn convert<'a, R: Runtime + AllocGlobal>(
+    rt: &R,
+    format: Format,
+    lexicon: &'a str,
+    out: &'a str,
+) -> Result<Verdict, Trouble<'a>> {
+    let mut lexicon = FromRead::new(open(rt, lexicon)?);
+    let mut out = FromWrite::new(create(rt, out)?);
+    let verdict = run_convert(rt.alloc(), &mut lexicon, format, &mut out)?;
+    Ok(verdict)
+}
+
+/// Tells the best plays by a rack on the board after the record of a file, by a word list and its lexicon and the English
+/// rules. They go to standard output. The files are opened before the rack is looked at.
 fn top<'a, R: Runtime + AllocGlobal>(
     rt: &R,
     words: &'a str,
@@ -137,6 +197,32 @@ fn top<'a, R: Runtime + AllocGlobal>(
         rack.as_bytes(),
         &mut out,
         &english_rules(),
+    )?;
+    Ok(verdict)
+}
+
+/// The same by the rules of a text, whose file is opened first.
+fn top_ruled<'a, R: Runtime + AllocGlobal>(
+    rt: &R,
+    rules: &'a str,
+    words: &'a str,
+    lexicon: &'a str,
+    game: &'a str,
+    rack: &str,
+) -> Result<Verdict, Trouble<'a>> {
+    let mut rules = FromRead::new(open(rt, rules)?);
+    let mut words = FromRead::new(open(rt, words)?);
+    let mut lexicon = FromRead::new(open(rt, lexicon)?);
+    let mut game = FromRead::new(open(rt, game)?);
+    let mut out = FromWrite::new(io::writer(rt));
+    let verdict = run_top_ruled(
+        rt.alloc(),
+        &mut rules,
+        &mut words,
+        &mut lexicon,
+        &mut game,
+        rack.as_bytes(),
+        &mut out,
     )?;
     Ok(verdict)
 }
