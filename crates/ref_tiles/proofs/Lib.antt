@@ -5,3 +5,4 @@ pub mod PartLimits
 pub mod RulesSteps
 pub mod RulesMeanings
 pub mod OnceLaws
+mod Examples
