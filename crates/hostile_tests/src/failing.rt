@@ -7,20 +7,19 @@ use engine::RunFault;
 use std::alloc::Global;
 use std::process::Abort;
 
-/// Asserts that a job with working devices does what it is to do.
-fn assert_done(rt: &impl Abort, alloc: Global, job: &Job<'_>, piece: usize) {
-    let outcome = attempt(alloc, job, &working(piece));
-    assert_eq!(rt; outcome.answer, Ok(job.verdict));
-    assert_eq!(rt; outcome.out.as_slice(), job.wrote);
+/// Asserts that a job with working devices does what it is to do, however few bytes they move at once.
+fn assert_done(rt: &impl Abort, alloc: Global, job: &Job<'_>) {
+    for piece in [1, 7, 8192] {
+        let outcome = attempt(alloc, job, &working(piece));
+        assert_eq!(rt; outcome.answer, Ok(job.verdict));
+        assert_eq!(rt; outcome.out.as_slice(), job.wrote);
+    }
 }
 
-/// However few bytes the devices move at once, the whole output goes out.
 #[test]
 fn few_bytes_at_once(rt: HostRuntime) {
     for job in &JOBS {
-        for piece in [1, 7, 8192] {
-            assert_done(&rt, rt.alloc(), job, piece);
-        }
+        assert_done(&rt, rt.alloc(), job);
     }
 }
 
@@ -30,6 +29,7 @@ fn inputs_of(call: Call) -> [bool; 3] {
         Call::Judge | Call::Top(_) => [true, true, true],
         Call::Build => [true, false, false],
         Call::Check => [true, true, false],
+        Call::Convert(_) => [false, true, false],
         Call::Tidy => [false, false, true],
     }
 }
@@ -53,14 +53,19 @@ fn each_read_fails(rt: &impl Abort, alloc: Global, job: &Job<'_>, input: usize) 
     NEVER
 }
 
+/// Asserts that a job reads the inputs of its call, and fails with each read of them.
+fn assert_reads(rt: &impl Abort, alloc: Global, job: &Job<'_>) {
+    let read = inputs_of(job.call);
+    for input in 0..3 {
+        let reads = each_read_fails(rt, alloc, job, input);
+        assert_eq!(rt; reads > 0, read[input], "{:?} {input}", job.call);
+    }
+}
+
 #[test]
 fn failing_reads(rt: HostRuntime) {
     for job in &JOBS {
-        let read = inputs_of(job.call);
-        for input in 0..3 {
-            let reads = each_read_fails(&rt, rt.alloc(), job, input);
-            assert_eq!(rt; reads > 0, read[input], "{:?} {input}", job.call);
-        }
+        assert_reads(&rt, rt.alloc(), job);
     }
 }
 
@@ -84,13 +89,17 @@ fn each_write_fails(rt: &impl Abort, alloc: Global, job: &Job<'_>, mishap: Misha
     NEVER
 }
 
-/// Three bytes a write: as many writes as the output has threes, and one for the rest.
+/// Asserts that a job fails with each write: three bytes a write, as many writes as the output has threes, and one for the rest.
+fn assert_writes(rt: &impl Abort, alloc: Global, job: &Job<'_>) {
+    for mishap in [Mishap::Fails, Mishap::TakesNone] {
+        let writes = each_write_fails(rt, alloc, job, mishap);
+        assert_eq!(rt; writes, job.wrote.len().div_ceil(3), "{mishap:?}");
+    }
+}
+
 #[test]
 fn failing_writes(rt: HostRuntime) {
     for job in &JOBS {
-        for mishap in [Mishap::Fails, Mishap::TakesNone] {
-            let writes = each_write_fails(&rt, rt.alloc(), job, mishap);
-            assert_eq!(rt; writes, job.wrote.len().div_ceil(3), "{mishap:?}");
-        }
+        assert_writes(&rt, rt.alloc(), job);
     }
 }

@@ -1,6 +1,7 @@
 //! Worked rows, asked of the calls of the engine.
 use crate::feeds::{Feed, Mishap, NEVER, Sheet};
-use engine::{RunFault, Verdict, run, run_build, run_check, run_tidy, run_top};
+use engine::{RunFault, Verdict, run, run_build, run_check, run_convert, run_tidy, run_top};
+use lex_file::Format;
 use ref_tiles::english_rules;
 use std::alloc::Global;
 
@@ -9,6 +10,15 @@ pub const AT: [u8; 36] = [
     0x47, 0x41, 0x44, 0x31, 0x05, 0x00, 0x00, 0x00, 0x04, 0x00, 0x00, 0x00, 0x01, 0x00, 0x00, 0x00,
     0x74, 0x00, 0x00, 0x00, 0xc0, 0x00, 0x00, 0x00, 0x61, 0x00, 0x00, 0x00, 0x01, 0x01, 0x00, 0x00,
     0xd4, 0x01, 0x00, 0x00,
+];
+
+/// The file of the word AT in the format GAD2.
+pub const AT_BY_NODES: [u8; 68] = [
+    0x47, 0x41, 0x44, 0x32, 0x0d, 0x00, 0x00, 0x00, 0x0a, 0x00, 0x00, 0x00, 0x01, 0x00, 0x00, 0x00,
+    0x00, 0x00, 0x10, 0x80, 0x00, 0x00, 0x10, 0x00, 0x00, 0x00, 0x00, 0x00, 0x01, 0x00, 0x00, 0x80,
+    0x00, 0x00, 0x00, 0x00, 0x01, 0x00, 0x00, 0x00, 0x02, 0x00, 0x00, 0x80, 0x02, 0x00, 0x00, 0x00,
+    0x00, 0x00, 0x00, 0x00, 0x02, 0x00, 0x10, 0x80, 0x00, 0x00, 0x00, 0x00, 0x04, 0x00, 0x00, 0x00,
+    0x07, 0x00, 0x00, 0x00,
 ];
 
 /// The file of the word WORD.
@@ -59,6 +69,8 @@ pub enum Call {
     Top(&'static str),
     Build,
     Check,
+    /// Into a format.
+    Convert(Format),
     Tidy,
 }
 
@@ -143,6 +155,26 @@ pub const CHECKED: Job<'static> = Job {
     wrote: b"ok 1\n",
 };
 
+/// The same lexicon, converted.
+pub const CONVERTED: Job<'static> = Job {
+    call: Call::Convert(Format::Gad2),
+    words: b"",
+    lexicon: &AT,
+    game: b"",
+    verdict: Verdict::Done,
+    wrote: &AT_BY_NODES,
+};
+
+/// And back.
+pub const CONVERTED_BACK: Job<'static> = Job {
+    call: Call::Convert(Format::Gad1),
+    words: b"",
+    lexicon: &AT_BY_NODES,
+    game: b"",
+    verdict: Verdict::Done,
+    wrote: &AT,
+};
+
 /// A record with a mark at its front, a note, small letters and blanks.
 pub const TIDIED: Job<'static> = Job {
     call: Call::Tidy,
@@ -154,8 +186,17 @@ pub const TIDIED: Job<'static> = Job {
 };
 
 /// All of them.
-pub const JOBS: [Job<'static>; 8] = [
-    ONE_PLAY, WITHDRAWN, STALE, UNSETTLED, BEST_PLAYS, BUILT, CHECKED, TIDIED,
+pub const JOBS: [Job<'static>; 10] = [
+    ONE_PLAY,
+    WITHDRAWN,
+    STALE,
+    UNSETTLED,
+    BEST_PLAYS,
+    BUILT,
+    CHECKED,
+    CONVERTED,
+    CONVERTED_BACK,
+    TIDIED,
 ];
 
 /// How the devices of a job behave: how many bytes a read or a write moves at most, and the numbers of the read of each input
@@ -207,6 +248,7 @@ pub fn attempt(alloc: Global, job: &Job<'_>, manner: &Manner) -> Outcome {
         ),
         Call::Build => run_build(alloc, &mut words, &mut out),
         Call::Check => run_check(alloc, &mut words, &mut lexicon, &mut out),
+        Call::Convert(format) => run_convert(alloc, &mut lexicon, format, &mut out),
         Call::Tidy => run_tidy(alloc, &mut game, &mut out),
     };
     Outcome {

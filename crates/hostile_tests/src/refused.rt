@@ -1,16 +1,17 @@
 //! Memory that is refused: each request in turn, by `bench/refuse_memory.py`, until a run meets no refusal. Each test is for one
 //! call, and takes little memory besides. Without a refusal the answer is the row's.
 use crate::jobs::{
-    AT, BEST_PLAYS, BUILT, CHECKED, JOBS, Job, ONE_PLAY, STALE, TIDIED, UNSETTLED, WITHDRAWN, WORD,
-    attempt, working,
+    AT, AT_BY_NODES, BEST_PLAYS, BUILT, CHECKED, CONVERTED, CONVERTED_BACK, Job, ONE_PLAY, STALE,
+    TIDIED, UNSETTLED, WITHDRAWN, WORD, attempt, working,
 };
 use engine::RunFault;
-use game_deal::{DealFault, bounds, complete};
+use game_deal::{DealFault, Needs, bounds, complete};
 use game_turns::play_through;
 use gcg_read::{Record, read};
 use gcg_write::{NoMemory, event_text, write};
+use lex_build::{BuildFault, convert};
 use lex_check::{Mismatch, SortedPaths, pair};
-use lex_file::LexFile;
+use lex_file::{Format, LexFile};
 use lex_list::WordList;
 use ref_tiles::{Kind, english_rules};
 use std::alloc::Global;
@@ -63,38 +64,55 @@ fn run_check(rt: HostRuntime) {
 }
 
 #[test]
+fn run_convert(rt: HostRuntime) {
+    assert_spared(&rt, rt.alloc(), &CONVERTED);
+}
+
+#[test]
+fn run_convert_back(rt: HostRuntime) {
+    assert_spared(&rt, rt.alloc(), &CONVERTED_BACK);
+}
+
+#[test]
 fn run_tidy(rt: HostRuntime) {
     assert_spared(&rt, rt.alloc(), &TIDIED);
 }
 
-/// What is written of a record behind a byte is its normal form, or nothing.
-#[test]
-fn write_of_a_record(rt: HostRuntime) {
-    let (Ok(game), Ok(mut out)) = (
-        read(rt.alloc(), TIDIED.game),
-        Vec::from_slice(rt.alloc(), b"x"),
-    ) else {
-        return;
-    };
-    match write(&game, &mut out) {
-        Ok(()) => assert_eq!(rt; &out.as_slice()[1..], TIDIED.wrote),
-        Err(NoMemory) => assert_eq!(rt; out.as_slice(), b"x".as_slice()),
+/// What is written behind a byte is this text, or nothing where memory is refused.
+fn assert_behind(rt: &impl Abort, out: &[u8], wrote: Result<(), NoMemory>, text: &[u8]) {
+    let (front, behind) = out.split_first().expect(rt, "a byte");
+    let expected = if wrote.is_ok() { text } else { b"" };
+    assert_eq!(rt; (*front, behind), (b'x', expected));
+}
+
+/// What is written of a record is its normal form.
+fn assert_normal(rt: &impl Abort, alloc: Global, game: &Record, normal: &[u8]) {
+    if let Ok(mut out) = Vec::from_slice(alloc, b"x") {
+        let wrote = write(game, &mut out);
+        assert_behind(rt, &out, wrote, normal);
     }
 }
 
-/// What is written of an event behind a byte is its text, or nothing.
+#[test]
+fn write_of_a_record(rt: HostRuntime) {
+    if let Ok(game) = read(rt.alloc(), TIDIED.game) {
+        assert_normal(&rt, rt.alloc(), &game, TIDIED.wrote);
+    }
+}
+
+/// What is written of the one event of a record is its text.
+fn assert_event(rt: &impl Abort, alloc: Global, game: &Record, text: &[u8]) {
+    assert_eq!(rt; game.events.len(), 1);
+    if let Ok(mut out) = Vec::from_slice(alloc, b"x") {
+        let wrote = event_text(game, 0, &mut out);
+        assert_behind(rt, &out, wrote, text);
+    }
+}
+
 #[test]
 fn event_text_of_a_play(rt: HostRuntime) {
-    let (Ok(game), Ok(mut out)) = (
-        read(rt.alloc(), ONE_PLAY.game),
-        Vec::from_slice(rt.alloc(), b"x"),
-    ) else {
-        return;
-    };
-    assert_eq!(rt; game.events.len(), 1);
-    match event_text(&game, 0, &mut out) {
-        Ok(()) => assert_eq!(rt; out.as_slice(), b"x8E WORD +16 16".as_slice()),
-        Err(NoMemory) => assert_eq!(rt; out.as_slice(), b"x".as_slice()),
+    if let Ok(game) = read(rt.alloc(), ONE_PLAY.game) {
+        assert_event(&rt, rt.alloc(), &game, b"8E WORD +16 16");
     }
 }
 
@@ -123,11 +141,32 @@ fn pair_of_a_word(rt: HostRuntime) {
     }
 }
 
+#[test]
+fn convert_of_a_word(rt: HostRuntime) {
+    for (bytes, format, want) in [
+        (AT.as_slice(), Format::Gad2, AT_BY_NODES.as_slice()),
+        (AT_BY_NODES.as_slice(), Format::Gad1, AT.as_slice()),
+    ] {
+        let file = LexFile::open(bytes).expect(&rt, "a file");
+        match convert(rt.alloc(), &file, format) {
+            Ok(converted) => assert_eq!(rt; converted.as_slice(), want),
+            Err(fault) => assert_eq!(rt; fault, BuildFault::NoMemory),
+        }
+    }
+}
+
 /// The record and the list of a deal; none where memory is refused.
 fn dealt(alloc: Global, game: &[u8]) -> Option<(Record, WordList)> {
     let record = read(alloc, game).ok()?;
     let list = WordList::read(alloc, b"AT").ok()?;
     Some((record, list))
+}
+
+/// The bound that a record exceeds.
+fn exceeded(rt: &impl Abort, alloc: Global, record: &Record, list: &WordList) -> DealFault {
+    let rules = english_rules();
+    let passed = play_through(&rules, record, list).expect(rt, "a record that passed");
+    bounds(alloc, &passed).err().expect(rt, "a fault")
 }
 
 /// A third blank is shown.
@@ -136,33 +175,36 @@ fn bounds_exceeded(rt: HostRuntime) {
     let Some((record, list)) = dealt(rt.alloc(), b">A: ?? - +0 0\n>B: ? - +0 0\n") else {
         return;
     };
-    let rules = english_rules();
-    let passed = play_through(&rules, &record, &list).expect(&rt, "a record that passed");
     let short = DealFault::TilesShort {
         line: 2,
         kind: Kind::Blank,
     };
-    let fault = bounds(rt.alloc(), &passed).err();
-    assert!(rt; fault == Some(short) || fault == Some(DealFault::NoMemory));
+    let fault = exceeded(&rt, rt.alloc(), &record, &list);
+    assert!(rt; fault == short || fault == DealFault::NoMemory);
+}
+
+/// Asserts that a deal of three steps is found, or memory refused.
+fn assert_complete(rt: &impl Abort, alloc: Global, needs: &Needs<'_>) {
+    if let Ok(deal) = complete(alloc, needs) {
+        assert_eq!(rt; deal.expect(rt, "a deal").as_slice().len(), 3);
+    }
+}
+
+/// The same of a record that exceeds no bound.
+fn assert_deal(rt: &impl Abort, alloc: Global, record: &Record, list: &WordList) {
+    let rules = english_rules();
+    let passed = play_through(&rules, record, list).expect(rt, "a record that passed");
+    match bounds(alloc, &passed) {
+        Ok(needs) => assert_complete(rt, alloc, &needs),
+        Err(fault) => assert_eq!(rt; fault, DealFault::NoMemory),
+    }
 }
 
 /// An exchange of tiles that are not told.
 #[test]
 fn complete_with_an_exchange(rt: HostRuntime) {
     let game = b">A: AEI -5 +0 0\n>B: QU - +0 0\n>A: SX - +0 0\n";
-    let Some((record, list)) = dealt(rt.alloc(), game) else {
-        return;
-    };
-    let rules = english_rules();
-    let passed = play_through(&rules, &record, &list).expect(&rt, "a record that passed");
-    let needs = match bounds(rt.alloc(), &passed) {
-        Ok(needs) => needs,
-        Err(fault) => {
-            assert_eq!(rt; fault, DealFault::NoMemory);
-            return;
-        }
-    };
-    if let Ok(deal) = complete(rt.alloc(), &needs) {
-        assert_eq!(rt; deal.expect(&rt, "a deal").as_slice().len(), 3);
+    if let Some((record, list)) = dealt(rt.alloc(), game) {
+        assert_deal(&rt, rt.alloc(), &record, &list);
     }
 }

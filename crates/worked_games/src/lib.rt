@@ -1,4 +1,4 @@
-//! The worked games, lexicons and records, judged, built, checked and tidied over memory by the calls of the engine, and
+//! The worked games, lexicons and records, judged, built, checked, converted and tidied over memory by the calls of the engine, and
 //! tests of the devices that they are read from and written to.
 //!
 //! Each table shows one rule. They stand here, and not in the crates that they test, since a crate with tests of its own
@@ -7,6 +7,8 @@
 
 #[cfg(test)]
 mod best_plays;
+#[cfg(test)]
+mod converting;
 #[cfg(test)]
 mod deals;
 #[cfg(test)]
@@ -21,6 +23,8 @@ mod lexicons;
 mod pieces;
 #[cfg(test)]
 mod plays;
+#[cfg(test)]
+mod ruled;
 #[cfg(test)]
 mod tidying;
 #[cfg(test)]
