@@ -4,7 +4,6 @@ use lex_file::{LexFile, PathLex};
 use lex_list::WordList;
 use std::alloc::Global;
 use std::process::Abort;
-use std::test::Fail;
 
 /// The file of AT with an arc that accepts A too.
 const AT_AND_A: [u8; 36] = [
@@ -162,32 +161,19 @@ fn a_file_of_very_many_walks(rt: HostRuntime) {
 
 #[test]
 fn a_pair_gives_both_back(rt: HostRuntime) {
-    let Ok(list) = WordList::read(rt.alloc(), b"AT") else {
-        panic!(rt; "no list");
-    };
-    let Ok(file) = LexFile::open(&AT) else {
-        panic!(rt; "no file");
-    };
-    let Ok(pair) = pair(rt.alloc(), &list, file) else {
-        panic!(rt; "no pair");
-    };
-    assert_eq!(rt; pair.list().len(), 1);
-    assert_eq!(rt; pair.file().word_count(), 1);
+    let list = WordList::read(rt.alloc(), b"AT").expect(&rt, "a list");
+    let file = LexFile::open(&AT).expect(&rt, "a file");
+    let pair = pair(rt.alloc(), &list, file).expect(&rt, "a pair");
+    assert_eq!(rt; (pair.list().len(), pair.file().word_count()), (1, 1));
 }
 
 #[test]
 fn sorted_paths_are_walked(rt: HostRuntime) {
-    let Ok(list) = WordList::read(rt.alloc(), b"AT") else {
-        panic!(rt; "no list");
-    };
-    let Ok(paths) = SortedPaths::new(rt.alloc(), &list) else {
-        panic!(rt; "no paths");
-    };
+    let paths = paths_of(rt.alloc(), b"AT").expect(&rt, "paths");
     assert_eq!(rt; paths.len(), 2);
     let root = paths.root();
     assert!(rt; paths.step(root, 2).is_none());
-    let step = paths.step(root, 20);
-    assert!(rt; matches!(step, Some(_)));
+    assert!(rt; paths.step(root, 20).is_some());
     assert!(rt; check_paths(&paths, &paths).is_ok());
     law_of_lexicons();
 }
@@ -297,18 +283,20 @@ fn label_behind(paths: &SortedPaths, behind: &[u8], from: u8) -> Option<u8> {
     Some(branch.label)
 }
 
+fn assert_ahead(rt: &impl Abort, alloc: Global, row: &Ahead) {
+    let paths = paths_of(alloc, row.words).expect(rt, "paths");
+    let here = label_behind(&paths, row.behind, row.from);
+    assert_eq!(rt;
+        here,
+        row.label,
+        "{:?} {:?} {}",
+        row.words, row.behind, row.from
+    );
+}
+
 #[test]
 fn labels_ahead(rt: HostRuntime) {
     for row in &AHEAD {
-        let Some(paths) = paths_of(rt.alloc(), row.words) else {
-            panic!(rt; "no paths");
-        };
-        let here = label_behind(&paths, row.behind, row.from);
-        assert_eq!(rt;
-            here,
-            row.label,
-            "{:?} {:?} {}",
-            row.words, row.behind, row.from
-        );
+        assert_ahead(&rt, rt.alloc(), row);
     }
 }

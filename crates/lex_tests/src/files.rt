@@ -1,9 +1,8 @@
 ghost use Rattle.std.specs.Prelude.{◌≡◌};
 
 use crate::samples::{AT, AT_BY_NODES, AT_IT, EMPTY};
-use lex_file::{Branch, FileFault, LexFile, PathLex, Step, law_of_language, law_of_nodes};
+use lex_file::{Branch, FileFault, LexFile, Node, PathLex, Step, law_of_language, law_of_nodes};
 use std::process::Abort;
-use std::test::Fail;
 
 /// A change of one word of the file of AT, and the fault that it makes.
 struct Change {
@@ -152,15 +151,16 @@ fn truncations(rt: HostRuntime) {
     assert_cut(&rt, &AT_BY_NODES);
 }
 
+fn file_of<'a>(rt: &impl Abort, bytes: &'a [u8]) -> LexFile<'a> {
+    LexFile::open(bytes).expect(rt, "a file")
+}
+
 #[test]
-fn counts(rt: HostRuntime) -> Result<(), Fail> {
-    let file = LexFile::open(&AT_IT).ok().ok_or("a file")?;
-    assert_eq!(rt; file.word_count(), 2);
-    assert_eq!(rt; file.arc_count(), 7);
-    let empty = LexFile::open(&EMPTY).ok().ok_or("a file")?;
-    assert_eq!(rt; empty.word_count(), 0);
-    assert_eq!(rt; empty.arc_count(), 0);
-    Ok(())
+fn counts(rt: HostRuntime) {
+    let file = file_of(&rt, &AT_IT);
+    assert_eq!(rt; (file.word_count(), file.arc_count()), (2, 7));
+    let empty = file_of(&rt, &EMPTY);
+    assert_eq!(rt; (empty.word_count(), empty.arc_count()), (0, 0));
 }
 
 #[test]
@@ -268,27 +268,28 @@ const WALKS: [Walk; 14] = [
     },
 ];
 
+/// Whether labels lead from the root of a file to an arc that accepts.
+fn is_walk(rt: &impl Abort, bytes: &[u8], labels: &[u8]) -> bool {
+    let file = file_of(rt, bytes);
+    accepts(&file, file.root(), labels)
+}
+
+fn assert_walk(rt: &impl Abort, row: &Walk) {
+    assert_eq!(rt; is_walk(rt, &AT, row.labels), row.at, "{:?}", row.labels);
+    assert_eq!(rt;
+        is_walk(rt, &AT_IT, row.labels),
+        row.at_it,
+        "{:?}",
+        row.labels
+    );
+    assert!(rt; !is_walk(rt, &EMPTY, row.labels));
+}
+
 #[test]
-fn walks(rt: HostRuntime) -> Result<(), Fail> {
-    let at = LexFile::open(&AT).ok().ok_or("a file")?;
-    let at_it = LexFile::open(&AT_IT).ok().ok_or("a file")?;
-    let empty = LexFile::open(&EMPTY).ok().ok_or("a file")?;
+fn walks(rt: HostRuntime) {
     for row in &WALKS {
-        assert_eq!(rt;
-            accepts(&at, at.root(), row.labels),
-            row.at,
-            "{:?}",
-            row.labels
-        );
-        assert_eq!(rt;
-            accepts(&at_it, at_it.root(), row.labels),
-            row.at_it,
-            "{:?}",
-            row.labels
-        );
-        assert!(rt; !accepts(&empty, empty.root(), row.labels));
+        assert_walk(&rt, row);
     }
-    Ok(())
 }
 
 /// A label from which on the next one is looked for at the root, and the first of the word AT, and of AT and IT.
@@ -347,61 +348,54 @@ const AHEAD: [Ahead; 9] = [
 ];
 
 /// The first label from one on with which a tail of the root begins.
-fn label_from(file: &LexFile<'_>, from: u8) -> Option<u8> {
+fn label_from(rt: &impl Abort, bytes: &[u8], from: u8) -> Option<u8> {
+    let file = file_of(rt, bytes);
     let branch = file.branch_from(file.root(), from)?;
     Some(branch.label)
 }
 
+fn assert_ahead(rt: &impl Abort, row: &Ahead) {
+    assert_eq!(rt; label_from(rt, &AT, row.from), row.at, "{}", row.from);
+    assert_eq!(rt; label_from(rt, &AT_IT, row.from), row.at_it, "{}", row.from);
+    assert_eq!(rt; label_from(rt, &EMPTY, row.from), None, "{}", row.from);
+}
+
 #[test]
-fn labels_ahead(rt: HostRuntime) -> Result<(), Fail> {
-    let at = LexFile::open(&AT).ok().ok_or("a file")?;
-    let at_it = LexFile::open(&AT_IT).ok().ok_or("a file")?;
-    let empty = LexFile::open(&EMPTY).ok().ok_or("a file")?;
+fn labels_ahead(rt: HostRuntime) {
     for row in &AHEAD {
-        assert_eq!(rt; label_from(&at, row.from), row.at, "{}", row.from);
-        assert_eq!(rt; label_from(&at_it, row.from), row.at_it, "{}", row.from);
-        assert_eq!(rt; label_from(&empty, row.from), None, "{}", row.from);
+        assert_ahead(&rt, row);
     }
-    Ok(())
 }
 
+/// A step to the last label of a string.
+const LAST: Step<Node> = Step {
+    accepts: true,
+    next: None,
+};
+
 #[test]
-fn branches(rt: HostRuntime) -> Result<(), Fail> {
-    let file = LexFile::open(&AT).ok().ok_or("a file")?;
-    let letter = file.branch_from(file.root(), 2).ok_or("a branch")?;
-    assert_eq!(rt; letter.label, 20);
-    assert!(rt; !letter.step.accepts);
-    let node = letter.step.next.ok_or("a node")?;
-    assert_eq!(rt;
-        file.branch_from(node, 0),
-        Some(Branch {
-            label: 1,
-            step: Step {
-                accepts: true,
-                next: None
-            }
-        })
-    );
+fn branches(rt: HostRuntime) {
+    let file = file_of(&rt, &AT);
+    let letter = file.branch_from(file.root(), 2).expect(&rt, "a branch");
+    assert_eq!(rt; (letter.label, letter.step.accepts), (20, false));
+    let node = letter.step.next.expect(&rt, "a node");
+    let last = Branch {
+        label: 1,
+        step: LAST,
+    };
+    assert_eq!(rt; file.branch_from(node, 0), Some(last));
     assert_eq!(rt; file.branch_from(node, 2), None);
-    Ok(())
 }
 
 #[test]
-fn steps(rt: HostRuntime) -> Result<(), Fail> {
-    let file = LexFile::open(&AT).ok().ok_or("a file")?;
+fn steps(rt: HostRuntime) {
+    let file = file_of(&rt, &AT);
     let root = file.root();
     assert!(rt; file.step(root, 0).is_none());
-    let last = file.step(root, 20).ok_or("a step")?;
+    let last = file.step(root, 20).expect(&rt, "a step");
     assert!(rt; !last.accepts);
-    let node = last.next.ok_or("a node")?;
-    assert_eq!(rt;
-        file.step(node, 1),
-        Some(Step {
-            accepts: true,
-            next: None
-        })
-    );
+    let node = last.next.expect(&rt, "a node");
+    assert_eq!(rt; file.step(node, 1), Some(LAST));
     law_of_language();
     law_of_nodes();
-    Ok(())
 }

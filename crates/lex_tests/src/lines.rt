@@ -42,17 +42,21 @@ const TEXTS: [Text; 8] = [
     },
 ];
 
+fn assert_lines(rt: &impl Abort, text: &Text) {
+    let mut left = Some(without_mark(text.bytes));
+    for line in text.lines.iter() {
+        assert!(rt; left.is_some(), "{:?}", text.bytes);
+        let cut = cut_line(left.unwrap_or(&[]));
+        assert_eq!(rt; cut.line, *line, "{:?}", text.bytes);
+        left = cut.after;
+    }
+    assert!(rt; left.is_none(), "{:?}", text.bytes);
+}
+
 #[test]
 fn lines_of_texts(rt: HostRuntime) {
     for text in &TEXTS {
-        let mut left = Some(without_mark(text.bytes));
-        for line in text.lines.iter() {
-            assert!(rt; left.is_some(), "{:?}", text.bytes);
-            let cut = cut_line(left.unwrap_or(&[]));
-            assert_eq!(rt; cut.line, *line, "{:?}", text.bytes);
-            left = cut.after;
-        }
-        assert!(rt; left.is_none(), "{:?}", text.bytes);
+        assert_lines(&rt, text);
     }
 }
 
@@ -89,21 +93,25 @@ const LINES: [Line; 6] = [
     },
 ];
 
+fn assert_fields(rt: &impl Abort, line: &Line) {
+    let mut left = line.bytes;
+    for bytes in line.fields.iter() {
+        let field = next_field(left);
+        assert_eq!(rt;
+            field.map(|field| field.bytes),
+            Some(*bytes),
+            "{:?}",
+            line.bytes
+        );
+        left = field.map_or(&[], |field| field.after);
+    }
+    assert!(rt; next_field(left).is_none(), "{:?}", line.bytes);
+}
+
 #[test]
 fn fields_of_lines(rt: HostRuntime) {
     for line in &LINES {
-        let mut left = line.bytes;
-        for bytes in line.fields.iter() {
-            let field = next_field(left);
-            assert_eq!(rt;
-                field.map(|field| field.bytes),
-                Some(*bytes),
-                "{:?}",
-                line.bytes
-            );
-            left = field.map_or(&[], |field| field.after);
-        }
-        assert!(rt; next_field(left).is_none(), "{:?}", line.bytes);
+        assert_fields(&rt, line);
     }
 }
 

@@ -3,7 +3,7 @@ use lex_check::{Mismatch, check, text_of};
 use lex_file::{FileFault, Format, LexFile};
 use lex_list::WordList;
 use std::alloc::Global;
-use std::test::Fail;
+use std::process::Abort;
 
 /// A change of one word of the GAD2 file of AT, and the fault that it makes. Word 2 of the header is the root.
 struct Change {
@@ -116,15 +116,17 @@ fn places(file: &LexFile<'_>) -> [u32; 6] {
     numbers
 }
 
+fn file_of<'a>(rt: &impl Abort, bytes: &'a [u8]) -> LexFile<'a> {
+    LexFile::open(bytes).expect(rt, "a file")
+}
+
 #[test]
-fn stored_nodes(rt: HostRuntime) -> Result<(), Fail> {
-    let by_nodes = LexFile::open(&AT_BY_NODES).ok().ok_or("a file")?;
+fn stored_nodes(rt: HostRuntime) {
+    let by_nodes = file_of(&rt, &AT_BY_NODES);
     assert_eq!(rt; by_nodes.format(), Format::Gad2);
-    assert_eq!(rt; by_nodes.arc_count(), 5);
-    assert_eq!(rt; by_nodes.word_count(), 1);
+    assert_eq!(rt; (by_nodes.arc_count(), by_nodes.word_count()), (5, 1));
     assert_eq!(rt; places(&by_nodes), [1, 4, 7, 10, 0, 0]);
-    let by_arcs = LexFile::open(&AT).ok().ok_or("a file")?;
+    let by_arcs = file_of(&rt, &AT);
     assert_eq!(rt; by_arcs.format(), Format::Gad1);
     assert_eq!(rt; places(&by_arcs), [1, 2, 3, 4, 0, 0]);
-    Ok(())
 }

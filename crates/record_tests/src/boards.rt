@@ -14,37 +14,34 @@ fn board_with(rt: &impl Abort, places: &[(usize, usize)]) -> Board {
     board
 }
 
+/// Asserts that a square has this number, lies where it should, and has its line and its place of both directions.
+fn assert_square(rt: &impl Abort, square: Square, place: (usize, usize), number: usize) {
+    let (row, column) = place;
+    assert_eq!(rt;
+        (square.number(), square.row(), square.column()),
+        (number, row, column)
+    );
+    let across = (square.line(Dir::Across), square.place(Dir::Across));
+    let down = (square.line(Dir::Down), square.place(Dir::Down));
+    assert_eq!(rt; (across, down), ((row, column), (column, row)));
+}
+
 #[test]
 fn squares(rt: HostRuntime) {
-    for (row, column, number) in [
-        (0, 0, Some(0)),
-        (0, 14, Some(14)),
-        (7, 7, Some(112)),
-        (14, 14, Some(224)),
-        (0, 15, None),
-        (15, 0, None),
-    ] {
-        match Square::new(row, column) {
-            None => assert_eq!(rt; number, None, "{row}, {column}"),
-            Some(square) => {
-                assert_eq!(rt; Some(square.number()), number, "{row}, {column}");
-                assert_eq!(rt; (square.row(), square.column()), (row, column));
-                assert_eq!(rt;
-                    (square.line(Dir::Across), square.place(Dir::Across)),
-                    (row, column)
-                );
-                assert_eq!(rt;
-                    (square.line(Dir::Down), square.place(Dir::Down)),
-                    (column, row)
-                );
-            }
-        }
+    for (row, column, number) in [(0, 0, 0), (0, 14, 14), (7, 7, 112), (14, 14, 224)] {
+        let square = Square::new(row, column).expect(&rt, "a square");
+        assert_square(&rt, square, (row, column), number);
     }
+    assert_eq!(rt; (Square::new(0, 15), Square::new(15, 0)), (None, None));
+    assert_eq!(rt; Square::default().number(), 0);
+}
+
+#[test]
+fn squares_on_lines(rt: HostRuntime) {
     let across = Square::on_line(Dir::Across, 2, 6);
     assert_eq!(rt; (across.row(), across.column()), (2, 6));
     let down = Square::on_line(Dir::Down, 2, 6);
     assert_eq!(rt; (down.row(), down.column()), (6, 2));
-    assert_eq!(rt; Square::default().number(), 0);
     assert_eq!(rt;
         (Dir::Across.other(), Dir::Down.other()),
         (Dir::Down, Dir::Across)
@@ -62,11 +59,16 @@ fn tiles_on_squares(rt: HostRuntime) {
     assert!(rt; board.at(centre).is_none());
     board.put(centre, blank);
     assert_eq!(rt; (board.at(centre), board.at(beside)), (Some(blank), None));
+    assert_lifts(&rt, &mut board, centre, blank);
+}
+
+/// Lifts the one tile of a board.
+fn assert_lifts(rt: &impl Abort, board: &mut Board, square: Square, tile: Tile) {
     assert!(rt; !board.is_empty());
-    assert!(rt; board.at(centre).is_some());
-    assert_eq!(rt; board.lift(centre), blank);
-    assert_eq!(rt; board.at(centre), None);
-    assert!(rt; board.is_empty() && board == Board::empty());
+    assert!(rt; board.at(square).is_some());
+    assert_eq!(rt; board.lift(square), tile);
+    assert_eq!(rt; board.at(square), None);
+    assert!(rt; board.is_empty() && *board == Board::empty());
 }
 
 #[test]

@@ -32,18 +32,9 @@ fn assert_board(
     for number in 0..SIDE * SIDE {
         let square = Square::on_line(Dir::Across, number / SIDE, number % SIDE);
         for dir in [Dir::Across, Dir::Down] {
-            assert_eq!(rt;
-                follow.mask(dir, square),
-                cross.mask(dir, square),
-                "{:?}",
-                square
-            );
-            assert_eq!(rt;
-                follow.side(dir, square),
-                cross.side(dir, square),
-                "{:?}",
-                square
-            );
+            let followed = (follow.mask(dir, square), follow.side(dir, square));
+            let afresh = (cross.mask(dir, square), cross.side(dir, square));
+            assert_eq!(rt; followed, afresh, "{:?}", square);
         }
     }
 }
@@ -93,21 +84,22 @@ fn assert_best(rt: &impl Abort, rules: &Rules, pair: &Checked<'_>, follow: &Foll
 {
     let (rack, written, points, many) = best;
     let rack = tiles(rt, rack);
-    let tops = follow.top(rules, pair, &rack);
-    assert_eq!(rt; tops.items().len(), many, "{:?}", written);
-    match (follow.annotate(rules, pair, &rack), tops.items().first()) {
-        (Some((play, score)), Some((first, top))) => {
+    match follow.annotate(rules, pair, &rack) {
+        Some((play, score)) => {
             assert_eq!(rt; score, points, "{:?}", written);
-            assert_eq!(rt; *top, points, "{:?}", written);
             assert_written(rt, &notation(follow.board(), &play), written);
-            assert!(rt;
-                first.tiles.as_slice() == play.tiles.as_slice(),
-                "{:?}",
-                written
-            );
+            let tops = follow.top(rules, pair, &rack);
+            assert_first(rt, tops.items(), many, &play, points);
         }
-        _ => assert!(rt; false, "{:?}", written),
+        None => assert!(rt; false, "{:?}", written),
     }
+}
+
+/// Asserts that there are so many best plays, and that this play with its score is the first of them.
+fn assert_first(rt: &impl Abort, tops: &[(Play, i32)], many: usize, play: &Play, points: i32) {
+    let first = tops.first().expect(rt, "a best play");
+    assert_eq!(rt; (tops.len(), first.1), (many, points));
+    assert!(rt; first.0.tiles.as_slice() == play.tiles.as_slice());
 }
 
 /// A play that is applied, taken back, and made again by the other player.

@@ -443,11 +443,15 @@ fn assert_code(rt: &impl Abort, row: &CodeRow, event: &Event) {
     assert_eq!(rt; event.total.value(), row.total);
 }
 
+fn assert_last_code(rt: &impl Abort, alloc: Global, row: &CodeRow) {
+    let record = read(alloc, row.text).expect(rt, "a record");
+    assert_code(rt, row, last_event(rt, &record));
+}
+
 #[test]
 fn codes(rt: HostRuntime) {
     for row in &CODES {
-        let record = read(rt.alloc(), row.text).expect(&rt, "a record");
-        assert_code(&rt, row, last_event(&rt, &record));
+        assert_last_code(&rt, rt.alloc(), row);
     }
 }
 
@@ -536,11 +540,15 @@ fn assert_players(rt: &impl Abort, players: &Players, row: &NameRow) {
     assert_player(rt, &players.second, row.nicks[1], row.fulls[1]);
 }
 
+fn assert_names(rt: &impl Abort, alloc: Global, row: &NameRow) {
+    let record = read(alloc, row.text).expect(rt, "a record");
+    assert_players(rt, &record.players, row);
+}
+
 #[test]
 fn pragmas(rt: HostRuntime) {
     for row in &NAMES {
-        let record = read(rt.alloc(), row.text).expect(&rt, "a record");
-        assert_players(&rt, &record.players, row);
+        assert_names(&rt, rt.alloc(), row);
     }
 }
 

@@ -1,4 +1,4 @@
-use game_turns::{Machine, Refusal, RuleFault, Turn, law_of_tallies, play_through};
+use game_turns::{Machine, RuleFault, Turn, law_of_tallies, play_through};
 use gcg_read::{Event, Record, Seat, read};
 use lex_list::WordList;
 use ref_play::PlayFault;
@@ -20,7 +20,7 @@ enum Game {
 }
 
 /// What a row is answered.
-#[derive(Clone, Copy, Debug)]
+#[derive(Clone, Copy, Debug, PartialEq, Eq)]
 enum Answer {
     /// Every line is allowed; the game is complete, or not.
     Legal(bool),
@@ -533,23 +533,33 @@ fn list_of(rt: &impl Abort, alloc: Global, words: &[u8]) -> WordList {
     WordList::read(alloc, words).expect(rt, "a word list")
 }
 
+/// What is answered of a row's game. What passed lends the rules, a record of as many events as the row has lines, and the list.
+fn answer_of(
+    rt: &impl Abort,
+    rules: &Rules,
+    record: &Record,
+    list: &WordList,
+    lines: usize,
+) -> Answer {
+    match play_through(rules, record, list) {
+        Ok(passed) => {
+            assert!(rt; passed.rules() == rules);
+            assert_eq!(rt;
+                (passed.record().events.len(), passed.list().len()),
+                (lines, list.len())
+            );
+            Answer::Legal(passed.complete())
+        }
+        Err(refusal) => Answer::Illegal(refusal.line, refusal.fault),
+    }
+}
+
 fn assert_answer(rt: &impl Abort, alloc: Global, row: &Row) {
     let rules = rules_of(rt, row.game);
     let record = record_of(rt, alloc, row.lines);
     let list = list_of(rt, alloc, row.words);
-    match (play_through(&rules, &record, &list), row.answer) {
-        (Ok(passed), Answer::Legal(complete)) => {
-            assert_eq!(rt; passed.complete(), complete, "{:?}", row.lines);
-            assert_eq!(rt; passed.record().events.len(), row.lines.len());
-            assert!(rt; *passed.rules() == rules);
-            assert_eq!(rt; passed.list().len(), list.len());
-        }
-        (Err(refusal), Answer::Illegal(line, fault)) => {
-            assert_eq!(rt; refusal, Refusal { line, fault }, "{:?}", row.lines);
-        }
-        (Ok(_), Answer::Illegal(_, _)) => assert!(rt; false, "legal: {:?}", row.lines),
-        (Err(refusal), Answer::Legal(_)) => assert!(rt; false, "{refusal:?}: {:?}", row.lines),
-    }
+    let answer = answer_of(rt, &rules, &record, &list, row.lines.len());
+    assert_eq!(rt; answer, row.answer, "{:?}", row.lines);
 }
 
 fn assert_answers(rt: &impl Abort, alloc: Global, rows: &[Row]) {

@@ -1,6 +1,6 @@
 use bstr::ByteSlice;
 use ref_tiles::{
-    ENGLISH, ENGLISH_TEXT, MAX_RULES_BYTES, Premium, Rules, RulesFault, RulesWhy, english_rules,
+    ENGLISH_TEXT, MAX_RULES_BYTES, Premium, Rules, RulesFault, RulesWhy, english_rules,
 };
 use std::alloc::Global;
 use std::process::Abort;
@@ -146,18 +146,33 @@ fn other_lines(rt: &impl Abort) -> &'static [u8] {
     &ENGLISH_TEXT[tiles..]
 }
 
-#[test]
-fn two_sets(rt: HostRuntime) {
-    let mut text = Vec::from_slice(rt.alloc(), TWO_SETS).expect(&rt, "memory");
-    text.extend_from_slice(other_lines(&rt))
-        .expect(&rt, "memory");
-    let rules = Rules::read(&text).expect(&rt, "200 tiles");
+/// The text of rules with two English sets.
+fn two_sets_text(rt: &impl Abort, alloc: Global) -> Vec<u8> {
+    let mut text = Vec::from_slice(alloc, TWO_SETS).expect(rt, "memory");
+    text.extend_from_slice(other_lines(rt)).expect(rt, "memory");
+    text
+}
+
+/// Rules have 200 tiles, and the points and premiums of the English game.
+fn assert_two_sets(rt: &impl Abort, rules: &Rules) {
     assert_eq!(rt; rules.counts.total(), 200);
-    let english = ENGLISH;
+    let english = english_rules();
     let (points, same_points) = (&rules.points, &english.points);
     assert_eq!(rt; points, same_points);
     let (premiums, same_premiums) = (&rules.premiums, &english.premiums);
     assert_eq!(rt; premiums, same_premiums);
+}
+
+#[test]
+fn two_sets(rt: HostRuntime) {
+    let text = two_sets_text(&rt, rt.alloc());
+    let rules = Rules::read(&text).expect(&rt, "200 tiles");
+    assert_two_sets(&rt, &rules);
+}
+
+#[test]
+fn one_tile_too_many(rt: HostRuntime) {
+    let text = two_sets_text(&rt, rt.alloc());
     let over = text
         .as_slice()
         .replace(rt.alloc(), b"tile A 18 1", b"tile A 19 1")
@@ -170,10 +185,14 @@ fn two_sets(rt: HostRuntime) {
 }
 
 #[test]
-fn other_rules(rt: HostRuntime) {
+fn another_bonus(rt: HostRuntime) {
     let text = changed(&rt, rt.alloc(), b"bonus 50\n", b"bonus 999\n");
     let rules = Rules::read(&text).expect(&rt, "rules");
     assert_eq!(rt; rules.bonus, 999);
+}
+
+#[test]
+fn another_row(rt: HostRuntime) {
     let codes = changed(
         &rt,
         rt.alloc(),
