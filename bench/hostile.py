@@ -1,7 +1,7 @@
 """Measures the program on the largest inputs that it takes, made to cost as much as they can: hostile.py [PROGRAM]
 
 The program is crates/referee/out/referee unless another is named. Each line tells the time of the whole process, its peak memory, and
-the first line that it wrote. The lexicon files have 134,217,740 bytes, which is the limit: 33,554,431 arcs.
+the first line that it wrote. The lexicon files have 134,217,740 bytes, the most of the first format: 33,554,431 arcs.
 """
 import os
 import subprocess

@@ -54,6 +54,7 @@ ROWS = [  # the command, the words, the record
     (["judge", "words", "lexicon", "game"], "AT\n", ">A: AEI -5 +0 0\n>B: QU - +0 0\n>A: SX - +0 0\n"),
     (["build", "words", "out"], "AT\n", ""),
     (["check", "words", "lexicon"], "AT\n", ""),
+    (["convert", "gad2", "lexicon", "out"], "AT\n", ""),
     (["top", "words", "lexicon", "game", "?A"], "AT\n", ""),
     (["tidy", "game"], "", UNTIDY),
 ]
@@ -106,12 +107,13 @@ def try_program(refuser, program):
         subprocess.run([program, "build", "words", "lexicon"], cwd=refuser.folder, check=True)
         out = Path(refuser.folder, "out")
         row = refuser.run([program, *words], 0)[0]
-        wrote = out.read_bytes() if words[0] == "build" else b""
+        makes_out = words[-1] == "out"
+        wrote = out.read_bytes() if makes_out else b""
         out.unlink(missing_ok=True)
 
-        def is_good(ran, refused, row=row, wrote=wrote, built=words[0] == "build"):
+        def is_good(ran, refused, row=row, wrote=wrote, makes_out=makes_out):
             # What an earlier run left in OUT is gone before the next one, which may end before it opens OUT.
-            now = out.read_bytes() if built and out.exists() else b""
+            now = out.read_bytes() if makes_out and out.exists() else b""
             out.unlink(missing_ok=True)
             if (ran.returncode, ran.stdout, ran.stderr, now) == (row.returncode, row.stdout, row.stderr, wrote):
                 return True

@@ -83,6 +83,14 @@ measure 'sort -u of these' 5 sort -u --parallel=1 "$work/sorted"
 batches=3
 measure 'build of 400,000 words' 1 "$program" build "$work/dictionary" "$work/built"
 measure 'check of their lexicon' 1 "$program" check "$work/dictionary" "$work/lexicon"
+# The same lexicon in the second format, and back, which gives the bytes that were built.
+"$program" convert gad2 "$work/lexicon" "$work/nodes"
+"$program" convert gad1 "$work/nodes" "$work/arcs"
+cmp "$work/arcs" "$work/lexicon"
+ls -l "$work/nodes" | awk '{ print $5, "bytes of it in GAD2" }'
+measure 'convert of it into GAD2' 1 "$program" convert gad2 "$work/lexicon" "$work/converted"
+measure 'convert of that into GAD1' 1 "$program" convert gad1 "$work/nodes" "$work/converted"
+measure 'check of the lexicon in GAD2' 1 "$program" check "$work/dictionary" "$work/nodes"
 measure 'judge of 25 turns with both' 1 "$program" judge "$work/dictionary" "$work/lexicon" "$work/50"
 # One turn with a full rack, without and with a blank, on the empty board, and the 45 events of the example game.
 echo '>A: AEINRST - +0 0' > "$work/turn"
@@ -104,5 +112,6 @@ measure 'sort of the rotated paths' 1 sort --parallel=1 "$work/paths"
 measure 'build of 400,000 random words' 1 "$program" build "$work/words" "$work/built"
 measure 'check of the lexicon of these' 1 "$program" check "$work/words" "$work/harsh"
 measure 'sort of their rotated paths' 1 sort --parallel=1 "$work/harsh-paths"
-# Cross-sets in the middle of that game, made afresh and brought up after plays of two and of seven tiles, beside one check.
-for _ in 1 2 3; do "$crosses" "$work/merged"; done
+# Cross-sets in the middle of that game, made afresh and brought up to plays of 1 to 7 tiles, beside one check; and those of each
+# play of the game.
+"$crosses" "$work/merged" "$here/../examples/game.gcg"

@@ -9,9 +9,11 @@ at a place, and no text is tried: `try_best.py` does that, to compare.
 from collections import Counter, defaultdict
 from dataclasses import dataclass
 
-from boards import ACROSS, DOWN, RACK, SIDE, runs, score_of
+from boards import ACROSS, DOWN, runs, score_of
+from rules import ENGLISH, RACK, SIDE
 
 CENTRE = (7, 7)
+MANY = 10
 
 
 @dataclass(frozen=True)
@@ -77,10 +79,10 @@ def layings(letters, rack):
 
 
 class Search:
-    """Names the plays that a list of words allows."""
+    """Names the plays that a list of words allows, with their scores by rules."""
 
-    def __init__(self, listed):
-        self.listed, self.having = listed, defaultdict(set)
+    def __init__(self, listed, rules=ENGLISH):
+        self.listed, self.rules, self.having = listed, rules, defaultdict(set)
         for word in listed:
             self.having[len(word)].add(word)
             for place, letter in enumerate(word):
@@ -113,7 +115,7 @@ class Search:
         after = board | new
         words = runs(after, new, step) + runs(after, new, step[::-1])
         text = "".join(new.get(square, ".") for square in run)
-        return Found(score_of(after, new, words), step == DOWN, *run[0], text)
+        return Found(score_of(after, new, words, self.rules), step == DOWN, *run[0], text)
 
     def best(self, board, rack):
         """The best play of a rack on a board, None where there is no play."""
@@ -125,6 +127,12 @@ class Search:
         if len(rack) != held:
             return " best -"
         return f" best {self.best(board, rack) or 'none'}"
+
+
+def best_plays(board, rack, listed, rules=ENGLISH):
+    """All plays of a rack on a board, the best first, and what `referee top` is to print of them."""
+    plays = sorted(Search(listed, rules).plays(board, rack), key=Found.rank)
+    return plays, "".join(f"{play}\n" for play in plays[:MANY]) or "none\n"
 
 
 def kinds_told(report):

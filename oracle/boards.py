@@ -1,31 +1,11 @@
-"""Boards, plays, words and scores by the WESPA Game Rules with the English values: what the second judge and its search stand on.
+"""Boards, plays, words and scores by the WESPA Game Rules: what the second judge and its search stand on.
 
 A board is a dictionary from squares (row and column, from 0) to tiles: a capital for a letter, a small letter for a blank.
 """
 
+from rules import ENGLISH, RACK, SIDE
+
 ACROSS, DOWN = (0, 1), (1, 0)
-SIDE, RACK, BONUS = 15, 7, 50
-
-POINTS = {
-    letter: points
-    for letters, points in [("AEILNORSTU", 1), ("DG", 2), ("BCMP", 3), ("FHVWY", 4), ("K", 5), ("JX", 8), ("QZ", 10)]
-    for letter in letters
-}
-
-# Premium squares by row and columns, as the tables of the game have them.
-ROWS = {
-    "TW": [((1, 15), "AHO"), ((8,), "AO")],
-    "DW": [((2, 14), "BN"), ((3, 13), "CM"), ((4, 12), "DL"), ((5, 11), "EK"), ((8,), "H")],
-    "TL": [((2, 14), "FJ"), ((6, 10), "BFJN")],
-    "DL": [((1, 15), "DL"), ((3, 13), "GI"), ((4, 12), "AHO"), ((7, 9), "CGIM"), ((8,), "DL")],
-}
-PREMIUMS = {
-    (row - 1, ord(column) - ord("A")): premium
-    for premium, squares in ROWS.items()
-    for rows, columns in squares
-    for row in rows
-    for column in columns
-}
 
 
 class Refused(Exception):
@@ -55,7 +35,7 @@ def runs(board, squares, step):
 def place(board, at, step, word):
     """The new tiles of a text and the board with them, or the first fault of the text or of the play."""
     squares = [(at[0] + step[0] * k, at[1] + step[1] * k) for k in range(len(word))]
-    check(max(squares[-1]) < 15, "OffBoard")
+    check(max(squares[-1]) < SIDE, "OffBoard")
     check(all((s in board) if t == "." else board.get(s, t).upper() == t.upper() for s, t in zip(squares, word)), "Mismatch")
     new = {square: tile for square, tile in zip(squares, word) if square not in board}
     check(new, "NoNewTile")
@@ -70,13 +50,13 @@ def place(board, at, step, word):
     return new, after
 
 
-def score_of(after, new, words):
-    total = BONUS if len(new) == RACK else 0
+def score_of(after, new, words, rules=ENGLISH):
+    total = rules.bonus if len(new) == RACK else 0
     for run in words:
         points, factor = 0, 1
         for square in run:
-            premium = PREMIUMS.get(square) if square in new else None
-            points += POINTS.get(after[square], 0) * {"DL": 2, "TL": 3}.get(premium, 1)
+            premium = rules.premiums.get(square) if square in new else None
+            points += rules.points.get(after[square], 0) * {"DL": 2, "TL": 3}.get(premium, 1)
             factor *= {"DW": 2, "TW": 3}.get(premium, 1)
         total += points * factor
     return total

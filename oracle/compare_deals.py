@@ -6,7 +6,8 @@ import tempfile
 
 from comparing import Comparison
 from dealing import Dealer, in_order, line, spoiled, words_in_reach
-from deals import ENGLISH, events_of
+from deals import events_of
+from rules import ENGLISH
 from try_deals import ROWS
 
 EXCHANGES = [(), ("known",), ("unknown",), ("known", "unknown")]
@@ -30,8 +31,8 @@ def show_last_racks(dealer):
 
 def records(cases):
     """Events, the text of their record and the listed words: worked rows, real games and spoiled ones."""
-    for text, _, tiles, words, exchange_min in ROWS:
-        if tiles == ENGLISH and exchange_min == 7:
+    for text, _, rules, words in ROWS:
+        if rules == ENGLISH:
             yield events_of(text), text, set(words.split())
     for _ in range(cases):
         turns, exchanges, stated = (random.choice(it) for it in ([4, 12, 40, 60], EXCHANGES, ["whole", "part", "mixed"]))

@@ -7,11 +7,12 @@ import sys
 import tempfile
 from pathlib import Path
 
-from boards import ACROSS, DOWN, POINTS, Refused, place, runs, score_of
+from boards import ACROSS, DOWN, Refused, place, runs, score_of
 from comparing import Comparison
 from dealing import in_order, likely, line, words_in_reach
 from deals import events_of
 from games import Event
+from rules import ENGLISH
 from try_best import rows
 
 choose = random.choice
@@ -47,12 +48,12 @@ def tiles_used(event, board):
 
 
 class Maker:
-    """Makes the events of one game, mostly allowed ones; the bag and the racks are kept so that games can end."""
+    """Makes the events of one game by some rules, mostly allowed ones; the bag and the racks are kept so that games can end."""
 
-    def __init__(self, longest):
-        self.longest, self.events, self.listed = longest, [], set()
+    def __init__(self, longest, rules=ENGLISH):
+        self.rules, self.longest, self.events, self.listed = rules, longest, [], set()
         self.board, self.totals, self.player = {}, [0, 0], 0
-        self.racks, self.bag, self.out = [7, 7], 86, None
+        self.racks, self.bag, self.out = [7, 7], rules.bag(), None
         self.turns, self.phonies = {}, set()
 
     def add(self, player, kind, text, score, **said):
@@ -77,7 +78,7 @@ class Maker:
         else:
             return
         found = runs(after, new, step) + runs(after, new, step[::-1])
-        score = score_of(after, new, found) + likely(0.004)
+        score = score_of(after, new, found, self.rules) + likely(0.004)
         words = ["".join(after[s] for s in run).upper() for run in found]
         self.listed |= {word for word in words if likely(0.7)}
         row, column = str(at[0] + 1), chr(65 + at[1])
@@ -97,13 +98,12 @@ class Maker:
         if self.bag == 0 and self.racks[self.player] == 0:
             self.out = self.player
         if likely(0.06) and words:
-            self.add(self.player, "challenge", "(challenge)", 5 * random.randint(1, words))
+            self.add(self.player, "challenge", "(challenge)", self.rules.challenge_unit * random.randint(1, words))
 
     def last_rack(self, player, holder, factor):
         size = self.racks[holder] if likely(0.9) else choose([1, 6, 7])
         tiles = some_tiles(max(1, size))
-        points = sum(POINTS.get(tile, 0) for tile in tiles)
-        self.add(player, "rack", f"({tiles})", factor * points, tiles=tiles)
+        self.add(player, "rack", f"({tiles})", factor * self.rules.worth(tiles), tiles=tiles)
 
     def turn(self):
         kind, player = random.random(), self.player
@@ -116,12 +116,13 @@ class Maker:
             self.add(player, what[0], what[1], 0, tiles=tiles, size=size)
             self.player = 1 - player
         elif kind < 0.97:
-            self.add(choose([0, 1]), "time", "(time)", choose([-5, -10, -7]))
+            step = self.rules.time_step
+            self.add(choose([0, 1]), "time", "(time)", choose([-step, -2 * step, -step - 2]))
         elif kind < 0.98:
             self.add(player, choose(["withdraw", "challenge"]), "", 5)
             self.events[-1].text = "--" if self.events[-1].kind == "withdraw" else "(challenge)"
         else:
-            for turn in range(6):
+            for turn in range(self.rules.zero_limit):
                 self.add((player + turn) % 2, "pass", "-", 0)
             for loser in choose([(0, 1), (1, 0), (0, 0), (0,)]):
                 self.last_rack(loser, loser, -1)
@@ -175,4 +176,5 @@ def main():
     comparison.end()
 
 
-main()
+if __name__ == "__main__":
+    main()

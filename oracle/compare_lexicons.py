@@ -1,5 +1,5 @@
-"""Compares `referee build` and `referee check` with the second builder and checker on random lists, and on their files with
-changes: compare_lexicons.py PROGRAM CASES SEED"""
+"""Compares `referee build`, `referee check` and `referee convert` with the second builder, checker and converter on random lists, and
+on their files in both formats with changes: compare_lexicons.py PROGRAM CASES SEED"""
 import random
 import struct
 import subprocess
@@ -8,7 +8,8 @@ import tempfile
 from collections import Counter
 from pathlib import Path
 
-from lexicons import build, check
+from answers import checked, converted, status_of
+from lexicons import GAD1, GAD2, MARK, build, convert
 
 LETTERS = "ABEINRSTZ"
 
@@ -36,26 +37,28 @@ def changed(data):
         return bytes(data) + bytes(random.randint(1, 5))
     if kind == 2:
         data[random.randrange(16)] ^= 1 << random.randrange(8)
-        return bytes(data)
-    if kind == 3:
+    elif kind == 3:
         struct.pack_into("<I", data, 12, random.randrange(9))
-        return bytes(data)
-    if count == 0:
-        return bytes(data)
-    at = 16 + 4 * random.randrange(count)
-    word = struct.unpack_from("<I", data, at)[0]
-    if kind == 4:
-        word ^= 1 << random.randrange(32)
-    elif kind <= 6:
-        word ^= 32
-    elif kind == 7:
-        word = word & ~31 | random.randrange(28)
-    elif kind == 8:
+    elif kind == 4 and count:
         struct.pack_into("<I", data, 8, random.randint(0, count + 1))
-    else:
-        word = word & 127 | random.randint(0, count) << 7
-    struct.pack_into("<I", data, at, word & 0xFFFFFFFF)
+    elif count:
+        at = 16 + 4 * random.randrange(count)
+        word = struct.unpack_from("<I", data, at)[0]
+        change = changed_arc if data[:4] == GAD1 else changed_mask
+        struct.pack_into("<I", data, at, change(word, count) & 0xFFFFFFFF)
     return bytes(data)
+
+
+def changed_arc(word, count):
+    """A word of the first format with a bit, its mark of acceptance, its label or its target changed."""
+    labels, targets = word & ~31 | random.randrange(28), word & 127 | random.randint(0, count) << 7
+    return random.choice([word ^ 1 << random.randrange(32), word ^ 32, word ^ 32, labels, targets])
+
+
+def changed_mask(word, count):
+    """A word of the second format with a bit or its mark changed, or another word."""
+    few = 1 << random.randrange(27) | 1 << random.randrange(27)
+    return random.choice([word ^ 1 << random.randrange(32), word ^ MARK, random.randint(0, count), word | few, word & ~few, MARK | few])
 
 
 def other_list(words):
@@ -68,43 +71,62 @@ def other_list(words):
     return words
 
 
+class Lexicons:
+    """A program, a folder for its files, and what was compared so far."""
+
+    def __init__(self, program, folder):
+        self.program, self.seen = program, Counter()
+        self.words, self.out, self.lexicon = (Path(folder, name) for name in ("words", "out", "lexicon"))
+
+    def run(self, words, expected, status, wrote=False):
+        """Runs a command and stops where it does not give the answer that is expected: on standard output, or in its file."""
+        ran = subprocess.run([self.program, *words], capture_output=True, check=False)
+        told, printed = (self.out.read_bytes(), ran.stdout) if wrote else (ran.stdout, b"")
+        if (ran.returncode, told, printed, ran.stderr) != (status, expected, b"", b""):
+            print(*words, self.words.read_text(), self.lexicon.read_bytes().hex(), sep="\n")
+            print("expected", status, expected, "got", ran, told, sep="\n")
+            sys.exit(1)
+        first = expected.split(b"\n")[0].decode("latin-1") if status else "done"
+        self.seen[f"{words[0]}: {' '.join(first.split()[:3])}"] += 1
+
+    def build(self, words):
+        """Compares the file of a list, whose words are written in either case and in any order."""
+        lines = [word if random.random() < 0.8 else word.lower() for word in words]
+        random.shuffle(lines)
+        self.words.write_text("".join(line + "\n" for line in lines))
+        self.lexicon.write_bytes(b"")
+        self.run(["build", self.words, self.out], build(words), 0, wrote=True)
+
+    def check(self, words, data):
+        """Compares what is said of a list and a file, and the file in both formats."""
+        text = "".join(word + "\n" for word in words)
+        self.words.write_text(text)
+        self.lexicon.write_bytes(data)
+        answer = checked(text.encode(), data)
+        self.run(["check", self.words, self.lexicon], answer, status_of(answer))
+        for form in ("gad1", "gad2"):
+            answer = converted(data, form)
+            self.run(["convert", form, self.lexicon, self.out], answer, status_of(answer), wrote=True)
+
+
 def main():
     program, cases = sys.argv[1], int(sys.argv[2])
     random.seed(int(sys.argv[3]))
-    seen = Counter()
     with tempfile.TemporaryDirectory() as folder:
-        words_file, built_file, lexicon_file = (Path(folder, name) for name in ("words", "built", "lexicon"))
-
-        def differs(what, words, data, expected, got):
-            print(f"{what}: words {sorted(words)}, file {data.hex()}\nexpected {expected!r}\ngot      {got!r}")
-            sys.exit(1)
-
+        lexicons = Lexicons(program, folder)
         for _ in range(cases):
             words = random_words()
-            lines = [word if random.random() < 0.8 else word.lower() for word in words]
-            random.shuffle(lines)
-            words_file.write_text("".join(line + "\n" for line in lines))
-            data = build(words)
-            run = subprocess.run([program, "build", words_file, built_file], capture_output=True)
-            got = built_file.read_bytes()
-            if (run.returncode, run.stdout, got) != (0, b"", data):
-                differs("build", words, data, data.hex(), (run, got.hex()))
-            for _ in range(4):
+            lexicons.build(words)
+            for form in (GAD1, GAD2) * 2:
                 words_now = words if random.random() < 0.7 else other_list(words)
-                words_file.write_text("".join(word + "\n" for word in words_now))
-                data_now = data
+                data = convert(build(words), form)
                 for _ in range(random.choice([0, 1, 1, 1, 2])):
-                    data_now = changed(data_now) if len(data_now) >= 16 else data_now
-                lexicon_file.write_bytes(data_now)
-                run = subprocess.run([program, "check", words_file, lexicon_file], capture_output=True)
-                expected = check(words_now, data_now)
-                wanted = (0 if expected.startswith("ok") else 3, expected.encode(), b"")
-                if (run.returncode, run.stdout, run.stderr) != wanted:
-                    differs("check", words_now, data_now, wanted, run)
-                seen[" ".join(expected.split()[: 3 if expected.startswith("bad") else 1])] += 1
+                    data = changed(data) if len(data) >= 16 else data
+                lexicons.check(words_now, data)
     print(f"{cases} lists, no difference")
-    for answer, times in sorted(seen.items()):
+    for answer, times in sorted(lexicons.seen.items()):
         print(f"{times:8} {answer}")
 
 
-main()
+if __name__ == "__main__":
+    main()

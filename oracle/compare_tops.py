@@ -11,18 +11,10 @@ import tempfile
 from collections import Counter
 from pathlib import Path
 
-from best import Found, Search
+from best import MANY, best_plays
 from dealing import Dealer, in_order, likely, line, words_in_reach
-from deals import ENGLISH
 from lexicons import build
-
-MANY = 10
-
-
-def best_plays(board, rack, listed):
-    """What is told of a rack on a board."""
-    plays = sorted(Search(listed).plays(board, rack), key=Found.rank)
-    return plays, "".join(f"{play}\n" for play in plays[:MANY]) or "none\n"
+from rules import ENGLISH
 
 
 def random_rack(tiles):
@@ -33,7 +25,7 @@ def random_rack(tiles):
 
 def cases(number):
     """Records, their boards, racks, and listed words, of which the racks make some; what was taken back stays unlisted."""
-    tiles = list(ENGLISH.elements())
+    tiles = list(ENGLISH.tiles.elements())
     for _ in range(number):
         dealer = Dealer(ENGLISH, random.choice([0, 1, 4, 12, 30, 60]), random.choice([(), ("known", "unknown")]), "mixed")
         events, _, listed = dealer.game()

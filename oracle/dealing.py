@@ -6,8 +6,9 @@ import random
 from collections import Counter
 from dataclasses import replace
 
-from boards import ACROSS, DOWN, POINTS, RACK, Refused, place, runs, score_of
+from boards import ACROSS, DOWN, Refused, place, runs, score_of
 from games import Event
+from rules import ENGLISH, RACK
 
 choose = random.choice
 
@@ -58,16 +59,16 @@ def words_in_reach(board, rack, tries):
 
 
 class Dealer:
-    """Deals and plays one game.
+    """Deals and plays one game by some rules.
 
     `exchanges` are the kinds of exchanges that are made, `stated` how lines show racks: whole, in part, or a mixture of both and
     of none.
     """
 
-    def __init__(self, tiles, turns, exchanges=(), stated="mixed", exchange_min=7):
-        self.bag = list(tiles.elements())
+    def __init__(self, rules, turns, exchanges=(), stated="mixed"):
+        self.rules, self.bag = rules, list(rules.tiles.elements())
         random.shuffle(self.bag)
-        self.turns, self.exchanges, self.stated, self.exchange_min = turns, exchanges, stated, exchange_min
+        self.turns, self.exchanges, self.stated = turns, exchanges, stated
         self.board, self.totals, self.racks = {}, [0, 0], [[], []]
         self.player, self.idle, self.out, self.over = choose([0, 1]), 0, None, False
         self.events, self.deal, self.boards, self.listed, self.phonies, self.timed = [], [], [], set(), set(), set()
@@ -117,7 +118,7 @@ class Dealer:
     def lay(self, player, at, step, word, new, after):
         found = runs(after, new, step) + runs(after, new, step[::-1])
         words = ["".join(after[square] for square in run).upper() for run in found]
-        score, used = score_of(after, new, found), ["?" if tile.islower() else tile for tile in new.values()]
+        score, used = score_of(after, new, found, self.rules), ["?" if tile.islower() else tile for tile in new.values()]
         row, column = str(at[0] + 1), chr(65 + at[1])
         text = (row + column if step == ACROSS else column + row) + " " + word
         shown = self.shown(player, used)
@@ -137,7 +138,7 @@ class Dealer:
                 self.out = player
             valid = sum(word in self.listed for word in words)
             if valid and likely(0.05):
-                self.add(player, "challenge", "(challenge)", 5 * random.randint(1, valid), rack=choose(["", "QQQQ"]))
+                self.add(player, "challenge", "(challenge)", self.rules.challenge_unit * random.randint(1, valid), rack=choose(["", "QQQQ"]))
         self.player = 1 - player
 
     def pass_turn(self):
@@ -161,42 +162,41 @@ class Dealer:
 
     def last_rack(self, player, holder, factor):
         tiles = in_order(self.racks[holder])
-        points = sum(POINTS.get(tile, 0) for tile in tiles)
-        self.add(player, "rack", f"({tiles})", factor * points, tiles=tiles, size=len(tiles), rack=choose(["", "XXX"]))
+        self.add(player, "rack", f"({tiles})", factor * self.rules.worth(tiles), tiles=tiles, size=len(tiles), rack=choose(["", "XXX"]))
 
     def end(self):
         if self.out is not None:
             if likely(0.3):
                 self.add(1 - self.out, "pass", "-", 0, rack=choose(["", "JJ"]))
             self.last_rack(self.out, 1 - self.out, 2)
-        elif self.idle >= 6:
+        elif self.idle >= self.rules.zero_limit:
             for player in choose([(0, 1), (1, 0), (0,), (1,)]):
                 self.last_rack(player, player, -1)
 
     def game(self):
         for _ in range(self.turns):
-            if self.out is not None or (self.idle >= 6 and likely(0.5)):
+            if self.out is not None or (self.idle >= self.rules.zero_limit and likely(0.5)):
                 break
-            may_exchange = self.exchanges and len(self.bag) >= self.exchange_min
+            may_exchange = self.exchanges and len(self.bag) >= self.rules.exchange_min
             what = random.random()
             if what < 0.03:
                 self.pass_turn()
-            elif may_exchange and what < (0.12 if self.exchange_min == 7 else 0.4):
+            elif may_exchange and what < (0.12 if self.rules == ENGLISH else 0.4):
                 self.exchange()
             else:
                 self.play()
             player = choose([0, 1])
             if likely(0.01) and player not in self.timed:
                 self.timed.add(player)
-                self.add(player, "time", "(time)", -5, rack=choose(["", "VVVV"]))
+                self.add(player, "time", "(time)", -self.rules.time_step, rack=choose(["", "VVVV"]))
         if self.idle == 0 and self.out is None and likely(0.1):
-            for _ in range(6):
+            for _ in range(self.rules.zero_limit):
                 self.pass_turn()
         self.end()
         return self.events, self.deal, self.listed
 
 
-def spoiled(events):
+def spoiled(events, rules=ENGLISH):
     """A game with one judged rack changed: a tile of it for another, or one more tile. None where no line shows a rack."""
     shown = [k for k, event in enumerate(events) if event.rack and event.kind in ("play", "pass", "exchange", "unknown")]
     racks = [k for k, event in enumerate(events) if event.kind == "rack"]
@@ -213,9 +213,9 @@ def spoiled(events):
     tiles = in_order(tiles)
     if event.kind != "rack":
         return [*events[:at], replace(event, rack=tiles), *events[at + 1 :]]
-    points = sum(POINTS.get(tile, 0) for tile in event.tiles)
+    points = rules.worth(event.tiles)
     factor = event.score // points if points else 0
-    score = factor * sum(POINTS.get(tile, 0) for tile in tiles)
+    score = factor * rules.worth(tiles)
     if not factor:
         return None
     changed = replace(event, tiles=tiles, text=f"({tiles})", score=score, total=event.total + score - event.score)

@@ -8,14 +8,10 @@ from collections import Counter
 from dataclasses import dataclass
 from functools import lru_cache
 
-from boards import ACROSS, DOWN, RACK
+from boards import ACROSS, DOWN
 from games import Event, Game, go_through, is_judged, report, step
 from records import read
-
-KINDS = "ABCDEFGHIJKLMNOPQRSTUVWXYZ?"
-ENGLISH = Counter(
-    dict(zip(KINDS, [9, 2, 2, 4, 12, 2, 3, 2, 9, 1, 1, 4, 2, 6, 8, 2, 1, 6, 4, 6, 4, 2, 2, 1, 2, 1, 2]))
-)
+from rules import ENGLISH, KINDS, RACK
 
 
 @dataclass(eq=False)
@@ -75,9 +71,9 @@ def judged_rack(place, out):
     return None, None
 
 
-def course(events, listed, game):
-    """The places of a record whose events the rules allow, from the start of a game."""
-    places = []
+def course(events, listed, rules=ENGLISH):
+    """The places of a record whose events the rules allow."""
+    game, places = Game(rules), []
     for number, event in enumerate(events):
         following = events[number + 1] if number + 1 < len(events) else None
         board, racks, bag, out = kinds_of(game.board.values()), tuple(game.racks), game.bag, game.out
@@ -280,22 +276,18 @@ def settle(places, tiles):
     return None if deal is not None and fits(places, tiles, deal) else "unsettled"
 
 
-def decide(events, listed, tiles=ENGLISH, exchange_min=7):
+def decide(events, listed, rules=ENGLISH):
     """The verdict of these events on the lines 1, 2 and so on, and the lines of their report where they are a game."""
-
-    def start():
-        return Game(bag=Counter(tiles).total() - 2 * RACK, exchange_min=exchange_min)
-
-    verdict, lines = go_through(events, listed, game=start())
+    verdict, lines = go_through(events, listed, rules=rules)
     if verdict.startswith("illegal"):
         return verdict, []
-    settled = settle(course(events, listed, start()), tiles)
+    settled = settle(course(events, listed, rules), rules.tiles)
     return (f"{settled}\n", []) if settled else (verdict, lines)
 
 
-def judge_deal(events, listed, tiles=ENGLISH, exchange_min=7):
+def judge_deal(events, listed, rules=ENGLISH):
     """What `referee judge` is to print of these events on the lines 1, 2 and so on."""
-    return report(*decide(events, listed, tiles, exchange_min), listed)
+    return report(*decide(events, listed, rules), listed, rules)
 
 
 def event_of(said):

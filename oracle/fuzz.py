@@ -1,9 +1,9 @@
-"""Damages word lists, lexicon files and records at random, and compares the program with the second judge on what comes of it:
-fuzz.py PROGRAM SECONDS SEED
+"""Damages word lists, lexicon files, records and rules texts at random, and compares the program with the second judge on what comes
+of it: fuzz.py PROGRAM SECONDS SEED
 
-Each round makes a game that was dealt for real, its list and its lexicon, damages some of the three, and runs `judge`, `check`,
-`build`, `tidy` and `top` on them. Statuses, outputs and the file of `build` have to be those of the second judge. It has no ten best
-plays: of `top` the status and the first line of a refusal are compared.
+Each round makes a game that was dealt for real, its list and its lexicon in either format, damages some of them, and runs `judge`,
+`check`, `build`, `convert`, `tidy` and `top` on them; some rounds judge by a rules text, which may be damaged too. Statuses, outputs
+and the files of `build` and `convert` have to be those of the second judge.
 """
 import random
 import subprocess
@@ -13,10 +13,12 @@ import time
 from collections import Counter
 from pathlib import Path
 
+from answers import built, checked, converted, judged, status_of, topped, words_of
 from dealing import Dealer, likely, line, words_in_reach
-from deals import ENGLISH, event_of, judge_deal
-from lexicons import build, check
-from records import Fault, read, tidy
+from lexicons import GAD2, build, convert
+from records import tidy
+from rules import ENGLISH
+from ruling import another_text, damaged_text, random_rules
 
 choose = random.choice
 sys.setrecursionlimit(100_000)
@@ -25,7 +27,6 @@ TOKENS = [b"-", b"--", b"(challenge)", b"(time)", b"(A?)", b"-7", b"-AE", b"-8",
 TOKENS += [b"AEINRST", b"+0", b"-0", b"+5", b"-999999", b"+1000000", b"AT", b"a.T", b"(AT)", b"()", b"A" * 15, b"A" * 16]
 PARTS = [b"\n", b"\r\n", b"\r", b" ", b"\t", b":", b">", b"#player1 A\n", b"#player2 B\n", b">A: - +0 0\n", b">B: -- +0 0\n", BOM]
 PARTS += [b"\0", b"\xff", b"A", b"z", b"QI\n", b"A\n", b"+", b"(", b")", b"."]
-VERDICTS = {"legal": 0, "illegal": 1, "unsettled": 2, "bad": 3}
 
 
 def with_bit(data):
@@ -80,112 +81,83 @@ def damaged(data, ways, most):
     return data
 
 
-def words_of(data):
-    """The words of a list, or the line of its first fault."""
-    words = set()
-    for number, text in enumerate(data.removeprefix(BOM).split(b"\n"), 1):
-        text = text.removesuffix(b"\r")
-        if not text.isalpha():
-            if text:
-                return f"bad word list line {number}: BadLetter\n"
-            continue
-        if not 2 <= len(text) <= 15:
-            return f"bad word list line {number}: BadLength\n"
-        words.add(text.decode().upper())
-    return words
-
-
-def told_of(report, game, players):
-    """A report of the events on the lines 1, 2 and so on by A and B, with the lines and nicknames of the record."""
-    lines = [k for k, text in enumerate(game.removeprefix(BOM).split(b"\n"), 1) if text.startswith(b">")]
-    if report.startswith("illegal"):
-        place, fault = report.removeprefix("illegal line ").split(":", 1)
-        return f"illegal line {lines[int(place) - 1]}:{fault}".encode()
-    verdict, *events = report.encode().split(b"\n")
-    for k, text in enumerate(events[:-1]):
-        _, nick, rest = text.split(b" ", 2)
-        events[k] = b"%d %s %s" % (lines[k], players[nick == b"B"][0], rest)
-    return b"\n".join([verdict, *events])
-
-
-def judged(words, lexicon, game):
-    """What `judge` is to print."""
-    listed = words_of(words)
-    if isinstance(listed, str):
-        return listed.encode()
-    agreed = check(listed, lexicon)
-    if not agreed.startswith("ok"):
-        return agreed.encode()
-    try:
-        players, said = read(game)
-    except Fault as fault:
-        return fault.text()
-    return told_of(judge_deal([event_of(it) for it in said], listed), game, players)
-
-
-def checked(words, lexicon):
-    """What `check` is to print."""
-    listed = words_of(words)
-    return (listed if isinstance(listed, str) else check(listed, lexicon)).encode()
-
-
-def built(words):
-    """What `build` is to write."""
-    listed = words_of(words)
-    return listed.encode() if isinstance(listed, str) else build(listed)
-
-
-def status_of(output):
-    """The exit status that goes with a first line."""
-    return VERDICTS.get(output.split(b"\n")[0].split(b":")[0].split(b" ")[0].decode("latin-1"), 0)
-
-
 class Fuzzer:
     """Runs the program in a folder, and counts what it says otherwise than the second judge."""
 
     def __init__(self, program, folder):
         self.program, self.seen, self.differences = program, Counter(), 0
         self.words, self.lexicon, self.game, self.out = (Path(folder, it) for it in ("words", "lexicon", "game", "out"))
+        self.rules = Path(folder, "rules")
 
-    def compare(self, words, expected, status, whole=True, wrote=None):
+    def compare(self, words, expected, status, wrote=None):
         ran = subprocess.run([self.program, *words], capture_output=True, check=False, timeout=60)
         told = ran.stdout if wrote is None else wrote.read_bytes()
-        good = told == expected if whole else told.startswith(expected)
         self.seen[f"{words[0]} {status}"] += 1
-        if not good or ran.returncode != status or ran.stderr:
+        if told != expected or ran.returncode != status or ran.stderr:
             self.differences += 1
-            print(words[0], "status", ran.returncode, "for", status, ran.stderr)
+            print(*words, "status", ran.returncode, "for", status, ran.stderr)
             print(" ", told, "  for", expected, sep="\n  ")
-            for it in (self.words, self.lexicon, self.game):
+            for it in (self.words, self.lexicon, self.game, self.rules):
                 print(" ", it.name, it.read_bytes())
 
-    def round(self, words, lexicon, game):
-        for it, data in ((self.words, words), (self.lexicon, lexicon), (self.game, game)):
+    def round(self, words, lexicon, game, text):
+        """One run of each command; a text is that of the rules to play by, None for none."""
+        for it, data in ((self.words, words), (self.lexicon, lexicon), (self.game, game), (self.rules, text or b"")):
             it.write_bytes(data)
-        report = judged(words, lexicon, game)
-        self.compare(["judge", self.words, self.lexicon, self.game], report, status_of(report))
+        by = ["--rules", self.rules] if text is not None else []
+        report = judged(words, lexicon, game, text)
+        self.compare(["judge", *by, self.words, self.lexicon, self.game], report, status_of(report))
+        rack = choose(["A", "?E", "AEINRST"])
+        plays = topped(words, lexicon, game, rack, text)
+        self.compare(["top", *by, self.words, self.lexicon, self.game, rack], plays, status_of(plays))
+        self.files(words, lexicon, game)
+
+    def files(self, words, lexicon, game):
+        """The commands that judge no game."""
         line_ = checked(words, lexicon)
         self.compare(["check", self.words, self.lexicon], line_, status_of(line_))
         file = built(words)
         self.compare(["build", self.words, self.out], file, status_of(file), wrote=self.out)
+        form = choose(["gad1", "gad2"])
+        other = converted(lexicon, form)
+        self.compare(["convert", form, self.lexicon, self.out], other, status_of(other), wrote=self.out)
         normal = tidy(game)
         self.compare(["tidy", self.game], normal, 3 if normal.startswith(b"bad record") else 0)
-        # deals are not judged: an illegal line that tells of tiles, and `unsettled`, are none of `top`
-        refused = report.startswith((b"bad", b"illegal")) and not report.endswith(b": RackTooBig\n") and b": TilesShort" not in report
-        rack = choose([b"A", b"?E", b"AEINRST"])
-        self.compare(
-            ["top", self.words, self.lexicon, self.game, rack], report if refused else b"", status_of(report) if refused else 0, refused
-        )
 
 
-def sample():
-    """A game that was dealt for real and the words of its list."""
-    dealer = Dealer(ENGLISH, choose([1, 3, 8, 20]), choose([(), ("known",), ("unknown",)]), choose(["whole", "part", "mixed"]))
+def sample(rules):
+    """A game that was dealt for real by some rules and the words of its list."""
+    dealer = Dealer(rules, choose([1, 3, 8, 20]), choose([(), ("known",), ("unknown",)]), choose(["whole", "part", "mixed"]))
     events, _, _ = dealer.game()
     listed = set(dealer.listed)
     for _ in range(choose([0, 0, 1])):
         listed |= words_in_reach(dealer.board, list("AEINRST"), 5)
     return "".join(map(line, events)).encode(), {word for word in listed - dealer.phonies if 2 <= len(word) <= 15}
+
+
+def damages():
+    """How often the list, the lexicon and the game of a round are damaged, at the most, and whether its rules text is."""
+    return choose([(1, 0, 0, 0), (0, 2, 0, 0), (0, 0, 1, 0), (0, 0, 1, 0), (0, 0, 2, 0), (0, 0, 5, 0), (1, 1, 1, 1), (0, 0, 0, 1), (0, 0, 0, 0)])
+
+
+def lexicon_of(listed):
+    """The lexicon of words, in either format."""
+    return choose([build(listed), convert(build(listed), GAD2)])
+
+
+def damaged_round(fuzzer, rules, game, listed):
+    """A round with some of its inputs damaged."""
+    bad = damages()
+    texts = [with_bit, with_part, with_part, cut, with_lines_moved, with_token, with_token]
+    words = damaged("".join(f"{word}\n" for word in sorted(listed)).encode(), texts[:5], bad[0])
+    # mostly the lexicon of the damaged list, so that more than its first fault is tried
+    read_now = words_of(words)
+    file = lexicon_of(read_now if not isinstance(read_now, str) and likely(0.7) else listed)
+    text = None
+    if rules != ENGLISH or likely(0.2):
+        text = damaged(damaged_text(rules), texts[:5], 1) if bad[3] else another_text(rules)
+    lexicon = damaged(file, [with_bit, with_part, cut, with_word, with_word], bad[1])
+    fuzzer.round(words, lexicon, damaged(game, texts, bad[2]), text)
 
 
 def main():
@@ -195,17 +167,10 @@ def main():
     with tempfile.TemporaryDirectory() as folder:
         fuzzer = Fuzzer(program, folder)
         while time.monotonic() < end:
-            game, listed = sample()
-            words = "".join(f"{word}\n" for word in sorted(listed)).encode()
-            lexicon = build(listed)
+            rules = ENGLISH if likely(0.7) else random_rules()
+            game, listed = sample(rules)
             for _ in range(4):
-                bad = choose([(1, 0, 0), (0, 2, 0), (0, 0, 1), (0, 0, 1), (0, 0, 2), (0, 0, 5), (1, 1, 1), (0, 0, 0)])
-                texts = [with_bit, with_part, with_part, cut, with_lines_moved, with_token, with_token]
-                now = damaged(words, texts[:5], bad[0])
-                # mostly the lexicon of the damaged list, so that more than its first fault is tried
-                read_now = words_of(now)
-                file = build(read_now) if not isinstance(read_now, str) and likely(0.7) else lexicon
-                fuzzer.round(now, damaged(file, [with_bit, with_part, cut, with_word, with_word], bad[1]), damaged(game, texts, bad[2]))
+                damaged_round(fuzzer, rules, game, listed)
                 rounds += 1
     print(f"seed {seed}: {rounds} rounds, {fuzzer.seen.total()} runs, {fuzzer.differences} differences")
     print(", ".join(f"{what} {times}" for what, times in sorted(fuzzer.seen.items())))

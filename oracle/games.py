@@ -1,13 +1,12 @@
-"""A slow second judge of games by the WESPA Game Rules with the English values, as docs/FAULTS.md tells them.
+"""A slow second judge of games by the WESPA Game Rules, as docs/FAULTS.md tells them.
 
 It shares nothing with the program, and serves to compare what both say of the same events.
 """
 from dataclasses import dataclass, field
 
 from best import Search
-from boards import POINTS, RACK, Refused, check, place, runs, score_of
-
-TILES, EXCHANGE_MIN, ZERO_LIMIT, UNIT, STEP = 100, 7, 6, 5, 5
+from boards import Refused, check, place, runs, score_of
+from rules import ENGLISH, RACK, Rules
 
 
 @dataclass
@@ -29,13 +28,13 @@ class Event:
 
 @dataclass
 class Game:
-    """What stands between two events."""
+    """What stands between two events of a game by some rules."""
 
+    rules: Rules = ENGLISH
     board: dict = field(default_factory=dict)
     totals: list = field(default_factory=lambda: [0, 0])
     racks: list = field(default_factory=lambda: [RACK, RACK])
-    bag: int = TILES - 2 * RACK
-    exchange_min: int = EXCHANGE_MIN
+    bag: int = field(init=False)
     mover: int = None
     idle_turns: int = 0
     out: int = None
@@ -44,6 +43,9 @@ class Game:
     timed: list = field(default_factory=lambda: [False, False])
     ended: list = field(default_factory=lambda: [False, False])
     latest: dict = None  # of a play: player, new tiles, words, score, stands
+
+    def __post_init__(self):
+        self.bag = self.rules.bag()
 
 
 def close(game, event, expected=None):
@@ -68,7 +70,7 @@ def play(game, event, stands):
     new, after = place(game.board, event.at, event.direction, event.word)
     check(len(new) <= game.racks[event.player], "TooManyUsed")
     found = runs(after, new, event.direction) + runs(after, new, event.direction[::-1])
-    score = score_of(after, new, found)
+    score = score_of(after, new, found, game.rules)
     close(game, event, score)
     words = ["".join(after[square] for square in run).upper() for run in found]
     game.board = after
@@ -99,12 +101,12 @@ def challenge(game, event, listed):
     check(latest and latest["stands"] and latest["player"] == event.player, "BadBonus")
     valid = sum(word in listed for word in latest["words"])
     check(valid, "BonusOnPhony")
-    check(event.score in [UNIT * number for number in range(1, valid + 1)], "BadBonus")
+    check(event.score in [game.rules.challenge_unit * number for number in range(1, valid + 1)], "BadBonus")
     close(game, event)
 
 
 def last_rack(game, event):
-    points = sum(POINTS.get(tile, 0) for tile in event.tiles)
+    points = game.rules.worth(event.tiles)
     player, size = event.player, len(event.tiles)
     check(not game.complete, "GameOver")
     if game.out is not None:
@@ -112,7 +114,7 @@ def last_rack(game, event):
         check(size == game.racks[1 - player], "LastRackSize")
         close(game, event, 2 * points)
     else:
-        check(game.idle_turns >= ZERO_LIMIT or any(game.ended), "NotOver")
+        check(game.idle_turns >= game.rules.zero_limit or any(game.ended), "NotOver")
         check(not game.ended[player], "GameOver")
         check(size == game.racks[player], "LastRackSize")
         close(game, event, -points)
@@ -132,12 +134,12 @@ def other(game, event, listed):
             game.idle_pass = True
     elif event.kind in ("exchange", "unknown"):
         may_turn(game, event)
-        check(game.bag >= game.exchange_min, "ExchangeRefused")
+        check(game.bag >= game.rules.exchange_min, "ExchangeRefused")
         check(event.size <= min(game.racks[event.player], game.bag), "ExchangeSize")
         close(game, event, 0)
         pass_turn(game, event)
     elif event.kind == "time":
-        check(event.score < 0 and event.score % STEP == 0 and not game.timed[event.player], "BadTime")
+        check(event.score < 0 and event.score % game.rules.time_step == 0 and not game.timed[event.player], "BadTime")
         close(game, event)
         game.timed[event.player] = True
     elif event.kind == "rack":
@@ -182,9 +184,9 @@ class Line:
         return f"{self.head}{search.told(*self.turn) if self.turn else ''}{self.unlisted}\n"
 
 
-def go_through(events, listed, nicks="AB", game=None):
+def go_through(events, listed, nicks="AB", rules=ENGLISH):
     """The verdict of the events on the lines 1, 2 and so on, deals apart, and the lines of their report where they are allowed."""
-    game, lines = game or Game(), []
+    game, lines = Game(rules), []
     for place_, event in enumerate(events):
         following = events[place_ + 1] if place_ + 1 < len(events) else None
         turn = (dict(game.board), event.rack, game.racks[event.player]) if is_judged(event, game.out) else None
@@ -196,7 +198,15 @@ def go_through(events, listed, nicks="AB", game=None):
     return ("legal complete\n" if game.complete else "legal unfinished\n"), lines
 
 
-def report(verdict, lines, listed):
+def board_after(events, listed, rules=ENGLISH):
+    """The board after events that the rules allow, a play that comes last included."""
+    game = Game(rules)
+    for event, following in zip(events, [*events[1:], None]):
+        step(game, event, following, listed)
+    return game.board
+
+
+def report(verdict, lines, listed, rules=ENGLISH):
     """What `referee judge` prints: the verdict, and the lines of what is allowed, with the best play of each turn."""
-    search = Search(listed)
+    search = Search(listed, rules)
     return verdict + "".join(line.text(search) for line in lines)

@@ -1,10 +1,12 @@
-"""Runs the compiled program through its statuses and texts: program.py PROGRAM
+"""Runs the compiled program through its statuses and texts: program.py PROGRAM [large]
 
 Every row is a command line with what has to come of it: the exit status, the bytes on standard output, the text on standard
-error, and what is in the file OUT of `build`. The answers were made by hand from the rules and the formats.
+error, and what is in the file OUT of `build` and `convert`. The answers were made by hand from the rules and the formats. With `large`
+there are rows of lexicon files at the limits of their formats too, which take some hundred megabytes of disk and of memory.
 """
 import os
 import resource
+import struct
 import subprocess
 import sys
 import tempfile
@@ -15,6 +17,74 @@ AT_IT_FILE = bytes.fromhex(
     "47414431 07000000 05000000 02000000 74000000 c0000000 21000000 69000000 01010000 09010000 d4010000"
 )
 EMPTY_FILE = bytes.fromhex("47414431 00000000 00000000 00000000")
+AT_MASKS = bytes.fromhex(
+    "47414432 0d000000 0a000000 01000000 00001080 00001000 00000000 01000080 00000000 01000000"
+    "02000080 02000000 00000000 02001080 00000000 04000000 07000000"
+)
+EMPTY_MASKS = b"GAD2" + EMPTY_FILE[4:]
+# 25 nodes of the labels A and B, each with both arcs to the one before: 2 to the 25 strings, of which none is to be gone through.
+FAN = struct.pack("<4s5I", b"GAD1", 50, 49, 1, 33, 98) + b"".join(struct.pack("<2I", 1 | j << 7, 66 | j << 7) for j in range(1, 48, 2))
+ENGLISH_RULES = """\
+tile A 9 1
+tile B 2 3
+tile C 2 3
+tile D 4 2
+tile E 12 1
+tile F 2 4
+tile G 3 2
+tile H 2 4
+tile I 9 1
+tile J 1 8
+tile K 1 5
+tile L 4 1
+tile M 2 3
+tile N 6 1
+tile O 8 1
+tile P 2 3
+tile Q 1 10
+tile R 6 1
+tile S 4 1
+tile T 6 1
+tile U 4 1
+tile V 2 4
+tile W 2 4
+tile X 1 8
+tile Y 2 4
+tile Z 1 10
+tile ? 2 0
+row 1 T..d...T...d..T
+row 2 .D...t...t...D.
+row 3 ..D...d.d...D..
+row 4 d..D...d...D..d
+row 5 ....D.....D....
+row 6 .t...t...t...t.
+row 7 ..d...d.d...d..
+row 8 T..d...D...d..T
+row 9 ..d...d.d...d..
+row 10 .t...t...t...t.
+row 11 ....D.....D....
+row 12 d..D...d...D..d
+row 13 ..D...d.d...D..
+row 14 .D...t...t...D.
+row 15 T..d...T...d..T
+bonus 50
+exchange_min 7
+zero_limit 6
+challenge_unit 5
+time_step 5
+"""
+ROW_8 = "row 8 T..d...D...d..T\n"
+
+
+def with_counts(count):
+    """The English rules with other counts of the tiles, by the kind and the count that it has."""
+    lines = (line.split() for line in ENGLISH_RULES.splitlines())
+    told = ([it[0], it[1], str(count(it[1], int(it[2]))), it[3]] if it[0] == "tile" else it for it in lines)
+    return "".join(" ".join(line) + "\n" for line in told)
+
+
+TWO_SETS = with_counts(lambda kind, count: 2 * count)
+FOURTEEN = with_counts(lambda kind, count: "AADEEINORRSTTW".count(kind))
 WORD = ">A: DORWAAE 8E WORD +16 16\n"
 PASSES = "".join(f">{'AB'[k % 2]}: - +0 0\n" for k in range(6))
 LOST_RACKS = ">A: AEINRST (AEINRST) -7 -7\n>B: AEINRST (AEINRST) -7 -7\n"
@@ -50,6 +120,25 @@ TEXTS = {
     "number": ">A: 8E WORD +x 16\n",
     "long-game": "\n" * 1_048_577,
     "full-game": "\n" * 1_048_576,
+    "english.rules": ENGLISH_RULES,
+    "two-sets.rules": TWO_SETS,
+    "fourteen.rules": FOURTEEN,
+    "dressed.rules": "\ufeff# a remark\r\n\r\n" + ENGLISH_RULES.replace("\n", " \t\r\n").replace("row 8 ", "\t row  08\t"),
+    "nineteen.rules": TWO_SETS.replace("A 18 1", "A 19 1"),
+    "thirteen.rules": FOURTEEN.replace("A 2 1", "A 1 1"),
+    "no-row.rules": ENGLISH_RULES.replace(ROW_8, ""),
+    "in-front.rules": "tile ? 2 1\n" + ENGLISH_RULES,
+    "behind.rules": ENGLISH_RULES + "bonus 50\n",
+    "tiles.rules": "tiles A 9 1\n",
+    "fields.rules": ENGLISH_RULES.replace("bonus 50", "bonus 50 points"),
+    "name.rules": ENGLISH_RULES.replace("row 15 ", "row 16 "),
+    "long.rules": ENGLISH_RULES + "\n" * (65_537 - len(ENGLISH_RULES)),
+    "full.rules": ENGLISH_RULES + "\n" * (65_536 - len(ENGLISH_RULES)),
+    "bonus-35.rules": ENGLISH_RULES.replace("bonus 50", "bonus 35"),
+    "four-blanks": ">A: ?? - +0 0\n>B: ??? - +0 0\n",
+    "goes-out": ">A: AEINRST 8D RETAINS +66 66\n>A: (ADEORTW) +22 88\n",
+    "retains": "RETAINS\n",
+    "seven": ">A: AEINRST - +0 0\n",
     "page": "<html>\n<body>no game</body>\n</html>\n",
     "untidy": "\ufeff#player1 A  Ann Lee\r\n#note x\n>A:\tDORWAAE  8e WORD 16 16\r\n",
 }
@@ -66,7 +155,20 @@ CHANGED = {  # the lexicon of AT with one change, and the line that tells it
     "count": (AT_FILE[:12] + b"\2" + AT_FILE[13:], "WordCount"),
     "other": (AT_IT_FILE, "Extra I"),
     "text": (b"no lexicon at all\n", "Magic"),
+    "third-format": (b"GAD3" + AT_FILE[4:], "Magic"),
+    "masks-root": (AT_MASKS[:8] + b"\x0b" + AT_MASKS[9:], "Root"),
+    "masks-mask": (AT_MASKS[:16] + b"\0\0\x10\x88" + AT_MASKS[20:], "Mask"),
+    "masks-no-mark": (AT_MASKS[:28] + b"\1\0\0\0" + AT_MASKS[32:], "NoMark"),
+    "masks-accept": (AT_MASKS[:32] + b"\2\0\0\0" + AT_MASKS[36:], "Accept"),
+    "masks-target": (AT_MASKS[:36] + b"\4\0\0\0" + AT_MASKS[40:], "Target"),
+    "masks-dead": (AT_MASKS[:20] + bytes(4) + AT_MASKS[24:], "DeadArc"),
+    "masks-open": (AT_MASKS[:52] + b"\6\0\x10\x80" + AT_MASKS[56:], "OpenRun"),
+    "masks-extra": (AT_MASKS[:56] + b"\2\0\0\0" + AT_MASKS[60:], "Extra A"),
+    "masks-length": (AT_MASKS + bytes(4), "Length"),
+    "fan": (FAN, "Missing A+T"),
 }
+# What is wrong with a lexicon only beside its list, so that it is converted all the same.
+OF_LIST = ("extra", "count", "other", "masks-extra", "fan")
 
 
 def files(folder):
@@ -78,6 +180,8 @@ def files(folder):
     Path(folder, "at.gad").write_bytes(AT_FILE)
     Path(folder, "it-at.gad").write_bytes(AT_IT_FILE)
     Path(folder, "nothing.gad").write_bytes(EMPTY_FILE)
+    Path(folder, "at-masks.gad").write_bytes(AT_MASKS)
+    Path(folder, "nothing-masks.gad").write_bytes(EMPTY_MASKS)
     for size in range(len(AT_FILE)):
         Path(folder, f"front-{size}.gad").write_bytes(AT_FILE[:size])
     Path(folder, "many").write_text("".join(f"{word}\n" for word in many_words()))
@@ -98,12 +202,12 @@ class Runner:
     """Runs the program in a folder, and counts what it does not do as it has to."""
 
     def __init__(self, program, folder):
-        self.program, self.folder, self.rows, self.failures = program, folder, 0, 0
+        self.program, self.folder, self.rows, self.failures, self.patience = program, folder, 0, 0, 60
 
     def row(self, words, status, out="", error="", stdin="", wrote=None, stdout=None, room=None):
         """One command line; `error` None asks for some text, `wrote` is what the file `out` has then."""
         limit = (lambda: resource.setrlimit(resource.RLIMIT_AS, (room, room))) if room else None
-        how = {"cwd": self.folder, "input": stdin.encode(), "stderr": subprocess.PIPE, "preexec_fn": limit, "timeout": 60}
+        how = {"cwd": self.folder, "input": stdin.encode(), "stderr": subprocess.PIPE, "preexec_fn": limit, "timeout": self.patience}
         with open(stdout or os.devnull, "wb") as sink:
             ran = subprocess.run([self.program, *words], stdout=sink if stdout else subprocess.PIPE, check=False, **how)
         said, told = ran.stderr.decode(), ran.stdout or b""
@@ -117,6 +221,13 @@ class Runner:
             print(f"{words}: status {ran.returncode} for {status}\n  output {told!r}\n  for    {out.encode()!r}\n  error  {said!r}")
             if wrote is not None:
                 print(f"  file   {Path(self.folder, 'out').read_bytes()[:80]!r}\n  for    {wrote[:80]!r}")
+
+    def expect(self, what, good):
+        """What has to hold of files that rows wrote."""
+        self.rows += 1
+        if not good:
+            self.failures += 1
+            print(f"{what}: not so")
 
 
 def judged(run):
@@ -180,6 +291,168 @@ def built_and_checked(run):
         run.row(["check", "at", f"{name}.gad"], 3, f"bad lexicon: {line}\n")
     for size in range(len(AT_FILE)):
         run.row(["check", "at", f"front-{size}.gad"], 3, f"bad lexicon: {'Short' if size < 16 else 'Length'}\n")
+
+
+def converted(run):
+    """`convert`: both formats, there and back, and faults; what it makes is read as the file that it was made of."""
+    for name, form, data in [
+        ("at.gad", "gad2", AT_MASKS),
+        ("at-masks.gad", "gad1", AT_FILE),
+        ("at.gad", "gad1", AT_FILE),
+        ("at-masks.gad", "gad2", AT_MASKS),
+        ("nothing.gad", "gad2", EMPTY_MASKS),
+        ("nothing-masks.gad", "gad1", EMPTY_FILE),
+        ("count.gad", "gad2", AT_MASKS[:12] + b"\2" + AT_MASKS[13:]),
+    ]:
+        Path(run.folder, "out").write_bytes(bytes(1000))
+        run.row(["convert", form, name, "out"], 0, wrote=data)
+    for name, (_, line) in CHANGED.items():
+        if name not in OF_LIST:
+            run.row(["convert", "gad1", f"{name}.gad", "out"], 3, wrote=f"bad lexicon: {line}\n".encode())
+            run.row(["convert", "gad2", f"{name}.gad", "out"], 3, wrote=f"bad lexicon: {line}\n".encode())
+    run.row(["check", "at", "at-masks.gad"], 0, "ok 1\n")
+    run.row(["check", "nothing", "nothing-masks.gad"], 0, "ok 0\n")
+    run.row(["check", "it-at", "at-masks.gad"], 3, "bad lexicon: Missing I+T\n")
+    for size in range(len(AT_MASKS)):
+        Path(run.folder, "front").write_bytes(AT_MASKS[:size])
+        run.row(["check", "at", "front"], 3, f"bad lexicon: {'Short' if size < 16 else 'Length'}\n")
+    for form, back, data in (("gad2", "gad1", AT_IT_FILE), ("gad1", "gad1", AT_IT_FILE)):
+        run.row(["convert", form, "it-at.gad", "there"], 0)
+        run.row(["convert", back, "there", "out"], 0, wrote=data)
+        run.row(["check", "it-at", "there"], 0, "ok 2\n")
+    run.row(["convert", "gad2", "fan.gad", "there"], 0)
+    run.row(["check", "at", "there"], 3, "bad lexicon: Missing A+T\n")
+    run.row(["convert", "gad1", "there", "out"], 0, wrote=FAN)
+    by_converted(run)
+    # OUT is emptied as it is opened, behind the lexicon, which is read after that.
+    Path(run.folder, "out").write_bytes(AT_FILE)
+    run.row(["convert", "gad2", "out", "out"], 3, wrote=b"bad lexicon: Short\n")
+    Path(run.folder, "out").write_bytes(b"something")
+    run.row(["convert", "gad2", "nowhere", "out"], 4, error="cannot open nowhere", wrote=b"something")
+    run.row(["convert", "gad2", "at.gad", "no/where"], 4, error="cannot open no/where")
+    run.row(["convert", "gad2", "nowhere", "no/where"], 4, error="cannot open nowhere")
+    run.row(["convert", "gad2", "folder", "out"], 4, error="read failed", wrote=b"")
+    for form in ("gad3", "GAD2", "gad", "2", ""):
+        Path(run.folder, "out").write_bytes(b"something")
+        run.row(["convert", form, "at.gad", "out"], 64, error=None, wrote=b"something")
+
+
+def by_converted(run):
+    """Commands that are given a converted lexicon answer as by the one that it was made of."""
+    run.row(["build", "word", "word.gad"], 0)
+    run.row(["convert", "gad2", "word.gad", "word-masks.gad"], 0)
+    run.row(["judge", "word", "word-masks.gad", "line"], 0, "legal unfinished\n1 A 8E WORD +16 16 best 8E WORD 16\n")
+    run.row(["judge", "word", "word-masks.gad", "line-18"], 1, "illegal line 1: WrongScore 16\n")
+    run.row(["top", "at", "at-masks.gad", "nothing", "?A"], 0, "8G At 2\n8H At 2\nH7 At 2\nH8 At 2\n")
+
+
+def converted_large(run):
+    """Files at the limits: nodes of one label come to three words each in the second format, nodes of 27 labels to 27 arcs."""
+    most_arcs, most_words, small, big = 33_554_431, 67_108_863, struct.pack("<I", 97), struct.pack("<2I", 0x87FF_FFFF, 0x07FF_FFFF)
+    big += bytes(108)
+    run.patience = 600
+
+    def lexicon(name, form, length, body):
+        with open(Path(run.folder, name), "wb") as file:
+            file.write(form + struct.pack("<3I", length, 1, 0))
+            file.write(body)
+
+    nodes = most_words // 3
+    lexicon("large", b"GAD1", nodes, small * nodes)
+    run.row(["convert", "gad2", "large", "out"], 0)
+    Path(run.folder, "out").replace(Path(run.folder, "there"))
+    run.row(["convert", "gad1", "there", "out"], 0)
+    run.row(["check", "nothing", "out"], 3, "bad lexicon: Extra A\n")
+    run.expect("a large file there and back", Path(run.folder, "out").read_bytes() == Path(run.folder, "large").read_bytes())
+    lexicon("large", b"GAD1", nodes + 1, small * (nodes + 1))
+    run.row(["convert", "gad2", "large", "out"], 3, wrote=b"bad lexicon: TooManyArcs\n")
+    nodes = most_arcs // 27
+    lexicon("large", b"GAD2", 29 * nodes, big * nodes)
+    run.row(["convert", "gad1", "large", "out"], 0)
+    lexicon("large", b"GAD2", 29 * (nodes + 1), big * (nodes + 1))
+    run.row(["convert", "gad1", "large", "out"], 3, wrote=b"bad lexicon: TooManyArcs\n")
+    for size, magic, line in [
+        (134_217_741, b"GAD1", "Length"),
+        (134_217_741, b"GAD2", "Length"),
+        (134_217_741, b"GAD3", "Magic"),
+        (268_435_468, b"GAD2", "Length"),
+        (268_435_468, b"GAD3", "Magic"),
+        (268_435_469, b"GAD3", "Length"),
+    ]:
+        Path(run.folder, "large").write_bytes(magic)
+        os.truncate(Path(run.folder, "large"), size)
+        run.row(["check", "at", "large"], 3, f"bad lexicon: {line}\n")
+        run.row(["convert", "gad1", "large", "out"], 3, wrote=f"bad lexicon: {line}\n".encode())
+
+
+def ruled(run):
+    """`judge` and `top` by a rules text."""
+    run.row(["build", "word", "word.gad"], 0)
+    run.row(["build", "retains", "retains.gad"], 0)
+    by_at = lambda rules, game, status, out: run.row(["judge", "--rules", f"{rules}.rules", "at", "at.gad", game], status, out)
+    by_at("two-sets", "blanks", 0, "legal unfinished\n1 A - +0 0 best -\n2 B - +0 0 best -\n")
+    by_at("two-sets", "four-blanks", 1, "illegal line 2: TilesShort ?\n")
+    by_at("english", "blanks", 1, "illegal line 2: TilesShort ?\n")
+    by_at("full", "blanks", 1, "illegal line 2: TilesShort ?\n")
+    for rules, line in [
+        ("nineteen", ": Limits"),
+        ("thirteen", ": Limits"),
+        ("no-row", ": Missing"),
+        ("in-front", " line 1: Number"),
+        ("behind", " line 48: Twice"),
+        ("tiles", " line 1: Unknown"),
+        ("fields", " line 43: Fields"),
+        ("name", " line 42: Name"),
+        ("long", ": TooLong"),
+    ]:
+        by_at(rules, "blanks", 3, f"bad rules{line}\n")
+        run.row(["top", "--rules", f"{rules}.rules", "at", "at.gad", "blanks", "AT"], 3, f"bad rules{line}\n")
+    told = "legal unfinished\n1 A 8E WORD +16 16 best 8E WORD 16\n"
+    for rules in ("english", "dressed", "two-sets"):
+        run.row(["judge", "--rules", f"{rules}.rules", "word", "word.gad", "line"], 0, told)
+    by_retains = lambda rules, game, status, out: run.row(["judge", "--rules", f"{rules}.rules", "retains", "retains.gad", game], status, out)
+    by_retains("fourteen", "goes-out", 0, "legal complete\n1 A 8D RETAINS +66 66 best 8B RETAINS 66\n2 A (ADEORTW) +22 88\n")
+    by_retains("bonus-35", "goes-out", 1, "illegal line 1: WrongScore 51\n")
+    by_retains("bonus-35", "seven", 0, "legal unfinished\n1 A - +0 0 best 8B RETAINS 51\n")
+    run.row(["judge", "retains", "retains.gad", "goes-out"], 1, "illegal line 2: NotOver\n")
+    ruled_tops(run)
+    ruled_lines(run)
+
+
+def ruled_tops(run):
+    """`top` by a rules text: the rack is looked at before the text is read."""
+    plays = "8G At 2\n8H At 2\nH7 At 2\nH8 At 2\n"
+    run.row(["top", "--rules", "english.rules", "at", "at.gad", "nothing", "?A"], 0, plays)
+    run.row(["top", "--rules", "two-sets.rules", "at", "at.gad", "four-blanks", "?A"], 0, plays)
+    # Each of these squares lets one letter lie on a double letter; 8E and H5 do not.
+    for rules, score in (("english", 66), ("bonus-35", 51)):
+        best = "".join(f"{at} RETAINS {score}\n" for at in "8B 8C 8D 8F 8G 8H H2 H3 H4 H6".split())
+        run.row(["top", "--rules", f"{rules}.rules", "retains", "retains.gad", "nothing", "AEINRST"], 0, best)
+    run.row(["top", "--rules", "tiles.rules", "at", "at.gad", "nothing", "A1"], 3, "bad rack\n")
+    run.row(["top", "--rules", "folder", "folder", "folder", "folder", "A1"], 3, "bad rack\n")
+    run.row(["top", "--rules", "nowhere", "at", "at.gad", "nothing", "A1"], 4, error="cannot open nowhere")
+    run.row(["top", "--rules", "folder", "at", "at.gad", "nothing", "A"], 4, error="read failed")
+
+
+def ruled_lines(run):
+    """Where the option stands, and the file that it names: it is opened first, and read first."""
+    names, told = ["word", "word.gad", "line"], "legal unfinished\n1 A 8E WORD +16 16 best 8E WORD 16\n"
+    for words in (["--rules", "english.rules", *names], [*names, "--rules", "english.rules"], ["--rules=english.rules", *names]):
+        run.row(["judge", *words], 0, told)
+    run.row(["judge", "word", "--rules", "english.rules", "word.gad", "line"], 0, told)
+    run.row(["top", "at", "at.gad", "nothing", "Q", "--rules", "english.rules"], 0, "none\n")
+    run.row(["judge", "--rules", "nowhere", "elsewhere", "at.gad", "line"], 4, error="cannot open nowhere")
+    run.row(["judge", "--rules", "tiles.rules", "elsewhere", "at.gad", "line"], 4, error="cannot open elsewhere")
+    run.row(["judge", "--rules", "folder", "digit", "at.gad", "line"], 4, error="read failed")
+    # What stands behind a bad rules text is not read.
+    run.row(["judge", "--rules", "tiles.rules", "folder", "folder", "folder"], 3, "bad rules line 1: Unknown\n")
+    run.row(["judge", "--rules", "english.rules", "digit", "folder", "folder"], 3, "bad word list line 2: BadLetter\n")
+    twice = ["--rules", "english.rules", "--rules", "english.rules"]
+    for words in (["judge", *twice, *names], ["judge", *names, "--rules"], ["judge", "--rules", *names], ["judge", "--rule", *names]):
+        run.row(words, 64, error=None)
+    for command in (["check", "at", "at.gad"], ["tidy", "line"], ["build", "at", "out"], ["convert", "gad2", "at.gad", "out"]):
+        run.row([*command, "--rules", "english.rules"], 64, error=None)
+    run.row(["--rules", "english.rules", "judge", *names], 64, error=None)
 
 
 def topped(run):
@@ -251,7 +524,7 @@ def misused(run):
     """Status 64: no request, and help. The text is not fixed, but there is some, and nothing on standard output."""
     for words in ([], ["help"], ["--help"], ["-h"], ["judge", "--help"], ["--version"], ["top"], ["Judge", "at", "at.gad", "line"]):
         run.row(words, 64, error=None)
-    for command, count in [("judge", 3), ("build", 2), ("check", 2), ("top", 4), ("tidy", 1)]:
+    for command, count in [("judge", 3), ("build", 2), ("check", 2), ("convert", 3), ("top", 4), ("tidy", 1)]:
         for names in range(count):
             run.row([command, *["at"] * names], 64, error=None)
         run.row([command, *["at"] * (count + 1)], 64, error=None)
@@ -263,8 +536,10 @@ def main():
     with tempfile.TemporaryDirectory() as folder:
         files(folder)
         run = Runner(os.path.abspath(sys.argv[1]), folder)
-        for part in (judged, built_and_checked, topped, tidied, broken, misused):
+        for part in (judged, built_and_checked, converted, topped, ruled, tidied, broken, misused):
             part(run)
+        if sys.argv[2:] == ["large"]:
+            converted_large(run)
     print(f"{run.rows} command lines, {run.failures} not as they have to be")
     sys.exit(run.failures > 0)
 

@@ -8,13 +8,15 @@ import itertools
 import random
 import sys
 from collections import Counter
+from dataclasses import replace
 
 from best import Found, Search
-from boards import ACROSS, DOWN, RACK, SIDE, Refused, place, runs, score_of
-from deals import ENGLISH, events_of, judge_deal
+from boards import ACROSS, DOWN, Refused, place, runs, score_of
+from deals import events_of, judge_deal
 from dealing import text_from, words_in_reach
+from rules import ENGLISH, RACK, SIDE
 
-SMALL = Counter("AADEEINORRSTTW")
+SMALL = replace(ENGLISH, tiles=Counter("AADEEINORRSTTW"))
 ON_WORD = ">A: DORWAAE 8E WORD +16 16\n>B: AT 9G AT +9 9\n"
 TOLD = "1 A 8E WORD +16 16 best 8E WORD 16\n2 B 9G AT +9 9 best -"
 PASSES = "".join(f">{'AB'[k % 2]}: - +0 0\n" for k in range(6))
@@ -116,9 +118,9 @@ PLAYS = [
 
 def rows():
     """Tries the worked rows."""
-    for tiles, reports in ((ENGLISH, REPORTS), (SMALL, SMALL_REPORTS)):
+    for rules, reports in ((ENGLISH, REPORTS), (SMALL, SMALL_REPORTS)):
         for words, record, wanted in reports:
-            told = judge_deal(events_of(record), set(words.split()), tiles)
+            told = judge_deal(events_of(record), set(words.split()), rules)
             assert told == wanted, f"{record}told {told}for {wanted}"
     for words, texts, rack, wanted in PLAYS:
         board = {}

@@ -8,35 +8,37 @@ import itertools
 import random
 import sys
 from collections import Counter
+from dataclasses import replace
 
-from boards import RACK
 from dealing import Dealer, spoiled
-from deals import ENGLISH, course, decide, events_of, fits, fits_place, follows, settle
-from games import Game, go_through
+from deals import course, decide, events_of, fits, fits_place, follows, settle
+from games import go_through
+from rules import ENGLISH, RACK
 
-SMALL = Counter("AADEEINORRSTTW")
+SMALL = replace(ENGLISH, tiles=Counter("AADEEINORRSTTW"))
+MORE = replace(ENGLISH, tiles=SMALL.tiles + Counter("AAA"), exchange_min=1)
 RETAINS = ">A: AEINRST 8D RETAINS +66 66\n"
 ON_WORD = ">A: DORWAAE 8E WORD +16 16\n>B: AT 9G AT +9 9\n"
 LEFT = "legal unfinished\n"
 
-# Records with the first line of their reports, made by hand: the tile set, the listed words, and how many tiles an exchange asks for.
+# Records with the first line of their reports, made by hand: the rules and the listed words.
 ROWS = [
-    (RETAINS + ">A: (ADEORTW) +22 88\n", "legal complete", SMALL, "RETAINS", 7),
-    (RETAINS + ">A: (ADEORTT) +16 82\n", "illegal line 2: TilesShort T", SMALL, "RETAINS", 7),
-    (">A: AEI -5 +0 0\n>B: QU - +0 0\n>A: SX - +0 0\n", "legal unfinished", ENGLISH, "AT", 7),
-    (">A: ?? - +0 0\n>B: ? - +0 0\n", "illegal line 2: TilesShort ?", ENGLISH, "WORD", 7),
-    (">A: AEINRST 8H AT +4 4\n>B: - +0 0\n>A: AAABCDE - +0 4\n", "illegal line 3: RackTooBig", ENGLISH, "AT", 7),
-    (">A: Q -Q +0 0\n>B: - +0 0\n>A: Q - +0 0\n", "unsettled", ENGLISH, "WORD", 7),
-    (ON_WORD + ">B: ZZZZZZZ -- -9 0\n>A: AT 9G AT +9 25\n", "legal unfinished", ENGLISH, "WORD AT RA", 7),
-    (">A: AEINRST -AEI +0 0\n", "legal unfinished", SMALL + Counter("AAA"), "RETAINS", 1),
-    (">A: AEINRST - +0 0\n>B: ADEORTW - +0 0\n", "legal unfinished", SMALL, "RETAINS", 7),
-    (">A: AEINRST - +0 0\n>B: ADEORTT - +0 0\n", "illegal line 2: TilesShort T", SMALL, "RETAINS", 7),
+    (RETAINS + ">A: (ADEORTW) +22 88\n", "legal complete", SMALL, "RETAINS"),
+    (RETAINS + ">A: (ADEORTT) +16 82\n", "illegal line 2: TilesShort T", SMALL, "RETAINS"),
+    (">A: AEI -5 +0 0\n>B: QU - +0 0\n>A: SX - +0 0\n", "legal unfinished", ENGLISH, "AT"),
+    (">A: ?? - +0 0\n>B: ? - +0 0\n", "illegal line 2: TilesShort ?", ENGLISH, "WORD"),
+    (">A: AEINRST 8H AT +4 4\n>B: - +0 0\n>A: AAABCDE - +0 4\n", "illegal line 3: RackTooBig", ENGLISH, "AT"),
+    (">A: Q -Q +0 0\n>B: - +0 0\n>A: Q - +0 0\n", "unsettled", ENGLISH, "WORD"),
+    (ON_WORD + ">B: ZZZZZZZ -- -9 0\n>A: AT 9G AT +9 25\n", "legal unfinished", ENGLISH, "WORD AT RA"),
+    (">A: AEINRST -AEI +0 0\n", "legal unfinished", MORE, "RETAINS"),
+    (">A: AEINRST - +0 0\n>B: ADEORTW - +0 0\n", "legal unfinished", SMALL, "RETAINS"),
+    (">A: AEINRST - +0 0\n>B: ADEORTT - +0 0\n", "illegal line 2: TilesShort T", SMALL, "RETAINS"),
 ]
 
 
 def rows():
-    for text, wanted, tiles, words, exchange_min in ROWS:
-        told = decide(events_of(text), set(words.split()), tiles, exchange_min)[0].strip()
+    for text, wanted, rules, words in ROWS:
+        told = decide(events_of(text), set(words.split()), rules)[0].strip()
         assert told == wanted, (text, told, wanted)
     print(f"{len(ROWS)} worked rows")
 
@@ -44,20 +46,20 @@ def rows():
 def deals_by_hand():
     """Deals of worked rows that must not fit: a tile that is on two racks, a thrown tile that comes back in the same draw."""
     both = events_of(">A: Q - +0 0\n>B: - +0 0\n")
-    places = course(both, set(), Game())
+    places = course(both, set())
     racks = Counter("QAEIOUT"), Counter("QAEIOUT")
-    assert not fits(places, ENGLISH, [(racks, Counter()), (racks, Counter())])
+    assert not fits(places, ENGLISH.tiles, [(racks, Counter()), (racks, Counter())])
     racks = Counter("QAEIOUT"), Counter("NRSTEEA")
-    assert fits(places, ENGLISH, [(racks, Counter()), (racks, Counter())])
+    assert fits(places, ENGLISH.tiles, [(racks, Counter()), (racks, Counter())])
     back = events_of(">A: Q -Q +0 0\n>B: - +0 0\n>A: Q - +0 0\n")
-    places, none = course(back, set(), Game()), Counter()
-    assert not fits(places, ENGLISH, [(racks, Counter("Q")), (racks, none), (racks, none)])
+    places, none = course(back, set()), Counter()
+    assert not fits(places, ENGLISH.tiles, [(racks, Counter("Q")), (racks, none), (racks, none)])
     later = Counter("ZAEIOUT"), racks[1]
-    assert not fits(places, ENGLISH, [(racks, Counter("Q")), (later, none), (later, none)])
+    assert not fits(places, ENGLISH.tiles, [(racks, Counter("Q")), (later, none), (later, none)])
     shown = events_of(">A: Q -Q +0 0\n>B: - +0 0\n>A: Z - +0 0\n")
-    places = course(shown, set(), Game())
-    assert fits(places, ENGLISH, [(racks, Counter("Q")), (later, none), (later, none)])
-    assert not fits(places, ENGLISH, [(racks, none), (later, none), (later, none)])
+    places = course(shown, set())
+    assert fits(places, ENGLISH.tiles, [(racks, Counter("Q")), (later, none), (later, none)])
+    assert not fits(places, ENGLISH.tiles, [(racks, none), (later, none), (later, none)])
 
 
 def parts(tiles, number):
@@ -107,12 +109,12 @@ def small(cases):
     while seen.total() < cases:
         tiles = Counter(random.choices("AEIRT?", [4, 4, 2, 2, 2, 1], k=random.choice([14, 15, 16])))
         exchanges = random.choice([(), ("known",), ("unknown",), ("known", "unknown")])
-        events, _, listed = Dealer(tiles, random.choice([2, 3, 4, 5]), exchanges, exchange_min=1).game()
+        rules = replace(ENGLISH, tiles=tiles, exchange_min=1)
+        events, _, listed = Dealer(rules, random.choice([2, 3, 4, 5]), exchanges).game()
         record = random.choice([events, spoiled(events)])
-        start = {"bag": tiles.total() - 2 * RACK, "exchange_min": 1}
-        if not record or go_through(record, listed, game=Game(**start))[0].startswith("illegal"):
+        if not record or go_through(record, listed, rules=rules)[0].startswith("illegal"):
             continue
-        places = course(record, listed, Game(**start))
+        places = course(record, listed, rules)
         told, found = settle(places, tiles) or "legal", some_deal(places, tiles)
         assert found == told.startswith("legal") or told == "unsettled", (told, found, tiles, record)
         assert told != "unsettled" or has_exchange(record), ("unsettled without an exchange", record)
@@ -127,9 +129,9 @@ def has_exchange(events):
 def one(dealer, answers):
     """One real game, and one with a rack spoiled; whether the real one has an exchange."""
     events, deal, listed = dealer.game()
-    places = course(events, listed, Game())
-    assert fits(places, ENGLISH, deal), ("a real deal does not fit", events)
-    verdict = settle(places, ENGLISH)
+    places = course(events, listed)
+    assert fits(places, ENGLISH.tiles, deal), ("a real deal does not fit", events)
+    verdict = settle(places, ENGLISH.tiles)
     assert verdict is None or (verdict == "unsettled" and has_exchange(events)), ("a real game", verdict, events)
     changed = spoiled(events)
     if changed:

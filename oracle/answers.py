@@ -1,0 +1,104 @@
+"""What each command of the program is to print or to write, from the bytes of its inputs, and its exit status: by the second judge."""
+import re
+
+import rules_texts
+from best import best_plays
+from deals import event_of, judge_deal
+from games import board_after, go_through
+from lexicons import build, check, convert
+from records import Fault, read
+from rules import ENGLISH
+
+BOM = b"\xef\xbb\xbf"
+VERDICTS = {"legal": 0, "illegal": 1, "unsettled": 2, "bad": 3}
+
+
+def words_of(data):
+    """The words of a list, or the line of its first fault."""
+    words = set()
+    for number, text in enumerate(data.removeprefix(BOM).split(b"\n"), 1):
+        text = text.removesuffix(b"\r")
+        if not text.isalpha():
+            if text:
+                return f"bad word list line {number}: BadLetter\n"
+            continue
+        if not 2 <= len(text) <= 15:
+            return f"bad word list line {number}: BadLength\n"
+        words.add(text.decode().upper())
+    return words
+
+
+def told_of(report, game, players):
+    """A report of the events on the lines 1, 2 and so on by A and B, with the lines and nicknames of the record."""
+    lines = [k for k, text in enumerate(game.removeprefix(BOM).split(b"\n"), 1) if text.startswith(b">")]
+    if report.startswith("illegal"):
+        place, fault = report.removeprefix("illegal line ").split(":", 1)
+        return f"illegal line {lines[int(place) - 1]}:{fault}".encode()
+    verdict, *events = report.encode().split(b"\n")
+    for k, text in enumerate(events[:-1]):
+        _, nick, rest = text.split(b" ", 2)
+        events[k] = b"%d %s %s" % (lines[k], players[nick == b"B"][0], rest)
+    return b"\n".join([verdict, *events])
+
+
+def answered(words, lexicon, game, text, answer):
+    """The first fault of the inputs, a rules text before them (None for none: the English rules), or what is to be printed of the
+    words, the players, the events and the rules."""
+    try:
+        rules = ENGLISH if text is None else rules_texts.read(text)
+    except rules_texts.Fault as fault:
+        return fault.text()
+    listed = words_of(words)
+    if isinstance(listed, str):
+        return listed.encode()
+    agreed = check(listed, lexicon)
+    if not agreed.startswith("ok"):
+        return agreed.encode()
+    try:
+        players, said = read(game)
+    except Fault as fault:
+        return fault.text()
+    return answer(listed, players, [event_of(it) for it in said], rules)
+
+
+def judged(words, lexicon, game, text=None):
+    """What `judge` is to print."""
+
+    def report(listed, players, events, rules):
+        return told_of(judge_deal(events, listed, rules), game, players)
+
+    return answered(words, lexicon, game, text, report)
+
+
+def topped(words, lexicon, game, rack, text=None):
+    """What `top` is to print."""
+
+    def plays(listed, players, events, rules):
+        verdict = go_through(events, listed, rules=rules)[0]
+        if verdict.startswith("illegal"):
+            return told_of(verdict, game, players)
+        return best_plays(board_after(events, listed, rules), rack, listed, rules)[1].encode()
+
+    return answered(words, lexicon, game, text, plays) if re.fullmatch("[A-Z?]{1,7}", rack) else b"bad rack\n"
+
+
+def checked(words, lexicon):
+    """What `check` is to print."""
+    listed = words_of(words)
+    return (listed if isinstance(listed, str) else check(listed, lexicon)).encode()
+
+
+def built(words):
+    """What `build` is to write."""
+    listed = words_of(words)
+    return listed.encode() if isinstance(listed, str) else build(listed)
+
+
+def converted(lexicon, name):
+    """What `convert` is to write, of the format `gad1` or `gad2`."""
+    return convert(lexicon, name.upper().encode())
+
+
+def status_of(output):
+    """The exit status that goes with a first line."""
+    return VERDICTS.get(output.split(b"\n")[0].split(b":")[0].split(b" ")[0].decode("latin-1"), 0)
