@@ -1,3 +1,4 @@
+//! Where a lexicon and a list of paths first differ.
 ghost use Rattle.std.specs.Prelude.{◌≡◌, ◌<◌, [], ◌∷◌, length};
 ghost use Rattle.lex_check.specs.Differences.{path_of, IsLonger};
 

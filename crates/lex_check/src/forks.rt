@@ -1,3 +1,4 @@
+//! The next label of two nodes at once.
 ghost use Rattle.std.specs.Prelude.{◌≡◌, ◌≤◌, ◌<◌, IfNone, IfSome};
 ghost use Rattle.lex_check.specs.Forks.{label_or_end, step_at, StandsBehind, AreSameBetween};
 

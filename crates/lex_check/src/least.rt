@@ -1,3 +1,4 @@
+//! The least tail of a node.
 ghost use Rattle.std.specs.Prelude.{◌≡◌, ◌≤◌, ◌<◌, ℕ, [], ◌∷◌};
 ghost use Rattle.lex_file.specs.Lexicons.{NoTail, NextGives};
 ghost use Rattle.lex_check.specs.Orders.{IsLeast};

@@ -1,3 +1,4 @@
+//! How the tails of two nodes compare at one label.
 ghost use Rattle.std.specs.Prelude.{◌≡◌, ◌≤◌, ◌<◌, ◌+◌, length};
 ghost use Rattle.lex_check.specs.Meetings.{MeetingGives, IsShort, IsEnded};
 ghost use Rattle.lex_check.specs.Forks.{StandsBehind};

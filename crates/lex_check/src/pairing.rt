@@ -1,3 +1,4 @@
+//! A word list and a lexicon become a pair where they agree.
 ghost use Rattle.std.specs.Prelude.{◌≡◌, IfOk, IfErr, OnOk};
 ghost use Rattle.lex_file.specs.Files.{bytes_of};
 ghost use Rattle.lex_check.specs.Checks.{IsAgreed, IsMismatch};

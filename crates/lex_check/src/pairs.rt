@@ -1,3 +1,4 @@
+//! A word list and a lexicon that agree.
 ghost use Rattle.lex_file.specs.Files.{bytes_of};
 ghost use Rattle.lex_check.specs.Checks.{IsAgreed};
 

@@ -1,3 +1,4 @@
+//! Two lexicons, walked side by side.
 ghost use Rattle.std.specs.Prelude.{◌≡◌, ◌≤◌, ◌+◌, ℕ, List, OnOk, IfErr, length};
 ghost use Rattle.lex_check.specs.Differences.{path_of, IsFirstDifference};
 

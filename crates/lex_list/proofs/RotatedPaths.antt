@@ -11,7 +11,7 @@ use Rattle.lex_list.specs.RotatedPaths.{label_of, letter_of, marked, IsPath, is_
 use Rattle.lex_list.specs.Words.{is_listed, is_word, has_word_length, has_capitals_alone, IsWordList}
 use Rattle.lex_list.proofs.Orders.{listed_from_member, member_from_listed}
 
-not_equal : (n m : ℕ) → (n ≡ m → ⊥) → eqb n m ≡ false
+pub not_equal : (n m : ℕ) → (n ≡ m → ⊥) → eqb n m ≡ false
 not_equal n m h = by (eqb n m) refl
   where
     by : (b : Bool) → eqb n m ≡ b → b ≡ false
@@ -27,10 +27,10 @@ label_again (label ∷ labels) =
     let rest = label_again labels in
     cc
 
-letter_above : (letter : ℕ) → is_ascii_uppercase letter ≡ true → 64 < letter
+pub letter_above : (letter : ℕ) → is_ascii_uppercase letter ≡ true → 64 < letter
 letter_above letter e = let low = leb-true 65 letter (and_parts (leb 65 letter) (leb letter 90) e).0 in omega arith
 
-letter_again : (letters : List ℕ) → list_all is_ascii_uppercase letters ≡ true → map letter_of (map label_of letters) ≡ letters
+pub letter_again : (letters : List ℕ) → list_all is_ascii_uppercase letters ≡ true → map letter_of (map label_of letters) ≡ letters
 letter_again [] all = refl
 letter_again (letter ∷ letters) all =
     let parts = and_parts (is_ascii_uppercase letter) (list_all is_ascii_uppercase letters) all in
@@ -136,7 +136,7 @@ path_from_behind words string b =
       path = b.read ∙ ap (λ (x : List ℕ). map label_of x ++ marked b.back) (sym (reverse-reverse b.more));
     }
 
-capitals_of : (words : List (List ℕ)) (word : List ℕ) → IsTrue (has_capitals_alone words) → Contains words word → list_all is_ascii_uppercase word ≡ true
+pub capitals_of : (words : List (List ℕ)) (word : List ℕ) → IsTrue (has_capitals_alone words) → Contains words word → list_all is_ascii_uppercase word ≡ true
 capitals_of words word capitals h = rw h.2 at (AllPass-from_list_all (list_all is_ascii_uppercase) words capitals h.0 word h.1)
 
 test_from_path : (words : List (List ℕ)) (string : List ℕ) → IsTrue (has_capitals_alone words) → IsPath words string → is_path words string ≡ true

@@ -1,3 +1,4 @@
+//! Why a text is no word list.
 ghost use Rattle.std.specs.Prelude.{◌≡◌};
 
 use std::alloc::AllocError;

@@ -1,3 +1,4 @@
+//! A word list: a set of words, in byte order.
 ghost use Rattle.std.specs.Prelude.{◌≡◌, ◌<◌, ◌↔◌, [], IsTrue, IfOk, length, slice_index_or};
 ghost use Rattle.std.specs.List.{Contains};
 

@@ -1,3 +1,4 @@
+//! The files that are built of lists.
 use crate::samples::{AT, AT_ATE, AT_IT, EMPTY};
 use lex_build::{BuildFault, build};
 use lex_check::{Mismatch, check};

@@ -1,3 +1,4 @@
+//! The answers of the checker, and the paths of a list as a lexicon.
 use crate::samples::{AT, AT_ATE, AT_IT, EMPTY};
 use lex_check::{Mismatch, SortedPaths, check, check_paths, law_of_lexicons, pair, text_of};
 use lex_file::{LexFile, PathLex};

@@ -1,3 +1,4 @@
+//! Conversions of files into both formats.
 use crate::samples::{AT, AT_BY_NODES, AT_IT, EMPTY};
 use lex_build::{BuildFault, convert};
 use lex_file::{Format, LexFile};

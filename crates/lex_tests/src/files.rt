@@ -1,3 +1,4 @@
+//! Files of the first format: their faults, and what walks find in them.
 ghost use Rattle.std.specs.Prelude.{◌≡◌};
 
 use crate::samples::{AT, AT_BY_NODES, AT_IT, EMPTY};

@@ -1,3 +1,4 @@
+//! How texts fall into lines and fields.
 use std::process::Abort;
 use text_lines::{cut_line, find_blank, find_filled, next_field, without_mark};
 

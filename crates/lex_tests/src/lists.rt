@@ -1,3 +1,4 @@
+//! Word lists: what they hold, their faults and limits.
 use lex_list::{ListFault, ListWhy, MAX_BYTES, MAX_WORDS, WordList, law_of_lists, law_of_paths};
 use std::alloc::Global;
 use std::process::Abort;

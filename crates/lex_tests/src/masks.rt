@@ -1,3 +1,4 @@
+//! Files of the second format: their faults, and what walks find in them.
 use crate::samples::{AT, AT_BY_NODES};
 use lex_check::{Mismatch, check, text_of};
 use lex_file::{FileFault, Format, LexFile};

@@ -1,0 +1,241 @@
+-- The count of the strings of a file: label by label, and node by node.
+use Rattle.std.proofs.Common.{◌≡◌, ℕ, zero, suc, ◌+◌, ◌-◌, ◌<◌, ◌≤◌, ◌^◌, Bool, true, false, cond, ◌&&◌, ltb, List, [], ◌∷◌, ◌++◌, length, map, get_or, length-append, Option, Some, None, inl, inr, refl, sym, ap, subst, ◌∙◌, arith}
+use Rattle.std.specs.Prelude.{IsTrue, IsSome, IfSome, IfNone, is_none}
+use Rattle.std.specs.List.{Contains, list_all}
+use Rattle.std.proofs.lemmas.Bool.{and_parts, and_from, cases_lt, false≢true, lt-ltb, ltb-true}
+use Rattle.std.proofs.lemmas.List.{length-map}
+use Rattle.std.proofs.lemmas.List.Elements.{Contains-append_left, Contains-append_right}
+use Rattle.lex_file.specs.declared.files.Node.{Node}
+use Rattle.lex_file.specs.Files.{number_of, IsNextNode}
+use Rattle.lex_file.specs.Languages.{file_tail}
+use Rattle.lex_file.specs.Lexicons.{is_label, NextGives}
+use Rattle.lex_file.specs.Shapes.{file_node, is_file_node, fault_of}
+use Rattle.lex_file.specs.SoundFiles.{file_labels, sound}
+use Rattle.lex_file.specs.Graphs.{none_of_zero}
+use Rattle.lex_file.specs.Walking.{next_strings}
+use Rattle.lex_agree.specs.Counts.{HasAtMost, most_counted, IsCount, IsCounted, IsCountedThere, AreCountedBelow, AreCountedUntil, IsPut}
+use Rattle.lex_agree.specs.Walks.{node_tail}
+
+-- the strings of a set that begin with a label below one
+abbrev pub has_below : (List ℕ → Bool) → ℕ → List ℕ → Bool
+has_below has from [] = false
+has_below has from (label ∷ rest) = ltb label from && has (label ∷ rest)
+
+-- ---- label by label
+
+pub first_label : (has : List ℕ → Bool) → IsCount (has_below has 0) 0
+first_label has low = record { strings = []; all = none; few = omega arith }
+  where
+    none : (string : List ℕ) → has_below has 0 string ≡ true → Contains [] string
+    none [] there = absurd (false≢true there)
+    none (label ∷ rest) there = let lt = ltb-true label 0 (and_parts (ltb label 0) (has (label ∷ rest)) there).0 in absurd (omega arith)
+
+-- the string of one label, where it is accepted
+abbrev alone : Bool → ℕ → List (List ℕ)
+alone accepts label = cond accepts ((label ∷ []) ∷ []) []
+
+alone_size : (accepts : Bool) (label : ℕ) → length (alone accepts label) ≡ cond accepts 1 0
+alone_size true label = refl
+alone_size false label = refl
+
+alone_there : (accepts : Bool) (label : ℕ) → accepts ≡ true → Contains (alone accepts label) (label ∷ [])
+alone_there true label e = (0, omega arith, refl)
+alone_there false label e = absurd (false≢true e)
+
+-- strings with a label in front
+abbrev behind_label : ℕ → List (List ℕ) → List (List ℕ)
+behind_label label strings = map (λ (string : List ℕ). label ∷ string) strings
+
+behind_there : (label : ℕ) (string : List ℕ) (strings : List (List ℕ)) → Contains strings string → Contains (behind_label label strings) (label ∷ string)
+behind_there label string [] has = absurd (omega (arith, has.1))
+behind_there label string (first ∷ strings) (zero, lt, at) = (0, omega arith, ap (λ (rest : List ℕ). label ∷ rest) at)
+behind_there label string (first ∷ strings) (suc place, lt, at) =
+    let rest = behind_there label string strings (place, omega arith, at) in
+    (suc (rest.0), omega (arith, rest.1), rest.2)
+
+-- one more label with which strings begin
+pub label_more : (has behind : List ℕ → Bool) (from label count more sum : ℕ) (accepts : Bool) → from ≤ label
+    → ((l : ℕ) → from ≤ l → l < label → (rest : List ℕ) → has (l ∷ rest) ≡ false) → accepts ≡ has (label ∷ [])
+    → ((after : ℕ) (rest : List ℕ) → has (label ∷ after ∷ rest) ≡ behind (after ∷ rest))
+    → IsCount (has_below has from) count → IsCount behind more → (sum < most_counted → sum ≡ count + more + cond accepts 1 0)
+    → IsCount (has_below has (label + 1)) sum
+label_more has behind from label count more sum accepts reached passed ends longer before there is low =
+    let total = is low in
+    let one = before (omega arith) in
+    let two = there (omega arith) in
+    let one_few = one.few in
+    let two_few = two.few in
+    let own = alone accepts label ++ behind_label label two.strings in
+    let own_size = length-append (alone accepts label) (behind_label label two.strings) in
+    let alone_is = alone_size accepts label in
+    let behind_size = length-map two.strings (λ (string : List ℕ). label ∷ string) in
+    let whole = length-append one.strings own in
+    record { strings = one.strings ++ own; all = all one two; few = omega arith }
+  where
+    here : (two : HasAtMost behind more) (rest : List ℕ) → has (label ∷ rest) ≡ true → Contains (alone accepts label ++ behind_label label two.strings) (label ∷ rest)
+    here two [] e = Contains-append_left (alone accepts label) (behind_label label two.strings) (label ∷ []) (alone_there accepts label (ends ∙ e))
+    here two (after ∷ rest) e =
+        Contains-append_right (alone accepts label) (behind_label label two.strings) (label ∷ after ∷ rest)
+        (behind_there label (after ∷ rest) two.strings (two.all (after ∷ rest) (sym (longer after rest) ∙ e)))
+
+    all : (one : HasAtMost (has_below has from) count) (two : HasAtMost behind more) (string : List ℕ) → has_below has (label + 1) string ≡ true
+        → Contains (one.strings ++ (alone accepts label ++ behind_label label two.strings)) string
+    all one two [] e = absurd (false≢true e)
+    all one two (l ∷ rest) e =
+        let parts = and_parts (ltb l (label + 1)) (has (l ∷ rest)) e in
+        let lt = ltb-true l (label + 1) parts.0 in
+        let own = alone accepts label ++ behind_label label two.strings in
+        elim (cases_lt l from) [
+          | inl below ↦
+              Contains-append_left one.strings own (l ∷ rest)
+              (one.all (l ∷ rest) (and_from (ltb l from) (has (l ∷ rest)) (lt-ltb l from below) parts.1))
+          | inr not_below ↦ elim (cases_lt l label) [
+            | inl between ↦ absurd (false≢true (sym (passed l not_below between rest) ∙ parts.1))
+            | inr reached ↦
+                let same : label ≡ l = omega arith in
+                Contains-append_right one.strings own (l ∷ rest)
+                (subst (λ (m : ℕ). Contains own (m ∷ rest)) same (here two rest (subst (λ (m : ℕ). has (m ∷ rest) ≡ true) (sym same) parts.1)))
+          ]
+        ]
+
+pub last_label : (has : List ℕ → Bool) (from count : ℕ) → has [] ≡ false → ((label : ℕ) → from ≤ label → (rest : List ℕ) → has (label ∷ rest) ≡ false)
+    → IsCount (has_below has from) count → IsCount has count
+last_label has from count empty none before low = let one = before low in record { strings = one.strings; all = all one; few = one.few }
+  where
+    all : (one : HasAtMost (has_below has from) count) (string : List ℕ) → has string ≡ true → Contains one.strings string
+    all one [] e = absurd (false≢true (sym empty ∙ e))
+    all one (label ∷ rest) e = elim (cases_lt label from) [
+      | inl below ↦ one.all (label ∷ rest) (and_from (ltb label from) (has (label ∷ rest)) (lt-ltb label from below) e)
+      | inr past ↦ absurd (false≢true (sym (none label past rest) ∙ e))
+    ]
+
+-- ---- what a branch gives
+
+-- what goes on behind the label of a branch
+abbrev pub Leads : List ℕ → Node → ℕ → Option Node → Type 0
+Leads bytes node label next =
+    NextGives (λ (n : Node). IsTrue (is_file_node bytes (number_of n))) (λ (n : Node) (string : List ℕ). file_tail bytes (number_of n) string) (λ (n : Node). number_of n)
+    node label next
+
+pub longer : (bytes : List ℕ) (node : Node) (label : ℕ) (next : Option Node) → Leads bytes node label next
+    → (after : ℕ) (rest : List ℕ) → file_tail bytes (number_of node) (label ∷ after ∷ rest) ≡ next_strings (node_tail bytes) next (after ∷ rest)
+longer bytes node label None leads after rest = leads after rest
+longer bytes node label (Some next) leads after rest = leads.tails after rest
+
+head_low : (label : ℕ) (rest : List ℕ) → IsTrue (list_all is_label (label ∷ rest)) → label < 27
+head_low label rest all = ltb-true label 27 (and_parts (is_label label) (list_all is_label rest) all).0
+
+-- the label of a branch is one
+pub label_low : (bytes : List ℕ) → IsTrue (is_none (fault_of bytes)) → (node : Node) (label : ℕ) (accepts : Bool) (next : Option Node)
+    → IsTrue (is_file_node bytes (number_of node)) → accepts ≡ file_tail bytes (number_of node) (label ∷ []) → Leads bytes node label next
+    → (accepts ≡ false → IsSome next) → label < 27
+label_low bytes shape node label true next is ends leads alive =
+    head_low label [] (file_labels bytes shape (number_of node) (label ∷ []) is (sym ends))
+label_low bytes shape node label false None is ends leads alive = absurd (false≢true (alive refl))
+label_low bytes shape node label false (Some next) is ends leads alive =
+    let after = leads.some.0 in
+    let rest = leads.some.1 in
+    head_low label (after ∷ rest)
+    (file_labels bytes shape (number_of node) (label ∷ after ∷ rest) is (leads.tails after rest ∙ leads.some.2))
+
+pub counted_there : (bytes counts : List ℕ) (node : Node) (label : ℕ) (next : Option Node) → AreCountedBelow bytes counts (number_of node) → Leads bytes node label next
+    → IsCountedThere bytes counts next
+counted_there bytes counts node label None counted leads = tt
+counted_there bytes counts node label (Some next) counted leads = counted.each (number_of next) leads.falls leads.node
+
+pub count_none : (bytes : List ℕ) → IsCount (next_strings (node_tail bytes) None) 0
+count_none bytes low = record { strings = []; all = λ string there. absurd (false≢true there); few = omega arith }
+
+-- ---- node by node
+
+no_node : (bytes : List ℕ) (n : ℕ) → is_file_node bytes n ≡ false → is_file_node bytes n ≡ true → ⊥
+no_node bytes n none there = false≢true (sym none ∙ there)
+
+-- the node 0 has no strings
+zero_count : (bytes : List ℕ) (count : ℕ) → IsTrue (is_none (fault_of bytes)) → IsCount (file_tail bytes 0) count
+zero_count bytes count shape low = record {
+  strings = [];
+  all = λ string there. absurd (false≢true (sym (none_of_zero (file_node bytes) string (sound bytes shape).graph.none) ∙ there));
+  few = omega arith;
+}
+
+zero_counted : (bytes counts : List ℕ) → IsTrue (is_none (fault_of bytes)) → 0 < length counts → IsCounted bytes counts 0
+zero_counted bytes counts shape some = record { inside = some; count = zero_count bytes (get_or counts 0 0) shape }
+
+-- before the first stored node
+pub counted_first : (bytes counts : List ℕ) (first : Option Node) → IsTrue (is_none (fault_of bytes)) → counts ≡ 0 ∷ []
+    → IfNone first ((n : ℕ) → 0 < n → is_file_node bytes n ≡ false) → IfSome first (λ (node : Node). IsNextNode bytes 0 (number_of node))
+    → AreCountedUntil bytes counts first
+counted_first bytes counts None shape is none found =
+    let size : length counts ≡ 1 = ap length is in
+    record {
+      each = λ n there. elim (cases_lt 0 n) [
+        | inl some ↦ absurd (no_node bytes n (none n some) there)
+        | inr le ↦
+            let same : 0 ≡ n = omega arith in
+            subst (IsCounted bytes counts) same (zero_counted bytes counts shape (omega arith))
+      ];
+    }
+counted_first bytes counts (Some node) shape is none found =
+    let size : length counts ≡ 1 = ap length is in
+    let above = found.above in (
+      record {
+        some = omega arith;
+        few = omega arith;
+        each = λ m less there. elim (cases_lt 0 m) [
+          | inl some ↦ absurd (no_node bytes m (found.next m some less) there)
+          | inr le ↦
+              let same : 0 ≡ m = omega arith in
+              subst (IsCounted bytes counts) same (zero_counted bytes counts shape (omega arith))
+        ];
+      },
+      found.node,
+    )
+
+-- one more node is counted
+put_each : (bytes old new : List ℕ) (n count : ℕ) → AreCountedBelow bytes old n → IsCount (file_tail bytes n) count → IsPut old new n count
+    → (m : ℕ) → m ≤ n → is_file_node bytes m ≡ true → IsCounted bytes new m
+put_each bytes old new n count before here put m le there =
+    let size = put.size in
+    elim (cases_lt m n) [
+      | inl less ↦
+          let counted = before.each m less there in
+          record { inside = omega arith; count = subst (IsCount (file_tail bytes m)) (sym (put.same m counted.inside)) counted.count }
+      | inr past ↦
+          let same : n ≡ m = omega arith in
+          subst (IsCounted bytes new) same (record { inside = omega arith; count = subst (IsCount (file_tail bytes n)) (sym put.here) here })
+    ]
+
+pub counted_more : (bytes old new : List ℕ) (n count : ℕ) (next : Option Node) → AreCountedBelow bytes old n
+    → IsCount (file_tail bytes n) count → IsPut old new n count
+    → IfNone next ((m : ℕ) → n < m → is_file_node bytes m ≡ false) → IfSome next (λ (node : Node). IsNextNode bytes n (number_of node))
+    → AreCountedUntil bytes new next
+counted_more bytes old new n count None before here put none found = record {
+  each = λ m there. elim (cases_lt n m) [
+    | inl past ↦ absurd (no_node bytes m (none m past) there)
+    | inr le ↦ put_each bytes old new n count before here put m le there
+  ];
+}
+counted_more bytes old new n count (Some node) before here put none found =
+    let size = put.size in
+    let above = found.above in (
+      record {
+        some = omega arith;
+        few = omega arith;
+        each = λ m less there. elim (cases_lt n m) [
+          | inl past ↦ absurd (no_node bytes m (found.next m past less) there)
+          | inr le ↦ put_each bytes old new n count before here put m le there
+        ];
+      },
+      found.node,
+    )
+
+-- how much is left behind a node
+abbrev pub left_behind : Option Node → ℕ
+left_behind None = 0
+left_behind (Some node) = 2 ^ 32 - number_of node
+
+pub less_left : (bytes : List ℕ) (node : Node) (next : Option Node) → number_of node < 2 ^ 32
+    → IfSome next (λ (after : Node). IsNextNode bytes (number_of node) (number_of after)) → left_behind next < 2 ^ 32 - number_of node
+less_left bytes node None low found = omega arith
+less_left bytes node (Some after) low found = let above = found.above in omega arith

@@ -1,0 +1,5 @@
+pub mod Pigeons
+pub mod Paths
+pub mod Splits
+pub mod Bounds
+pub mod Walking

@@ -1,0 +1,9 @@
+use Rattle.lex_agree.specs.Counts.{AreCountedUntil}
+use Rattle.lex_agree.proofs.Bounds.{left_behind}
+use Rattle.lex_agree.proofs.counting.count_strings.Given as goal
+
+abbrev pub invariant-loop-next : goal.invariant-loop-next
+invariant-loop-next l = AreCountedUntil l.file.bytes.now l.counts.items l.next
+
+abbrev pub decreases-loop-next : goal.decreases-loop-next
+decreases-loop-next l = left_behind l.next

@@ -1,0 +1,26 @@
+-- How the rotated paths of a word hang together in a set of strings of labels.
+use Rattle.std.specs.Prelude.{◌≡◌, ℕ, ◌<◌, ◌≤◌, Bool, true, List, [], ◌∷◌, ◌++◌, length, map, take, drop}
+use Rattle.lex_list.specs.RotatedPaths.{label_of, mark, behind_mark, path_of}
+
+-- labels of letters alone, and no mark
+abbrev pub AreLetters : List ℕ → Type 0
+AreLetters [] = Unit {0}
+AreLetters (label ∷ labels) = (0 < label) × AreLetters labels
+
+-- Where these labels stand before a mark, the label behind the mark can be turned over to the front: what the set has with it
+-- behind the mark it has with it before all labels.
+abbrev pub TurnsOver : (List ℕ → Bool) → List ℕ → Type 0
+TurnsOver has labels = (label : ℕ) (rest : List ℕ) → has (labels ++ mark ∷ label ∷ rest) ≡ true → has (label ∷ labels ++ behind_mark rest) ≡ true
+
+-- The same of all labels of letters that begin with these.
+abbrev pub TurnsOverFrom : (List ℕ → Bool) → List ℕ → Type 0
+TurnsOverFrom has front = (labels : List ℕ) → AreLetters labels → TurnsOver has (front ++ labels)
+
+-- the path of letters whose front is the first of them
+abbrev pub first_path : List ℕ → List ℕ
+first_path [] = []
+first_path (letter ∷ letters) = label_of letter ∷ mark ∷ map label_of letters
+
+-- every split of a word is a path of the set
+abbrev pub HasSplits : (List ℕ → Bool) → List ℕ → Type 0
+HasSplits has word = (split : ℕ) → 0 < split → split ≤ length word → has (path_of (take split word) (drop split word)) ≡ true

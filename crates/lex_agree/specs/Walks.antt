@@ -1,0 +1,49 @@
+-- Where a walk over a file is, as the strings that it still allows.
+use Rattle.std.specs.Prelude.{◌≡◌, ℕ, ◌≤◌, Bool, true, false, List, ◌∷◌, ◌++◌, length, take, slice_index_or, None, IsTrue}
+use Rattle.lex_file.specs.declared.files.Node.{Node}
+use Rattle.lex_file.specs.declared.lexicons.Step.{Step}
+use Rattle.lex_file.specs.Files.{number_of}
+use Rattle.lex_file.specs.Languages.{file_tail, language_of}
+use Rattle.lex_file.specs.Shapes.{is_file_node}
+use Rattle.lex_file.specs.Walking.{strings, IsOpen}
+use Rattle.lex_agree.specs.Chains.{first_path}
+
+-- the tails of a node of a file
+abbrev pub node_tail : List ℕ → Node → List ℕ → Bool
+node_tail bytes node string = file_tail bytes (number_of node) string
+
+-- a node is one of a file
+abbrev pub IsNodeOf : List ℕ → Node → Type 0
+IsNodeOf bytes node = IsTrue (is_file_node bytes (number_of node))
+
+-- where nothing goes on
+abbrev pub no_step : Step Node
+no_step = record { accepts = false; next = None }
+
+-- a step stands behind some labels of a file: it allows what the file's strings have behind them
+pub record IsStepAt (bytes labels : List ℕ) (step : Step Node) : Type 0 where
+  pub open_there : IsOpen (IsNodeOf bytes) step.next
+  pub strings_there : (rest : List ℕ) → language_of bytes (labels ++ rest) ≡ strings (node_tail bytes) step rest
+
+-- a node stands behind some labels of a file: its tails are what the file's strings have behind them
+pub record IsNodeAt (bytes labels : List ℕ) (node : Node) : Type 0 where
+  pub node_there : IsNodeOf bytes node
+  pub tails_there : (after : ℕ) (rest : List ℕ) → language_of bytes (labels ++ after ∷ rest) ≡ file_tail bytes (number_of node) (after ∷ rest)
+
+-- Steps over the path of a word whose front is its first letter: at each place up to a count stands the one behind so many
+-- letters.
+pub record AreSteps (bytes word : List ℕ) (count : ℕ) (steps : List (Step Node)) : Type 0 where
+  pub room : length steps ≡ 16
+  pub each : (split : ℕ) → split ≤ count → IsStepAt bytes (first_path (take split word)) (slice_index_or steps split no_step)
+
+-- behind the first letter there is a mark to be passed
+pub record IsPast (bytes : List ℕ) (first : Bool) (step past : Step Node) : Type 0 where
+  pub open_there : IsOpen (IsNodeOf bytes) past.next
+  pub marked : first ≡ true → (rest : List ℕ) → strings (node_tail bytes) step (0 ∷ rest) ≡ strings (node_tail bytes) past rest
+  pub other : first ≡ false → past ≡ step
+
+-- two words begin with so many letters alike
+pub record AreAlike (one other : List ℕ) (count : ℕ) : Type 0 where
+  pub in_one : count ≤ length one
+  pub in_other : count ≤ length other
+  pub alike : take count one ≡ take count other

@@ -1,0 +1,36 @@
+//! The answer: by the paths of first letters, the turns of letters and the count together.
+ghost use Rattle.std.specs.Prelude.{◌≡◌};
+ghost use Rattle.std.specs.Bool.{OnTrue};
+ghost use Rattle.lex_list.specs.RotatedPaths.{StandsFor};
+ghost use Rattle.lex_file.specs.Files.{bytes_of};
+ghost use Rattle.lex_file.specs.Languages.{language_of};
+
+use crate::counting::count_strings;
+use crate::firsts::has_firsts;
+use crate::letters::letter_count;
+use crate::turning::all_turn_over;
+use lex_file::{LexFile, PathLex};
+use lex_list::WordList;
+use std::alloc::Global;
+
+/// The most words of a file that its nodes take for each string: a string has 16 labels at most, and a node of one label
+/// takes three words in the format that takes more.
+const MOST_WORDS: usize = 48;
+
+/// Whether a compiled lexicon has exactly the rotated paths of a word list, where that is told by its nodes and by its
+/// count of strings. Where it is not told so, or memory runs out, the answer is no.
+pub fn agree(alloc: Global, list: &WordList, file: &LexFile<'_>) -> bool
+    ensures { OnTrue result (StandsFor (language_of (bytes_of file.now)) list.now) }
+{
+    let letters = letter_count(list);
+    if file.place(file.root()) as usize > MOST_WORDS * letters {
+        return false;
+    }
+    if !has_firsts(list, file) || !all_turn_over(file, letters) {
+        return false;
+    }
+    let Ok(strings) = count_strings(alloc, file) else {
+        return false;
+    };
+    strings as usize == letters
+}

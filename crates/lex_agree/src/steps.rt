@@ -1,0 +1,69 @@
+//! Steps over a file: what stands behind labels.
+ghost use Rattle.std.specs.Prelude.{◌≡◌, ◌++◌, ◌∷◌, [], ℕ, List, IsTrue, true};
+ghost use Rattle.std.specs.Bool.{OnTrue};
+ghost use Rattle.std.specs.Char.{is_ascii_uppercase};
+ghost use Rattle.lex_list.specs.RotatedPaths.{label_of};
+ghost use Rattle.lex_file.specs.Files.{bytes_of};
+ghost use Rattle.lex_file.specs.Walking.{strings, next_strings, IsOpen};
+ghost use Rattle.lex_agree.specs.Walks.{node_tail, IsNodeOf, IsStepAt};
+
+use lex_file::{LexFile, Node, PathLex, Step, advance};
+
+/// The mark between the two parts of a rotated word.
+pub const MARK: u8 = 0;
+
+/// The label of a letter: A is 1, Z is 26.
+pub fn label_of(letter: u8) -> u8
+    requires { IsTrue (is_ascii_uppercase letter) }
+    ensures { result ≡ label_of letter }
+{
+    letter - 64
+}
+
+/// What stands behind no label.
+#[tactic(auto, using(crate::proofs::Walking::step_none))]
+pub fn start(file: &LexFile<'_>) -> Step<Node>
+    ensures { IsStepAt (bytes_of file.now) [] result }
+{
+    Step {
+        accepts: false,
+        next: Some(file.root()),
+    }
+}
+
+/// One more label; where no string goes on so, nothing does from there.
+pub fn follow(file: &LexFile<'_>, at: Step<Node>, label: u8) -> Step<Node>
+    requires { IsOpen (IsNodeOf (bytes_of file.now)) at.next }
+    ensures strings { (t : List ℕ) → strings (node_tail (bytes_of file.now)) at (label ∷ t) ≡ strings (node_tail (bytes_of file.now)) result t }
+    ensures open_there { IsOpen (IsNodeOf (bytes_of file.now)) result.next }
+{
+    match advance(file, at, label) {
+        Some(step) => step,
+        None => Step {
+            accepts: false,
+            next: None,
+        },
+    }
+}
+
+/// What stands behind a label and others.
+pub fn walk(file: &LexFile<'_>, first: u8, labels: &[u8]) -> Step<Node>
+    ensures { IsStepAt (bytes_of file.now) (first ∷ labels.now) result }
+{
+    let mut at = follow(file, start(file), first);
+    for label in labels {
+        at = follow(file, at, *label);
+    }
+    at
+}
+
+/// Whether two walks go on at the same node, or neither does.
+pub fn is_same(file: &LexFile<'_>, one: Option<Node>, other: Option<Node>) -> bool
+    ensures { OnTrue result ((t : List ℕ) → next_strings (node_tail (bytes_of file.now)) one t ≡ next_strings (node_tail (bytes_of file.now)) other t) }
+{
+    match (one, other) {
+        (None, None) => true,
+        (Some(one), Some(other)) => file.place(one) == file.place(other),
+        _ => false,
+    }
+}
