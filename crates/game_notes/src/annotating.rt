@@ -1,3 +1,4 @@
+//! The best play that a rack allows.
 ghost use Rattle.std.specs.Prelude.{◌≡◌, option_map};
 ghost use Rattle.lex_check.specs.Pairs.{list_in};
 ghost use Rattle.ref_play.specs.Best.{IsAnnotation};

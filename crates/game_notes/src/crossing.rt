@@ -1,3 +1,4 @@
+//! The cross-sets of a board by the words of a pair.
 ghost use Rattle.lex_check.specs.Pairs.{list_in};
 ghost use Rattle.gen_cross.specs.Values.{IsRight};
 

@@ -1,3 +1,4 @@
+//! A board and its cross-sets that follow a game.
 ghost use Rattle.std.specs.Prelude.{◌≡◌, Some, option_map};
 ghost use Rattle.ref_board.specs.Cells.{empty_board};
 ghost use Rattle.ref_play.specs.Placements.{with_tiles, without_tiles, HasTiles, EmptiesSquares};

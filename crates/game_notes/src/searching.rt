@@ -1,3 +1,4 @@
+//! The best plays by a lexicon, however many are asked for.
 ghost use Rattle.std.specs.Prelude.{◌≡◌, ℕ, List, Some};
 ghost use Rattle.lex_list.specs.RotatedPaths.{StandsFor};
 ghost use Rattle.lex_check.specs.Pairs.{list_in};

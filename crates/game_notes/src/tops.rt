@@ -1,3 +1,4 @@
+//! The ten best plays that a rack allows.
 ghost use Rattle.std.specs.Prelude.{◌≡◌, Some};
 ghost use Rattle.lex_check.specs.Pairs.{list_in};
 ghost use Rattle.game_notes.specs.Tops.{AreTop};

@@ -1,3 +1,4 @@
+//! The cross-sets of a board: made afresh, or brought up to a play.
 ghost use Rattle.std.specs.Prelude.{◌≡◌, ℕ, List, Option};
 ghost use Rattle.ref_tiles.specs.declared.tiles.Tile.{Tile};
 ghost use Rattle.ref_board.specs.Cells.{with_tile};

@@ -1,3 +1,4 @@
+//! The letters that make listed words across.
 ghost use Rattle.std.specs.Prelude.{◌≡◌, ℕ, List, ◌∷◌, ◌++◌, ◌+◌, ◌<◌, ◌≤◌, false, length, slice_index_or, IfSome, IfNone};
 ghost use Rattle.lex_list.specs.RotatedPaths.{StandsFor};
 ghost use Rattle.lex_file.specs.Walking.{strings, IsOpen};

@@ -1,3 +1,4 @@
+//! Successive places of a line.
 ghost use Rattle.std.specs.Prelude.{◌<◌, ◌≤◌};
 
 use ref_board::Dir;

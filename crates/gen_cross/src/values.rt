@@ -1,3 +1,4 @@
+//! What a square is for plays of one direction: its letters and the points beside it.
 ghost use Rattle.std.specs.Prelude.{◌≡◌, ◌+◌, ◌≤◌, ℕ, List};
 ghost use Rattle.ref_board.specs.Lines.{place_of};
 ghost use Rattle.lex_list.specs.RotatedPaths.{StandsFor};

@@ -103,7 +103,7 @@ anchor_given g line rack h m size inside =
     ∙ map-alike (λ os. length os ≡ 15) (finish_left h (suc h) (zeros 15)) (unwalk h) (tries m rack (rest_of_anchor g line h rack)) sized
     (λ x long. walk_written h x inside long)
 
-cell_given : (g : List ℕ → Bool) (line : List Cell) (rack : List ℕ) (h : ℕ) (c : Cell) → length line ≡ 15 → h < 15
+pub cell_given : (g : List ℕ → Bool) (line : List Cell) (rack : List ℕ) (h : ℕ) (c : Cell) → length line ≡ 15 → h < 15
     → gives_cell g line h (zeros 15) rack c ≡ map (unwalk h) (cell_moves g line h rack c)
 cell_given g line rack h (Old a) size inside = refl
 cell_given g line rack h (Free m) size inside =

@@ -10,6 +10,8 @@ pub mod GivenMoves
 pub mod Sinks
 pub mod Walks
 pub mod LeftWalks
+pub mod Branching
 pub mod Anchoring
 pub mod Anchors
+pub mod Reaching
 pub mod Examples

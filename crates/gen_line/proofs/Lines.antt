@@ -1,5 +1,5 @@
 -- Each move of a line is given by one anchor, once.
-use Rattle.std.proofs.Common.{◌≡◌, ℕ, zero, suc, ◌+◌, ◌-◌, ◌<◌, ◌≤◌, Bool, true, false, ◌&&◌, ◌==◌, not, nat_lt, if◌then◌else◌, List, [], ◌∷◌, ◌++◌, length, get_or, take, drop, refl, sym, ap, ◌∙◌, arith, append_assoc, length-drop, length-take, length-append, ◌⊎◌, ⊎_elim}
+use Rattle.std.proofs.Common.{map, ◌≡◌, ℕ, zero, suc, ◌+◌, ◌-◌, ◌<◌, ◌≤◌, Bool, true, false, ◌&&◌, ◌==◌, not, nat_lt, if◌then◌else◌, List, [], ◌∷◌, ◌++◌, length, get_or, take, drop, refl, sym, ap, ◌∙◌, arith, append_assoc, length-drop, length-take, length-append, ◌⊎◌, ⊎_elim}
 use Rattle.std.proofs.lemmas.List.{get_or-drop, drop_more, take_more, take-append-drop, drop-drop, drop_at, take_at}
 use Rattle.std.proofs.lemmas.Bool.{cases_order, cases_lt, eqb-true, eq-eqb, and_parts, and_from, cond_both, both_ways, false≢true}
 use Rattle.std.proofs.lemmas.Bool.Decides.{same_from_decides}
@@ -192,13 +192,17 @@ one_owes g line rack i j y a b =
     o)
     (cases_order i j)
 
+-- the moves of an anchor are those that it owes, each once
+pub each-anchor : (g : List ℕ → Bool) (line : List Cell) (rack : List ℕ) (h : ℕ) → length line ≡ 15 → h < 15 → Each (owes g line rack h) (map (unwalk h) (cell_moves g line h rack (cell_at line h)))
+each-anchor g line rack h size high =
+    each-map (cell_fits g line h rack (cell_at line h)) (cell_moves g line h rack (cell_at line h)) (unwalk h) (walk h) (λ y. length y == 15)
+    (λ x y fit. undo h x y high (cell_fits-size g line h rack (cell_at line h) x (omega arith) fit ∙ size))
+    (each-cell g line h rack (cell_at line h))
+
 -- the moves of a line are those that some anchor owes, each once
 pub each-line : (g : List ℕ → Bool) (line : List Cell) (rack : List ℕ) → length line ≡ 15 → Each (λ y. any_of (λ h. owes g line rack h y) 0 15) (line_moves g line rack)
 unfolding line_moves
 each-line g line rack size =
     each-join (λ h y. owes g line rack h y) _ 0 15
-    (λ h low high.
-    each-map (cell_fits g line h rack (cell_at line h)) (cell_moves g line h rack (cell_at line h)) (unwalk h) (walk h) (λ y. length y == 15)
-    (λ x y fit. undo h x y high (cell_fits-size g line h rack (cell_at line h) x (omega arith) fit ∙ size))
-    (each-cell g line h rack (cell_at line h)))
+    (λ h low high. each-anchor g line rack h size high)
     (one_owes g line rack)

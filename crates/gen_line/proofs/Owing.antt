@@ -125,17 +125,17 @@ cell_ok-zero (Old a) e z = eq-eqb e 0 z
 cell_ok-zero (Free m) e z = rw (eq-eqb e 0 z)
 
 -- the stretch around an anchor that is owed: a places to its left, b to its right
-record Around (line : List Cell) (y : List ℕ) (h first a b : ℕ) : Type 0 where
-  left : first + a ≡ h
-  right : h + 1 + b ≤ 15
-  full : (j : ℕ) → first ≤ j → j < h + 1 + b → full_on line y j ≡ true
-  ok : (j : ℕ) → first ≤ j → j < h + 1 + b → cell_ok (cell_at line j) (get_or y j 0) ≡ true
-  before : 0 < first → full_on line y (first - 1) ≡ false
-  behind : h + 1 + b < 15 → full_on line y (h + 1 + b) ≡ false
-  none_before : (j : ℕ) → j < first → get_or y j 0 ≡ 0
-  none_behind : (j : ℕ) → h + 1 + b ≤ j → get_or y j 0 ≡ 0
+pub record Around (line : List Cell) (y : List ℕ) (h first a b : ℕ) : Type 0 where
+  pub left : first + a ≡ h
+  pub right : h + 1 + b ≤ 15
+  pub full : (j : ℕ) → first ≤ j → j < h + 1 + b → full_on line y j ≡ true
+  pub ok : (j : ℕ) → first ≤ j → j < h + 1 + b → cell_ok (cell_at line j) (get_or y j 0) ≡ true
+  pub before : 0 < first → full_on line y (first - 1) ≡ false
+  pub behind : h + 1 + b < 15 → full_on line y (h + 1 + b) ≡ false
+  pub none_before : (j : ℕ) → j < first → get_or y j 0 ≡ 0
+  pub none_behind : (j : ℕ) → h + 1 + b ≤ j → get_or y j 0 ≡ 0
 
-around : (line : List Cell) (y : List ℕ) (h a b : ℕ) → h < 15 → length line ≡ 15 → full_on line y h ≡ true → cell_ok (cell_at line h) (get_or y h 0) ≡ true
+pub around : (line : List Cell) (y : List ℕ) (h a b : ℕ) → h < 15 → length line ≡ 15 → full_on line y h ≡ true → cell_ok (cell_at line h) (get_or y h 0) ≡ true
     → Shaped at_anchor (left_of line h) (left_entries y h) a → Shaped no_bar (drop (h + 1) line) (drop (h + 1) y) b → Around line y h (h - a) a b
 around line y h a b below size here_full here_ok l r =
     let left_size = left_of-size line h in
@@ -181,7 +181,7 @@ allows line y h first a b i s =
     (λ (some : get_or y i 0 ≡ 0 → ⊥). let within = inside line y h first a b i s some in s.ok i within.0 within.1)
     (cases_eq (get_or y i 0) 0)
 
-move_around : (g listed : List ℕ → Bool) → AreSplits g listed → (line : List Cell) (rack y : List ℕ) (h first a b : ℕ) → Labelled line → h < 15
+pub move_around : (g listed : List ℕ → Bool) → AreSplits g listed → (line : List Cell) (rack y : List ℕ) (h first a b : ℕ) → Labelled line → h < 15
     → Owed g line rack h y → Around line y h first a b
     → word (left_of line h) (left_entries y h) ≡ spelt (left_of line h) (left_entries y h) a
     → word (drop (h + 1) line) (drop (h + 1) y) ≡ spelt (drop (h + 1) line) (drop (h + 1) y) b

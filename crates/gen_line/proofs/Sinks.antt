@@ -127,3 +127,8 @@ first-front add f n m old mid new few items h =
 
 pub first-all : {I X : Type 0} (add : I → X → I) (f : ℕ → List X) (n m : ℕ) (old new : I) → m ≡ n → new ≡ add_all add old (join_range f 0 m) → new ≡ add_all add old (join_range f 0 n)
 first-all add f n m old new e h = subst (λ j. new ≡ add_all add old (join_range f 0 j)) e h
+
+-- what changes nothing, one after another
+pub all-still : {I X : Type 0} (add : I → X → I) (old : I) (P : X → Type 0) (xs : List X) → ((x : X) → P x → add old x ≡ old) → Every P xs → old ≡ add_all add old xs
+all-still add old P [] still h = refl
+all-still add old P (x ∷ xs) still h = all-still add old P xs still h.1 ∙ ap (λ items. add_all add items xs) (sym (still x h.0))

@@ -1,11 +1,11 @@
 -- What the walk over a line gives to a sink.
-use Rattle.std.specs.Prelude.{◌≡◌, ℕ, zero, suc, ◌+◌, ◌==◌, Bool, List, [], ◌∷◌, ◌++◌, map, drop, slice_set, Result, Ok, Err, if◌then◌else◌}
+use Rattle.std.specs.Prelude.{◌≡◌, ℕ, zero, suc, ◌+◌, ◌-◌, ◌*◌, ◌==◌, Bool, List, [], ◌∷◌, ◌++◌, map, drop, slice_set, Result, Ok, Err, if◌then◌else◌}
 use Rattle.gen_line.specs.declared.cells.Cell.{Cell}
 use Rattle.gen_line.specs.declared.cells.Cell.TheVariants.{Old, Free}
 use Rattle.gen_line.specs.declared.cells.Open.{Open}
 use Rattle.gen_line.specs.Entries.{label_of}
 use Rattle.gen_line.specs.Cells.{cell_at}
-use Rattle.gen_line.specs.Model.{right, left, turn, after, less, one_try, join_range, left_of}
+use Rattle.gen_line.specs.Model.{right, left, turn, after, may, less, one_try, join_range, left_of, zeros}
 
 -- a line with the entries of the places walked
 abbrev pub put : List ℕ → ℕ → ℕ → List ℕ
@@ -30,6 +30,14 @@ one_right_of g line place rack e = right (after g (label_of e)) (drop (place + 1
 unfoldable pub gives_one_right : (List ℕ → Bool) → List Cell → ℕ → Open → List ℕ → List ℕ → ℕ → List (List ℕ)
 gives_one_right g line place m fresh rack e = map (finish_right place fresh) (one_try m rack (one_right_of g line place rack) e)
 
+-- an entry whose label the language is behind, where the square and the rack allow it
+unfoldable pub gives_try_right : (List ℕ → Bool) → List Cell → ℕ → Open → List ℕ → List ℕ → ℕ → List (List ℕ)
+gives_try_right g line place m fresh rack e = if may m rack e then gives_right g line (place + 1) (slice_set fresh place e) (less rack e) else []
+
+-- both entries of a label
+abbrev pub gives_letter_right : (List ℕ → Bool) → List Cell → ℕ → Open → List ℕ → List ℕ → ℕ → List (List ℕ)
+gives_letter_right g line place m fresh rack label = gives_try_right g line place m fresh rack (2 * label - 1) ++ gives_try_right g line place m fresh rack (2 * label)
+
 unfoldable pub gives_tries_right : (List ℕ → Bool) → List Cell → ℕ → Open → List ℕ → List ℕ → List (List ℕ)
 gives_tries_right g line place m fresh rack = join_range (gives_one_right g line place m fresh rack) 1 52
 
@@ -48,6 +56,12 @@ one_left_of g line h k rack e = left (after g (label_of e)) (left_of line k) (dr
 unfoldable pub gives_one_left : (List ℕ → Bool) → List Cell → ℕ → ℕ → Open → List ℕ → List ℕ → ℕ → List (List ℕ)
 gives_one_left g line h k m fresh rack e = map (finish_left h (suc k) fresh) (one_try m rack (one_left_of g line h k rack) e)
 
+unfoldable pub gives_try_left : (List ℕ → Bool) → List Cell → ℕ → ℕ → Open → List ℕ → List ℕ → ℕ → List (List ℕ)
+gives_try_left g line h k m fresh rack e = if may m rack e then gives_left g line h k (slice_set fresh k e) (less rack e) else []
+
+abbrev pub gives_letter_left : (List ℕ → Bool) → List Cell → ℕ → ℕ → Open → List ℕ → List ℕ → ℕ → List (List ℕ)
+gives_letter_left g line h k m fresh rack label = gives_try_left g line h k m fresh rack (2 * label - 1) ++ gives_try_left g line h k m fresh rack (2 * label)
+
 unfoldable pub gives_tries_left : (List ℕ → Bool) → List Cell → ℕ → ℕ → Open → List ℕ → List ℕ → List (List ℕ)
 gives_tries_left g line h k m fresh rack = join_range (gives_one_left g line h k m fresh rack) 1 52
 
@@ -58,6 +72,10 @@ gives_cell g line h fresh rack (Free m) = if m.anchor then gives_tries_left g li
 -- what the walk from one place gives: its anchor is the first place walked
 unfoldable pub gives_anchor : (List ℕ → Bool) → List Cell → List ℕ → List ℕ → ℕ → List (List ℕ)
 gives_anchor g line fresh rack h = gives_cell g line h fresh rack (cell_at line h)
+
+-- the moves of a line of which a place is the first anchor covered
+abbrev pub anchor_moves : (List ℕ → Bool) → List Cell → List ℕ → ℕ → List (List ℕ)
+anchor_moves g line rack h = gives_anchor g line (zeros 15) rack h
 
 -- ---- sinks
 

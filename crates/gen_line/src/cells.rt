@@ -1,3 +1,5 @@
+//! The cells of a line: old tiles, and free ones with what may be laid there.
+
 /// A square of a line without a tile.
 #[derive(Clone, Copy)]
 pub struct Open {

@@ -2,12 +2,14 @@
 //! Move Generation Algorithm, 1994).
 //!
 //! A line is 15 cells, each with an old tile or free; a free cell has the letters that may be put there and whether it
-//! is an anchor. From each anchor a walk goes to the left and then, through the mark, to the right. It tries the letters
-//! that the square and the rack allow, and ends where the lexicon has no string that goes on. It takes no memory.
+//! is an anchor. From each anchor a walk goes to the left and then, through the mark, to the right. At a free square it goes
+//! over the letters with which a string of the lexicon goes on, each once, and tries those that the square and the rack
+//! allow. It takes no memory.
 //!
 //! What becomes of a move is not known here: [`walk_line`] gives each to a [`Taker`].
 #![tactic(auto)]
 
+mod branches;
 mod cells;
 mod laws;
 mod takers;

@@ -1,11 +1,9 @@
+//! Tiles of a rack as they are laid: letters, and blanks as letters.
 ghost use Rattle.std.specs.Prelude.{◌≡◌, ◌<◌, slice_index, slice_set};
-ghost use Rattle.gen_line.specs.Entries.{letter_of, kind_of, label_of};
+ghost use Rattle.gen_line.specs.Entries.{letter_of, kind_of};
 ghost use Rattle.gen_line.specs.Model.{may, less};
 
 use crate::cells::Open;
-
-/// The entries of new tiles are those from 1 on that are below this one.
-pub const ENTRIES: u8 = 53;
 
 /// The tiles of a walk. What an entry says is told at [`crate::Taker`].
 #[derive(Clone, Copy)]
@@ -22,14 +20,6 @@ fn letter(entry: u8) -> u8
     ensures { result ≡ letter_of entry }
 {
     (entry - 1) / 2
-}
-
-/// The label of that letter in a lexicon.
-pub fn label(entry: u8) -> u8
-    requires { 0 < entry }
-    ensures { result ≡ label_of entry }
-{
-    letter(entry) + 1
 }
 
 /// The kind of a new tile.

@@ -1,12 +1,14 @@
+//! The walk over one line: from each anchor to the left, and then to the right.
 ghost use Rattle.std.specs.Prelude.{◌≡◌, ◌<◌, ◌≤◌, ◌+◌, ◌&&◌, ℕ, List, false, IsOk, drop, length};
 ghost use Rattle.gen_line.specs.Model.{starts_free, line_moves};
 ghost use Rattle.lex_file.specs.Walking.{IsOpen, strings};
-ghost use Rattle.gen_line.specs.Walk.{Took, Every, gives_leaf, gives_right, gives_tries_right, gives_one_right, gives_turn, gives_left, gives_tries_left, gives_one_left, gives_anchor};
+ghost use Rattle.gen_line.specs.Walk.{Took, Every, gives_leaf, gives_right, gives_tries_right, gives_letter_right, gives_try_right, gives_turn, gives_left, gives_tries_left, gives_letter_left, gives_try_left, gives_anchor, anchor_moves};
 
+use crate::branches::next_letter;
 use crate::cells::{Cell, Open};
 use crate::takers::Taker;
-use crate::tiles::{ENTRIES, Tiles, label};
-use lex_file::{PathLex, Step, advance};
+use crate::tiles::Tiles;
+use lex_file::{Branch, PathLex, Step, advance};
 use std::alloc::AllocError as NoMemory;
 
 /// The label between the two parts of a rotated word.
@@ -100,20 +102,52 @@ impl<L: PathLex, T> LineWalk<'_, L, T> {
         ensures took { Took (T.tell self.now.taker.now (T.made_for sink.old)) (T.items sink.old) (gives_tries_right (strings (L.tail self.now.lex.now) at) self.now.line.now place free.now tiles.now.fresh tiles.now.rack) (T.items sink.new) result }
         ensures steady { T.grows ≡ false → IsOk result }
     {
-        if at.next.is_none() {
+        let Some(node) = at.next else {
             return Ok(());
-        }
-        for entry in 1..ENTRIES {
-            self.one_right(at, place, free, entry, tiles, sink)?;
+        };
+        let mut from = 1;
+        let mut rest = self.lex.rest(node);
+        while let Some(on) = next_letter(self.lex, node, from, rest) {
+            let Branch { label, step } = on.branch;
+            self.letter_right(step, place, free, label, tiles, sink)?;
+            from = label + 1;
+            rest = on.rest;
         }
         Ok(())
     }
 
-    /// Gives the moves with this new tile here, where the square, the rack and the lexicon allow it.
+    /// Gives the moves with a tile here that shows the letter of a label, where the lexicon goes on so: a tile of the letter
+    /// and then a blank.
+    #[cycle(right)]
+    fn letter_right<S>(
+        &self,
+        next: Step<L::Node>,
+        place: usize,
+        free: &Open,
+        label: u8,
+        tiles: &Tiles,
+        sink: &mut S,
+    ) -> Result<(), NoMemory>
+    where
+        T: Taker<S>,
+        requires node { IsOpen (L.is_node self.now.lex.now) next.next }
+        requires place { place < 15 }
+        requires low { 0 < label }
+        requires high { label < 27 }
+        requires can { Every (T.can_take self.now.taker.now (T.made_for sink.old)) (gives_letter_right (strings (L.tail self.now.lex.now) next) self.now.line.now place free.now tiles.now.fresh tiles.now.rack label) }
+        ensures made_for { T.made_for sink.new ≡ T.made_for sink.old }
+        ensures took { Took (T.tell self.now.taker.now (T.made_for sink.old)) (T.items sink.old) (gives_letter_right (strings (L.tail self.now.lex.now) next) self.now.line.now place free.now tiles.now.fresh tiles.now.rack label) (T.items sink.new) result }
+        ensures steady { T.grows ≡ false → IsOk result }
+    {
+        self.one_right(next, place, free, 2 * label - 1, tiles, sink)?;
+        self.one_right(next, place, free, 2 * label, tiles, sink)
+    }
+
+    /// Gives the moves with this new tile here, behind which the lexicon goes on so, where the square and the rack allow it.
     #[cycle(right)]
     fn one_right<S>(
         &self,
-        at: Step<L::Node>,
+        next: Step<L::Node>,
         place: usize,
         free: &Open,
         entry: u8,
@@ -122,22 +156,19 @@ impl<L: PathLex, T> LineWalk<'_, L, T> {
     ) -> Result<(), NoMemory>
     where
         T: Taker<S>,
-        requires node { IsOpen (L.is_node self.now.lex.now) at.next }
+        requires node { IsOpen (L.is_node self.now.lex.now) next.next }
         requires place { place < 15 }
         requires low { 0 < entry }
         requires high { entry < 53 }
-        requires can { Every (T.can_take self.now.taker.now (T.made_for sink.old)) (gives_one_right (strings (L.tail self.now.lex.now) at) self.now.line.now place free.now tiles.now.fresh tiles.now.rack entry) }
+        requires can { Every (T.can_take self.now.taker.now (T.made_for sink.old)) (gives_try_right (strings (L.tail self.now.lex.now) next) self.now.line.now place free.now tiles.now.fresh tiles.now.rack entry) }
         ensures made_for { T.made_for sink.new ≡ T.made_for sink.old }
-        ensures took { Took (T.tell self.now.taker.now (T.made_for sink.old)) (T.items sink.old) (gives_one_right (strings (L.tail self.now.lex.now) at) self.now.line.now place free.now tiles.now.fresh tiles.now.rack entry) (T.items sink.new) result }
+        ensures took { Took (T.tell self.now.taker.now (T.made_for sink.old)) (T.items sink.old) (gives_try_right (strings (L.tail self.now.lex.now) next) self.now.line.now place free.now tiles.now.fresh tiles.now.rack entry) (T.items sink.new) result }
         ensures steady { T.grows ≡ false → IsOk result }
     {
-        if !tiles.allow(free, entry) {
-            return Ok(());
+        if tiles.allow(free, entry) {
+            return self.right(next, place + 1, &tiles.with(place, entry), sink);
         }
-        match advance(self.lex, at, label(entry)) {
-            Some(next) => self.right(next, place + 1, &tiles.with(place, entry), sink),
-            None => Ok(()),
-        }
+        Ok(())
     }
 
     /// Gives the moves that begin at the left end of what was walked: those that end at the anchor, and those that go on
@@ -222,20 +253,53 @@ impl<L: PathLex, T> LineWalk<'_, L, T> {
         ensures took { Took (T.tell self.now.taker.now (T.made_for sink.old)) (T.items sink.old) (gives_tries_left (strings (L.tail self.now.lex.now) at) self.now.line.now self.now.anchor place free.now tiles.now.fresh tiles.now.rack) (T.items sink.new) result }
         ensures steady { T.grows ≡ false → IsOk result }
     {
-        if at.next.is_none() {
+        let Some(node) = at.next else {
             return Ok(());
-        }
-        for entry in 1..ENTRIES {
-            self.one_left(at, place, free, entry, tiles, sink)?;
+        };
+        let mut from = 1;
+        let mut rest = self.lex.rest(node);
+        while let Some(on) = next_letter(self.lex, node, from, rest) {
+            let Branch { label, step } = on.branch;
+            self.letter_left(step, place, free, label, tiles, sink)?;
+            from = label + 1;
+            rest = on.rest;
         }
         Ok(())
     }
 
-    /// Gives the moves with this new tile here, where the square, the rack and the lexicon allow it.
+    /// Gives the moves with a tile here that shows the letter of a label, where the lexicon goes on so: a tile of the letter
+    /// and then a blank.
+    #[cycle(left)]
+    fn letter_left<S>(
+        &self,
+        next: Step<L::Node>,
+        place: usize,
+        free: &Open,
+        label: u8,
+        tiles: &Tiles,
+        sink: &mut S,
+    ) -> Result<(), NoMemory>
+    where
+        T: Taker<S>,
+        requires node { IsOpen (L.is_node self.now.lex.now) next.next }
+        requires anchor { self.now.anchor < 15 }
+        requires place { place ≤ self.now.anchor }
+        requires low { 0 < label }
+        requires high { label < 27 }
+        requires can { Every (T.can_take self.now.taker.now (T.made_for sink.old)) (gives_letter_left (strings (L.tail self.now.lex.now) next) self.now.line.now self.now.anchor place free.now tiles.now.fresh tiles.now.rack label) }
+        ensures made_for { T.made_for sink.new ≡ T.made_for sink.old }
+        ensures took { Took (T.tell self.now.taker.now (T.made_for sink.old)) (T.items sink.old) (gives_letter_left (strings (L.tail self.now.lex.now) next) self.now.line.now self.now.anchor place free.now tiles.now.fresh tiles.now.rack label) (T.items sink.new) result }
+        ensures steady { T.grows ≡ false → IsOk result }
+    {
+        self.one_left(next, place, free, 2 * label - 1, tiles, sink)?;
+        self.one_left(next, place, free, 2 * label, tiles, sink)
+    }
+
+    /// Gives the moves with this new tile here, behind which the lexicon goes on so, where the square and the rack allow it.
     #[cycle(left)]
     fn one_left<S>(
         &self,
-        at: Step<L::Node>,
+        next: Step<L::Node>,
         place: usize,
         free: &Open,
         entry: u8,
@@ -244,30 +308,29 @@ impl<L: PathLex, T> LineWalk<'_, L, T> {
     ) -> Result<(), NoMemory>
     where
         T: Taker<S>,
-        requires node { IsOpen (L.is_node self.now.lex.now) at.next }
+        requires node { IsOpen (L.is_node self.now.lex.now) next.next }
         requires anchor { self.now.anchor < 15 }
         requires place { place ≤ self.now.anchor }
         requires low { 0 < entry }
         requires high { entry < 53 }
-        requires can { Every (T.can_take self.now.taker.now (T.made_for sink.old)) (gives_one_left (strings (L.tail self.now.lex.now) at) self.now.line.now self.now.anchor place free.now tiles.now.fresh tiles.now.rack entry) }
+        requires can { Every (T.can_take self.now.taker.now (T.made_for sink.old)) (gives_try_left (strings (L.tail self.now.lex.now) next) self.now.line.now self.now.anchor place free.now tiles.now.fresh tiles.now.rack entry) }
         ensures made_for { T.made_for sink.new ≡ T.made_for sink.old }
-        ensures took { Took (T.tell self.now.taker.now (T.made_for sink.old)) (T.items sink.old) (gives_one_left (strings (L.tail self.now.lex.now) at) self.now.line.now self.now.anchor place free.now tiles.now.fresh tiles.now.rack entry) (T.items sink.new) result }
+        ensures took { Took (T.tell self.now.taker.now (T.made_for sink.old)) (T.items sink.old) (gives_try_left (strings (L.tail self.now.lex.now) next) self.now.line.now self.now.anchor place free.now tiles.now.fresh tiles.now.rack entry) (T.items sink.new) result }
         ensures steady { T.grows ≡ false → IsOk result }
     {
-        if !tiles.allow(free, entry) {
-            return Ok(());
+        if tiles.allow(free, entry) {
+            return self.left(next, place, &tiles.with(place, entry), sink);
         }
-        match advance(self.lex, at, label(entry)) {
-            Some(next) => self.left(next, place, &tiles.with(place, entry), sink),
-            None => Ok(()),
-        }
+        Ok(())
     }
 
-    /// Gives the moves of which the anchor of the walk is the first anchor covered, where it is one.
+    /// Gives the moves of which the anchor of the walk is the first anchor covered, where it is one. They are not looked for
+    /// where none would change what the sink has.
     pub fn from_anchor<S>(&self, tiles: &Tiles, sink: &mut S) -> Result<(), NoMemory>
     where
         T: Taker<S>,
         requires anchor { self.now.anchor < 15 }
+        requires offers { Every (T.offers self.now.taker.now self.now.anchor) (gives_anchor (L.language self.now.lex.now) self.now.line.now tiles.now.fresh tiles.now.rack self.now.anchor) }
         requires can { Every (T.can_take self.now.taker.now (T.made_for sink.old)) (gives_anchor (L.language self.now.lex.now) self.now.line.now tiles.now.fresh tiles.now.rack self.now.anchor) }
         ensures made_for { T.made_for sink.new ≡ T.made_for sink.old }
         ensures took { Took (T.tell self.now.taker.now (T.made_for sink.old)) (T.items sink.old) (gives_anchor (L.language self.now.lex.now) self.now.line.now tiles.now.fresh tiles.now.rack self.now.anchor) (T.items sink.new) result }
@@ -277,6 +340,9 @@ impl<L: PathLex, T> LineWalk<'_, L, T> {
             Cell::Old(_) => Ok(()),
             Cell::Free(free) => {
                 if !free.anchor {
+                    return Ok(());
+                }
+                if self.taker.passes(self.anchor, sink) {
                     return Ok(());
                 }
                 let start = Step {
@@ -304,6 +370,7 @@ pub fn walk_line<L: PathLex, S, T: Taker<S>>(
     taker: &T,
     sink: &mut S,
 ) -> Result<(), NoMemory>
+    requires offers { (anchor : ℕ) → anchor < 15 → Every (T.offers taker.now anchor) (anchor_moves (L.language lex.now) line.now rack.now anchor) }
     requires can { Every (T.can_take taker.now (T.made_for sink.old)) (line_moves (L.language lex.now) line.now rack.now) }
     ensures made_for { T.made_for sink.new ≡ T.made_for sink.old }
     ensures took { Took (T.tell taker.now (T.made_for sink.old)) (T.items sink.old) (line_moves (L.language lex.now) line.now rack.now) (T.items sink.new) result }

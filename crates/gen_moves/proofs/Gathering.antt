@@ -182,7 +182,7 @@ from_along rules board g cells rack d a c =
     record { line = from.0; low = omega arith; told_by = from_line rules board g cells rack d from.0 a from.2 }
 
 -- ---- what is given is a candidate
-wanted_few : (board : List (Option Tile)) (d : Dir) (ps : List Placed) → is_wanted board d ps ≡ true → (direction_of board ps ≡ d) × (length ps ≤ 7)
+pub wanted_few : (board : List (Option Tile)) (d : Dir) (ps : List Placed) → is_wanted board d ps ≡ true → (direction_of board ps ≡ d) × (length ps ≤ 7)
 wanted_few board d ps e =
     let parts = and_parts (same_dir (direction_of board ps) d) (nat_le (length ps) 7) e in
     (same_dir-true (direction_of board ps) d parts.0, leb-true (length ps) 7 parts.1)

@@ -9,3 +9,8 @@ pub mod Fitting
 pub mod CellLaws
 pub mod Writing
 pub mod Taking
+pub mod Sums
+pub mod Worths
+pub mod Bounding
+pub mod Longest
+pub mod Offering

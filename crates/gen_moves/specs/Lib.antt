@@ -3,3 +3,4 @@ pub mod LineTiles
 pub mod Findings
 pub mod Laws
 pub mod Telling
+pub mod Bounds

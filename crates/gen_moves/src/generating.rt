@@ -1,4 +1,5 @@
-ghost use Rattle.std.specs.Prelude.{◌≡◌, ℕ, ◌<◌, List, [], false, slice_index_or, IsOk};
+//! Every legal, valid play that a rack allows on a board.
+ghost use Rattle.std.specs.Prelude.{◌≡◌, ℕ, ◌<◌, ◌≤◌, List, [], false, slice_index_or, IsOk};
 ghost use Rattle.lex_list.specs.RotatedPaths.{StandsFor};
 ghost use Rattle.ref_play.specs.Best.{Given, AreAll};
 ghost use Rattle.gen_cross.specs.Values.{IsRight};
@@ -7,9 +8,12 @@ ghost use Rattle.gen_line.specs.Walk.{Every, Took};
 ghost use Rattle.gen_sinks.specs.Sinks.{IsFor};
 ghost use Rattle.gen_moves.specs.Findings.{given_on, given_along};
 ghost use Rattle.gen_moves.specs.Laws.{AreLong};
+ghost use Rattle.gen_moves.specs.Bounds.{HasScores, AreOffers};
 ghost use Rattle.gen_moves.specs.Telling.{IsFit, spot_of, same_cells};
 
+use crate::anchors::{anchor_bounds, points_of_rack};
 use crate::lines::all_cells;
+use crate::places::line_places;
 use crate::spots::Spot;
 use crate::telling::LinePlays;
 use gen_cross::Cross;
@@ -23,26 +27,33 @@ use ref_tiles::{Counts, KINDS, Rules};
 fn on_line<L: PathLex, S: Sink>(
     rules: &Rules,
     spot: &Spot,
+    cross: &Cross,
     lines: &[[Cell; SIDE]; SIDE],
     rack: &[u8; KINDS],
+    points: u64,
     lex: &L,
     sink: &mut S,
 ) -> Result<(), NoMemory>
     requires line { spot.now.line < 15 }
     requires sink { IsFor (S.made_for sink.old) spot.now.board }
     requires can { Every (IsFit spot.now) (line_moves (L.language lex.now) (slice_index_or lines.now spot.now.line []) rack.now) }
+    requires points { points ≤ 2000000 }
+    requires scores { HasScores rules.now spot.now.board cross.now }
+    requires offers { AreOffers rules.now points spot.now.board (L.language lex.now) (slice_index_or lines.now spot.now.line []) rack.now spot.now.dir spot.now.line }
     ensures made_for { S.made_for sink.new ≡ S.made_for sink.old }
     ensures took { Took (S.add (S.made_for sink.old)) (S.items sink.old)
         (given_on rules.now spot.now.board (L.language lex.now) (same_cells lines.now) rack.now spot.now.dir spot.now.line) (S.items sink.new) result }
     ensures steady { S.grows ≡ false → IsOk result }
 {
-    walk_line(
-        lex,
-        &lines[spot.line],
-        rack,
-        &LinePlays { rules, spot },
-        sink,
-    )
+    let cells = &lines[spot.line];
+    let places = line_places(rules, &spot.board, cross, spot.dir, spot.line);
+    let bounds = anchor_bounds(cells, &places, points, rules.bonus as u64);
+    let plays = LinePlays {
+        rules,
+        spot,
+        bounds: &bounds,
+    };
+    walk_line(lex, cells, rack, &plays, sink)
 }
 
 /// Gives a sink the plays along one direction.
@@ -50,14 +61,19 @@ fn along<L: PathLex, S: Sink>(
     rules: &Rules,
     board: &Board,
     dir: Dir,
+    cross: &Cross,
     lines: &[[Cell; SIDE]; SIDE],
     rack: &[u8; KINDS],
+    points: u64,
     lex: &L,
     sink: &mut S,
 ) -> Result<(), NoMemory>
     requires sink { IsFor (S.made_for sink.old) board.now }
     requires can { (line : ℕ) → line < 15
         → Every (IsFit (spot_of board.now dir line)) (line_moves (L.language lex.now) (slice_index_or lines.now line []) rack.now) }
+    requires points { points ≤ 2000000 }
+    requires scores { HasScores rules.now board.now cross.now }
+    requires offers { (line : ℕ) → line < 15 → AreOffers rules.now points board.now (L.language lex.now) (slice_index_or lines.now line []) rack.now dir line }
     ensures made_for { S.made_for sink.new ≡ S.made_for sink.old }
     ensures took { Took (S.add (S.made_for sink.old)) (S.items sink.old)
         (given_along rules.now board.now (L.language lex.now) (same_cells lines.now) rack.now dir) (S.items sink.new) result }
@@ -69,7 +85,7 @@ fn along<L: PathLex, S: Sink>(
             dir,
             line,
         };
-        on_line(rules, &spot, lines, rack, lex, sink)?;
+        on_line(rules, &spot, cross, lines, rack, points, lex, sink)?;
     }
     Ok(())
 }
@@ -106,6 +122,27 @@ pub fn generate<L: PathLex, S: Sink>(
     let across = all_cells(board, cross, Dir::Across);
     let down = all_cells(board, cross, Dir::Down);
     let numbers = rack.numbers();
-    along(rules, board, Dir::Across, &across, &numbers, lex, sink)?;
-    along(rules, board, Dir::Down, &down, &numbers, lex, sink)
+    let points = points_of_rack(rules, &numbers);
+    along(
+        rules,
+        board,
+        Dir::Across,
+        cross,
+        &across,
+        &numbers,
+        points,
+        lex,
+        sink,
+    )?;
+    along(
+        rules,
+        board,
+        Dir::Down,
+        cross,
+        &down,
+        &numbers,
+        points,
+        lex,
+        sink,
+    )
 }

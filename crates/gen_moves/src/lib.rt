@@ -2,10 +2,13 @@
 //! Generation Algorithm, 1994).
 #![tactic(auto)]
 
+mod anchors;
 mod generating;
 mod laws;
 mod lines;
+mod places;
 mod spots;
+mod stretches;
 mod telling;
 
 pub use gen_sinks::{All, Best, NoMemory, Sink, Top};

@@ -1,3 +1,4 @@
+//! The cells of a line of the board.
 ghost use Rattle.std.specs.Prelude.{ℕ, ◌<◌, List, [], slice_index_or};
 ghost use Rattle.gen_cross.specs.Values.{HasMasks};
 ghost use Rattle.gen_moves.specs.BoardLines.{IsCellOf, IsLineOf};

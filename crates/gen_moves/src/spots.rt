@@ -1,3 +1,4 @@
+//! Where the tiles of a move are laid.
 ghost use Rattle.std.specs.Prelude.{◌≡◌, ◌<◌, ◌≤◌, length};
 ghost use Rattle.ref_play.specs.Legality.{IsLegal};
 ghost use Rattle.ref_play.specs.Directions.{is_wanted, RunsAlong};

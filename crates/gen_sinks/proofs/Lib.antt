@@ -1,3 +1,4 @@
 pub mod Ranking
 pub mod RankOrder
 pub mod Keeping
+pub mod Skipping

@@ -2,3 +2,4 @@ pub mod Sinks
 pub mod Ranks
 pub mod Laws
 pub mod Legals
+pub mod Skips

@@ -1,3 +1,4 @@
+//! A sink that keeps every play.
 ghost use Rattle.std.specs.Prelude.{◌≡◌, [], map};
 ghost use Rattle.gen_sinks.specs.Sinks.{seen_pair};
 
@@ -40,6 +41,10 @@ impl Sink for All {
     ghost items = { λ sink. map seen_pair sink.kept.items };
 
     ghost add = { add_last };
+
+    fn skips(&self, _bound: i32) -> bool {
+        false
+    }
 
     fn take(&mut self, play: &Play, score: i32) -> Result<(), NoMemory> {
         self.kept.push((play.copy(), score))?;

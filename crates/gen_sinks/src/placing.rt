@@ -1,7 +1,9 @@
-ghost use Rattle.std.specs.Prelude.{◌≡◌, ◌≤◌, IsTrue, length, map, take, insert};
+//! Where a play comes among those that are kept.
+ghost use Rattle.std.specs.Prelude.{◌≡◌, ◌≤◌, ◌<ℤ◌, IsTrue, length, map, take, insert};
 ghost use Rattle.ref_play.specs.Legality.{IsLegal};
 ghost use Rattle.gen_sinks.specs.Sinks.{seen, seen_pair};
 ghost use Rattle.gen_sinks.specs.Ranks.{ranks_before, put_in};
+ghost use Rattle.gen_sinks.specs.Skips.{AllAbove};
 ghost use Rattle.gen_sinks.specs.Legals.{are_legal};
 
 use arrayvec::ArrayVec;
@@ -33,6 +35,26 @@ pub fn place_of(board: &Board, kept: &[(Play, i32)], play: &Play, score: i32) ->
         }
     }
     kept.len()
+}
+
+/// Whether a play scores more than a bound.
+fn is_above(scored: &(Play, i32), bound: i32) -> bool
+    ensures { IsTrue result → bound <ℤ scored.now.1 }
+{
+    let (_, score) = scored;
+    *score > bound
+}
+
+/// Whether each of some plays scores more than a bound.
+pub fn all_above(kept: &[(Play, i32)], bound: i32) -> bool
+    ensures { IsTrue result → AllAbove bound kept.now }
+{
+    for place in 0..kept.len() {
+        if !is_above(&kept[place], bound) {
+            return false;
+        }
+    }
+    true
 }
 
 /// Puts a play at its place, where that is among the first N. The last one leaves where there is no room for it.

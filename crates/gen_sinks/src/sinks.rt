@@ -1,4 +1,5 @@
-ghost use Rattle.std.specs.Prelude.{◌≡◌, List, Option, Bool, false, IsOk, OnOk, OnErr};
+//! What takes plays, one by one.
+ghost use Rattle.std.specs.Prelude.{◌≡◌, ◌≤ℤ◌, List, Option, Bool, false, IsOk, IsTrue, OnOk, OnErr};
 ghost use Rattle.ref_tiles.specs.declared.tiles.Tile.{Tile};
 ghost use Rattle.ref_play.specs.Best.{Given};
 ghost use Rattle.gen_sinks.specs.Sinks.{seen, CanTake};
@@ -21,6 +22,10 @@ pub trait Sink {
 
     // What plays it has with one more, on its board.
     ghost add: { Option (List (Option Tile)) → List Given → Given → List Given };
+
+    /// Whether no play that scores so much at the most would change what the sink has.
+    fn skips(&self, bound: i32) -> bool
+        ensures { IsTrue result → (given : Given) → given.score ≤ℤ bound → add (made_for self.now) (items self.now) given ≡ items self.now };
 
     /// Takes a play with its score. A sink that was made for a board asks that the play is legal on that board.
     ///

@@ -1,7 +1,8 @@
+//! Sinks that keep the best plays: so many, or one.
 ghost use Rattle.std.specs.Prelude.{◌≡◌, IsTrue};
 ghost use Rattle.gen_sinks.specs.Legals.{are_legal};
 
-use crate::placing::{place_of, put_at};
+use crate::placing::{all_above, place_of, put_at};
 use crate::sinks::{NoMemory, Sink};
 use arrayvec::ArrayVec;
 use ref_board::Board;
@@ -55,6 +56,10 @@ impl<const N: usize> Sink for Top<N> {
     ghost items = { λ sink. map seen_pair sink.kept.items };
 
     ghost add = { add_ranked N };
+
+    fn skips(&self, bound: i32) -> bool {
+        self.kept.is_full() && all_above(&self.kept, bound)
+    }
 
     fn take(&mut self, play: &Play, score: i32) -> Result<(), NoMemory> {
         let _size = self.board.len();

@@ -1,5 +1,5 @@
 -- Words of a file as the code reads them.
-use Rattle.std.proofs.Common.{◌≡◌, ℕ, zero, suc, ◌+◌, ◌*◌, ◌-◌, ◌/◌, ◌<◌, ◌≤◌, arith, List, [], ◌∷◌, length, get_or, drop, drop-cons, eq-eqb, ◌%◌, ◌≢◌, add-one, refl, ap, ◌∙◌, true, false, eqb, Some, None}
+use Rattle.std.proofs.Common.{◌≡◌, ℕ, zero, suc, ◌+◌, ◌*◌, ◌-◌, ◌/◌, ◌<◌, ◌≤◌, arith, List, [], ◌∷◌, length, get_or, drop, drop-cons, eq-eqb, ◌%◌, ◌≢◌, add-one, refl, sym, ap, ◌∙◌, true, false, eqb, Some, None}
 use Rattle.std.proofs.Common.{inl, inr, eqb, ltb, leb, le-leb}
 use Rattle.std.proofs.Math.ListN.{drop_of_length-le}
 use Rattle.std.proofs.lemmas.Bool.{ltb-true, lt-leb, and_parts}
@@ -97,6 +97,13 @@ ends_from words place label lt less last =
 pub past_from : (words : List ℕ) (place label : ℕ) → length words ≤ place → arc_from label (run_of (drop place words)) ≡ None
 unfolding run_of
 past_from words place label le = rw (drop_of_length-le words le) refl
+
+-- what is left of a node behind an arc
+pub left_more : (words : List ℕ) (place label : ℕ) → place < length words → (arc_of (get_or words place 0)).label < label
+    → is_last (get_or words place 0) ≡ false → arc_from label (run_of (drop place words)) ≡ arc_from label (node_at words (place + 2))
+left_more words place label lt less last =
+    let e : place + 2 ≡ suc (place + 1) = omega arith in
+    further_from words place label lt less last ∙ ap (λ (n : ℕ). arc_from label (node_at words n)) (sym e)
 
 pub inside_node : (words : List ℕ) (node : ℕ) → is_node words node ≡ true → 0 < node → node ≤ length words
 inside_node words zero is lt = absurd (omega arith)

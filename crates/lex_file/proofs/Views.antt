@@ -1,6 +1,6 @@
 -- What an opened file has.
-use Rattle.std.proofs.Common.{◌≡◌, ℕ, zero, suc, ◌+◌, ◌^◌, ◌<◌, ◌≤◌, Bool, true, false, ltb, List, length, get_or, drop, Option, Some, inl, inr, refl, sym, ap, subst, ◌∙◌, arith}
-use Rattle.std.specs.Prelude.{IsTrue, is_none}
+use Rattle.std.proofs.Common.{◌≡◌, ℕ, zero, suc, ◌+◌, ◌^◌, ◌<◌, ◌≤◌, Bool, true, false, ltb, List, length, get_or, drop, Option, Some, None, inl, inr, refl, sym, ap, subst, ◌∙◌, arith}
+use Rattle.std.specs.Prelude.{IsTrue, is_none, IfNone, IfSome}
 use Rattle.std.proofs.lemmas.Bool.{ltb-true, and_parts, cases_lt}
 use Rattle.lex_file.specs.declared.arcs.Arc.{Arc}
 use Rattle.lex_file.specs.declared.files.LexFile.{LexFile}
@@ -8,10 +8,11 @@ use Rattle.lex_file.specs.declared.formats.Format.{Format}
 use Rattle.lex_file.specs.declared.formats.Format.TheVariants as form
 use Rattle.lex_file.specs.FileWords.{words_in, body_of}
 use Rattle.lex_file.specs.Formats.{most_body_words}
-use Rattle.lex_file.specs.Nodes.{begins}
+use Rattle.lex_file.specs.Arcs.{arc_from}
+use Rattle.lex_file.specs.Nodes.{begins, node_at}
 use Rattle.lex_file.specs.Masks.{is_marked, labels_within, HasRoom}
 use Rattle.lex_file.specs.Shapes.{format_of, fault_of, root_of, nodes_by, names_node, arcs_by, file_node, is_file_node, arc_count_of}
-use Rattle.lex_file.specs.Files.{IsNextNode}
+use Rattle.lex_file.specs.Files.{IsNextNode, IsRest}
 use Rattle.lex_file.specs.SoundFiles as files
 use Rattle.lex_file.proofs.Runs as runs
 use Rattle.lex_file.proofs.MaskRuns.{few_within}
@@ -101,3 +102,31 @@ none_above bytes format low place is le before n above =
 pub next_is : (bytes : List ℕ) (low place : ℕ) → low ≤ place → is_file_node bytes (place + 1) ≡ true → ((n : ℕ) → low < n → n ≤ place → is_file_node bytes n ≡ false)
     → IsNextNode bytes low (place + 1)
 next_is bytes low place le here before = record { above = omega arith; node = here; next = λ m above less. before m above (omega arith) }
+
+-- ---- what is left of a node of a GAD1 file
+
+pub if_none : {A : Type 0} (o : Option A) (P Q : Type 0) → (P → Q) → IfNone o P → IfNone o Q
+if_none None P Q f h = f h
+if_none (Some a) P Q f h = tt
+
+pub if_some : {A : Type 0} (o : Option A) (P Q : A → Type 0) → ((a : A) → P a → Q a) → IfSome o P → IfSome o Q
+if_some None P Q f h = tt
+if_some (Some a) P Q f h = f a h
+
+pub both_some : {A : Type 0} (o : Option A) (P R Q : A → Type 0) → ((a : A) → P a → R a → Q a) → IfSome o P → IfSome o R → IfSome o Q
+both_some None P R Q f h k = tt
+both_some (Some a) P R Q f h k = f a h k
+
+-- what is left of it has the same arcs from the label on
+pub rest_has : (file : LexFile) (n label rest : ℕ) (body : List ℕ) → file.format ≡ form.Gad1 → body ≡ drop 16 file.bytes.now → IsRest file.bytes.now n label rest
+    → (above : ℕ) → label ≤ above → arc_from above (file_node file.bytes.now n) ≡ arc_from above (node_at (words_in body) rest)
+rest_has file n label rest body e is left above le =
+    left above le ∙ sym (ap (arc_from above) (nodes_are file form.Gad1 rest body e is))
+
+-- and so has what is left of that, from a label further on
+pub rest_of_rest : (file : LexFile) (n label rest after more : ℕ) (body : List ℕ) → file.format ≡ form.Gad1 → body ≡ drop 16 file.bytes.now → IsRest file.bytes.now n label rest → label ≤ after
+    → ((above : ℕ) → after < above → arc_from above (node_at (words_in body) rest) ≡ arc_from above (node_at (words_in body) more)) → IsRest file.bytes.now n (after + 1) more
+rest_of_rest file n label rest after more body e is left reached behind above le =
+    rest_has file n label rest body e is left above (omega arith)
+    ∙ behind above (omega arith)
+    ∙ ap (arc_from above) (nodes_are file form.Gad1 more body e is)

@@ -1,3 +1,4 @@
+//! Arcs of a compiled lexicon.
 ghost use Rattle.std.specs.Prelude.{◌≡◌, ◌<◌, ◌^◌};
 
 /// An arc of a compiled lexicon.
@@ -9,6 +10,15 @@ pub struct Arc {
     pub accepts: bool,
     /// The number of the node that the arc leads to, 0 for none.
     pub target: u32,
+}
+
+/// An arc of a node, and where its node goes on behind it.
+#[derive(Clone, Copy)]
+pub struct ArcOn {
+    /// The arc.
+    pub arc: Arc,
+    /// The number of the arc behind it, 0 where it is the last of its node.
+    pub rest: usize,
 }
 
 impl Arc {

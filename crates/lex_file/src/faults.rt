@@ -1,3 +1,5 @@
+//! Why bytes are no compiled lexicon.
+
 /// Why bytes are no compiled lexicon. `Short` to `Root` are looked for first, in this order. Of a GAD1 file `Label` to
 /// `DeadArc` come next, arc by arc in rising order, and then `OpenRun`; of a GAD2 file `NoMark`, `Mask`, `OpenRun`,
 /// `Accept` and then, label by label, `Target` and `DeadArc`, node by node in rising order.

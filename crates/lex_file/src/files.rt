@@ -1,13 +1,14 @@
+//! The view on a compiled lexicon, and its nodes.
 ghost use Rattle.std.specs.Prelude.{◌≡◌, Some, IsTrue, is_none};
 ghost use Rattle.lex_file.specs.Shapes.{fault_of, format_of};
 
-use crate::arcs::Arc;
+use crate::arcs::{Arc, ArcOn};
 use crate::faults::FileFault;
 use crate::formats::{Format, HEADER_BYTES};
-use crate::lexicons::{Branch, PathLex, Step};
+use crate::lexicons::{Branch, Onward, PathLex, Step};
 use crate::masks::{arc_from_mask, arc_with_mask, count_labels, is_mask_node};
 use crate::opening::check_form;
-use crate::reading::{arc_from, arc_with, is_node, word_at, word_count};
+use crate::reading::{arc_from, arc_on, arc_with, is_node, word_at, word_count};
 
 /// A node of a compiled lexicon, given by its file.
 #[derive(Clone, Copy, Debug, PartialEq, Eq)]
@@ -25,13 +26,13 @@ pub struct LexFile<'a> {
 }
 
 impl<'a> LexFile<'a> {
-    ghost use Rattle.std.specs.Prelude.{◌≡◌, ℕ, List, [], ◌∷◌, ◌<◌, false, Some, IfOk, IfSome, IfNone, IsSome, IsTrue, drop};
+    ghost use Rattle.std.specs.Prelude.{◌≡◌, ℕ, List, [], ◌∷◌, ◌+◌, ◌<◌, false, Some, None, IfOk, IfSome, IfNone, IsSome, IsTrue, drop};
     ghost use Rattle.lex_file.specs.Arcs.{arc_with, arc_from};
     ghost use Rattle.check_lists.specs.Checks.{Refuses};
     ghost use Rattle.lex_file.specs.Languages.{file_tail};
     ghost use Rattle.lex_file.specs.Lexicons.{NextGives};
     ghost use Rattle.lex_file.specs.Shapes.{format_of, word_count_of, arc_count_of, file_node, is_file_node};
-    ghost use Rattle.lex_file.specs.Files.{bytes_of, number_of, IsNextNode};
+    ghost use Rattle.lex_file.specs.Files.{bytes_of, number_of, IsNextNode, IsRest};
     ghost use Rattle.lex_file.specs.Formats.{header_bytes};
 
     /// Opens a compiled lexicon. It is refused exactly where it has not the shape of one, with its first fault: the
@@ -153,6 +154,28 @@ impl<'a> LexFile<'a> {
         }
     }
 
+    /// The first stored arc of one of the file's nodes whose label is this one or a higher one, and what is left of the node
+    /// behind it, from what is left of the node for these labels.
+    #[inline(always)]
+    fn arc_on(&self, node: Node, label: u8, rest: usize) -> Option<ArcOn>
+        requires node { IsTrue (is_file_node (bytes_of self.now) node.first) }
+        requires rest { IsRest (bytes_of self.now) node.first label rest }
+        ensures none { IfNone result (arc_from label (file_node (bytes_of self.now) node.first) ≡ None) }
+        ensures arc { IfSome result (λ on. arc_from label (file_node (bytes_of self.now) node.first) ≡ Some on.arc) }
+        ensures rest { IfSome result (λ on. IsRest (bytes_of self.now) node.first (on.arc.label + 1) on.rest) }
+    {
+        match self.format {
+            Format::Gad1 => arc_on(self.body(), rest, label),
+            Format::Gad2 => match arc_from_mask(self.body(), node.first, label) {
+                Some(arc) => Some(ArcOn {
+                    arc,
+                    rest: node.first as usize,
+                }),
+                None => None,
+            },
+        }
+    }
+
     /// What stands behind an arc of a node.
     #[tactic(auto, using(crate::proofs::Walks::step_accepts, crate::proofs::Walks::step_ends))]
     fn step_over(&self, node: Node, arc: Arc) -> Step<Node>
@@ -176,12 +199,14 @@ impl<'a> LexFile<'a> {
 
 impl<'a> PathLex for LexFile<'a> {
     ghost use Rattle.std.specs.Prelude.{◌≡◌, ℕ, List, IsTrue};
-    ghost use Rattle.lex_file.specs.Files.{bytes_of, number_of};
+    ghost use Rattle.lex_file.specs.Files.{bytes_of, number_of, IsRest};
     ghost use Rattle.lex_file.specs.Shapes.{root_of, is_file_node};
     ghost use Rattle.lex_file.specs.Languages.{file_tail, language_of};
     ghost use Rattle.lex_file.specs.SoundFiles.{file_nonempty, file_labels, file_bounded};
 
     type Node = Node;
+
+    type Rest = usize;
 
     ghost language = { λ file string. language_of file.bytes.now string };
 
@@ -190,6 +215,8 @@ impl<'a> PathLex for LexFile<'a> {
     ghost tail = { λ file node string. file_tail file.bytes.now node.first string };
 
     ghost height = { λ file node. node.first };
+
+    ghost is_rest = { λ file node from rest. IsRest file.bytes.now node.first from rest };
 
     #[tactic(auto, using(crate::proofs::Views::header_words, crate::proofs::Views::root_is_node))]
     fn root(&self) -> Node
@@ -216,6 +243,27 @@ impl<'a> PathLex for LexFile<'a> {
         Some(Branch {
             label: arc.label,
             step: self.step_over(node, arc),
+        })
+    }
+
+    fn rest(&self, node: Node) -> usize {
+        let Node { first } = node;
+        first as usize
+    }
+
+    #[tactic(auto, using(crate::proofs::Walks::branch_none, crate::proofs::Walks::branch_reached, crate::proofs::Walks::first_itself))]
+    #[inline(always)]
+    fn branch_on(&self, node: Node, from: u8, rest: usize) -> Option<Onward<Node, usize>> {
+        let Some(on) = self.arc_on(node, from, rest) else {
+            return None;
+        };
+        let branch = Branch {
+            label: on.arc.label,
+            step: self.step_over(node, on.arc),
+        };
+        Some(Onward {
+            branch,
+            rest: on.rest,
         })
     }
 

@@ -1,3 +1,5 @@
+//! The numbers of both formats of a lexicon file.
+
 /// The bytes of the header.
 pub const HEADER_BYTES: usize = 16;
 

@@ -1,4 +1,5 @@
-ghost use Rattle.std.specs.Prelude.{◌≡◌, ◌<◌, ◌≤◌, ℕ, List, [], ◌∷◌, Bool, true, false, IfSome, IfNone, IsSome, IsTrue, length};
+//! What a lexicon is that is walked label by label.
+ghost use Rattle.std.specs.Prelude.{◌≡◌, ◌<◌, ◌≤◌, ◌+◌, ℕ, List, [], ◌∷◌, Bool, true, false, IfSome, IfNone, IsSome, IsTrue, length};
 ghost use Rattle.std.specs.List.{list_all};
 ghost use Rattle.lex_file.specs.Lexicons.{is_label, NoTail, NextGives};
 
@@ -23,9 +24,19 @@ pub struct Branch<N> {
     pub step: Step<N>,
 }
 
+/// A branch of a node, and where to go on from behind its label.
+#[derive(Clone, Copy, Debug, PartialEq, Eq)]
+pub struct Onward<N, R> {
+    /// The branch.
+    pub branch: Branch<N>,
+    /// What is left of the node behind the branch's label.
+    pub rest: R,
+}
+
 /// A finite set of strings of labels, none of them empty, that is walked label by label.
 ///
-/// `root` and `step` make a lexicon; `branch_from` tries the labels one by one unless a lexicon has a faster way.
+/// `root` and `step` make a lexicon; `branch_from` tries the labels one by one unless a lexicon has a faster way. `rest` and
+/// `branch_on` go over the labels of a node from the lowest to the highest without looking twice at what lies behind.
 ///
 /// Each node has a set of tails; those of the root are the set. A whole number of the node, its height, falls with
 /// each step, so every walk ends. Labels are below 27, and a tail has no more labels than the height of its node, so
@@ -33,6 +44,9 @@ pub struct Branch<N> {
 pub trait PathLex {
     /// A place in a walk.
     type Node: Copy;
+
+    /// What is left of a node behind a label: a place in it to go on from.
+    type Rest: Copy;
 
     // Whether a string is in the set.
     ghost language: { Self → List ℕ → Bool };
@@ -45,6 +59,9 @@ pub trait PathLex {
 
     // A number that falls with each step.
     ghost height: { Self → Self.Node → ℕ };
+
+    // What is left of a node for the labels from one on.
+    ghost is_rest: { Self → Self.Node → ℕ → Self.Rest → Type 0 };
 
     /// The node whose tails are the whole set.
     fn root(&self) -> Self::Node
@@ -78,6 +95,30 @@ pub trait PathLex {
         }
         None
     }
+
+    /// The whole of a node, for the labels from any one on. The node is one that this lexicon gave.
+    fn rest(&self, node: Self::Node) -> Self::Rest
+        requires { is_node self.now node }
+        ensures { (from : ℕ) → is_rest self.now node from result };
+
+    /// The first label from `from` on with which some tail of the node begins, what stands behind it, and what is left of
+    /// the node behind that label; or None where there is no such label. The node is one that this lexicon gave, and the
+    /// rest is what it gave of the node for the labels from `from` on.
+    fn branch_on(
+        &self,
+        node: Self::Node,
+        from: u8,
+        rest: Self::Rest,
+    ) -> Option<Onward<Self::Node, Self::Rest>>
+        requires node { is_node self.now node }
+        requires rest { is_rest self.now node from rest }
+        ensures none { IfNone result ((label : ℕ) → from ≤ label → NoTail (tail self.now) node label) }
+        ensures reached { IfSome result (λ on. from ≤ on.branch.label) }
+        ensures passed { IfSome result (λ on. (label : ℕ) → from ≤ label → label < on.branch.label → NoTail (tail self.now) node label) }
+        ensures accepts { IfSome result (λ on. on.branch.step.accepts ≡ tail self.now node (on.branch.label ∷ [])) }
+        ensures next { IfSome result (λ on. NextGives (is_node self.now) (tail self.now) (height self.now) node on.branch.label on.branch.step.next) }
+        ensures alive { IfSome result (λ on. on.branch.step.accepts ≡ false → IsSome on.branch.step.next) }
+        ensures rest { IfSome result (λ on. is_rest self.now node (on.branch.label + 1) on.rest) };
 
     // No tail is empty.
     ghost nonempty: { (lexicon : Self) (node : Self.Node) → is_node lexicon node → tail lexicon node [] ≡ false };

@@ -26,7 +26,8 @@
 //!
 //! [`PathLex`] is what a lexicon promises that is walked label by label: its root, what stands behind a label of a
 //! node, and the first label from one on with which a tail of a node begins. By the last of these a walk goes from
-//! label to label, and tries none that is not there.
+//! label to label, and tries none that is not there; and where it says what is left of the node, it looks at each label
+//! once.
 #![tactic(auto)]
 
 mod arcs;
@@ -48,5 +49,5 @@ pub use formats::{
     Format, GAD1_MAGIC, GAD2_MAGIC, HEADER_BYTES, MAX_ARCS, MAX_BODY_WORDS, MAX_FILE_BYTES,
 };
 pub use laws::{law_of_language, law_of_nodes};
-pub use lexicons::{Branch, LABELS, PathLex, Step};
+pub use lexicons::{Branch, LABELS, Onward, PathLex, Step};
 pub use walking::advance;

@@ -1,9 +1,10 @@
-ghost use Rattle.std.specs.Prelude.{◌≡◌, ◌+◌, ◌*◌, ◌^◌, ◌<◌, ◌≤◌, IsTrue, length, slice_index};
+//! The words of 32 bits of a file, and the arcs and masks that they hold.
+ghost use Rattle.std.specs.Prelude.{◌≡◌, ◌+◌, ◌*◌, ◌^◌, ◌<◌, ◌≤◌, ℕ, None, Some, IfNone, IfSome, IsTrue, length, slice_index};
 ghost use Rattle.lex_file.specs.FileWords.{words_in};
 ghost use Rattle.lex_file.specs.Arcs.{arc_with, arc_from, is_last};
 ghost use Rattle.lex_file.specs.Nodes.{begins, is_first, is_node, node_at};
 
-use crate::arcs::Arc;
+use crate::arcs::{Arc, ArcOn};
 use byteorder::{ByteOrder, LittleEndian};
 
 /// The number of words of 32 bits in some bytes.
@@ -98,6 +99,32 @@ pub fn arc_from(arcs: &[u8], node: u32, label: u8) -> Option<Arc>
             return Some(arc);
         }
         if is_last(word) {
+            return None;
+        }
+    }
+    None
+}
+
+/// The first arc from an arc on, in its node, whose label is this one or a higher one.
+#[tactic(auto, using(crate::proofs::Runs::node_starts_from, crate::proofs::Runs::here_from, crate::proofs::Runs::past_from))]
+#[inline(always)]
+pub fn arc_on(arcs: &[u8], number: usize, label: u8) -> Option<ArcOn>
+    ensures none { IfNone result (arc_from label (node_at (words_in arcs.now) number) ≡ None) }
+    ensures arc { IfSome result (λ on. arc_from label (node_at (words_in arcs.now) number) ≡ Some on.arc) }
+    ensures rest { IfSome result (λ on. (above : ℕ) → on.arc.label < above → arc_from above (node_at (words_in arcs.now) number) ≡ arc_from above (node_at (words_in arcs.now) on.rest)) }
+{
+    if number == 0 {
+        return None;
+    }
+    for place in number - 1..word_count(arcs) {
+        let word = word_at(arcs, place);
+        let arc = Arc::of_word(word);
+        let last = is_last(word);
+        if label <= arc.label {
+            let rest = if last { 0 } else { place + 2 };
+            return Some(ArcOn { arc, rest });
+        }
+        if last {
             return None;
         }
     }

@@ -1,3 +1,4 @@
+//! Steps over any lexicon.
 ghost use Rattle.std.specs.Prelude.{◌≡◌, ℕ, List, ◌∷◌, false, IfSome, IfNone};
 ghost use Rattle.lex_file.specs.Walking.{strings, IsOpen};
 

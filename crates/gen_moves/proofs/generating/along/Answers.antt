@@ -32,3 +32,6 @@ returns-clause-took g c =
     let given : ℕ → List Given = given_on c.args.rules.now c.args.board.now (g.L.PathLex.language c.args.lex.now) (same_cells c.args.lines.now) c.args.rack.now c.args.dir in
     let last : c.loop-line.line ≡ 15 = omega arith in
     all-same _ _ _ _ _ (sym (join_flat given 0 15)) (first-all _ given 15 c.loop-line.line _ _ last c.loop-line.invariant.took)
+
+pub on_line-requires-clause-offers : goal.on_line-requires-clause-offers
+on_line-requires-clause-offers g c = c.requires.offers c.loop-line.line (omega arith)

@@ -1,46 +1,67 @@
-use Rattle.std.proofs.Common.{rules, arith, ◌≡◌, ◌<◌, ◌≤◌, ◌+◌, ◌++◌, ◌-◌, ℕ, Bool, true, false, List, is_some, not, ap, ◌∙◌}
-use Rattle.gen_line.specs.Model.{may, join_range}
+use Rattle.std.proofs.Common.{rules, arith, ◌≡◌, ◌<◌, ◌++◌, ◌-◌, ◌*◌, ℕ, Bool, true, false, List, is_some, ap, ◌∙◌}
+use Rattle.gen_line.specs.Model.{may}
 use Rattle.lex_file.specs.Walking.{strings}
-use Rattle.gen_line.specs.Walk.{Every, gives_turn, gives_left, gives_tries_left, gives_one_left}
-use Rattle.gen_line.proofs.Sinks.{all-same, every-left, every-right, every-same, every-join, every-for, front-less, front-same, front-for, took-more, took-same, took-for, took-refused, all-for, nothing-took, loop-items, loop-front, loop-all}
-use Rattle.gen_line.proofs.LeftWalks.{gives_left-none, left-old-dead, left-old-goes, gives_left-stop, gives_left-go, gives_left-free, gives_one_left-no, one_left-dead, one_left-goes, tries_left-is, tries_left-dead}
+use Rattle.gen_line.specs.Walk.{Every, gives_turn, gives_left, gives_tries_left, gives_letter_left, gives_one_left, gives_try_left}
+use Rattle.gen_line.proofs.Sinks.{all-same, every-left, every-right, every-same, every-for, front-less, front-same, front-for, took-more, took-same, took-for, took-refused, all-for, nothing-took}
+use Rattle.gen_line.proofs.LeftWalks.{gives_left-none, left-old-dead, left-old-goes, gives_left-stop, gives_left-go, gives_left-free, tries_left-is, tries_left-dead}
+use Rattle.gen_line.proofs.Branching.{try_left-yes, try_left-no, goes_left, ends_left, labels-every, labels-took, labels-front}
 use Rattle.gen_line.proofs.Walks.{may-left, no_more}
 use Rattle.gen_line.proofs.walking.LineWalk.+left.Goals as goal
 
 -- ---- one entry
 
-pub one_left-returns-then-not-allow-clause-took : goal.one_left-returns-then-not-allow-clause-took
-one_left-returns-then-not-allow-clause-took g t c =
-    let refused : may c.args.free.now c.args.tiles.now.rack c.args.entry ≡ false = cc in
-    nothing-took _ _ _ (gives_one_left-no _ _ _ _ _ _ _ _ refused)
-
-pub one_left-left-requires : goal.one_left-left-requires
-one_left-left-requires g t c κs within =
-    let here : List ℕ → Bool = strings (g.L.PathLex.tail c.args.self.now.lex.now) c.args.at in
-    let next : List ℕ → Bool = strings (g.L.PathLex.tail c.args.self.now.lex.now) c.in-Some.next in
-    let line = c.args.self.now.line.now in
-    let allowed : may c.args.free.now c.args.tiles.now.rack c.args.entry ≡ true = cc in
-    let goes = one_left-goes here next line c.args.self.now.anchor c.args.place c.args.free.now c.args.tiles.now.fresh c.args.tiles.now.rack c.args.entry c.label.result c.with.result.fresh c.with.result.rack
-    c.requires.low allowed c.label.ensures c.in-Some.ensures.some c.with.ensures.fresh c.with.ensures.rack in
-    let can : Every (g.T.Taker.can_take c.args.self.now.taker.now (g.T.Taker.made_for c.args.sink.now)) (gives_left next line c.args.self.now.anchor c.args.place c.with.result.fresh c.with.result.rack) =
-    every-same _ _ _ goes c.requires.can in
-    search (rules, arith, can)
-
-pub one_left-returns-in-Some-clause-took : goal.one_left-returns-in-Some-clause-took
-one_left-returns-in-Some-clause-took g t c =
-    let allowed : may c.args.free.now c.args.tiles.now.rack c.args.entry ≡ true = cc in
-    took-same _ _ _ _ _ _
-    (one_left-goes _ (strings (g.L.PathLex.tail c.args.self.now.lex.now) c.in-Some.next) _ _ _ _ _ _ _ c.label.result c.with.result.fresh c.with.result.rack
-    c.requires.low allowed c.label.ensures c.in-Some.ensures.some c.with.ensures.fresh c.with.ensures.rack)
-    c.left.ensures.took
-
-pub one_left-returns-in-None-clause-took : goal.one_left-returns-in-None-clause-took
-one_left-returns-in-None-clause-took g t c = nothing-took _ _ _ (one_left-dead _ _ _ _ _ _ _ _ c.label.result c.label.ensures c.in-None.ensures.none)
-
 pub one_left-with-requires-clause-left : goal.one_left-with-requires-clause-left
 one_left-with-requires-clause-left g t c =
     let allowed : may c.args.free.now c.args.tiles.now.rack c.args.entry ≡ true = cc in
     may-left c.args.free.now c.args.tiles.now.rack c.args.entry allowed
+
+pub one_left-left-requires : goal.one_left-left-requires
+one_left-left-requires g t c κs within =
+    let next : List ℕ → Bool = strings (g.L.PathLex.tail c.args.self.now.lex.now) c.args.next in
+    let allowed : may c.args.free.now c.args.tiles.now.rack c.args.entry ≡ true = cc in
+    let goes = try_left-yes next c.args.self.now.line.now c.args.self.now.anchor c.args.place c.args.free.now c.args.tiles.now.fresh c.args.tiles.now.rack c.args.entry c.with.result.fresh c.with.result.rack allowed c.with.ensures.fresh c.with.ensures.rack in
+    let can : Every (g.T.Taker.can_take c.args.self.now.taker.now (g.T.Taker.made_for c.args.sink.now)) (gives_left next c.args.self.now.line.now c.args.self.now.anchor c.args.place c.with.result.fresh c.with.result.rack) =
+    every-same _ _ _ goes c.requires.can in
+    search (rules, arith, can)
+
+pub one_left-returns-then-allow-clause-took : goal.one_left-returns-then-allow-clause-took
+one_left-returns-then-allow-clause-took g t c =
+    let next : List ℕ → Bool = strings (g.L.PathLex.tail c.args.self.now.lex.now) c.args.next in
+    let allowed : may c.args.free.now c.args.tiles.now.rack c.args.entry ≡ true = cc in
+    took-same _ _ _ _ _ _
+    (try_left-yes next c.args.self.now.line.now c.args.self.now.anchor c.args.place c.args.free.now c.args.tiles.now.fresh c.args.tiles.now.rack c.args.entry c.with.result.fresh c.with.result.rack allowed c.with.ensures.fresh c.with.ensures.rack)
+    c.left.ensures.took
+
+pub one_left-returns-clause-took : goal.one_left-returns-clause-took
+one_left-returns-clause-took g t c =
+    let refused : may c.args.free.now c.args.tiles.now.rack c.args.entry ≡ false = cc in
+    nothing-took _ _ _ (try_left-no _ _ _ _ _ _ _ _ refused)
+
+-- ---- the entries of a label
+
+pub letter_left-returns-in_err-one_left-clause-took : goal.letter_left-returns-in_err-one_left-clause-took
+letter_left-returns-in_err-one_left-clause-took g t c =
+    took-refused _ _ _ _ _ _ c.from_residual.ensures.1 (front-less _ _ _ _ _ c.in_err-one_left.ensures.took)
+
+pub letter_left-one_left-requires-2 : goal.letter_left-one_left-requires-2
+letter_left-one_left-requires-2 g t c κs within =
+    let takes = g.T.Taker.can_take c.args.self.now.taker.now in
+    let next : List ℕ → Bool = strings (g.L.PathLex.tail c.args.self.now.lex.now) c.args.next in
+    let tile : List (List ℕ) = gives_try_left next c.args.self.now.line.now c.args.self.now.anchor c.args.place c.args.free.now c.args.tiles.now.fresh c.args.tiles.now.rack (2 * c.args.label - 1) in
+    let blank : List (List ℕ) = gives_try_left next c.args.self.now.line.now c.args.self.now.anchor c.args.place c.args.free.now c.args.tiles.now.fresh c.args.tiles.now.rack (2 * c.args.label) in
+    let can : Every (takes (g.T.Taker.made_for c.one_left.new.sink)) blank =
+    every-for takes (g.T.Taker.made_for c.args.sink.now) (g.T.Taker.made_for c.one_left.new.sink) blank c.in_ok-one_left.ensures.made_for
+    (every-right (takes (g.T.Taker.made_for c.args.sink.now)) tile blank c.requires.can) in
+    search (rules, arith, can)
+
+pub letter_left-returns-clause-took : goal.letter_left-returns-clause-took
+letter_left-returns-clause-took g t c =
+    let tells = g.T.Taker.tell c.args.self.now.taker.now in
+    let next : List ℕ → Bool = strings (g.L.PathLex.tail c.args.self.now.lex.now) c.args.next in
+    let tile : List (List ℕ) = gives_try_left next c.args.self.now.line.now c.args.self.now.anchor c.args.place c.args.free.now c.args.tiles.now.fresh c.args.tiles.now.rack (2 * c.args.label - 1) in
+    let blank : List (List ℕ) = gives_try_left next c.args.self.now.line.now c.args.self.now.anchor c.args.place c.args.free.now c.args.tiles.now.fresh c.args.tiles.now.rack (2 * c.args.label) in
+    took-more (tells (g.T.Taker.made_for c.args.sink.now)) _ tile blank _ _ _ c.in_ok-one_left.ensures.took
+    (took-for tells _ _ _ blank _ _ c.in_ok-one_left.ensures.made_for c.one_left-2.ensures.took)
 
 -- ---- one cell
 
@@ -115,51 +136,67 @@ left-returns-else-free-clause-took g t c =
 
 -- ---- the entries of a cell
 
-pub tries_left-returns-then-is_none-clause-took : goal.tries_left-returns-then-is_none-clause-took
-tries_left-returns-then-is_none-clause-took g t c =
-    let ends : is_some c.args.at.next ≡ false = c.is_none.ensures ∙ ap not c.if-is_none.true in
-    nothing-took _ _ _ (tries_left-dead _ _ _ _ _ _ _ (no_more (g.L.PathLex.tail c.args.self.now.lex.now) c.args.at ends))
+pub tries_left-returns-in_default-clause-took : goal.tries_left-returns-in_default-clause-took
+tries_left-returns-in_default-clause-took g t c =
+    nothing-took _ _ _ (tries_left-dead _ _ _ _ _ _ _ (no_more (g.L.PathLex.tail c.args.self.now.lex.now) c.args.at (ap is_some c.in_default.is)))
 
-pub tries_left-one_left-requires : goal.tries_left-one_left-requires
-tries_left-one_left-requires g t c κs within =
+pub tries_left-letter_left-requires : goal.tries_left-letter_left-requires
+tries_left-letter_left-requires g t c κs within =
     let takes = g.T.Taker.can_take c.args.self.now.taker.now in
-    let here : List ℕ → Bool = strings (g.L.PathLex.tail c.args.self.now.lex.now) c.args.at in
+    let tail = g.L.PathLex.tail c.args.self.now.lex.now in
+    let here : List ℕ → Bool = strings tail c.args.at in
     let tried : ℕ → List (List ℕ) = gives_one_left here c.args.self.now.line.now c.args.self.now.anchor c.args.place c.args.free.now c.args.tiles.now.fresh c.args.tiles.now.rack in
-    let low : 1 ≤ c.loop-entry.entry = omega arith in
-    let high : c.loop-entry.entry < 1 + 52 = omega arith in
-    let all : Every (takes (g.T.Taker.made_for c.args.sink.now)) (join_range tried 1 52) = every-same _ _ _ (tries_left-is here _ _ _ _ _ _) c.requires.can in
-    let can : Every (takes (g.T.Taker.made_for c.loop-entry.sink)) (tried c.loop-entry.entry) =
-    every-for takes _ _ _ c.loop-entry.invariant.made_for (every-join _ tried 1 52 c.loop-entry.entry all low high) in
+    let label = c.in-Some-next_letter.on.branch.label in
+    let on : List (List ℕ) = gives_letter_left (strings tail c.in-Some-next_letter.on.branch.step) c.args.self.now.line.now c.args.self.now.anchor c.args.place c.args.free.now c.args.tiles.now.fresh c.args.tiles.now.rack label in
+    let goes =
+    goes_left tail c.args.at c.in-Some.node c.args.self.now.line.now c.args.self.now.anchor c.args.place c.args.free.now c.args.tiles.now.fresh c.args.tiles.now.rack c.loop-on.from label c.in-Some-next_letter.on.branch.step
+    c.in-Some.is c.loop-on.invariant.low c.in-Some-next_letter.ensures.reached c.in-Some-next_letter.ensures.passed c.in-Some-next_letter.ensures.some in
+    let some : 0 < label = omega (arith, c.loop-on.invariant.low, c.in-Some-next_letter.ensures.reached) in
+    let can : Every (takes (g.T.Taker.made_for c.loop-on.sink)) on =
+    every-for takes _ _ _ c.loop-on.invariant.made_for
+    (labels-every (takes (g.T.Taker.made_for c.args.sink.now)) tried label c.loop-on.from on some c.in-Some-next_letter.ensures.label goes (every-same _ _ _ (tries_left-is here c.args.self.now.line.now c.args.self.now.anchor c.args.place c.args.free.now c.args.tiles.now.fresh c.args.tiles.now.rack) c.requires.can)) in
     search (rules, arith, can)
 
-pub tries_left-loop-entry-preserved : goal.tries_left-loop-entry-preserved
-tries_left-loop-entry-preserved g t c =
+pub tries_left-loop-on-preserved : goal.tries_left-loop-on-preserved
+tries_left-loop-on-preserved g t c =
     let tells = g.T.Taker.tell c.args.self.now.taker.now in
-    let here : List ℕ → Bool = strings (g.L.PathLex.tail c.args.self.now.lex.now) c.args.at in
+    let tail = g.L.PathLex.tail c.args.self.now.lex.now in
+    let here : List ℕ → Bool = strings tail c.args.at in
     let tried : ℕ → List (List ℕ) = gives_one_left here c.args.self.now.line.now c.args.self.now.anchor c.args.place c.args.free.now c.args.tiles.now.fresh c.args.tiles.now.rack in
-    let low : 0 < c.loop-entry.entry = omega arith in
+    let label = c.in-Some-next_letter.on.branch.label in
+    let on : List (List ℕ) = gives_letter_left (strings tail c.in-Some-next_letter.on.branch.step) c.args.self.now.line.now c.args.self.now.anchor c.args.place c.args.free.now c.args.tiles.now.fresh c.args.tiles.now.rack label in
+    let goes =
+    goes_left tail c.args.at c.in-Some.node c.args.self.now.line.now c.args.self.now.anchor c.args.place c.args.free.now c.args.tiles.now.fresh c.args.tiles.now.rack c.loop-on.from label c.in-Some-next_letter.on.branch.step
+    c.in-Some.is c.loop-on.invariant.low c.in-Some-next_letter.ensures.reached c.in-Some-next_letter.ensures.passed c.in-Some-next_letter.ensures.some in
     record {
-      made_for = c.in_ok-one_left.ensures.made_for ∙ c.loop-entry.invariant.made_for;
-      took = loop-items _ tried c.loop-entry.entry _ _ _ low c.loop-entry.invariant.took
-          (all-for tells _ _ _ (tried c.loop-entry.entry) _ c.loop-entry.invariant.made_for c.in_ok-one_left.ensures.took);
+      low = omega arith;
+      high = omega (arith, c.in-Some-next_letter.ensures.label);
+      rest = c.in-Some-next_letter.ensures.rest;
+      made_for = c.in_ok-letter_left.ensures.made_for ∙ c.loop-on.invariant.made_for;
+      took = labels-took _ tried label c.loop-on.from on _ _ _ goes c.loop-on.invariant.took
+          (all-for tells _ _ _ on _ c.loop-on.invariant.made_for c.in_ok-letter_left.ensures.took);
     }
 
-pub tries_left-returns-in_err-one_left-clause-took : goal.tries_left-returns-in_err-one_left-clause-took
-tries_left-returns-in_err-one_left-clause-took g t c =
+pub tries_left-returns-in_err-letter_left-clause-took : goal.tries_left-returns-in_err-letter_left-clause-took
+tries_left-returns-in_err-letter_left-clause-took g t c =
     let tells = g.T.Taker.tell c.args.self.now.taker.now in
-    let here : List ℕ → Bool = strings (g.L.PathLex.tail c.args.self.now.lex.now) c.args.at in
+    let tail = g.L.PathLex.tail c.args.self.now.lex.now in
+    let here : List ℕ → Bool = strings tail c.args.at in
     let tried : ℕ → List (List ℕ) = gives_one_left here c.args.self.now.line.now c.args.self.now.anchor c.args.place c.args.free.now c.args.tiles.now.fresh c.args.tiles.now.rack in
-    let low : 0 < c.loop-entry.entry = omega arith in
-    let high : c.loop-entry.entry < 53 = omega arith in
+    let label = c.in-Some-next_letter.on.branch.label in
+    let on : List (List ℕ) = gives_letter_left (strings tail c.in-Some-next_letter.on.branch.step) c.args.self.now.line.now c.args.self.now.anchor c.args.place c.args.free.now c.args.tiles.now.fresh c.args.tiles.now.rack label in
+    let goes =
+    goes_left tail c.args.at c.in-Some.node c.args.self.now.line.now c.args.self.now.anchor c.args.place c.args.free.now c.args.tiles.now.fresh c.args.tiles.now.rack c.loop-on.from label c.in-Some-next_letter.on.branch.step
+    c.in-Some.is c.loop-on.invariant.low c.in-Some-next_letter.ensures.reached c.in-Some-next_letter.ensures.passed c.in-Some-next_letter.ensures.some in
+    let some : 0 < label = omega (arith, c.loop-on.invariant.low, c.in-Some-next_letter.ensures.reached) in
     took-refused _ _ _ _ _ _ c.from_residual.ensures.1
-    (front-same _ _ _ _ _ (tries_left-is here _ _ _ _ _ _)
-    (loop-front _ tried c.loop-entry.entry _ _ _ low high c.loop-entry.invariant.took
-    (front-for tells _ _ _ _ _ c.loop-entry.invariant.made_for c.in_err-one_left.ensures.took)))
+    (front-same _ _ _ _ _ (tries_left-is here c.args.self.now.line.now c.args.self.now.anchor c.args.place c.args.free.now c.args.tiles.now.fresh c.args.tiles.now.rack)
+    (labels-front _ tried label c.loop-on.from on _ _ _ some c.in-Some-next_letter.ensures.label goes c.loop-on.invariant.took
+    (front-for tells _ _ _ on _ c.loop-on.invariant.made_for c.in_err-letter_left.ensures.took)))
 
 pub tries_left-returns-clause-took : goal.tries_left-returns-clause-took
 tries_left-returns-clause-took g t c =
-    let here : List ℕ → Bool = strings (g.L.PathLex.tail c.args.self.now.lex.now) c.args.at in
-    let tried : ℕ → List (List ℕ) = gives_one_left here c.args.self.now.line.now c.args.self.now.anchor c.args.place c.args.free.now c.args.tiles.now.fresh c.args.tiles.now.rack in
-    let low : 53 ≤ c.loop-entry.entry = omega arith in
-    let high : c.loop-entry.entry ≤ 53 = omega arith in
-    all-same _ _ _ _ _ (tries_left-is here _ _ _ _ _ _) (loop-all _ tried c.loop-entry.entry _ _ low high c.loop-entry.invariant.took)
+    let tail = g.L.PathLex.tail c.args.self.now.lex.now in
+    let here : List ℕ → Bool = strings tail c.args.at in
+    all-same _ _ _ _ _ (tries_left-is here c.args.self.now.line.now c.args.self.now.anchor c.args.place c.args.free.now c.args.tiles.now.fresh c.args.tiles.now.rack ∙ ends_left tail c.args.at c.in-Some.node c.args.self.now.line.now c.args.self.now.anchor c.args.place c.args.free.now c.args.tiles.now.fresh c.args.tiles.now.rack c.loop-on.from c.in-Some.is c.loop-on.invariant.low c.loop-on.invariant.high c.in_default-next_letter.ensures.none)
+    c.loop-on.invariant.took

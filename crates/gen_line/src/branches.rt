@@ -1,0 +1,31 @@
+//! The letters with which the strings of a lexicon go on, one after another.
+ghost use Rattle.std.specs.Prelude.{◌≡◌, ◌<◌, ◌≤◌, ◌+◌, ℕ, List, ◌∷◌, IfNone, IfSome};
+ghost use Rattle.lex_file.specs.Lexicons.{NoTail};
+ghost use Rattle.lex_file.specs.Walking.{IsOpen, strings};
+
+use lex_file::{Onward, PathLex};
+
+/// The first label from `from` on with which some tail of a node begins, what stands behind it, and what is left of the node
+/// behind that label.
+#[inline(always)]
+pub fn next_letter<L: PathLex>(
+    lex: &L,
+    node: L::Node,
+    from: u8,
+    rest: L::Rest,
+) -> Option<Onward<L::Node, L::Rest>>
+    requires node { L.is_node lex.now node }
+    requires rest { L.is_rest lex.now node from rest }
+    ensures none { IfNone result ((label : ℕ) → from ≤ label → NoTail (L.tail lex.now) node label) }
+    ensures reached { IfSome result (λ on. from ≤ on.branch.label) }
+    ensures passed { IfSome result (λ on. (label : ℕ) → from ≤ label → label < on.branch.label → NoTail (L.tail lex.now) node label) }
+    ensures label { IfSome result (λ on. on.branch.label < 27) }
+    ensures some { IfSome result (λ on. (t : List ℕ) → L.tail lex.now node (on.branch.label ∷ t) ≡ strings (L.tail lex.now) on.branch.step t) }
+    ensures open { IfSome result (λ on. IsOpen (L.is_node lex.now) on.branch.step.next) }
+    ensures rest { IfSome result (λ on. L.is_rest lex.now node (on.branch.label + 1) on.rest) }
+{
+    let Some(on) = lex.branch_on(node, from, rest) else {
+        return None;
+    };
+    Some(on)
+}

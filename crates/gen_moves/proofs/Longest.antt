@@ -1,0 +1,127 @@
+-- The bound of the longest stretch from a place bounds the plays of each shorter one.
+use Rattle.std.proofs.Common.{◌≡◌, ℕ, zero, suc, ◌+◌, ◌*◌, ◌^◌, ◌<◌, ◌≤◌, Bool, true, false, nat_le, sym, ap, ◌∙◌, arith, ⊎_elim, if◌then◌else◌}
+use Rattle.std.proofs.lemmas.Bool.{cases_eq, cases_Bool, cases_lt, le-leb, leb-true}
+use Rattle.std.proofs.Math.Nat.{mul-le-mul, pow-le-pow_right}
+use Rattle.ref_play.proofs.ScoreLemmas.{factor_limit}
+use Rattle.gen_moves.specs.declared.places.Place.{Place}
+use Rattle.gen_moves.specs.declared.stretches.Sum.{Sum}
+use Rattle.gen_moves.specs.Bounds.{total, times, one_if, free_count, IsBoundFrom, IsSum, IsSmall, IsSmallSum}
+
+total-up : (f : ℕ → ℕ) (a m n : ℕ) → m ≤ n → total f a m ≤ total f a n
+unfolding total
+total-up f a m zero le = let e : m ≡ 0 = omega arith in rw e (omega arith)
+total-up f a m (suc n) le =
+    ⊎_elim
+    (λ (same : m ≡ suc n). rw same (omega arith))
+    (λ (ne : m ≡ suc n → ⊥). let fewer = total-up f a m n (omega arith) in omega arith)
+    (cases_eq m (suc n))
+
+times-up : (f : ℕ → ℕ) (a m n : ℕ) → m ≤ n → ((i : ℕ) → a ≤ i → i < a + n → 1 ≤ f i) → times f a m ≤ times f a n
+unfolding times
+times-up f a m zero le some = let e : m ≡ 0 = omega arith in rw e (omega arith)
+times-up f a m (suc n) le some =
+    ⊎_elim
+    (λ (same : m ≡ suc n). rw same (omega arith))
+    (λ (ne : m ≡ suc n → ⊥).
+    let fewer = times-up f a m n (omega arith) (λ i low high. some i low (omega arith)) in
+    let last = some (a + n) (omega arith) (omega arith) in
+    let both : times f a n * 1 ≤ times f a n * f (a + n) = mul-le-mul (omega arith) last in
+    omega arith)
+    (cases_eq m (suc n))
+
+-- one place more
+pub sum_more : (places : ℕ → Place) (first n at : ℕ) (s more : Sum) → at ≡ first + n → IsSum places first n s
+    → more.old ≡ s.old + (places at).old → more.word ≡ s.word * (places at).word → more.side ≡ s.side + (places at).side → more.free ≡ s.free + one_if (places at).free
+    → s.letter ≤ more.letter → (places at).letter ≤ more.letter → s.cross ≤ more.cross → (places at).cross ≤ more.cross → IsSum places first (suc n) more
+unfolding total times
+sum_more places first n at s more is sum old word side free letter_before letter cross_before cross =
+    record {
+      old = old ∙ ap (λ m. m + (places at).old) sum.old ∙ ap (λ k. total (λ i. (places i).old) first n + (places k).old) is;
+      word = word ∙ ap (λ m. m * (places at).word) sum.word ∙ ap (λ k. times (λ i. (places i).word) first n * (places k).word) is;
+      side = side ∙ ap (λ m. m + (places at).side) sum.side ∙ ap (λ k. total (λ i. (places i).side) first n + (places k).side) is;
+      free = free ∙ ap (λ m. m + one_if (places at).free) sum.free ∙ ap (λ k. free_count places first n + one_if (places k).free) is;
+      letter = λ i low high open'.
+          ⊎_elim
+          (λ (here : i ≡ at). let e = ap (λ k. (places k).letter) here in omega arith)
+          (λ (ne : i ≡ at → ⊥). let before = sum.letter i low (omega arith) open' in omega arith)
+          (cases_eq i at);
+      cross = λ i low high open'.
+          ⊎_elim
+          (λ (here : i ≡ at). let e = ap (λ k. (places k).cross) here in omega arith)
+          (λ (ne : i ≡ at → ⊥). let before = sum.cross i low (omega arith) open' in omega arith)
+          (cases_eq i at);
+    }
+
+-- the bound of a sum bounds each shorter stretch
+pub sum_bound : (bonus points : ℕ) (places : ℕ → Place) (first n : ℕ) (s : Sum) (bound : ℕ) → first + n ≤ 15 → IsSum places first n s → ((i : ℕ) → i < 15 → IsSmall (places i))
+    → bound ≡ (s.old + s.letter * points) * s.word + (s.side + s.cross * points) + (if nat_le 7 s.free then bonus else 0)
+    → ((len : ℕ) → first + len ≤ 15 → free_count places first len ≤ 7 → len ≤ n) → IsBoundFrom bonus points places first bound
+sum_bound bonus points places first n s bound inside sum small is reach len in' few =
+    let le = reach len in' few in
+    let old = total-up (λ i. (places i).old) first len n le in
+    let side = total-up (λ i. (places i).side) first len n le in
+    let free = total-up (λ i. one_if (places i).free) first len n le in
+    let word = times-up (λ i. (places i).word) first len n le (λ i low high. (small i (omega arith)).some) in
+    let old_is = sum.old in
+    let side_is = sum.side in
+    let free_is = sum.free in
+    let word_is = sum.word in
+    let main : (total (λ i. (places i).old) first len + s.letter * points) * times (λ i. (places i).word) first len ≤ (s.old + s.letter * points) * s.word = mul-le-mul (omega arith) (omega arith) in
+    let top = bonus_up (free_count places first len) s.free (omega arith) in
+    record {
+      letter = s.letter;
+      cross = s.cross;
+      letters = λ i low high open'. sum.letter i low (omega arith) open';
+      crosses = λ i low high open'. sum.cross i low (omega arith) open';
+      within = omega arith;
+    }
+  where
+    bonus_up : (a b : ℕ) → a ≤ b → (if nat_le 7 a then bonus else 0) ≤ (if nat_le 7 b then bonus else 0)
+    bonus_up a b le =
+        ⊎_elim
+        (λ (many : nat_le 7 a ≡ true). let seven = leb-true 7 a many in let also = le-leb 7 b (omega arith) in rw (many, also) (omega arith))
+        (λ (few : nat_le 7 a ≡ false). rw few (omega arith))
+        (cases_Bool (nat_le 7 a))
+
+-- where the next place would be an eighth free one
+pub reach_stop : (places : ℕ → Place) (first n at : ℕ) (s : Sum) → at ≡ first + n → IsSum places first n s → s.free ≡ 7 → (places at).free ≡ true → (len : ℕ) → first + len ≤ 15 → free_count places first len ≤ 7 → len ≤ n
+unfolding total
+reach_stop places first n at s is sum seven free len inside few =
+    ⊎_elim
+    (λ (more : n < len).
+    let up = total-up (λ i. one_if (places i).free) first (suc n) len (omega arith) in
+    let last : one_if (places (first + n)).free ≡ 1 = ap (λ k. one_if (places k).free) (sym is) ∙ ap one_if free in
+    let free_is = sum.free in
+    absurd (omega arith))
+    (λ (le : len ≤ n). le)
+    (cases_lt n len)
+
+-- ---- small numbers
+pub word_room : (n word : ℕ) → n < 15 → word ≤ 3 ^ n → word ≤ 4782969
+word_room n word few le = let most : 3 ^ n ≤ 4782969 = pow-le-pow_right {n = 3} (omega arith) {i = n} {j = 14} (omega arith) in omega arith
+
+pub word_most : (n word : ℕ) → n ≤ 15 → word ≤ 3 ^ n → word ≤ 14348907
+word_most n word few le = let most : 3 ^ n ≤ 14348907 = pow-le-pow_right {n = 3} (omega arith) {i = n} {j = 15} few in omega arith
+
+pub small_more : (n : ℕ) (s more : Sum) (p : Place) → IsSmallSum n s → IsSmall p → more.old ≡ s.old + p.old → more.word ≡ s.word * p.word → more.side ≡ s.side + p.side
+    → more.free ≡ s.free + one_if p.free → more.letter ≤ 3 → more.cross ≤ 9 → IsSmallSum (n + 1) more
+small_more n s more p small one old word side free letter cross =
+    let word_le = factor_limit n s.word p.word small.word one.word in
+    let a = small.old in
+    let b = one.old in
+    let c = small.side in
+    let d = one.side in
+    let e = small.free in
+    let f = at_most_one p.free in
+    record { old = omega arith; word = omega arith; side = omega arith; free = omega arith; letter = letter; cross = cross }
+  where
+    at_most_one : (b : Bool) → one_if b ≤ 1
+    at_most_one true = omega arith
+    at_most_one false = omega arith
+
+-- ---- a greater number bounds as well
+pub bound_up : (bonus points : ℕ) (places : ℕ → Place) (first low high : ℕ) → low ≤ high → IsBoundFrom bonus points places first low → IsBoundFrom bonus points places first high
+bound_up bonus points places first low high le h len inside few =
+    let w = h len inside few in
+    let within = w.within in
+    record { letter = w.letter; cross = w.cross; letters = w.letters; crosses = w.crosses; within = omega arith }

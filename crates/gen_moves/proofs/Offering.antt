@@ -1,0 +1,98 @@
+-- The plays of an anchor pass none of its bounds.
+use Rattle.std.proofs.Common.{◌≡◌, ℕ, ◌+◌, ◌*◌, ◌<◌, ◌≤◌, ◌==◌, ◌≤ℤ◌, pos, Bool, true, false, List, [], ◌∷◌, length, refl, sym, subst, arith, Option, if◌then◌else◌}
+use Rattle.std.proofs.lemmas.Int.{ints}
+use Rattle.ref_tiles.specs.declared.tiles.Tile.{Tile}
+use Rattle.ref_tiles.specs.declared.rulebook.Rules.{Rules}
+use Rattle.ref_tiles.specs.Rulebook.{points_of, premium_at, letter_factor, word_factor}
+use Rattle.ref_board.specs.declared.directions.Dir.{Dir}
+use Rattle.ref_play.specs.declared.placed.Placed.{Placed}
+use Rattle.ref_play.specs.Scores.{score_of}
+use Rattle.ref_play.specs.Directions.{is_wanted}
+use Rattle.ref_play.specs.Best.{Given}
+use Rattle.ref_play.specs.Crosses.{cross_runs}
+use Rattle.ref_board.specs.Lines.{other_dir}
+use Rattle.gen_cross.specs.declared.crosses.Cross.{Cross}
+use Rattle.gen_cross.specs.Values.{value_at, IsRight}
+use Rattle.gen_cross.proofs.CrossLaws.{score_of_tile}
+use Rattle.gen_line.specs.declared.cells.Cell.{Cell}
+use Rattle.gen_line.specs.declared.cells.Cell.TheVariants.{Old, Free}
+use Rattle.gen_line.specs.Cells.{cell_at, is_anchor_cell}
+use Rattle.gen_line.specs.Model.{zeros, owes}
+use Rattle.gen_line.specs.Walk.{Every, add_all, anchor_moves}
+use Rattle.gen_line.proofs.Anchors.{anchor_old, anchor_not}
+use Rattle.gen_line.proofs.Reaching.{anchor_owes, anchor_reach}
+use Rattle.gen_line.proofs.Sinks.{all-still}
+use Rattle.gen_moves.specs.declared.places.Place.{Place}
+use Rattle.gen_moves.specs.LineTiles.{tiles_of}
+use Rattle.gen_moves.specs.Findings.{told}
+use Rattle.gen_moves.specs.Laws.{Setting}
+use Rattle.gen_moves.specs.Bounds.{rack_points, ArePlaces, HasScores, TellsUnder, IsOffer, AreOffers}
+use Rattle.gen_moves.proofs.MovePlaces.{put_by}
+use Rattle.gen_moves.proofs.Gathering.{tiles_is, line_labelled, wanted_few}
+use Rattle.gen_moves.proofs.Bounding.{count_is, score_le}
+
+pub every-more : {X : Type 0} (P Q : X → Type 0) (xs : List X) → ((x : X) → P x → Q x) → Every P xs → Every Q xs
+every-more P Q [] h all = tt
+every-more P Q (x ∷ xs) h all = (h x all.0, every-more P Q xs h all.1)
+
+-- what is told of a move of which the score is known to pass no number
+told_under : (rules : Rules) (board : List (Option Tile)) (d : Dir) (line : ℕ) (y : List ℕ) (bound : ℕ)
+    → (is_wanted board d (tiles_of d line y) ≡ true → score_of rules board (tiles_of d line y) ≤ bound) → TellsUnder rules board d line y bound
+unfolding told
+told_under rules board d line y bound le = by (is_wanted board d (tiles_of d line y)) refl
+  where
+    by : (b : Bool) → is_wanted board d (tiles_of d line y) ≡ b
+        → Every (λ (given : Given). given.score ≤ℤ pos bound) (if b then record { dir = d; tiles = tiles_of d line y; score = pos (score_of rules board (tiles_of d line y)) } ∷ [] else [])
+    by true wanted = (let h = le wanted in omega (arith, ints), tt)
+    by false wanted = tt
+
+offer : (rules : Rules) (words : List (List ℕ)) (board : List (Option Tile)) (g listed : List ℕ → Bool) (cells : Dir → ℕ → List Cell) → Setting words board g listed cells
+    → (rack : List ℕ) (d : Dir) (line : ℕ) → line < 15 → (places : ℕ → Place) → ArePlaces rules d board line places → (h : ℕ) → h < 15 → (y : List ℕ)
+    → owes g (cells d line) rack h y ≡ true → IsOffer rules (rack_points rules rack 27) board d line (cells d line) places h y
+offer rules words board g listed cells s rack d line low places are h below y e bound holds =
+    let found = anchor_reach g listed s.splits (cells d line) rack y h (line_labelled words d board line (cells d line) (s.lines d line low)) below e in
+    let first = found.0 in
+    let len = found.1 in
+    let move = found.2 in
+    let reach = found.3 in
+    told_under rules board d line y bound (λ wanted.
+    let few_tiles = (wanted_few board d (tiles_of d line y) wanted).1 in
+    let few : length (put_by d line y) ≤ 7 = subst (λ (qs : List Placed). length qs ≤ 7) (tiles_is d line y) few_tiles in
+    let count = count_is rules words d board line (cells d line) (s.lines d line low) listed rack y first len s.told s.long s.size low move few places are in
+    let w = holds first reach.low reach.first_anchor len move.whole.inside (omega arith) in
+    let within = w.within in
+    let score = score_le rules words d board line (cells d line) (s.lines d line low) listed rack y first len s.told s.long s.size low move few places are
+    (rack_points rules rack 27) w.letter w.cross (omega arith) w.letters w.crosses in
+    subst (λ (qs : List Placed). score_of rules board qs ≤ bound) (sym (tiles_is d line y)) (omega arith))
+
+pub all_offers : (rules : Rules) (words : List (List ℕ)) (board : List (Option Tile)) (g listed : List ℕ → Bool) (cells : Dir → ℕ → List Cell) → Setting words board g listed cells
+    → (rack : List ℕ) (d : Dir) (line : ℕ) → line < 15 → AreOffers rules (rack_points rules rack 27) board g (cells d line) rack d line
+all_offers rules words board g listed cells s rack d line low places are h below =
+    every-more (λ y. owes g (cells d line) rack h y ≡ true) (IsOffer rules (rack_points rules rack 27) board d line (cells d line) places h) (anchor_moves g (cells d line) rack h)
+    (λ y e. offer rules words board g listed cells s rack d line low places are h below y e)
+    (anchor_owes g (cells d line) rack h (s.lines d line low).size below)
+
+-- the side scores of cross-sets that are right
+pub right_scores : (rules : Rules) (words : List (List ℕ)) (board : List (Option Tile)) (cross : Cross) → length board ≡ 225 → IsRight rules words board cross → HasScores rules board cross
+right_scores rules words board cross size right d square t on free =
+    let e = score_of_tile rules words board cross size right d square t on free in
+    let le = none_or (length (cross_runs (other_dir d) board square t) == 0) (((value_at cross d square).side + points_of rules t.kind * letter_factor (premium_at rules square)) * word_factor (premium_at rules square)) in
+    omega arith
+  where
+    none_or : (b : Bool) (n : ℕ) → (if b then 0 else n) ≤ n
+    none_or true n = omega arith
+    none_or false n = omega arith
+
+-- a move whose play passes no number changes nothing of a sink that needs no such play
+pub passed_over : (rules : Rules) (board : List (Option Tile)) (d : Dir) (line : ℕ) (y : List ℕ) (bound : ℕ) (add : List Given → Given → List Given) (items : List Given)
+    → ((given : Given) → given.score ≤ℤ pos bound → add items given ≡ items) → TellsUnder rules board d line y bound → add_all add items (told rules board d line y) ≡ items
+passed_over rules board d line y bound add items still under =
+    sym (all-still add items (λ (given : Given). given.score ≤ℤ pos bound) (told rules board d line y) still under)
+
+-- a place that is no anchor has no moves
+pub no_offers : (P : List ℕ → Type 0) (g : List ℕ → Bool) (cells : List Cell) (rack : List ℕ) (h : ℕ) → is_anchor_cell (cell_at cells h) ≡ false → Every P (anchor_moves g cells rack h)
+no_offers P g cells rack h none = by (cell_at cells h) refl none
+  where
+    by : (c : Cell) → cell_at cells h ≡ c → is_anchor_cell c ≡ false → Every P (anchor_moves g cells rack h)
+    by (Old a) is not_one = subst (Every P) (sym (anchor_old g cells (zeros 15) rack h a is)) tt
+    by (Free m) is not_one = subst (Every P) (sym (anchor_not g cells (zeros 15) rack h m is not_one)) tt

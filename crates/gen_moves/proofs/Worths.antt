@@ -1,0 +1,95 @@
+-- The points of the tiles that a placement takes from a rack.
+use Rattle.std.proofs.Common.{◌≡◌, ℕ, zero, suc, ◌+◌, ◌*◌, ◌<◌, ◌≤◌, ◌==◌, Bool, List, [], ◌∷◌, get_or, sum_by, refl, sym, ap, ◌∙◌, arith, ⊎_elim, if◌then◌else◌}
+use Rattle.std.specs.Prelude.{slice_index}
+use Rattle.std.proofs.lemmas.List.Sums.{sum_by-cons}
+use Rattle.std.proofs.lemmas.Bool.{cases_eq, eq-eqb, ne_eqb}
+use Rattle.std.proofs.Math.Nat.{mul-le-mul}
+use Rattle.ref_tiles.specs.declared.rulebook.Rules.{Rules}
+use Rattle.ref_tiles.specs.declared.kinds.Kind.{Kind}
+use Rattle.ref_tiles.specs.declared.kinds.Kind.TheVariants as kind
+use Rattle.ref_tiles.specs.Kinds.{number_of}
+use Rattle.ref_tiles.specs.Rulebook.{points_of}
+use Rattle.ref_play.specs.declared.placed.Placed.{Placed}
+use Rattle.ref_play.specs.Candidates.{used}
+use Rattle.gen_moves.specs.Bounds.{total, kind_points, rack_points}
+use Rattle.gen_moves.proofs.Sums.{total-mono, total-same}
+
+-- the points of a tile of a placement
+abbrev pub worth : Rules → Placed → ℕ
+worth rules p = points_of rules p.tile.kind
+
+points_by_number : (rules : Rules) (k : Kind) → points_of rules k ≡ kind_points rules (number_of k)
+points_by_number rules (kind.Letter l) =
+    let low = l.in_range in
+    let other = ne_eqb l.index 26 (omega arith) in
+    sym (ap (λ (b : Bool). if b then 0 else slice_index rules.points l.index) other)
+points_by_number rules kind.Blank = refl
+
+number_low : (k : Kind) → number_of k < 27
+number_low (kind.Letter l) = let low = l.in_range in omega arith
+number_low kind.Blank = omega arith
+
+-- one tile more of a kind
+one_more : (f : ℕ → ℕ) (w : ℕ → ℕ) (k n : ℕ) → (k < n → total (λ j. ((if k == j then 1 else 0) + f j) * w j) 0 n ≡ w k + total (λ j. f j * w j) 0 n)
+    × (n ≤ k → total (λ j. ((if k == j then 1 else 0) + f j) * w j) 0 n ≡ total (λ j. f j * w j) 0 n)
+unfolding total
+one_more f w k zero = (λ lt. absurd (omega arith), λ le. refl)
+one_more f w k (suc n) =
+    let fewer = one_more f w k n in
+    ⊎_elim
+    (λ (e : k ≡ n).
+    let same = eq-eqb k n e in
+    let at : ((if k == n then 1 else 0) + f n) * w n ≡ w n + f n * w n = ap (λ (b : Bool). ((if b then 1 else 0) + f n) * w n) same ∙ omega arith in
+    let before = fewer.1 (omega arith) in
+    let here = ap w e in
+    let zero_n : 0 + n ≡ n = omega arith in
+    (λ lt. rw zero_n (omega arith), λ le. absurd (omega arith)))
+    (λ (ne : k ≡ n → ⊥).
+    let other = ne_eqb k n ne in
+    let at : ((if k == n then 1 else 0) + f n) * w n ≡ f n * w n = ap (λ (b : Bool). ((if b then 1 else 0) + f n) * w n) other ∙ omega arith in
+    let zero_n : 0 + n ≡ n = omega arith in
+    (λ lt. let before = fewer.0 (omega arith) in rw zero_n (omega arith), λ le. let before = fewer.1 (omega arith) in rw zero_n (omega arith)))
+    (cases_eq k n)
+
+none_used : (w : ℕ → ℕ) (n : ℕ) → total (λ j. 0 * w j) 0 n ≡ 0
+unfolding total
+none_used w zero = refl
+none_used w (suc n) = let fewer = none_used w n in omega arith
+
+pub worth_by_kinds : (rules : Rules) (ps : List Placed) → sum_by (worth rules) ps ≡ total (λ k. used ps k * kind_points rules k) 0 27
+worth_by_kinds rules [] = sym (none_used (kind_points rules) 27)
+worth_by_kinds rules (p ∷ ps) =
+    sum_by-cons (worth rules) p ps
+    ∙ ap (λ m. worth rules p + m) (worth_by_kinds rules ps)
+    ∙ ap (λ m. m + total (λ k. used ps k * kind_points rules k) 0 27) (points_by_number rules p.tile.kind)
+    ∙ sym ((one_more (used ps) (kind_points rules) (number_of p.tile.kind) 27).0 (number_low p.tile.kind))
+    ∙ sym (total-same (λ k. used (p ∷ ps) k * kind_points rules k) (λ k. ((if number_of p.tile.kind == k then 1 else 0) + used ps k) * kind_points rules k) 0 27
+    (λ k low high. ap (λ m. m * kind_points rules k) (sum_by-cons (λ (q : Placed). if number_of q.tile.kind == k then 1 else 0) p ps)))
+
+-- tiles that are on the rack have no more points than it
+pub worth_within : (rules : Rules) (rack : List ℕ) (ps : List Placed) → ((k : ℕ) → used ps k ≤ slice_index rack k) → sum_by (worth rules) ps ≤ rack_points rules rack 27
+unfolding rack_points
+worth_within rules rack ps from =
+    let e = worth_by_kinds rules ps in
+    let le = total-mono (λ k. used ps k * kind_points rules k) (λ k. slice_index rack k * kind_points rules k) 0 27 (λ k low high. mul-le-mul (from k) (omega arith)) in
+    omega arith
+
+-- ---- kind by kind
+pub rack_none : (rules : Rules) (rack : List ℕ) → rack_points rules rack 0 ≡ 0
+unfolding rack_points total
+rack_none rules rack = refl
+
+pub rack_more : (rules : Rules) (rack : List ℕ) (k : ℕ) → k < 26 → rack_points rules rack (k + 1) ≡ rack_points rules rack k + get_or rack k 0 * get_or rules.points k 0
+unfolding rack_points total
+rack_more rules rack k few =
+    let next : k + 1 ≡ suc k = omega arith in
+    let at : 0 + k ≡ k = omega arith in
+    let letter : kind_points rules k ≡ get_or rules.points k 0 = ap (λ (b : Bool). if b then 0 else get_or rules.points k 0) (ne_eqb k 26 (omega arith)) in
+    ap (λ n. total (λ j. get_or rack j 0 * kind_points rules j) 0 n) next
+    ∙ ap (λ j. total (λ j. get_or rack j 0 * kind_points rules j) 0 k + get_or rack j 0 * kind_points rules j) at
+    ∙ ap (λ w. total (λ j. get_or rack j 0 * kind_points rules j) 0 k + get_or rack k 0 * w) letter
+
+-- blanks have no points
+pub rack_all : (rules : Rules) (rack : List ℕ) → rack_points rules rack 26 ≡ rack_points rules rack 27
+unfolding rack_points total
+rack_all rules rack = let none : get_or rack 26 0 * 0 ≡ 0 = omega arith in omega arith

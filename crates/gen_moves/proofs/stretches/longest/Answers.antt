@@ -1,0 +1,46 @@
+use Rattle.std.proofs.Common.{◌≡◌, ◌+◌, ◌-◌, suc, sym, subst, arith}
+use Rattle.gen_moves.specs.Bounds.{IsSum, IsSmallSum, place_in}
+use Rattle.gen_moves.proofs.Longest.{sum_more, small_more, sum_bound, reach_stop, word_room, word_most}
+use Rattle.gen_moves.proofs.stretches.longest.Goals as goal
+
+pub bound-requires-clause-word : goal.bound-requires-clause-word
+bound-requires-clause-word c = word_most (c.loop-place.place - c.args.first) c.loop-place.sum.word (omega arith) c.loop-place.invariant.small.word
+
+pub returns-then-places-place : goal.returns-then-places-place
+returns-then-places-place c =
+    let places = place_in c.args.places.now in
+    let n = c.loop-place.place - c.args.first in
+    let at : c.loop-place.place ≡ c.args.first + n = omega arith in
+    sum_bound c.args.bonus c.args.points places c.args.first n c.loop-place.sum c.bound.result (omega arith) c.loop-place.invariant.sum c.requires.small c.bound.ensures
+    (reach_stop places c.args.first n c.loop-place.place c.loop-place.sum at c.loop-place.invariant.sum c.if-sum-eq7.true c.if-places-place.true)
+
+pub with-sum-requires-clause-word : goal.with-sum-requires-clause-word
+with-sum-requires-clause-word c = word_room (c.loop-place.place - c.args.first) c.loop-place.sum.word (omega arith) c.loop-place.invariant.small.word
+
+pub with-sum-requires-clause-place : goal.with-sum-requires-clause-place
+with-sum-requires-clause-place c = c.requires.small c.loop-place.place (omega arith)
+
+pub loop-place-preserved : goal.loop-place-preserved
+loop-place-preserved c =
+    let places = place_in c.args.places.now in
+    let n = c.loop-place.place - c.args.first in
+    let at : c.loop-place.place ≡ c.args.first + n = omega arith in
+    let next : c.loop-place.place + 1 - c.args.first ≡ suc n = omega arith in
+    let more : c.loop-place.place + 1 - c.args.first ≡ n + 1 = omega arith in
+    let e = c.with-sum.ensures in
+    record {
+      sum = subst (λ k. IsSum places c.args.first k c.with-sum.result) (sym next)
+          (sum_more places c.args.first n c.loop-place.place c.loop-place.sum c.with-sum.result at c.loop-place.invariant.sum e.old e.word e.side e.free e.letter_before e.letter e.cross_before e.cross);
+      small = subst (λ k. IsSmallSum k c.with-sum.result) (sym more)
+          (small_more n c.loop-place.sum c.with-sum.result (places c.loop-place.place) c.loop-place.invariant.small (c.requires.small c.loop-place.place (omega arith)) e.old e.word e.side e.free e.letter_limit e.cross_limit);
+    }
+
+pub bound-requires-2-clause-word : goal.bound-requires-2-clause-word
+bound-requires-2-clause-word c = word_most (c.loop-place.place - c.args.first) c.loop-place.sum.word (omega arith) c.loop-place.invariant.small.word
+
+pub returns : goal.returns
+returns c =
+    let places = place_in c.args.places.now in
+    let n = c.loop-place.place - c.args.first in
+    sum_bound c.args.bonus c.args.points places c.args.first n c.loop-place.sum c.bound-2.result (omega arith) c.loop-place.invariant.sum c.requires.small c.bound-2.ensures
+    (λ len inside few. omega arith)

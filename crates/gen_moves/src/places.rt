@@ -1,0 +1,79 @@
+//! What each place of a line adds to the score of a play, at the most.
+ghost use Rattle.std.specs.Prelude.{◌≡◌, ◌<◌, ◌≤◌, ℕ};
+ghost use Rattle.gen_moves.specs.Bounds.{IsPlaceOf, IsSmall, ArePlaces, HasScores, place_in};
+
+use gen_cross::Cross;
+use ref_board::{Board, Dir, SIDE, Square};
+use ref_play::points_on;
+use ref_tiles::Rules;
+
+/// What a place of a line adds to the score of a play along the line, at the most.
+#[derive(Clone, Copy)]
+pub struct Place {
+    /// Whether it has no tile.
+    pub free: bool,
+    /// The points of its old tile.
+    pub old: u64,
+    /// The letter premium under a new tile.
+    pub letter: u64,
+    /// The word premium under a new tile.
+    pub word: u64,
+    /// What the old tiles of the cross word score.
+    pub side: u64,
+    /// By what the cross word multiplies the points of a new tile.
+    pub cross: u64,
+}
+
+/// What a square adds to the score of a play of a direction.
+fn place_of(rules: &Rules, board: &Board, cross: &Cross, dir: Dir, square: Square) -> Place
+    ensures place { HasScores rules.now board.now cross.now → IsPlaceOf rules.now dir board.now square result }
+    ensures small { IsSmall result }
+{
+    if board.at(square).is_some() {
+        return Place {
+            free: false,
+            old: points_on(rules, board.at(square)) as u64,
+            letter: 0,
+            word: 1,
+            side: 0,
+            cross: 0,
+        };
+    }
+    let premium = rules.premium(square.number());
+    let letter = premium.letter_factor() as u64;
+    let word = premium.word_factor() as u64;
+    Place {
+        free: true,
+        old: 0,
+        letter,
+        word,
+        side: cross.side(dir, square) as u64 * word,
+        cross: letter * word,
+    }
+}
+
+/// The places of a line.
+pub fn line_places(
+    rules: &Rules,
+    board: &Board,
+    cross: &Cross,
+    dir: Dir,
+    line: usize,
+) -> [Place; SIDE]
+    requires { line < 15 }
+    ensures places { HasScores rules.now board.now cross.now → ArePlaces rules.now dir board.now line (place_in result) }
+    ensures small { (i : ℕ) → i < 15 → IsSmall (place_in result i) }
+{
+    let mut places = [Place {
+        free: true,
+        old: 0,
+        letter: 0,
+        word: 0,
+        side: 0,
+        cross: 0,
+    }; SIDE];
+    for place in 0..SIDE {
+        places[place] = place_of(rules, board, cross, dir, Square::on_line(dir, line, place));
+    }
+    places
+}

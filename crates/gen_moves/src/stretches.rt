@@ -1,0 +1,114 @@
+//! Sums over stretches of places, and the bounds that they give.
+ghost use Rattle.std.specs.Prelude.{◌≡◌, ◌<◌, ◌≤◌, ◌+◌, ◌*◌, ℕ, nat_le, if◌then◌else◌};
+ghost use Rattle.gen_moves.specs.Bounds.{IsSmall, IsSmallSum, IsSum, IsBoundFrom, place_in, one_if};
+
+use crate::places::Place;
+use ref_board::SIDE;
+
+/// What the places of a stretch add together.
+#[derive(Clone, Copy)]
+pub struct Sum {
+    /// The points of the old tiles.
+    pub old: u64,
+    /// The product of the word premiums.
+    pub word: u64,
+    /// What the old tiles of the cross words score.
+    pub side: u64,
+    /// The greatest letter premium.
+    pub letter: u64,
+    /// The greatest factor of a cross word.
+    pub cross: u64,
+    /// The number of free places.
+    pub free: u64,
+}
+
+/// The greater of two numbers.
+fn greater(one: u64, other: u64) -> u64
+    ensures first { one ≤ result }
+    ensures second { other ≤ result }
+    ensures limit { (most : ℕ) → one ≤ most → other ≤ most → result ≤ most }
+{
+    if one < other { other } else { one }
+}
+
+impl Sum {
+    /// The sum of no place.
+    fn none() -> Sum
+        ensures sum { (places : ℕ → Place) (first : ℕ) → IsSum places first 0 result }
+        ensures small { IsSmallSum 0 result }
+    {
+        Sum {
+            old: 0,
+            word: 1,
+            side: 0,
+            letter: 0,
+            cross: 0,
+            free: 0,
+        }
+    }
+
+    /// The sum with one place more.
+    fn with(&self, place: &Place) -> Sum
+        requires old { self.now.old ≤ 1386 }
+        requires word { self.now.word ≤ 4782969 }
+        requires side { self.now.side ≤ 2752470 }
+        requires free { self.now.free ≤ 14 }
+        requires letter { self.now.letter ≤ 3 }
+        requires cross { self.now.cross ≤ 9 }
+        requires place { IsSmall place.now }
+        ensures old { result.old ≡ self.now.old + place.now.old }
+        ensures word { result.word ≡ self.now.word * place.now.word }
+        ensures side { result.side ≡ self.now.side + place.now.side }
+        ensures free { result.free ≡ self.now.free + one_if place.now.free }
+        ensures letter_before { self.now.letter ≤ result.letter }
+        ensures letter { place.now.letter ≤ result.letter }
+        ensures letter_limit { result.letter ≤ 3 }
+        ensures cross_before { self.now.cross ≤ result.cross }
+        ensures cross { place.now.cross ≤ result.cross }
+        ensures cross_limit { result.cross ≤ 9 }
+    {
+        Sum {
+            old: self.old + place.old,
+            word: self.word * place.word,
+            side: self.side + place.side,
+            letter: greater(self.letter, place.letter),
+            cross: greater(self.cross, place.cross),
+            free: self.free + u64::from(place.free),
+        }
+    }
+
+    /// The bound of the plays of a stretch with this sum.
+    fn bound(&self, points: u64, bonus: u64) -> u64
+        requires old { self.now.old ≤ 1485 }
+        requires word { self.now.word ≤ 14348907 }
+        requires side { self.now.side ≤ 2949075 }
+        requires letter { self.now.letter ≤ 3 }
+        requires cross { self.now.cross ≤ 9 }
+        requires points { points ≤ 2000000 }
+        requires bonus { bonus ≤ 65535 }
+        ensures { result ≡ (self.now.old + self.now.letter * points) * self.now.word + (self.now.side + self.now.cross * points) + (if nat_le 7 self.now.free then bonus else 0) }
+    {
+        let letters = self.old + self.letter * points;
+        let crosses = self.side + self.cross * points;
+        let on_top = if self.free >= 7 { bonus } else { 0 };
+        letters * self.word + crosses + on_top
+    }
+}
+
+/// A number that no play passes whose stretch begins at a place: the bound of the longest stretch with seven free places.
+pub fn longest(places: &[Place; SIDE], first: usize, points: u64, bonus: u64) -> u64
+    requires first { first < 15 }
+    requires small { (i : ℕ) → i < 15 → IsSmall (place_in places.now i) }
+    requires points { points ≤ 2000000 }
+    requires bonus { bonus ≤ 65535 }
+    ensures { IsBoundFrom bonus points (place_in places.now) first result }
+{
+    let mut sum = Sum::none();
+    for place in first..SIDE {
+        if sum.free == 7 && places[place].free {
+            return sum.bound(points, bonus);
+        }
+        sum = sum.with(&places[place]);
+    }
+    sum.bound(points, bonus)
+}

@@ -1,0 +1,6 @@
+use Rattle.std.proofs.Common.{ℕ, ℤ, ◌<◌, ◌<ℤ◌, slice_index_or}
+use Rattle.ref_play.specs.declared.plays.Play.{Play}
+use Rattle.gen_sinks.proofs.placing.all_above.Given as goal
+
+abbrev pub invariant-loop-place : goal.invariant-loop-place
+invariant-loop-place l = (place : ℕ) (d : Play × ℤ) → place < l.place → l.bound <ℤ (slice_index_or l.kept place d).1
