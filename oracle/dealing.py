@@ -61,14 +61,16 @@ def words_in_reach(board, rack, tries):
 class Dealer:
     """Deals and plays one game by some rules.
 
-    `exchanges` are the kinds of exchanges that are made, `stated` how lines show racks: whole, in part, or a mixture of both and
-    of none.
+    `exchanges` are the kinds of exchanges that are made, `stated` how lines show racks: whole, in part, a mixture of both and of
+    none, none, or `one`: those of player 0 whole, and of player 1 none and the numbers of exchanged tiles alone. `share` is how
+    many of 100 turns are exchanges, where that may be.
     """
 
-    def __init__(self, rules, turns, exchanges=(), stated="mixed"):
+    def __init__(self, rules, turns, exchanges=(), stated="mixed", share=None):
         self.rules, self.bag = rules, list(rules.tiles.elements())
         random.shuffle(self.bag)
         self.turns, self.exchanges, self.stated = turns, exchanges, stated
+        self.share = share or (9 if rules == ENGLISH else 37)
         self.board, self.totals, self.racks = {}, [0, 0], [[], []]
         self.player, self.idle, self.out, self.over = choose([0, 1]), 0, None, False
         self.events, self.deal, self.boards, self.listed, self.phonies, self.timed = [], [], [], set(), set(), set()
@@ -83,6 +85,7 @@ class Dealer:
         """What a line shows of a rack."""
         rack = self.racks[player]
         how = self.stated if self.stated != "mixed" else choose(["whole", "whole", "part", "part", "none"])
+        how = how if how != "one" else ["whole", "none"][player]
         if how == "none" or not rack:
             return ""
         if how == "whole":
@@ -149,7 +152,8 @@ class Dealer:
         player = self.player
         thrown = random.sample(self.racks[player], random.randint(1, min(len(self.racks[player]), len(self.bag))))
         shown = self.shown(player)
-        if choose(self.exchanges) == "known":
+        kind = choose(self.exchanges) if self.stated != "one" else ["known", "unknown"][player]
+        if kind == "known":
             tiles = in_order(thrown)
             self.add(player, "exchange", "-" + tiles, 0, thrown, tiles=tiles, size=len(tiles), rack=shown)
         else:
@@ -181,7 +185,7 @@ class Dealer:
             what = random.random()
             if what < 0.03:
                 self.pass_turn()
-            elif may_exchange and what < (0.12 if self.rules == ENGLISH else 0.4):
+            elif may_exchange and what < 0.03 + self.share / 100:
                 self.exchange()
             else:
                 self.play()

@@ -290,6 +290,20 @@ def judge_deal(events, listed, rules=ENGLISH):
     return report(*decide(events, listed, rules), listed, rules)
 
 
+def legal_report(events, listed, rules=ENGLISH):
+    """What is to be printed of these events where some deal fits."""
+    return report(*go_through(events, listed, rules=rules), listed, rules)
+
+
+def settled_ways(events, listed, rules=ENGLISH):
+    """What `referee judge --settle` may print of these events: what `judge` does, or where that leaves the game open, that it is legal, or
+    that no deal yields the racks up to an event."""
+    known = judge_deal(events, listed, rules)
+    if known != "unsettled\n":
+        return [known]
+    return [legal_report(events, listed, rules), *(f"illegal line {k}: NoDeal\n" for k in range(1, len(events) + 1)), known]
+
+
 def event_of(said):
     """An event, from what the reading of a record says of its line."""
     player, rack, what, score, total = said

@@ -1,3 +1,4 @@
+//! The first bound that the steps of a game exceed.
 ghost use Rattle.std.specs.Prelude.{◌≡◌};
 ghost use Rattle.deal_steps.specs.Bounds.{first_bound};
 

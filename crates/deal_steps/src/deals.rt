@@ -1,3 +1,4 @@
+//! Racks, what is held before an event, and the deal of a whole game.
 ghost use Rattle.std.specs.Prelude.{◌≡◌};
 
 use ref_tiles::Counts;

@@ -1,7 +1,8 @@
-use ref_tiles::Kind;
-use std::alloc::AllocError;
+//! The bounds of a deal.
 
-/// Why no racks can be dealt for a record, or that memory ran out.
+use ref_tiles::Kind;
+
+/// Why no racks can be dealt for a record.
 #[derive(Clone, Copy, Debug, PartialEq, Eq)]
 pub enum DealFault {
     /// By this line a player has shown more tiles than came to the rack.
@@ -16,17 +17,4 @@ pub enum DealFault {
         /// The first such kind, in the order A to Z and then blanks.
         kind: Kind,
     },
-    /// Memory ran out.
-    NoMemory,
-}
-
-impl From<AllocError> for DealFault {
-    ghost use Rattle.std.specs.Prelude.{◌≡◌};
-    ghost use Rattle.deal_steps.specs.declared.faults.DealFault.TheVariants as fault;
-
-    ghost from_gives = { λ _ given. given ≡ fault.NoMemory };
-
-    fn from(_error: AllocError) -> DealFault {
-        DealFault::NoMemory
-    }
 }

@@ -1,3 +1,4 @@
+//! The steps of a game: what each event is to the racks.
 ghost use Rattle.std.specs.Prelude.{◌≡◌};
 ghost use Rattle.deal_steps.specs.Steps.{size_of};
 

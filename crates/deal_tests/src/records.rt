@@ -1,4 +1,7 @@
-use game_deal::{DealFault, bounds, complete, fits, law_of_bounds, law_of_runs, law_of_tiles};
+//! Deals of records: bounds, the deal of the rule, and its check.
+use game_deal::{
+    DealFault, Steps, bounds, complete, fits, law_of_bounds, law_of_runs, law_of_tiles,
+};
 use game_turns::{Passed, play_through};
 use gcg_read::read;
 use lex_list::WordList;
@@ -18,8 +21,8 @@ enum Game {
 /// What becomes of the deal of a row.
 #[derive(Clone, Copy, Debug, PartialEq, Eq)]
 enum Answer {
-    /// There is one, and it fits; so many racks are judged.
-    Fits(usize),
+    /// There is one, and it fits.
+    Fits,
     /// No bound is exceeded, and the rule gives no deal.
     NoDeal,
     /// This bound is exceeded.
@@ -39,13 +42,13 @@ const ROWS: [Row; 10] = [
         game: Game::English,
         words: b"WORD",
         lines: b"",
-        answer: Answer::Fits(0),
+        answer: Answer::Fits,
     },
     Row {
         game: Game::Short,
         words: b"RETAINS",
         lines: b">A: AEINRST 8D RETAINS +66 66\n>A: (ADEORTW) +22 88\n",
-        answer: Answer::Fits(2),
+        answer: Answer::Fits,
     },
     Row {
         game: Game::Short,
@@ -60,7 +63,7 @@ const ROWS: [Row; 10] = [
         game: Game::English,
         words: b"AT",
         lines: b">A: AEI -5 +0 0\n>B: QU - +0 0\n>A: SX - +0 0\n",
-        answer: Answer::Fits(3),
+        answer: Answer::Fits,
     },
     Row {
         game: Game::English,
@@ -87,19 +90,19 @@ const ROWS: [Row; 10] = [
         game: Game::English,
         words: b"WORD\nAT\nRA",
         lines: b">A: DORWAAE 8E WORD +16 16\n>B: AT 9G AT +9 9\n>B: AT -- -9 0\n>A: AT 9G AT +9 25\n",
-        answer: Answer::Fits(3),
+        answer: Answer::Fits,
     },
     Row {
         game: Game::English,
         words: b"RETAINS",
         lines: b">A: - +0 0\n>B: - +0 0\n>A: - +0 0\n>B: - +0 0\n>A: - +0 0\n>B: - +0 0\n>A: AEINRST (AEINRST) -7 -7\n>B: AEINRST (AEINRST) -7 -7\n",
-        answer: Answer::Fits(8),
+        answer: Answer::Fits,
     },
     Row {
         game: Game::Short,
         words: b"RETAINS",
         lines: b">A: AEINRST 8D RETAINS +66 66\n>B: ADEORTW - +0 0\n>A: (ADEORTW) +22 88\n>A: (time) -5 83\n",
-        answer: Answer::Fits(2),
+        answer: Answer::Fits,
     },
 ];
 
@@ -125,16 +128,15 @@ fn rules_of(rt: &impl Abort, game: Game) -> Rules {
 
 /// What becomes of the deal of a record that passed.
 fn answer_of(rt: &impl Abort, alloc: Global, passed: &Passed<'_>) -> Answer {
-    let needs = match bounds(alloc, passed) {
-        Ok(needs) => needs,
-        Err(fault) => return Answer::Exceeds(fault),
-    };
-    let racks = needs.racks().len();
-    match complete(alloc, &needs).expect(rt, "memory") {
+    let steps = Steps::of(alloc, passed).expect(rt, "memory");
+    if let Some(fault) = bounds(&steps) {
+        return Answer::Exceeds(fault);
+    }
+    match complete(alloc, &steps).expect(rt, "memory") {
         Some(deal) => {
-            assert!(rt; fits(passed, &deal));
+            assert!(rt; fits(&steps, &deal));
             assert_eq!(rt; deal.as_slice().len(), passed.record().events.len());
-            Answer::Fits(racks)
+            Answer::Fits
         }
         None => Answer::NoDeal,
     }

@@ -1,3 +1,4 @@
+//! Racks that fit steps, and the bounds that steps exceed.
 use deal_steps::{Act, DealFault, Held, Motion, Racks, Step, first_bound, fits};
 use gcg_read::Seat;
 use ref_tiles::{Counts, KINDS, Kind, Letter, Rules, english_rules};

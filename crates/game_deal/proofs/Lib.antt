@@ -8,3 +8,4 @@ pub mod StepLaws
 pub mod RecordWalks
 pub mod CountedTiles
 pub mod PlainRecords
+pub mod SettledRecords

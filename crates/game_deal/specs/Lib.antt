@@ -1,6 +1,6 @@
 pub mod Recorded
 pub mod Plain
-pub mod Judged
 pub mod Bounded
-pub mod Needing
+pub mod Stepping
+pub mod Settling
 pub mod Laws

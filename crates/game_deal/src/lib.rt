@@ -1,20 +1,20 @@
-//! The deals of a record that passed: the bounds that its lines exceed, the deal that it is tried with, and whether a deal
-//! fits it.
+//! The deals of a record that passed: the bounds that its lines exceed, the deal that it is tried with, whether a deal
+//! fits it, and a search for one, or for a proof that there is none.
 #![tactic(auto)]
 
 mod bounding;
 mod completing;
 mod fitting;
-mod judged;
 mod laws;
-mod needed;
 mod recording;
+mod settling;
+mod steps;
 mod walking;
 
 pub use bounding::bounds;
 pub use completing::{NoMemory, complete};
 pub use deal_steps::{Deal, DealFault, Held, Racks};
 pub use fitting::fits;
-pub use judged::JudgedRack;
 pub use laws::{law_of_bounds, law_of_runs, law_of_tiles};
-pub use needed::Needs;
+pub use settling::{Settled, settle};
+pub use steps::{Steps, all_steps};

@@ -1,3 +1,4 @@
+//! The step of an event, over the machine that took those before it.
 ghost use Rattle.std.specs.Prelude.{◌≡◌, ◌≤◌, None, length, is_some, if◌then◌else◌};
 ghost use Rattle.ref_play.specs.Texts.{placement_of, text_fault};
 ghost use Rattle.game_turns.specs.Machines.{state_of};

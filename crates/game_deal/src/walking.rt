@@ -1,3 +1,4 @@
+//! A walk over the events of a record that passed, step by step.
 ghost use Rattle.std.specs.Prelude.{◌≡◌, ◌+◌, ◌<◌, length, slice_get, Some};
 ghost use Rattle.game_turns.specs.Machines.{rules_of, state_of};
 ghost use Rattle.game_turns.specs.Passing.{rules_in, record_in};

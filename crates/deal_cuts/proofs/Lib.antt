@@ -1,0 +1,9 @@
+pub mod Fronts
+pub mod Numbers
+pub mod Parts
+pub mod RackFlows
+pub mod Moving
+pub mod Counting
+pub mod Carrying
+pub mod Walking
+pub mod Examples

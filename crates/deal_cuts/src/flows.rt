@@ -1,0 +1,144 @@
+//! What a step does with the tiles of a rack, by number.
+ghost use Rattle.std.specs.Prelude.{◌≡◌, ◌<◌, ◌↔◌, IsTrue};
+ghost use Rattle.gcg_read.specs.declared.events.Seat.TheVariants.{First, Second};
+ghost use Rattle.deal_cuts.specs.Flowing.{AreSmall, IsSmall, flow_of, others_of, strays_of, gained_by, lost_by, BoardFollows};
+
+use crate::splits::{split_by, where_out, where_so};
+use crate::told::{coming, known_at, leaving, throws, unknown_at};
+use deal_steps::Step;
+use gcg_read::Seat;
+use ref_tiles::KINDS;
+
+/// What passes through a rack from before a step to before the next, by numbers of tiles.
+#[derive(Clone, Copy)]
+pub struct Flow {
+    /// How many tiles are on the rack.
+    pub size: usize,
+    /// How many of them are known to be of the chosen kinds,
+    pub known_in: usize,
+    /// and how many to be of others.
+    pub known_beside: usize,
+    /// How many tiles of the chosen kinds are known to leave it,
+    pub left_in: usize,
+    /// and how many of others.
+    pub left_beside: usize,
+    /// Whether these go to the bag, and not to the board.
+    pub to_bag: bool,
+    /// How many tiles that are not known are thrown to the bag.
+    pub unknown: usize,
+    /// How many tiles of the chosen kinds come back from the board.
+    pub back_in: usize,
+    /// How many tiles are drawn from the bag.
+    pub drawn: usize,
+}
+
+/// No number of a step that is added up is greater.
+const LIMIT: usize = 65536;
+
+/// Whether the numbers of a step are small enough to be added up.
+pub fn is_small(step: &Step) -> bool
+    ensures { IsTrue result ↔ AreSmall step.now }
+{
+    step.first < LIMIT
+        && step.second < LIMIT
+        && step.bag < LIMIT
+        && unknown_at(Seat::First, step) < LIMIT
+        && unknown_at(Seat::Second, step) < LIMIT
+}
+
+/// What passes through a rack.
+#[tactic(auto, unfolding(crate::specs::Flowing::flow_of))]
+pub fn flow_of(chosen: &[bool; KINDS], seat: Seat, step: &Step, next: &Step) -> Flow
+    requires step { AreSmall step.now }
+    requires next { AreSmall next.now }
+    ensures is { result ≡ flow_of chosen.now seat step.now next.now }
+    ensures small { IsSmall result }
+{
+    let known = split_by(chosen, &known_at(seat, step));
+    let left = split_by(chosen, &leaving(seat, step));
+    let back = split_by(chosen, &coming(seat, step));
+    let unknown = unknown_at(seat, step);
+    let size = step.size_of(seat);
+    let after = next.size_of(seat) + left.within + left.beside + unknown;
+    let before = size + back.within + back.beside;
+    Flow {
+        size,
+        known_in: known.within,
+        known_beside: known.beside,
+        left_in: left.within,
+        left_beside: left.beside,
+        to_bag: throws(&step.act),
+        unknown,
+        back_in: back.within,
+        drawn: after.saturating_sub(before),
+    }
+}
+
+/// The tiles of a rack but those that are known to leave it.
+#[tactic(auto, unfolding(crate::specs::Flowing::others_of))]
+fn others_of(flow: &Flow) -> usize
+    requires { IsSmall flow.now }
+    ensures is { result ≡ others_of flow.now }
+    ensures small { result < 65536 }
+{
+    flow.size.saturating_sub(flow.left_in + flow.left_beside)
+}
+
+/// How many of these come to be outside, where rack and bag are inside afterwards or not.
+#[tactic(auto, unfolding(crate::specs::Flowing::strays_of))]
+fn strays_of(flow: &Flow, stays: bool, bag: bool) -> usize
+    requires { IsSmall flow.now }
+    ensures is { result ≡ strays_of flow.now stays bag }
+    ensures small { result < 131072 }
+{
+    let kept = others_of(flow).saturating_sub(flow.unknown);
+    where_so(!stays, kept) + where_so(!bag, flow.unknown)
+}
+
+/// So many tiles at least come in by a rack that was inside or not.
+#[tactic(auto, unfolding(crate::specs::Flowing::gained_by))]
+pub fn gained_by(flow: &Flow, was: bool, stays: bool, bag: bool) -> usize
+    requires { IsSmall flow.now }
+    ensures is { result ≡ gained_by flow.now was stays bag }
+    ensures small { result < 32768 }
+{
+    let kept = flow.known_in.saturating_sub(flow.left_in);
+    let brought = kept.saturating_sub(strays_of(flow, stays, bag));
+    where_so(!was, brought)
+        + where_so(flow.to_bag && bag, flow.left_in)
+        + where_so(stays, flow.back_in)
+}
+
+/// So many at most get out.
+#[tactic(auto, unfolding(crate::specs::Flowing::lost_by))]
+pub fn lost_by(flow: &Flow, bag_was: bool, was: bool, stays: bool, bag: bool) -> usize
+    requires { IsSmall flow.now }
+    ensures is { result ≡ lost_by flow.now bag_was was stays bag }
+    ensures small { result < 1048576 }
+{
+    let beside = flow.known_beside.saturating_sub(flow.left_beside);
+    let within = others_of(flow).saturating_sub(beside);
+    let lost = flow.left_in + strays_of(flow, stays, bag).min(within);
+    where_so(was, lost) + where_out(bag_was, stays, flow.drawn)
+}
+
+/// Whether the board before the next step is as a step leaves it, in the number of tiles of the chosen kinds.
+#[tactic(auto, unfolding(crate::specs::Flowing::BoardFollows))]
+pub fn board_follows(
+    chosen: &[bool; KINDS],
+    step: &Step,
+    next: &Step,
+    first: &Flow,
+    second: &Flow,
+) -> bool
+    requires first { first.now ≡ flow_of chosen.now First step.now next.now }
+    requires second { second.now ≡ flow_of chosen.now Second step.now next.now }
+    requires first_small { IsSmall first.now }
+    requires second_small { IsSmall second.now }
+    ensures { IsTrue result ↔ BoardFollows chosen.now step.now next.now }
+{
+    let before = split_by(chosen, &step.board).within;
+    let after = split_by(chosen, &next.board).within;
+    let left = where_so(!throws(&step.act), first.left_in + second.left_in);
+    after + (first.back_in + second.back_in) == before + left
+}

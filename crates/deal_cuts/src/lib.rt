@@ -1,0 +1,17 @@
+//! A proof that no racks fit the steps of a game, and its check.
+//!
+//! A cut chooses kinds of tiles, and before each of the first steps some of the three places where tiles can be that are
+//! in play: the bag and both racks. By the sizes of the places, the tiles that the lines show and those that move, there
+//! must be so many tiles of these kinds in these places; where that is more than can be, there is no deal.
+#![tactic(auto)]
+
+mod cuts;
+mod flows;
+mod laws;
+mod ruling;
+mod splits;
+mod told;
+
+pub use cuts::{Cut, Places};
+pub use laws::law_of_fronts;
+pub use ruling::rules_out;

@@ -1,0 +1,13 @@
+use Rattle.std.proofs.Common.{ap, ◌∙◌}
+use Rattle.std.specs.Prelude.{vec_len}
+use Rattle.gcg_read.specs.declared.records.Record.{Record}
+use Rattle.game_turns.specs.declared.passed.Passed.{Passed}
+use Rattle.game_turns.specs.Passing.{record_in}
+use Rattle.game_deal.specs.Stepping.{passed_in}
+use Rattle.game_deal.proofs.SettledRecords.{ends_on}
+use Rattle.game_deal.proofs.settling.line_of.Goals as goal
+
+pub returns : goal.returns
+returns c =
+    let same = c.as_slice-events.ensures ∙ ap (λ (r : Record). r.events) c.record.ensures.record ∙ ap (λ (p : Passed). (record_in p).events) c.passed.ensures in
+    ends_on (passed_in c.args.steps.now) c.as_slice-events.result.now (vec_len c.args.cut.now.places) c.len.result c.index-events-len.result c.requires c.len.ensures same c.index-events-len.is
