@@ -1,17 +1,13 @@
-//! Measures cross-sets: `cross_bench WORDS RECORD`. It prints the processor time of one check of the lexicon of the words; on the
-//! board in the middle of a game the times of cross-sets made afresh, and of a copy of them brought up to plays of 1 to 7
-//! tiles, once for the play and tile by tile; and for each play of the record, on its own board, how many tiles it has, and the times
-//! of bringing a copy up once and of making cross-sets afresh. The sums of some points stand beside, so that no round is left
-//! out.
+//! Measures cross-sets: `cross_bench LEXICON RECORD`. It prints, on the board in the middle of a game, the times of cross-sets made
+//! afresh, and of a copy of them brought up to plays of 1 to 7 tiles, once for the play and tile by tile; and for each play of
+//! the record, on its own board, how many tiles it has, and the times of bringing a copy up once and of making cross-sets afresh.
+//! The sums of some points stand beside, so that no round is left out.
 #![tactic(auto)]
 
 use devices::{FromRead, read_within};
 use gcg_read::{EventKind, Record, Text, read};
 use gen_cross::Cross;
-use lex_build::build;
-use lex_check::check;
 use lex_file::LexFile;
-use lex_list::WordList;
 use ref_board::{Board, Dir, SIDE, Square};
 use ref_play::{Play, from_text};
 use ref_tiles::{Letter, Rules, Tile, english_rules};
@@ -48,7 +44,7 @@ const RETAINS: &[u8] = b"RETAINS";
 /// How many tiles these plays have.
 const SIZES: [usize; 6] = [1, 2, 3, 4, 5, 7];
 
-/// The most bytes of a word list.
+/// The most bytes of a file.
 const LIMIT: usize = 64 << 20;
 
 /// How often cross-sets are made afresh.
@@ -64,22 +60,26 @@ fn main(rt: HostRuntime) -> ExitCode {
     }
 }
 
-/// Measures all. There is nothing to tell where the words or the record cannot be read.
+/// Measures all. There is nothing to tell where the lexicon or the record cannot be read.
 fn measure<R: Runtime + AllocGlobal + CpuClock>(rt: &R) -> Option<()> {
-    let args: Vec<String> = env::args(rt).ok()?.collect(rt.alloc()).ok()?;
-    let mut input = FromRead::new(fs::open(rt, args.get(1)?.as_str()).ok()?);
-    let text = read_within(rt.alloc(), &mut input, LIMIT).ok()?;
-    let mut game = FromRead::new(fs::open(rt, args.get(2)?.as_str()).ok()?);
-    let game = read_within(rt.alloc(), &mut game, LIMIT).ok()?;
+    let game = file_named(rt, 2)?;
     let record = read(rt.alloc(), game.as_slice()).ok()?;
-    let list = WordList::read(rt.alloc(), text.as_slice()).ok()?;
-    let bytes = build(rt.alloc(), &list).ok()?;
+    measure_by(rt, &record)
+}
+
+/// Measures all by a record that was read.
+fn measure_by<R: Runtime + AllocGlobal + CpuClock>(rt: &R, record: &Record) -> Option<()> {
+    let bytes = file_named(rt, 1)?;
     let file = LexFile::open(bytes.as_slice()).ok()?;
-    let start = rt.process_cpu_time().ok()?;
-    check(rt.alloc(), &list, &file).ok()?;
-    tell(rt, "check", start, 1, 0)?;
     measure_middle(rt, &file)?;
-    measure_record(rt, &file, &record)
+    measure_record(rt, &file, record)
+}
+
+/// The bytes of the file that an argument names.
+fn file_named<R: Runtime + AllocGlobal>(rt: &R, argument: usize) -> Option<Vec<u8>> {
+    let args: Vec<String> = env::args(rt).ok()?.collect(rt.alloc()).ok()?;
+    let mut input = FromRead::new(fs::open(rt, args.get(argument)?.as_str()).ok()?);
+    read_within(rt.alloc(), &mut input, LIMIT).ok()
 }
 
 /// Measures plays of some sizes on the board in the middle of a game.

@@ -1,3 +1,4 @@
+//! What a device, a whole read and a whole write say of a failure.
 ghost use Rattle.std.specs.Prelude.{◌≡◌};
 
 use std::alloc::AllocError;

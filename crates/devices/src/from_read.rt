@@ -1,3 +1,4 @@
+//! A reader of std's as an input.
 ghost use Rattle.std.specs.Prelude.{◌≡◌};
 ghost use Rattle.devices.specs.Devices.{Device, HasRoom};
 

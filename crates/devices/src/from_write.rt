@@ -1,3 +1,4 @@
+//! A writer of std's as an output.
 ghost use Rattle.std.specs.Prelude.{◌≡◌};
 ghost use Rattle.devices.specs.Devices.{Device, HasRoom};
 

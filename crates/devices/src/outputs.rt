@@ -1,3 +1,4 @@
+//! Outputs, and writing bytes whole.
 ghost use Rattle.std.specs.Prelude.{◌≡◌, OnOk, OnErr, MatchResult};
 ghost use Rattle.std.specs.Io.KnownBytes.{Appends};
 ghost use Rattle.devices.specs.Devices.{Device, HasRoom, HasWorked};

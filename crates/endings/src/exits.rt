@@ -1,3 +1,4 @@
+//! The exit status of each verdict, and what keeps the program from its end.
 ghost use Rattle.std.specs.Prelude.{◌≡◌};
 
 use engine::{RunFault, Verdict};

@@ -1,13 +1,11 @@
 -- That a game is legal means what the headline says.
-use Rattle.std.proofs.Common.{◌≡◌, ◌<◌, ◌≤◌, ℕ, pos, Bool, true, false, List, [], ◌∷◌, ◌++◌, length, refl, ap, subst, sym, ◌∙◌, arith, ◌⊎◌, inl, inr, ⊎_elim, Option, Some, None, Result, Ok, Err, if◌then◌else◌}
+use Rattle.std.proofs.Common.{◌≡◌, ◌+◌, ◌≢◌, IfOk, ◌<◌, ◌≤◌, ℕ, pos, Bool, true, false, List, [], ◌∷◌, ◌++◌, length, refl, ap, subst, sym, ◌∙◌, arith, ◌⊎◌, inl, inr, ⊎_elim, Option, Some, None, Result, Ok, Err, if◌then◌else◌}
 use Rattle.std.specs.Prelude.{codes, nat_lt, slice_index_or}
 use Rattle.std.specs.Fmt.{signed_decimal}
 use Rattle.std.specs.Option.{IsSomeAnd}
 use Rattle.std.proofs.lemmas.Option.{slice_get_within}
 use Rattle.ref_tiles.specs.declared.tiles.Tile.{Tile}
 use Rattle.ref_tiles.specs.declared.rulebook.Rules.{Rules}
-use Rattle.ref_tiles.specs.declared.parts.RuleParts.{RuleParts}
-use Rattle.ref_tiles.specs.declared.rules_faults.RulesFault.{RulesFault}
 use Rattle.ref_tiles.specs.RulesTexts.{meaning_of}
 use Rattle.ref_play.specs.declared.placed.Placed.{Placed}
 use Rattle.ref_play.specs.Scores.{score_of}
@@ -23,17 +21,36 @@ use Rattle.lex_check.specs.Laws.{LexiconsAreExact}
 use Rattle.deal_completion.specs.Completion.{dealt}
 use Rattle.deal_steps.specs.Fitting.{Fits}
 use Rattle.game_deal.specs.Recorded.{steps_of}
+use Rattle.devices.specs.Devices.{Device}
+use Rattle.std.specs.Io.KnownBytes.{Appends}
+use Rattle.deal_steps.specs.declared.faults.DealFault.{DealFault}
+use Rattle.deal_steps.specs.declared.faults.DealFault.TheVariants as deal
+use Rattle.game_turns.specs.declared.faults.RuleFault.{RuleFault}
+use Rattle.game_turns.specs.Places.{AreAllowed, IsFirstRefusal, fault_at, is_finished}
+use Rattle.gcg_read.specs.declared.events.Event.{Event}
+use Rattle.game_deal.specs.Plain.{HaveNoExchange}
 use Rattle.game_turns.specs.Tallies.{tally_at}
+use Rattle.engine.specs.declared.faults.RunFault.{RunFault}
 use Rattle.game_report.specs.BestPlays.{full_rack, notation_text, best_text, TellsByRack}
 use Rattle.engine.specs.Lexicons.{file_fault, most_lexicon_bytes}
 use Rattle.engine.specs.declared.verdicts.Verdict.TheVariants as verdict
-use Rattle.engine.specs.Judging.{Texts, IsDecided}
-use Rattle.engine.specs.Reports.{IsLegalReport, IsLegalText, legal_line}
-use Rattle.engine.specs.Ruling.{IsAnswerBy, IsRuledBy}
-use Rattle.engine.specs.Headlines.{IsBestPrinted, LegalMeansLegal, LegalMeansLegalByText}
+use Rattle.engine.specs.declared.verdicts.GameFault.{GameFault}
+use Rattle.engine.specs.declared.verdicts.Verdict.{Verdict}
+use Rattle.engine.specs.Judging.{IsToldLegal, IsLegal, IsRefused, IsPastBound, IsLeftOpen, IsToldBound, IsJudged, IsDecided}
+use Rattle.engine.specs.Lexicons.{IsLexicon}
+use Rattle.engine.specs.Reading.{ReadsNoMore, ReadsList, ByMeaning, ByParts, ReadsRecord, ByLexicon, ReadsLexicon, IsToldFile}
+use Rattle.engine.specs.Reports.{IsLegalReport, legal_line, bad_list_line, bad_record_line, bad_rules_line}
+use Rattle.engine.specs.Runs.{IsRun}
+use Rattle.deal_cuts.specs.Laws.{FrontsDecide}
+use Rattle.engine.specs.Settling.{IsSettledLegal, IsUndealt, IsStillOpen, IsSettled, IsSettledBy, SettledLegalMeansLegal, SettledIllegalMeansNoGame}
+use Rattle.engine.specs.Sources.{Source, AreGiven}
+use Rattle.engine.specs.Telling.{IsOwn}
+use Rattle.engine.specs.Verdicts.{IsGame}
+use Rattle.engine.specs.Headlines.{Texts, in_order, IsBestPrinted, IsLegalGame, IsLegalRun, LegalMeansLegal, LegalMeansLegalByText, IllegalMeansNoGame, PlainGamesAreDecided}
+use Rattle.engine.specs.OwnVerdicts.{legal_own, illegal_own}
 
 -- a value of which something holds
-some_of : {T : Type 0} (o : Option T) (P : T → Type 0) → IsSomeAnd o P → (x : T) × P x
+pub some_of : {T : Type 0} (o : Option T) (P : T → Type 0) → IsSomeAnd o P → (x : T) × P x
 some_of None P h = absurd h
 some_of (Some x) P h = (x, h)
 
@@ -77,43 +94,296 @@ by_rack rules list board rack told full is tells =
     let here = subst (λ f. TellsByRack rules list board f told) is tells in
     best_printed rules list board rack told here.0 here.1 here.2
 
--- the report of a legal game, where the word list and the record are known
-report_is : (rules : Rules) (complete : Bool) (texts : Texts) (list : List (List ℕ)) (game : Record) (report : List ℕ) → list_of texts.words ≡ Ok list → record_of texts.game ≡ Ok game
-    → IsLegalText rules complete (list_of texts.words) (record_of texts.game) report → IsLegalReport rules list complete game report
-report_is rules complete texts list game report listed recorded told =
-    subst (λ r. IsLegalText rules complete (Ok list) r report) recorded (subst (λ l. IsLegalText rules complete l (record_of texts.game) report) listed told)
+same_ok : {A E : Type 0} (a b : A) (r : Result A E) → r ≡ Ok a → r ≡ Ok b → a ≡ b
+same_ok a b r one other = let same : Ok a ≡ Ok b = sym one ∙ other in cc
+
+-- two verdicts that a game is legal
+same_complete : (complete other : Bool) → verdict.Legal complete ≡ verdict.Legal other → complete ≡ other
+same_complete complete other same = cc
+
+-- ---- answers that come by the meaning of an input
+
+-- a verdict that is not that the text is bad comes by its meaning
+by_meaning : {A F : Type 0} (bad : Verdict) (line : F → List ℕ) (IsAnswer : A → List (List ℕ) → Verdict → List ℕ → Type 0) (meaning : Result A F) (rest : List (List ℕ)) (v : Verdict) (report : List ℕ)
+    → v ≢ bad → ByMeaning bad line IsAnswer meaning rest v report → (a : A) × (meaning ≡ Ok a) × IsAnswer a rest v report
+by_meaning bad line IsAnswer (Ok a) rest v report other is = (a, refl, is)
+by_meaning bad line IsAnswer (Err fault) rest v report other is = absurd (other is.verdict_is)
+
+by_lexicon : (words : List (List ℕ)) (bytes : List ℕ) (IsAnswer : List (List ℕ) → Verdict → List ℕ → Type 0) (rest : List (List ℕ)) (v : Verdict) (report : List ℕ)
+    → v ≢ verdict.BadFile → ByLexicon words IsAnswer bytes rest v report → IsLexicon words bytes × IsAnswer rest v report
+by_lexicon words bytes IsAnswer rest v report other is =
+    ⊎_elim (λ (good : IsLexicon words bytes × IsAnswer rest v report). good) (λ (told : IsToldFile words bytes v report). absurd (other told.verdict_is)) is
+
+-- what is answered on the inputs of a game, by what is answered on its record
+abbrev pub ReadsGame : ((words : List (List ℕ)) → Record → Verdict → List ℕ → Type 0) → (texts : List (List ℕ)) → Verdict → List ℕ → Type 0
+ReadsGame IsAnswer = ReadsList (λ words. ReadsLexicon words (ReadsRecord (λ r. ReadsNoMore (IsAnswer words r))))
+
+-- the inputs of a verdict that is not that one of them is bad
+pub record IsOnGame (IsAnswer : (words : List (List ℕ)) → Record → Verdict → List ℕ → Type 0) (texts : Texts) (v : Verdict) (report : List ℕ) : Type 0 where
+  pub words : List (List ℕ)
+  pub listed : list_of texts.words ≡ Ok words
+  pub paired : IsLexicon words texts.lexicon
+  pub game : Record
+  pub recorded : record_of texts.game ≡ Ok game
+  pub answer : IsAnswer words game v report
+
+on_game : (IsAnswer : (words : List (List ℕ)) → Record → Verdict → List ℕ → Type 0) (texts : Texts) (v : Verdict) (report : List ℕ) → IsOwn v → ReadsGame IsAnswer (in_order texts) v report
+    → IsOnGame IsAnswer texts v report
+on_game IsAnswer texts v report own is =
+    let Last : List (List ℕ) → Record → List (List ℕ) → Verdict → List ℕ → Type 0 = λ words r. ReadsNoMore (IsAnswer words r) in
+    let list = by_meaning verdict.BadList bad_list_line (λ words. ReadsLexicon words (ReadsRecord (Last words))) (list_of texts.words) (texts.lexicon ∷ texts.game ∷ []) v report own.words is in
+    let lexicon = by_lexicon list.0 texts.lexicon (ReadsRecord (Last list.0)) (texts.game ∷ []) v report own.lexicon list.2 in
+    let game = by_meaning verdict.BadRecord bad_record_line (Last list.0) (record_of texts.game) [] v report own.game lexicon.1 in
+    record { words = list.0; listed = list.1; paired = lexicon.0; game = game.0; recorded = game.1; answer = game.2 }
+
+-- ---- which of the four answers a verdict is
+
+bound_line : (bound : DealFault) (complete : Bool) (report : List ℕ) → IsToldBound bound (verdict.Legal complete) report → ⊥
+bound_line (deal.RackTooBig line) complete report told = let both = told.verdict_is in cc
+bound_line (deal.TilesShort line kind) complete report told = let both = told.verdict_is in cc
+
+legal_answer : (rules : Rules) (words : List (List ℕ)) (r : Record) (complete : Bool) (report : List ℕ) → IsJudged rules words r (verdict.Legal complete) report
+    → IsLegal rules words r (verdict.Legal complete) report
+legal_answer rules words r complete report is =
+    ⊎_elim
+    (λ (legal : IsLegal rules words r (verdict.Legal complete) report). legal)
+    (λ (rest : IsRefused rules words r (verdict.Legal complete) report ⊎ IsPastBound rules words r (verdict.Legal complete) report ⊎ IsLeftOpen rules words r (verdict.Legal complete) report).
+    ⊎_elim
+    (λ (refused : IsRefused rules words r (verdict.Legal complete) report). let both = refused.told.verdict_is in cc)
+    (λ (others : IsPastBound rules words r (verdict.Legal complete) report ⊎ IsLeftOpen rules words r (verdict.Legal complete) report).
+    ⊎_elim
+    (λ (past : IsPastBound rules words r (verdict.Legal complete) report). absurd (bound_line past.bound complete report past.told))
+    (λ (left : IsLeftOpen rules words r (verdict.Legal complete) report). let both = left.told.verdict_is in cc)
+    others)
+    rest)
+    is
+
+-- ---- legal
+
+-- a game that is told to be legal, by its inputs
+legal_game : LexiconsAreExact → (rules : Rules) (texts : Texts) (complete : Bool) (report : List ℕ) (words : List (List ℕ)) (game : Record) → list_of texts.words ≡ Ok words
+    → IsLexicon words texts.lexicon → record_of texts.game ≡ Ok game → IsGame rules words game.events → IsToldLegal rules words game (verdict.Legal complete) report
+    → IsLegalGame rules texts complete report
+legal_game exact rules texts complete report words game listed paired recorded is told =
+    let ended : complete ≡ is_finished rules game.events = same_complete complete (is_finished rules game.events) told.verdict_is in
+    let lines = subst (λ c. IsLegalReport rules words c game report) (sym ended) told.told in
+    record {
+      list = words;
+      listed = listed;
+      game = game;
+      recorded = recorded;
+      lexicon = exact texts.words texts.lexicon words listed (record { shape = shape_of texts.lexicon paired.form; agreed = paired.agreed });
+      racks = is.racks;
+      dealt = is.dealt;
+      allowed = is.allowed;
+      ended = ended;
+      told = lines.is_told.best;
+      lines = lines.is_told.count;
+      printed = lines.behind ∙ ap (λ t. legal_line complete ++ t) lines.is_told.are;
+      best = λ place e rack at judged full.
+          let tells = lines.is_told.each place (slice_get_within game.events place e at) e at in
+          by_rack rules words (tally_at rules game.events place).board rack (slice_index_or lines.is_told.best place []) (full_rack (tally_at rules game.events place) e) full (tells.judged judged);
+    }
+
+game_of : (rules : Rules) (words : List (List ℕ)) (r : Record) (v : Verdict) (report : List ℕ) → IsLegal rules words r v report → IsGame rules words r.events
+game_of rules words r v report legal =
+    let deal = some_of (dealt rules (steps_of rules r.events)) (Fits rules (steps_of rules r.events)) legal.is_dealt in
+    record { allowed = legal.allowed; racks = deal.0; dealt = deal.1 }
 
 pub legal_is : LexiconsAreExact → LegalMeansLegal
 legal_is exact rules texts complete report decided =
-    let on = decided.judged in
-    let is = on.verdict_is in
-    let deal = some_of (dealt rules (steps_of rules on.game.events)) (Fits rules (steps_of rules on.game.events)) is.is_dealt in
-    let lines = report_is rules complete texts on.list on.game report on.listed on.recorded decided.told in
-    record {
-      list = on.list;
-      listed = on.listed;
-      game = on.game;
-      recorded = on.recorded;
-      lexicon = exact texts.words texts.lexicon on.list on.listed (record { shape = shape_of texts.lexicon on.paired.form; agreed = on.paired.agreed });
-      racks = deal.0;
-      dealt = deal.1;
-      allowed = is.allowed;
-      told = lines.is_told.best;
-      printed = lines.behind ∙ ap (λ t. legal_line complete ++ t) lines.is_told.are;
-      best = λ place e rack at judged full.
-          let tells = lines.is_told.each place (slice_get_within on.game.events place e at) e at in
-          by_rack rules on.list (tally_at rules on.game.events place).board rack (slice_index_or lines.is_told.best place []) (full_rack (tally_at rules on.game.events place) e) full (tells.judged judged);
-    }
+    let on = on_game (IsJudged rules) texts (verdict.Legal complete) report (legal_own complete) decided in
+    let is = legal_answer rules on.words on.game complete report on.answer in
+    legal_game exact rules texts complete report on.words on.game on.listed on.paired on.recorded
+    (game_of rules on.words on.game (verdict.Legal complete) report is) is.told
+
+-- the same of a settled verdict
+
+settled_answer : (rules : Rules) (words : List (List ℕ)) (r : Record) (complete : Bool) (report : List ℕ) → IsSettled rules words r (verdict.Legal complete) report
+    → IsSettledLegal rules words r (verdict.Legal complete) report
+settled_answer rules words r complete report is =
+    ⊎_elim
+    (λ (legal : IsSettledLegal rules words r (verdict.Legal complete) report). legal)
+    (λ (rest : IsRefused rules words r (verdict.Legal complete) report ⊎ IsPastBound rules words r (verdict.Legal complete) report ⊎ IsUndealt rules words r (verdict.Legal complete) report ⊎ IsStillOpen rules words r (verdict.Legal complete) report).
+    ⊎_elim
+    (λ (refused : IsRefused rules words r (verdict.Legal complete) report). let both = refused.told.verdict_is in cc)
+    (λ (others : IsPastBound rules words r (verdict.Legal complete) report ⊎ IsUndealt rules words r (verdict.Legal complete) report ⊎ IsStillOpen rules words r (verdict.Legal complete) report).
+    ⊎_elim
+    (λ (past : IsPastBound rules words r (verdict.Legal complete) report). absurd (bound_line past.bound complete report past.told))
+    (λ (last : IsUndealt rules words r (verdict.Legal complete) report ⊎ IsStillOpen rules words r (verdict.Legal complete) report).
+    ⊎_elim
+    (λ (none : IsUndealt rules words r (verdict.Legal complete) report). let both = none.told.verdict_is in cc)
+    (λ (left : IsStillOpen rules words r (verdict.Legal complete) report). let both = left.told.verdict_is in cc)
+    last)
+    others)
+    rest)
+    is
+
+pub settled_legal_is : LexiconsAreExact → SettledLegalMeansLegal
+settled_legal_is exact rules texts complete report decided =
+    let on = on_game (IsSettled rules) texts (verdict.Legal complete) report (legal_own complete) decided in
+    let is = settled_answer rules on.words on.game complete report on.answer in
+    legal_game exact rules texts complete report on.words on.game on.listed on.paired on.recorded is.game is.told
 
 -- ---- the same by the rules of a text
 
--- a text by whose rules a game is legal means rules
-means_rules : (meaning : Result RuleParts RulesFault) (texts : Texts) (complete : Bool) (report : List ℕ) → IsRuledBy IsDecided meaning texts (verdict.Legal complete) report
-    → (parts : RuleParts) × (meaning ≡ Ok parts) × IsAnswerBy IsDecided parts texts (verdict.Legal complete) report
-means_rules (Ok parts) texts complete report h = (parts, refl, h)
-means_rules (Err fault) texts complete report h = let both : verdict.Legal complete ≡ verdict.BadRules = h.verdict_is in cc
-
 pub legal_by_text : LexiconsAreExact → LegalMeansLegalByText
-legal_by_text exact texts complete report h =
-    let means = means_rules (meaning_of texts.rules) texts.inputs complete report h in
-    (means.2.rules, means.1 ∙ ap Ok (sym means.2.stated), legal_is exact means.2.rules texts.inputs complete report means.2.answer)
+legal_by_text exact stated texts complete report decided =
+    let own = legal_own complete in
+    let by = by_meaning verdict.BadRules bad_rules_line (ByParts IsDecided) (meaning_of stated) (in_order texts) (verdict.Legal complete) report own.rules decided in
+    let rules = by.2.0 in
+    (rules, by.1 ∙ ap Ok (sym by.2.1), legal_is exact rules texts complete report by.2.2)
+
+-- ---- what a run says of it
+
+abbrev texts_of : (words lexicon game : List ℕ) → Texts
+texts_of words lexicon game = record { words = words; lexicon = lexicon; game = game }
+
+run_of : (rules : Rules) (IsAnswer : List (List ℕ) → Verdict → List ℕ → Type 0) (first second third : Source) (texts : List (List ℕ)) (complete : Bool) (report : List ℕ) (old new : Device)
+    → ((given : Texts) → IsAnswer (in_order given) (verdict.Legal complete) report → IsLegalGame rules given complete report)
+    → AreGiven (first ∷ second ∷ third ∷ []) texts → IsAnswer texts (verdict.Legal complete) report → Appends old.bytes new.bytes report
+    → IsLegalRun rules (first ∷ second ∷ third ∷ []) complete old new
+run_of rules IsAnswer first second third [] complete report old new law given is told = absurd given
+run_of rules IsAnswer first second third (a ∷ []) complete report old new law given is told = absurd given.1
+run_of rules IsAnswer first second third (a ∷ b ∷ []) complete report old new law given is told = absurd given.1.1
+run_of rules IsAnswer first second third (a ∷ b ∷ c ∷ []) complete report old new law given is told =
+    record {
+      texts = texts_of a b c;
+      given = given;
+      report = report;
+      game = law (texts_of a b c) is;
+      told = told;
+    }
+run_of rules IsAnswer first second third (a ∷ b ∷ c ∷ d ∷ texts) complete report old new law given is told = absurd given.1.1.1
+
+legal_run_by : (rules : Rules) (IsAnswer : List (List ℕ) → Verdict → List ℕ → Type 0) (first second third : Source) (old new : Device) (result : Result Verdict RunFault)
+    → ((given : Texts) (complete : Bool) (report : List ℕ) → IsAnswer (in_order given) (verdict.Legal complete) report → IsLegalGame rules given complete report)
+    → IsRun (first ∷ second ∷ third ∷ []) IsAnswer old new result
+    → IfOk result (λ v. (complete : Bool) → v ≡ verdict.Legal complete → IsLegalRun rules (first ∷ second ∷ third ∷ []) complete old new)
+legal_run_by rules IsAnswer first second third old new (Ok v) law run =
+    λ complete same.
+    let there = run.answered in
+    let texts = there.answered.texts in
+    run_of rules IsAnswer first second third texts complete there.report old new (λ given. law given complete there.report) there.answered.given
+    (subst (λ x. IsAnswer texts x there.report) same there.answered.answer) there.told
+legal_run_by rules IsAnswer first second third old new (Err fault) law run = tt
+
+pub legal_run : LegalMeansLegal → (rules : Rules) (first second third : Source) (old new : Device) (result : Result Verdict RunFault)
+    → IsRun (first ∷ second ∷ third ∷ []) (IsDecided rules) old new result
+    → IfOk result (λ v. (complete : Bool) → v ≡ verdict.Legal complete → IsLegalRun rules (first ∷ second ∷ third ∷ []) complete old new)
+legal_run law rules first second third old new result run =
+    legal_run_by rules (IsDecided rules) first second third old new result (λ given complete report. law rules given complete report) run
+
+pub settled_run : SettledLegalMeansLegal → (rules : Rules) (first second third : Source) (old new : Device) (result : Result Verdict RunFault)
+    → IsRun (first ∷ second ∷ third ∷ []) (IsSettledBy rules) old new result
+    → IfOk result (λ v. (complete : Bool) → v ≡ verdict.Legal complete → IsLegalRun rules (first ∷ second ∷ third ∷ []) complete old new)
+settled_run law rules first second third old new result run =
+    legal_run_by rules (IsSettledBy rules) first second third old new result (λ given complete report. law rules given complete report) run
+
+-- ---- illegal
+
+legal_never : (rules : Rules) (words : List (List ℕ)) (r : Record) (line : ℕ) (fault : GameFault) (report : List ℕ) → IsLegal rules words r (verdict.Illegal line fault) report → ⊥
+legal_never rules words r line fault report legal = let both = legal.told.verdict_is in cc
+
+first_not_allowed : (rules : Rules) (words : List (List ℕ)) (events : List Event) (line : ℕ) (why : RuleFault) → IsFirstRefusal rules words events line why → AreAllowed rules words events → ⊥
+first_not_allowed rules words events line why first allowed =
+    let none : fault_at rules words events first.place ≡ None = allowed first.place (slice_get_within events first.place first.event first.stands) in
+    let both : None ≡ Some why = sym none ∙ first.fails in
+    cc
+
+refused_no_game : (rules : Rules) (words : List (List ℕ)) (r : Record) (v : Verdict) (report : List ℕ) → IsRefused rules words r v report → IsGame rules words r.events → ⊥
+refused_no_game rules words r v report refused game = first_not_allowed rules words r.events refused.line refused.why refused.first game.allowed
+
+no_game : (rules : Rules) (words : List (List ℕ)) (r : Record) (line : ℕ) (fault : GameFault) (report : List ℕ) → IsJudged rules words r (verdict.Illegal line fault) report → IsGame rules words r.events → ⊥
+no_game rules words r line fault report is game =
+    ⊎_elim
+    (λ (legal : IsLegal rules words r (verdict.Illegal line fault) report). legal_never rules words r line fault report legal)
+    (λ (rest : IsRefused rules words r (verdict.Illegal line fault) report ⊎ IsPastBound rules words r (verdict.Illegal line fault) report ⊎ IsLeftOpen rules words r (verdict.Illegal line fault) report).
+    ⊎_elim
+    (λ (refused : IsRefused rules words r (verdict.Illegal line fault) report). refused_no_game rules words r (verdict.Illegal line fault) report refused game)
+    (λ (others : IsPastBound rules words r (verdict.Illegal line fault) report ⊎ IsLeftOpen rules words r (verdict.Illegal line fault) report).
+    ⊎_elim
+    (λ (past : IsPastBound rules words r (verdict.Illegal line fault) report). past.exceeded.undealt game.racks game.dealt)
+    (λ (left : IsLeftOpen rules words r (verdict.Illegal line fault) report). let both = left.told.verdict_is in cc)
+    others)
+    rest)
+    is
+
+-- the words and the record of a game, where they are given twice
+same_game : (IsAnswer : (words : List (List ℕ)) → Record → Verdict → List ℕ → Type 0) (texts : Texts) (v : Verdict) (report : List ℕ) (words : List (List ℕ)) (game : Record) → IsOwn v
+    → ReadsGame IsAnswer (in_order texts) v report → list_of texts.words ≡ Ok words → record_of texts.game ≡ Ok game → IsAnswer words game v report
+same_game IsAnswer texts v report words game own decided listed recorded =
+    let on = on_game IsAnswer texts v report own decided in
+    let same_words : on.words ≡ words = same_ok on.words words (list_of texts.words) on.listed listed in
+    let same_record : on.game ≡ game = same_ok on.game game (record_of texts.game) on.recorded recorded in
+    subst (λ r. IsAnswer words r v report) same_record (subst (λ ws. IsAnswer ws on.game v report) same_words on.answer)
+
+pub illegal_is : IllegalMeansNoGame
+illegal_is rules texts line fault report decided words game listed recorded is =
+    no_game rules words game line fault report (same_game (IsJudged rules) texts (verdict.Illegal line fault) report words game (illegal_own line fault) decided listed recorded) is
+
+-- the same of a settled verdict
+
+settled_no_game : FrontsDecide → (rules : Rules) (words : List (List ℕ)) (r : Record) (line : ℕ) (fault : GameFault) (report : List ℕ) → IsSettled rules words r (verdict.Illegal line fault) report
+    → IsGame rules words r.events → ⊥
+settled_no_game fronts rules words r line fault report is game =
+    ⊎_elim
+    (λ (legal : IsSettledLegal rules words r (verdict.Illegal line fault) report). let both = legal.told.verdict_is in cc)
+    (λ (rest : IsRefused rules words r (verdict.Illegal line fault) report ⊎ IsPastBound rules words r (verdict.Illegal line fault) report ⊎ IsUndealt rules words r (verdict.Illegal line fault) report ⊎ IsStillOpen rules words r (verdict.Illegal line fault) report).
+    ⊎_elim
+    (λ (refused : IsRefused rules words r (verdict.Illegal line fault) report). refused_no_game rules words r (verdict.Illegal line fault) report refused game)
+    (λ (others : IsPastBound rules words r (verdict.Illegal line fault) report ⊎ IsUndealt rules words r (verdict.Illegal line fault) report ⊎ IsStillOpen rules words r (verdict.Illegal line fault) report).
+    ⊎_elim
+    (λ (past : IsPastBound rules words r (verdict.Illegal line fault) report). past.exceeded.undealt game.racks game.dealt)
+    (λ (last : IsUndealt rules words r (verdict.Illegal line fault) report ⊎ IsStillOpen rules words r (verdict.Illegal line fault) report).
+    ⊎_elim
+    (λ (none : IsUndealt rules words r (verdict.Illegal line fault) report). fronts rules (steps_of rules r.events) (none.place + 1) none.undealt game.racks game.dealt)
+    (λ (left : IsStillOpen rules words r (verdict.Illegal line fault) report). let both = left.told.verdict_is in cc)
+    last)
+    others)
+    rest)
+    is
+
+pub settled_illegal_is : FrontsDecide → SettledIllegalMeansNoGame
+settled_illegal_is fronts rules texts line fault report decided words game listed recorded is =
+    settled_no_game fronts rules words game line fault report
+    (same_game (IsSettled rules) texts (verdict.Illegal line fault) report words game (illegal_own line fault) decided listed recorded) is
+
+-- ---- without an exchange
+
+good_list : (rules : Rules) (texts : Texts) (v : Verdict) (report : List ℕ) (words : List (List ℕ)) (game : Record) → IsDecided rules (in_order texts) v report → list_of texts.words ≡ Ok words
+    → IsLexicon words texts.lexicon → record_of texts.game ≡ Ok game → IsJudged rules words game v report
+good_list rules texts v report words game decided listed paired recorded =
+    let Last : List (List ℕ) → Record → List (List ℕ) → Verdict → List ℕ → Type 0 = λ ws r. ReadsNoMore (IsJudged rules ws r) in
+    let by_list : ByLexicon words (ReadsRecord (Last words)) texts.lexicon (texts.game ∷ []) v report
+    = subst (λ m. ByMeaning verdict.BadList bad_list_line (λ ws. ReadsLexicon ws (ReadsRecord (Last ws))) m (texts.lexicon ∷ texts.game ∷ []) v report) listed decided in
+    let by_pair : ByMeaning verdict.BadRecord bad_record_line (Last words) (record_of texts.game) [] v report
+    = ⊎_elim
+    (λ (good : IsLexicon words texts.lexicon × ReadsRecord (Last words) (texts.game ∷ []) v report). good.1)
+    (λ (told : IsToldFile words texts.lexicon v report). absurd (told.bad.unlike paired))
+    by_list in
+    subst (λ m. ByMeaning verdict.BadRecord bad_record_line (Last words) m [] v report) recorded by_pair
+
+legal_of : (rules : Rules) (words : List (List ℕ)) (r : Record) (v : Verdict) (report : List ℕ) → HaveNoExchange r.events → IsJudged rules words r v report → IsGame rules words r.events
+    → v ≡ verdict.Legal (is_finished rules r.events)
+legal_of rules words r v report plain is game =
+    ⊎_elim
+    (λ (legal : IsLegal rules words r v report). legal.told.verdict_is)
+    (λ (rest : IsRefused rules words r v report ⊎ IsPastBound rules words r v report ⊎ IsLeftOpen rules words r v report).
+    ⊎_elim
+    (λ (refused : IsRefused rules words r v report). absurd (refused_no_game rules words r v report refused game))
+    (λ (others : IsPastBound rules words r v report ⊎ IsLeftOpen rules words r v report).
+    ⊎_elim
+    (λ (past : IsPastBound rules words r v report). absurd (past.exceeded.undealt game.racks game.dealt))
+    (λ (left : IsLeftOpen rules words r v report). absurd (left.unsettled.exchanged plain))
+    others)
+    rest)
+    is
+
+pub plain_is : PlainGamesAreDecided
+plain_is rules texts v report decided words game listed paired recorded plain =
+    let judged = good_list rules texts v report words game decided listed paired recorded in (
+      λ same. game_of rules words game (verdict.Legal (is_finished rules game.events)) report
+          (legal_answer rules words game (is_finished rules game.events) report (subst (λ x. IsJudged rules words game x report) same judged)),
+      λ is. legal_of rules words game v report plain judged is,
+    )

@@ -14,9 +14,9 @@ use Rattle.lex_check.specs.Differences.{IsMissing, IsExtra, Begins, BeginsNone}
 use Rattle.lex_check.specs.Pairs.{file_in, list_in}
 use Rattle.engine.specs.declared.lexicons.LexiconFault.{LexiconFault}
 use Rattle.engine.specs.declared.lexicons.LexiconFault.TheVariants as fault
-use Rattle.engine.specs.declared.lexicons.Paired.{Paired}
-use Rattle.engine.specs.declared.lexicons.Paired.TheVariants as paired
-use Rattle.engine.specs.Lexicons.{file_fault, IsLexicon, IsFaultOf, IsPaired, IsRefusedPair}
+use Rattle.engine.specs.declared.decisions.Decision.{Decision}
+use Rattle.engine.specs.Lexicons.{file_fault, IsLexicon, IsFaultOf, IsRefusedPair}
+use Rattle.engine.specs.Stages.{IsPairOf}
 
 -- ---- a fault says that the bytes are no lexicon of the words
 
@@ -40,39 +40,39 @@ unlike_by words bytes fault.TooManyArcs is lexicon = is
 
 -- ---- the verdict on it
 
-refused_by : (words : List (List ℕ)) (bytes : List ℕ) (first : LexiconFault) (p : Paired) → IsFaultOf words bytes first → IsRefusedPair first p → IsPaired words bytes p
-refused_by words bytes first (paired.Agreed pair) is refused = absurd refused
-refused_by words bytes first (paired.Refused d) is refused =
+refused_by : (words : List (List ℕ)) (bytes : List ℕ) (first : LexiconFault) (p : Result Checked Decision) → IsFaultOf words bytes first → IsRefusedPair first p → IsPairOf words bytes p
+refused_by words bytes first (Ok pair) is refused = absurd refused
+refused_by words bytes first (Err d) is refused =
     record {
       verdict_is = refused.verdict_is;
       bad = record { unlike = unlike_by words bytes first is; fault = first; fails = is; told = refused.told };
     }
 
-refused_with : {E : Type 0} (words : List (List ℕ)) (bytes : List ℕ) (first : LexiconFault) (r : Result Paired E) → IsFaultOf words bytes first → IfOk r (λ p. IsRefusedPair first p)
-    → IfOk r (λ p. IsPaired words bytes p)
+refused_with : {E : Type 0} (words : List (List ℕ)) (bytes : List ℕ) (first : LexiconFault) (r : Result (Result Checked Decision) E) → IsFaultOf words bytes first → IfOk r (λ p. IsRefusedPair first p)
+    → IfOk r (λ p. IsPairOf words bytes p)
 refused_with words bytes first (Ok p) is refused = refused_by words bytes first p is refused
 refused_with words bytes first (Err gone) is refused = tt
 
-pub bad_form : {E : Type 0} (words : List (List ℕ)) (bytes : List ℕ) (form : FileFault) (r : Result Paired E) → file_fault bytes ≡ Some form → IfOk r (λ p. IsRefusedPair (fault.Form form) p)
-    → IfOk r (λ p. IsPaired words bytes p)
+pub bad_form : {E : Type 0} (words : List (List ℕ)) (bytes : List ℕ) (form : FileFault) (r : Result (Result Checked Decision) E) → file_fault bytes ≡ Some form → IfOk r (λ p. IsRefusedPair (fault.Form form) p)
+    → IfOk r (λ p. IsPairOf words bytes p)
 bad_form words bytes form r is refused = refused_with words bytes (fault.Form form) r is refused
 
-pub is_missing : {E : Type 0} (words : List (List ℕ)) (bytes shown : List ℕ) (path : ArrayVec ℕ) (r : Result Paired E) → file_fault bytes ≡ None → shown ≡ bytes
-    → IsMismatch words shown (why.Missing path) → IfOk r (λ p. IsRefusedPair (fault.Missing path) p) → IfOk r (λ p. IsPaired words bytes p)
+pub is_missing : {E : Type 0} (words : List (List ℕ)) (bytes shown : List ℕ) (path : ArrayVec ℕ) (r : Result (Result Checked Decision) E) → file_fault bytes ≡ None → shown ≡ bytes
+    → IsMismatch words shown (why.Missing path) → IfOk r (λ p. IsRefusedPair (fault.Missing path) p) → IfOk r (λ p. IsPairOf words bytes p)
 is_missing words bytes shown path r form same is refused =
     refused_with words bytes (fault.Missing path) r (form, subst (λ b. IsMismatch words b (why.Missing path)) same is) refused
 
-pub is_extra : {E : Type 0} (words : List (List ℕ)) (bytes shown : List ℕ) (path : ArrayVec ℕ) (r : Result Paired E) → file_fault bytes ≡ None → shown ≡ bytes
-    → IsMismatch words shown (why.Extra path) → IfOk r (λ p. IsRefusedPair (fault.Extra path) p) → IfOk r (λ p. IsPaired words bytes p)
+pub is_extra : {E : Type 0} (words : List (List ℕ)) (bytes shown : List ℕ) (path : ArrayVec ℕ) (r : Result (Result Checked Decision) E) → file_fault bytes ≡ None → shown ≡ bytes
+    → IsMismatch words shown (why.Extra path) → IfOk r (λ p. IsRefusedPair (fault.Extra path) p) → IfOk r (λ p. IsPairOf words bytes p)
 is_extra words bytes shown path r form same is refused =
     refused_with words bytes (fault.Extra path) r (form, subst (λ b. IsMismatch words b (why.Extra path)) same is) refused
 
-pub is_miscounted : {E : Type 0} (words : List (List ℕ)) (bytes shown : List ℕ) (r : Result Paired E) → file_fault bytes ≡ None → shown ≡ bytes
-    → IsMismatch words shown why.WordCount → IfOk r (λ p. IsRefusedPair fault.WordCount p) → IfOk r (λ p. IsPaired words bytes p)
+pub is_miscounted : {E : Type 0} (words : List (List ℕ)) (bytes shown : List ℕ) (r : Result (Result Checked Decision) E) → file_fault bytes ≡ None → shown ≡ bytes
+    → IsMismatch words shown why.WordCount → IfOk r (λ p. IsRefusedPair fault.WordCount p) → IfOk r (λ p. IsPairOf words bytes p)
 is_miscounted words bytes shown r form same is refused =
     refused_with words bytes fault.WordCount r (form, subst (λ b. IsMismatch words b why.WordCount) same is) refused
 
 pub is_agreed : (words : List (List ℕ)) (bytes : List ℕ) (file : LexFile) (pair : Checked) → file_fault bytes ≡ None → bytes_of file ≡ bytes
-    → file_in pair ≡ file → list_in pair ≡ words → IsAgreed words (bytes_of file) → IsPaired words bytes (paired.Agreed pair)
+    → file_in pair ≡ file → list_in pair ≡ words → IsAgreed words (bytes_of file) → IsPairOf words bytes (Ok pair)
 is_agreed words bytes file pair form same kept list agreed =
     (record { form = form; agreed = subst (IsAgreed words) same agreed }, list, ap bytes_of kept ∙ same)

@@ -1,50 +1,59 @@
--- Answers by the bytes of a rack that are none.
-use Rattle.std.proofs.Common.{◌≡◌, ℕ, List, None, Result, IfOk, IfErr, OnOk, OnErr, refl, sym, subst}
+-- Answers by a rack.
+use Rattle.std.proofs.Common.{◌≡◌, ℕ, List, Option, Some, None, Result, Ok, Err, IfOk, IfErr, refl, sym, subst, inl, inr}
 use Rattle.ref_tiles.specs.declared.rulebook.Rules.{Rules}
-use Rattle.gcg_read.specs.Racks.{rack_of}
-use Rattle.devices.specs.Devices.{Device, HasWorked}
-use Rattle.devices.specs.Outputs.{SendsFront}
+use Rattle.gcg_read.specs.declared.records.Record.{Record}
+use Rattle.game_turns.specs.declared.faults.RuleFault.{RuleFault}
+use Rattle.game_turns.specs.Places.{AreAllowed, IsFirstRefusal}
+use Rattle.game_report.specs.TopPlays.{board_after, TellsTop}
+use Rattle.devices.specs.Devices.{Device}
 use Rattle.engine.specs.declared.decisions.Decision.{Decision}
 use Rattle.engine.specs.declared.faults.RunFault.{RunFault}
 use Rattle.engine.specs.declared.faults.RunFault.TheVariants as run
+use Rattle.engine.specs.declared.verdicts.GameFault.TheVariants as game
 use Rattle.engine.specs.declared.verdicts.Verdict.{Verdict}
 use Rattle.engine.specs.declared.verdicts.Verdict.TheVariants as verdict
-use Rattle.engine.specs.Judging.{Texts, IsTold}
-use Rattle.engine.specs.Lexicons.{most_lexicon_bytes}
-use Rattle.engine.specs.Reports.{bad_rack_line}
-use Rattle.engine.specs.Runs.{most_record_bytes, most_list_bytes, Answers, HasStopped, GivesUp, OneOfThreeHasFailed, AreGiven}
-use Rattle.engine.specs.Topping.{IsToppedOf, IsTopped}
-use Rattle.engine.proofs.Answering.{answers, stops_writing}
-use Rattle.engine.proofs.Sequences.{given_of, some_input, untouched}
+use Rattle.engine.specs.Reports.{illegal_line, bad_rack_line}
+use Rattle.engine.specs.Runs.{Decides, IsSent, IsRun}
+use Rattle.engine.specs.Sources.{Source, AreUntouched}
+use Rattle.engine.specs.Telling.{IsTold}
+use Rattle.engine.specs.Topping.{IsToppedOn, ByRack}
+use Rattle.engine.proofs.Deciding.{decided_unread, stopped_unread}
+use Rattle.engine.proofs.Runs.{runs}
 
--- texts that the inputs give, of which none is read
-abbrev pub some_texts : (words_in file_in game_in : Device) → Texts
-some_texts words_in file_in game_in =
-    record { words = given_of most_list_bytes words_in.bytes; lexicon = given_of most_lexicon_bytes file_in.bytes; game = given_of most_record_bytes game_in.bytes }
+pub topped : (rules : Rules) (words : List (List ℕ)) (rack : List ℕ) (r : Record) (report : List ℕ) → AreAllowed rules words r.events
+    → TellsTop rules words (board_after rules r.events) rack report → IsToppedOn rules words rack r verdict.Done report
+topped rules words rack r report allowed told = inl (record { verdict_is = refl; allowed = allowed; told = told })
 
-pub given_so : (words_in file_in game_in : Device) → AreGiven words_in file_in game_in (some_texts words_in file_in game_in)
-given_so words_in file_in game_in =
-    record { words_are = some_input most_list_bytes words_in; lexicon_is = some_input most_lexicon_bytes file_in; game_is = some_input most_record_bytes game_in }
+pub topped_refused : (rules : Rules) (words : List (List ℕ)) (rack : List ℕ) (r : Record) (line : ℕ) (why : RuleFault) (v : Verdict) (report : List ℕ) → IsFirstRefusal rules words r.events line why
+    → IsTold (verdict.Illegal line (game.Rule why)) (illegal_line line (game.Rule why)) v report → IsToppedOn rules words rack r v report
+topped_refused rules words rack r line why v report first told = inr (record { line = line; why = why; first = first; told = told })
 
-no_rack : (rules : Rules) (bytes : List ℕ) (texts : Texts) (d : Decision) → rack_of bytes ≡ None → IsTold verdict.BadRack bad_rack_line d.verdict d.report.items
-    → IsTopped rules bytes texts d.verdict d.report.items
-no_rack rules bytes texts d none told = subst (λ r. IsToppedOf rules r texts d.verdict d.report.items) (sym none) told
+-- ---- a rack that is none
 
-pub refused_rack : (rules : Rules) (bytes : List ℕ) (words_in file_in game_in : Device) (d : Decision) (r : Result Verdict RunFault) (P : List ℕ → Type 0)
-    → rack_of bytes ≡ None → IsTold verdict.BadRack bad_rack_line d.verdict d.report.items → IfOk r (λ v. v ≡ d.verdict) → OnOk r (P d.report.items)
-    → IfOk r (λ v. Answers (AreGiven words_in file_in game_in) (IsTopped rules bytes) v P)
-refused_rack rules bytes words_in file_in game_in d r P none is same told =
-    let texts = some_texts words_in file_in game_in in
-    answers (AreGiven words_in file_in game_in) (IsTopped rules bytes) P r texts texts d.verdict d.report.items (given_so words_in file_in game_in) refl
-    (no_rack rules bytes texts d none is) same told
+pub no_rack : (meant given : Option (List ℕ)) → given ≡ meant → ((rack : List ℕ) → given ≡ Some rack → ⊥) → meant ≡ None
+no_rack meant None same none = sym same
+no_rack meant (Some rack) same none = absurd (none rack refl)
 
-pub refused_rack_stops : (rules : Rules) (bytes : List ℕ) (words_in file_in game_in : Device) (d : Decision) (r : Result Verdict RunFault) (out_old out_new : Device)
-    → rack_of bytes ≡ None → IsTold verdict.BadRack bad_rack_line d.verdict d.report.items
-    → IfErr r (λ fault. fault ≡ run.WriteFailed) → OnErr r (HasStopped out_old out_new) → OnErr r (SendsFront out_old out_new d.report.items)
-    → IfErr r (GivesUp (AreGiven words_in file_in game_in) (IsTopped rules bytes) (OneOfThreeHasFailed words_in words_in file_in file_in game_in game_in)
-    (HasWorked words_in words_in × HasWorked file_in file_in × HasWorked game_in game_in) out_old out_new)
-refused_rack_stops rules bytes words_in file_in game_in d r out_old out_new none is why stopped front =
-    let texts = some_texts words_in file_in game_in in
-    stops_writing (AreGiven words_in file_in game_in) (IsTopped rules bytes) r texts texts d.verdict d.report.items
-    (OneOfThreeHasFailed words_in words_in file_in file_in game_in game_in) (HasWorked words_in words_in × HasWorked file_in file_in × HasWorked game_in game_in) out_old out_new
-    (untouched words_in, untouched file_in, untouched game_in) (given_so words_in file_in game_in) refl (no_rack rules bytes texts d none is) why stopped front
+-- it is told, and no input is touched
+none_decided : (sources : List Source) (IsAnswer : List ℕ → List (List ℕ) → Verdict → List ℕ → Type 0) (rack : Option (List ℕ)) (decided : Result Decision RunFault)
+    → rack ≡ None → AreUntouched sources → IfOk decided (λ d. IsTold verdict.BadRack bad_rack_line d.verdict d.report.items) → IfErr decided (λ fault. fault ≡ run.NoMemory)
+    → Decides sources (ByRack IsAnswer rack) decided
+none_decided sources IsAnswer rack (Ok d) none still told memory =
+    decided_unread sources (ByRack IsAnswer rack) d still (λ texts. subst (λ (o : Option (List ℕ)). ByRack IsAnswer o texts d.verdict d.report.items) (sym none) told)
+none_decided sources IsAnswer rack (Err fault) none still told memory =
+    subst (λ (f : RunFault). Decides sources (ByRack IsAnswer rack) (Err f)) (sym memory) (stopped_unread sources (ByRack IsAnswer rack) still)
+
+pub runs_without : (sources : List Source) (IsAnswer : List ℕ → List (List ℕ) → Verdict → List ℕ → Type 0) (rack : Option (List ℕ)) (old new : Device) (decided : Result Decision RunFault)
+    (result : Result Verdict RunFault) → rack ≡ None → AreUntouched sources
+    → IfOk decided (λ d. IsTold verdict.BadRack bad_rack_line d.verdict d.report.items) → IfErr decided (λ fault. fault ≡ run.NoMemory)
+    → IsSent decided old new result → IsRun sources (ByRack IsAnswer rack) old new result
+runs_without sources IsAnswer rack old new decided result none still told memory sent =
+    runs sources (ByRack IsAnswer rack) old new decided result (none_decided sources IsAnswer rack decided none still told memory) sent
+
+-- ---- one that is some
+
+pub runs_by_rack : (sources : List Source) (IsAnswer : List ℕ → List (List ℕ) → Verdict → List ℕ → Type 0) (rack : Option (List ℕ)) (tiles : List ℕ) (old new : Device) (decided : Result Decision RunFault)
+    (result : Result Verdict RunFault) → rack ≡ Some tiles → Decides sources (IsAnswer tiles) decided → IsSent decided old new result → IsRun sources (ByRack IsAnswer rack) old new result
+runs_by_rack sources IsAnswer rack tiles old new decided result some decides sent =
+    subst (λ (o : Option (List ℕ)). IsRun sources (ByRack IsAnswer o) old new result) (sym some)
+    (runs sources (IsAnswer tiles) old new decided result decides sent)

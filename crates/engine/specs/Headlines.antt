@@ -1,5 +1,6 @@
 -- The headline: what it means that the referee answers legal.
-use Rattle.std.specs.Prelude.{◌≡◌, ◌↔◌, ◌⊎◌, ◌≤◌, ℕ, Bool, true, List, [], ◌∷◌, ◌++◌, codes, decimal, slice_get, slice_index_or, Option, Some, Ok}
+use Rattle.std.specs.Prelude.{◌≡◌, ◌↔◌, ◌⊎◌, ◌≤◌, ℕ, Bool, true, List, [], ◌∷◌, ◌++◌, codes, decimal, length, slice_get, slice_index_or, Option, Some, Ok}
+use Rattle.std.specs.Io.KnownBytes.{Appends}
 use Rattle.ref_tiles.specs.declared.tiles.Tile.{Tile}
 use Rattle.ref_tiles.specs.declared.rulebook.Rules.{Rules}
 use Rattle.ref_tiles.specs.Parts.{parts_of}
@@ -15,16 +16,22 @@ use Rattle.lex_list.specs.Lists.{list_of}
 use Rattle.lex_list.specs.RotatedPaths.{IsPath}
 use Rattle.lex_file.specs.Languages.{IsInLanguage}
 use Rattle.game_turns.specs.Tallies.{tally_at}
-use Rattle.game_turns.specs.Places.{AreAllowed}
+use Rattle.game_turns.specs.Places.{AreAllowed, is_finished}
 use Rattle.deal_steps.specs.declared.deals.Held.{Held}
 use Rattle.deal_steps.specs.Fitting.{Fits}
+use Rattle.devices.specs.Devices.{Device}
+use Rattle.game_deal.specs.Plain.{HaveNoExchange}
 use Rattle.game_deal.specs.Recorded.{steps_of}
 use Rattle.game_report.specs.BestPlays.{is_judged, full_rack, notation_text}
 use Rattle.game_report.specs.EventLines.{lines_from}
 use Rattle.engine.specs.declared.verdicts.Verdict.TheVariants as verdict
-use Rattle.engine.specs.Judging.{Texts, IsDecided}
+use Rattle.engine.specs.declared.verdicts.Verdict.{Verdict}
+use Rattle.engine.specs.declared.verdicts.GameFault.{GameFault}
+use Rattle.engine.specs.Judging.{IsDecided, IsDecidedByText}
+use Rattle.engine.specs.Lexicons.{IsLexicon}
 use Rattle.engine.specs.Reports.{legal_line}
-use Rattle.engine.specs.Ruling.{RuledTexts, IsRuled}
+use Rattle.engine.specs.Sources.{Source, AreGiven}
+use Rattle.engine.specs.Verdicts.{IsGame}
 
 -- What is printed of a full rack: a play that is legal, with words of the list and tiles of the rack, and that none such
 -- outscores; or that there is no such play.
@@ -34,6 +41,16 @@ IsBestPrinted rules list board rack told =
     × ((others : List Placed) → IsCandidate list board rack others → score_of rules board others ≤ score_of rules board ps)
     × (told ≡ codes " best " ++ notation_text (notation_of board ps) ++ 32 ∷ decimal (score_of rules board ps)))
     ⊎ (((ps : List Placed) → IsCandidate list board rack ps → ⊥) × (told ≡ codes " best none"))
+
+-- the bytes of a word list, a lexicon file and a record
+pub record Texts : Type 0 where
+  pub words : List ℕ
+  pub lexicon : List ℕ
+  pub game : List ℕ
+
+-- in the order in which they are read
+abbrev pub in_order : Texts → List (List ℕ)
+in_order texts = texts.words ∷ texts.lexicon ∷ texts.game ∷ []
 
 -- A legal game, by the bytes of a word list, a lexicon file and a record, and its report.
 pub record IsLegalGame (rules : Rules) (texts : Texts) (complete : Bool) (report : List ℕ) : Type 0 where
@@ -49,8 +66,11 @@ pub record IsLegalGame (rules : Rules) (texts : Texts) (complete : Bool) (report
   pub dealt : Fits rules (steps_of rules game.events) racks
   -- Every event is allowed: every play, exchange, withdrawal, bonus and running total is what the rules give.
   pub allowed : AreAllowed rules list game.events
-  -- On each turn with a full rack no legal, valid play scores more than the printed best, which is itself legal and valid.
+  -- It is complete exactly where it is finished, and the report has a line for each event.
+  pub ended : complete ≡ is_finished rules game.events
   pub told : List (List ℕ)
+  pub lines : length told ≡ length game.events
+  -- On each turn with a full rack no legal, valid play scores more than the printed best, which is itself legal and valid.
   pub printed : report ≡ legal_line complete ++ lines_from rules list game 0 told
   pub best : (place : ℕ) (e : Event) (rack : List ℕ) → slice_get game.events place ≡ Some e → is_judged (tally_at rules game.events place).out e.kind ≡ true
       → full_rack (tally_at rules game.events place) e ≡ Some rack
@@ -58,9 +78,35 @@ pub record IsLegalGame (rules : Rules) (texts : Texts) (complete : Bool) (report
 
 -- the verdict that a game is legal, with its report, means that
 abbrev pub LegalMeansLegal : Type 0
-LegalMeansLegal = (rules : Rules) (texts : Texts) (complete : Bool) (report : List ℕ) → IsDecided rules texts (verdict.Legal complete) report → IsLegalGame rules texts complete report
+LegalMeansLegal =
+    (rules : Rules) (texts : Texts) (complete : Bool) (report : List ℕ) → IsDecided rules (in_order texts) (verdict.Legal complete) report
+    → IsLegalGame rules texts complete report
+
+-- The verdict that a game is illegal means that the record is no game by the words of the list.
+abbrev pub IllegalMeansNoGame : Type 0
+IllegalMeansNoGame =
+    (rules : Rules) (texts : Texts) (line : ℕ) (fault : GameFault) (report : List ℕ) → IsDecided rules (in_order texts) (verdict.Illegal line fault) report
+    → (words : List (List ℕ)) (game : Record) → list_of texts.words ≡ Ok words → record_of texts.game ≡ Ok game → IsGame rules words game.events → ⊥
+
+-- Of a record without an exchange the verdict is legal exactly where it is a game, once its inputs are good: a list, its
+-- lexicon, and a record.
+abbrev pub PlainGamesAreDecided : Type 0
+PlainGamesAreDecided =
+    (rules : Rules) (texts : Texts) (v : Verdict) (report : List ℕ) → IsDecided rules (in_order texts) v report
+    → (words : List (List ℕ)) (game : Record) → list_of texts.words ≡ Ok words → IsLexicon words texts.lexicon → record_of texts.game ≡ Ok game
+    → HaveNoExchange game.events
+    → (v ≡ verdict.Legal (is_finished rules game.events)) ↔ IsGame rules words game.events
 
 -- the verdict that a game is legal by the rules of a text, with its report, means that the text states rules, and that the game is legal by them
 abbrev pub LegalMeansLegalByText : Type 0
-LegalMeansLegalByText = (texts : RuledTexts) (complete : Bool) (report : List ℕ) → IsRuled IsDecided texts (verdict.Legal complete) report
-    → (rules : Rules) × (meaning_of texts.rules ≡ Ok (parts_of rules)) × IsLegalGame rules texts.inputs complete report
+LegalMeansLegalByText =
+    (stated : List ℕ) (texts : Texts) (complete : Bool) (report : List ℕ) → IsDecidedByText (stated ∷ in_order texts) (verdict.Legal complete) report
+    → (rules : Rules) × (meaning_of stated ≡ Ok (parts_of rules)) × IsLegalGame rules texts complete report
+
+-- the inputs give a legal game, and its report went out
+pub record IsLegalRun (rules : Rules) (sources : List Source) (complete : Bool) (out_old out_new : Device) : Type 0 where
+  pub texts : Texts
+  pub given : AreGiven sources (in_order texts)
+  pub report : List ℕ
+  pub game : IsLegalGame rules texts complete report
+  pub told : Appends out_old.bytes out_new.bytes report

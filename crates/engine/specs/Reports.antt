@@ -1,5 +1,5 @@
 -- The bytes of a report.
-use Rattle.std.specs.Prelude.{ℕ, ◌+◌, ◌==◌, Bool, true, false, List, [], ◌∷◌, ◌++◌, length, Result, Ok, Err, codes, decimal, if◌then◌else◌, map}
+use Rattle.std.specs.Prelude.{ℕ, ◌+◌, ◌==◌, Bool, true, false, List, [], ◌∷◌, ◌++◌, length, codes, decimal, if◌then◌else◌, map}
 use Rattle.std.specs.Fmt.{signed_decimal}
 use Rattle.ref_tiles.specs.declared.rulebook.Rules.{Rules}
 use Rattle.ref_tiles.specs.declared.kinds.Kind.{Kind}
@@ -50,6 +50,7 @@ abbrev pub fault_text : GameFault → List ℕ
 fault_text (game.Rule why) = rule_text why
 fault_text game.RackTooBig = codes "RackTooBig"
 fault_text (game.TilesShort k) = codes "TilesShort " ++ kind_byte k ∷ []
+fault_text game.NoDeal = codes "NoDeal"
 
 -- the line of a fault, missing where it is 0
 abbrev pub line_text : ℕ → List ℕ
@@ -97,18 +98,3 @@ legal_line false = codes "legal unfinished\n"
 -- the report of a legal game: the verdict, and then a line for each event
 abbrev pub IsLegalReport : Rules → (list : List (List ℕ)) → Bool → Record → (bytes : List ℕ) → Type 0
 IsLegalReport rules list complete r bytes = Appends (AreEventLines rules list r (length r.events)) (legal_line complete) bytes
-
--- ---- the report of a run
-
-abbrev pub IsLegalText : Rules → Bool → Result (List (List ℕ)) ListFault → Result Record ReadFault → (bytes : List ℕ) → Type 0
-IsLegalText rules complete (Ok list) (Ok r) bytes = IsLegalReport rules list complete r bytes
-IsLegalText rules complete (Ok list) (Err fault) bytes = ⊥
-IsLegalText rules complete (Err fault) game bytes = ⊥
-
-abbrev pub bad_list_text : Result (List (List ℕ)) ListFault → List ℕ
-bad_list_text (Ok list) = []
-bad_list_text (Err fault) = bad_list_line fault
-
-abbrev pub bad_record_text : Result Record ReadFault → List ℕ
-bad_record_text (Ok r) = []
-bad_record_text (Err fault) = bad_record_line fault

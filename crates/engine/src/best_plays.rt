@@ -1,3 +1,4 @@
+//! The best plays by a rack on the board after a record.
 ghost use Rattle.std.specs.Prelude.{IfOk};
 ghost use Rattle.game_turns.specs.Passing.{rules_in, record_in};
 ghost use Rattle.game_turns.specs.Places.{AreAllowed};
@@ -6,6 +7,7 @@ ghost use Rattle.engine.specs.Topping.{IsToppedOn};
 
 use crate::decisions::Decision;
 use crate::judging::illegal;
+use crate::questions::Question;
 use crate::verdicts::{GameFault, Verdict};
 use game_report::top_report;
 use game_turns::{Passed, play_through};
@@ -15,6 +17,7 @@ use ref_tiles::{Counts, Rules};
 use std::alloc::{AllocError, Global};
 
 /// The best plays by a rack on the board after a record of which every event is allowed.
+#[tactic(auto, using(crate::proofs::Toppings::topped))]
 fn tell_top(
     alloc: Global,
     passed: &Passed<'_>,
@@ -32,7 +35,8 @@ fn tell_top(
 }
 
 /// The best plays by a rack on the board after a record, or the verdict that an event of it is not allowed.
-pub fn top_record(
+#[tactic(auto, using(crate::proofs::Toppings::topped_refused))]
+fn top_record(
     alloc: Global,
     rules: &Rules,
     pair: &Checked<'_>,
@@ -45,4 +49,30 @@ pub fn top_record(
         Ok(passed) => tell_top(alloc, &passed, pair, rack),
         Err(refusal) => illegal(alloc, refusal.line, GameFault::Rule(refusal.fault)),
     }
+}
+
+/// The best plays by a rack on the board after the record.
+#[derive(Clone, Copy, Debug)]
+pub struct BestPlays {
+    /// The tiles of the rack.
+    pub rack: Counts,
+}
+
+impl Question for BestPlays {
+    ghost use Rattle.engine.specs.Topping.{IsToppedOn};
+    ghost use Rattle.engine.specs.OwnVerdicts.{topped_own};
+
+    ghost is_answer = { λ question rules words game v report. IsToppedOn rules words question.rack game v report };
+
+    fn answer(
+        &self,
+        alloc: Global,
+        rules: &Rules,
+        pair: &Checked<'_>,
+        game: &Record,
+    ) -> Result<Decision, AllocError> {
+        top_record(alloc, rules, pair, game, &self.rack)
+    }
+
+    ghost own = { λ question rules words game v report is. topped_own rules words question.rack game v report is };
 }

@@ -1,70 +1,83 @@
-ghost use Rattle.std.specs.Prelude.{◌≡◌, ◌+◌, IfOk, IfErr, OnOk};
-ghost use Rattle.std.specs.Io.KnownBytes.{Appends};
-ghost use Rattle.devices.specs.Devices.{HasRoom, HasFailed, HasWorked};
-ghost use Rattle.devices.specs.Inputs.{TakesAtMost, IsInput};
-ghost use Rattle.engine.specs.Checking.{AreSources, IsChecked, IsCheckedBy};
-ghost use Rattle.engine.specs.declared.verdicts.Verdict.TheVariants.{BadList};
-ghost use Rattle.engine.specs.Lexicons.{most_lexicon_bytes};
-ghost use Rattle.engine.specs.Runs.{most_list_bytes, Answers, GivesUp, OneHasFailed};
+//! Whether a file is the lexicon of a word list, by the bytes of both.
+ghost use Rattle.std.specs.Prelude.{◌∷◌, [], length, IfOk};
+ghost use Rattle.devices.specs.Devices.{HasRoom};
+ghost use Rattle.lex_check.specs.Pairs.{list_in};
+ghost use Rattle.engine.specs.Checking.{IsChecked};
+ghost use Rattle.engine.specs.declared.verdicts.Verdict.TheVariants as verdict;
+ghost use Rattle.engine.specs.Reading.{ReadsNoMore, ReadsLexicon, ByLexicon};
+ghost use Rattle.engine.specs.Reports as reports;
+ghost use Rattle.engine.specs.Runs.{Decides, IsRun};
+ghost use Rattle.engine.specs.Sources.{words_source, lexicon_source};
+ghost use Rattle.engine.specs.Telling.{IsTold};
 
 use crate::decisions::Decision;
 use crate::faults::RunFault;
-use crate::lexicons::{Paired, pair_file};
+use crate::lexicons::{pair_file, read_lexicon};
 use crate::reports::ok_line;
-use crate::transfers::{read_text, send};
+use crate::transfers::finish;
 use crate::verdicts::Verdict;
-use crate::word_lists::{Listed, read_list};
+use crate::words::read_list;
 use devices::{Input, Output};
-use lex_file::MAX_FILE_BYTES;
+use lex_check::Checked;
 use lex_list::WordList;
 use std::alloc::{AllocError, Global};
 
-/// The number of words of a list, where the bytes of a file are its lexicon; else what is wrong with them.
-#[tactic(auto, using(crate::proofs::CheckedFiles::checked_good, crate::proofs::CheckedFiles::checked_wrong))]
-fn check_bytes(alloc: Global, list: &WordList, bytes: &[u8]) -> Result<Decision, AllocError>
-    ensures { IfOk result (λ d. IsCheckedBy list.now bytes.now d.verdict d.report.items) }
+/// The verdict that it is done, with the number of words of a list and its lexicon.
+fn tell_number(alloc: Global, pair: &Checked<'_>) -> Result<Decision, AllocError>
+    ensures { IfOk result (λ d. IsTold verdict.Done (reports.ok_line (length (list_in pair.now))) d.verdict d.report.items) }
 {
-    match pair_file(alloc, list, bytes) {
-        Ok(Paired::Agreed(pair)) => {
-            let report = ok_line(alloc, pair.list().len())?;
-            Ok(Decision {
-                verdict: Verdict::Done,
-                report,
-            })
-        }
-        Ok(Paired::Refused(decision)) => Ok(decision),
-        Err(refused) => Err(refused),
+    let report = ok_line(alloc, pair.list().len())?;
+    Ok(Decision {
+        verdict: Verdict::Done,
+        report,
+    })
+}
+
+/// The number of words of a list, where the bytes of a file are its lexicon; else what is wrong with them.
+fn check_bytes(alloc: Global, list: &WordList, bytes: &[u8]) -> Result<Decision, AllocError>
+    ensures { IfOk result (λ d. ByLexicon list.now (ReadsNoMore (IsTold verdict.Done (reports.ok_line (length list.now)))) bytes.now [] d.verdict d.report.items) }
+{
+    match pair_file(alloc, list, bytes)? {
+        Ok(pair) => tell_number(alloc, &pair),
+        Err(decision) => Ok(decision),
     }
 }
 
-/// Checks a lexicon file by a word list, and writes the answer.
-#[tactic(auto, using(crate::proofs::Answering::answers, crate::proofs::Answering::stops_reading, crate::proofs::Answering::stops_writing))]
-fn check_file<L: Input, O: Output>(
+/// Reads the lexicon of a list, and gives the number of its words, or what is wrong with the file.
+fn decide_file<L: Input>(
     alloc: Global,
     list: &WordList,
     lexicon: &mut L,
-    out: &mut O,
-) -> Result<Verdict, RunFault>
-    requires lexicon { HasRoom (L.device lexicon.old) }
-    requires out { HasRoom (O.device out.old) }
-
-    ensures checked { IfOk result (λ v. Answers (IsInput most_lexicon_bytes (L.device lexicon.old)) (IsCheckedBy list.now) v
-        (Appends (O.device out.old).bytes (O.device out.new).bytes)) }
-    ensures worked { OnOk result (HasWorked (L.device lexicon.old) (L.device lexicon.new)
-        × HasWorked (O.device out.old) (O.device out.new)) }
-    ensures gave_up { IfErr result (GivesUp (IsInput most_lexicon_bytes (L.device lexicon.old)) (IsCheckedBy list.now)
-        (HasFailed (L.device lexicon.old) (L.device lexicon.new)) (HasWorked (L.device lexicon.old) (L.device lexicon.new))
-        (O.device out.old) (O.device out.new)) }
-    ensures lexicon { TakesAtMost (most_lexicon_bytes + 1) (L.device lexicon.old) (L.device lexicon.new) }
+) -> Result<Decision, RunFault>
+    requires { HasRoom (L.device lexicon.old) }
+    ensures { Decides (lexicon_source (L.device lexicon.old) (L.device lexicon.new) ∷ [])
+        (ReadsLexicon list.now (ReadsNoMore (IsTold verdict.Done (reports.ok_line (length list.now))))) result }
 {
-    let bytes = match read_text(alloc, lexicon, MAX_FILE_BYTES) {
+    let bytes = match read_lexicon(alloc, lexicon) {
         Ok(bytes) => bytes,
         Err(fault) => return Err(fault),
     };
-    let Ok(decision) = check_bytes(alloc, list, &bytes) else {
-        return Err(RunFault::NoMemory);
-    };
-    send(out, &decision)
+    match check_bytes(alloc, list, &bytes) {
+        Ok(decision) => Ok(decision),
+        Err(_) => Err(RunFault::NoMemory),
+    }
+}
+
+/// Reads a word list and a lexicon, and gives the number of the words, or the first fault.
+fn decide_check<W: Input, L: Input>(
+    alloc: Global,
+    words: &mut W,
+    lexicon: &mut L,
+) -> Result<Decision, RunFault>
+    requires words { HasRoom (W.device words.old) }
+    requires lexicon { HasRoom (L.device lexicon.old) }
+    ensures { Decides (words_source (W.device words.old) (W.device words.new) ∷ lexicon_source (L.device lexicon.old) (L.device lexicon.new) ∷ []) IsChecked result }
+{
+    match read_list(alloc, words) {
+        Ok(Ok(list)) => decide_file(alloc, &list, lexicon),
+        Ok(Err(decision)) => Ok(decision),
+        Err(fault) => Err(fault),
+    }
 }
 
 /// Checks that a file is the lexicon of a word list, and writes the number of words, or the line of the first fault.
@@ -77,7 +90,6 @@ fn check_file<L: Input, O: Output>(
 ///
 /// `ReadFailed` and `WriteFailed` come only where that device failed, or a write took no byte; `NoMemory` where memory
 /// was refused. After `WriteFailed` a front of the text went out, after the other two nothing.
-#[tactic(auto, using(crate::proofs::CheckedFiles::checked_by_list, crate::proofs::CheckedFiles::gave_up_by_list, crate::proofs::CheckedFiles::stops_listing, crate::proofs::CheckedFiles::past_list, crate::proofs::Sequences::unread_one))]
 pub fn run_check<W: Input, L: Input, O: Output>(
     alloc: Global,
     words: &mut W,
@@ -87,27 +99,9 @@ pub fn run_check<W: Input, L: Input, O: Output>(
     requires words { HasRoom (W.device words.old) }
     requires lexicon { HasRoom (L.device lexicon.old) }
     requires out { HasRoom (O.device out.old) }
-
-    ensures checked { IfOk result (λ v. Answers (AreSources (W.device words.old) (L.device lexicon.old)) IsChecked v
-        (Appends (O.device out.old).bytes (O.device out.new).bytes)) }
-    ensures worked { OnOk result (HasWorked (W.device words.old) (W.device words.new)
-        × HasWorked (L.device lexicon.old) (L.device lexicon.new)
-        × HasWorked (O.device out.old) (O.device out.new)) }
-    ensures gave_up { IfErr result (GivesUp (AreSources (W.device words.old) (L.device lexicon.old)) IsChecked
-        (OneHasFailed (W.device words.old) (W.device words.new) (L.device lexicon.old) (L.device lexicon.new))
-        (HasWorked (W.device words.old) (W.device words.new) × HasWorked (L.device lexicon.old) (L.device lexicon.new))
-        (O.device out.old) (O.device out.new)) }
-
-    // No input is read further than one byte past its limit.
-    ensures words { TakesAtMost (most_list_bytes + 1) (W.device words.old) (W.device words.new) }
-    ensures lexicon { TakesAtMost (most_lexicon_bytes + 1) (L.device lexicon.old) (L.device lexicon.new) }
-
-    // The lexicon is not read behind a list that is bad.
-    ensures bad_list { IfOk result (λ v. v ≡ BadList → L.device lexicon.new ≡ L.device lexicon.old) }
+    ensures { IsRun (words_source (W.device words.old) (W.device words.new) ∷ lexicon_source (L.device lexicon.old) (L.device lexicon.new) ∷ [])
+        IsChecked (O.device out.old) (O.device out.new) result }
 {
-    match read_list(alloc, words) {
-        Ok(Listed::List(list)) => check_file(alloc, &list, lexicon, out),
-        Ok(Listed::Refused(decision)) => send(out, &decision),
-        Err(fault) => Err(fault),
-    }
+    let decided = decide_check(alloc, words, lexicon);
+    finish(out, decided)
 }

@@ -1,25 +1,24 @@
-ghost use Rattle.std.specs.Prelude.{◌≡◌, ◌+◌, IfOk, IfErr, OnOk};
-ghost use Rattle.std.specs.Io.KnownBytes.{Appends};
-ghost use Rattle.devices.specs.Devices.{HasRoom, HasFailed, HasWorked};
-ghost use Rattle.devices.specs.Inputs.{TakesAtMost, IsInput};
-ghost use Rattle.engine.specs.Converting.{IsConvertedFile};
-ghost use Rattle.engine.specs.Lexicons.{most_lexicon_bytes};
-ghost use Rattle.engine.specs.Runs.{Answers, GivesUp};
+//! A compiled lexicon in another format, by the bytes of its input.
+ghost use Rattle.std.specs.Prelude.{◌∷◌, [], IfOk};
+ghost use Rattle.devices.specs.Devices.{HasRoom};
+ghost use Rattle.engine.specs.Converting.{IsConvertedBy, IsConvertedFile};
+ghost use Rattle.engine.specs.Runs.{Decides, IsRun};
+ghost use Rattle.engine.specs.Sources.{lexicon_source};
 
 use crate::decisions::Decision;
 use crate::faults::RunFault;
-use crate::lexicons::{LexiconFault, bad_file, open_within};
-use crate::transfers::{read_text, send};
+use crate::lexicons::{LexiconFault, bad_file, open_within, read_lexicon};
+use crate::transfers::finish;
 use crate::verdicts::Verdict;
 use devices::{Input, Output};
 use lex_build::{BuildFault, convert};
-use lex_file::{Format, MAX_FILE_BYTES};
+use lex_file::Format;
 use std::alloc::{AllocError, Global};
 
 /// The compiled lexicon of these bytes in a format, or the verdict that there is none.
 #[tactic(auto, using(crate::proofs::ConvertedFiles::converted, crate::proofs::ConvertedFiles::malformed, crate::proofs::ConvertedFiles::past_limit))]
 fn convert_bytes(alloc: Global, bytes: &[u8], format: Format) -> Result<Decision, AllocError>
-    ensures { IfOk result (λ d. IsConvertedFile format bytes.now d.verdict d.report.items) }
+    ensures { IfOk result (λ d. IsConvertedBy format bytes.now d.verdict d.report.items) }
 {
     let file = match open_within(bytes) {
         Ok(file) => file,
@@ -35,6 +34,25 @@ fn convert_bytes(alloc: Global, bytes: &[u8], format: Format) -> Result<Decision
     }
 }
 
+/// Reads a compiled lexicon, and gives it in a format.
+fn decide_conversion<L: Input>(
+    alloc: Global,
+    lexicon: &mut L,
+    format: Format,
+) -> Result<Decision, RunFault>
+    requires { HasRoom (L.device lexicon.old) }
+    ensures { Decides (lexicon_source (L.device lexicon.old) (L.device lexicon.new) ∷ []) (IsConvertedFile format) result }
+{
+    let bytes = match read_lexicon(alloc, lexicon) {
+        Ok(bytes) => bytes,
+        Err(fault) => return Err(fault),
+    };
+    match convert_bytes(alloc, &bytes, format) {
+        Ok(decision) => Ok(decision),
+        Err(_) => Err(RunFault::NoMemory),
+    }
+}
+
 /// Converts a compiled lexicon into a format, and writes the bytes of the file, or the line of a fault.
 ///
 /// No word list is asked for: the file has the language of the one that was read, whichever that is. The lexicon is read
@@ -45,7 +63,6 @@ fn convert_bytes(alloc: Global, bytes: &[u8], format: Format) -> Result<Decision
 ///
 /// `ReadFailed` and `WriteFailed` come only where that device failed, or a write took no byte; `NoMemory` where memory
 /// was refused. After `WriteFailed` a front of the bytes went out, after the other two nothing.
-#[tactic(auto, using(crate::proofs::Answering::answers, crate::proofs::Answering::stops_reading, crate::proofs::Answering::stops_writing))]
 pub fn run_convert<L: Input, O: Output>(
     alloc: Global,
     lexicon: &mut L,
@@ -54,24 +71,8 @@ pub fn run_convert<L: Input, O: Output>(
 ) -> Result<Verdict, RunFault>
     requires lexicon { HasRoom (L.device lexicon.old) }
     requires out { HasRoom (O.device out.old) }
-
-    ensures converted { IfOk result (λ v. Answers (IsInput most_lexicon_bytes (L.device lexicon.old)) (IsConvertedFile format) v
-        (Appends (O.device out.old).bytes (O.device out.new).bytes)) }
-    ensures worked { OnOk result (HasWorked (L.device lexicon.old) (L.device lexicon.new)
-        × HasWorked (O.device out.old) (O.device out.new)) }
-    ensures gave_up { IfErr result (GivesUp (IsInput most_lexicon_bytes (L.device lexicon.old)) (IsConvertedFile format)
-        (HasFailed (L.device lexicon.old) (L.device lexicon.new)) (HasWorked (L.device lexicon.old) (L.device lexicon.new))
-        (O.device out.old) (O.device out.new)) }
-
-    // The input is not read further than one byte past its limit.
-    ensures lexicon { TakesAtMost (most_lexicon_bytes + 1) (L.device lexicon.old) (L.device lexicon.new) }
+    ensures { IsRun (lexicon_source (L.device lexicon.old) (L.device lexicon.new) ∷ []) (IsConvertedFile format) (O.device out.old) (O.device out.new) result }
 {
-    let bytes = match read_text(alloc, lexicon, MAX_FILE_BYTES) {
-        Ok(bytes) => bytes,
-        Err(fault) => return Err(fault),
-    };
-    let Ok(decision) = convert_bytes(alloc, &bytes, format) else {
-        return Err(RunFault::NoMemory);
-    };
-    send(out, &decision)
+    let decided = decide_conversion(alloc, lexicon, format);
+    finish(out, decided)
 }

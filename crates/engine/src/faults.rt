@@ -1,3 +1,4 @@
+//! Why a call gave no answer.
 use thiserror::Error;
 
 /// Why the referee gave no answer.

@@ -1,20 +1,23 @@
+//! Whether the game of a record is legal, with its report.
 ghost use Rattle.std.specs.Prelude.{◌≡◌, ◌↔◌, IsTrue, IfOk, None};
 ghost use Rattle.game_turns.specs.Passing.{rules_in, record_in};
-ghost use Rattle.game_turns.specs.Places.{AreAllowed, is_finished};
+ghost use Rattle.game_turns.specs.Places.{AreAllowed};
 ghost use Rattle.deal_steps.specs.Bounds.{first_bound};
-ghost use Rattle.game_deal.specs.Needing.{passed_in};
 ghost use Rattle.game_deal.specs.Plain.{HaveNoExchange};
 ghost use Rattle.game_deal.specs.Recorded.{steps_of};
+ghost use Rattle.game_deal.specs.Stepping.{passed_in};
 ghost use Rattle.lex_check.specs.Pairs as pairs;
 ghost use Rattle.engine.specs.declared.verdicts.Verdict.TheVariants as verdict;
-ghost use Rattle.engine.specs.Judging.{IsJudged, IsTold, IsToldBound, IsToldLegal};
+ghost use Rattle.engine.specs.Judging.{IsJudged, IsToldBound, IsToldLegal};
 ghost use Rattle.engine.specs.Reports as reports;
+ghost use Rattle.engine.specs.Telling.{IsTold};
 ghost use Rattle.engine.specs.Verdicts.{IsDealt};
 
 use crate::decisions::Decision;
+use crate::questions::Question;
 use crate::reports::{illegal_line, legal_report, unsettled_line};
 use crate::verdicts::{GameFault, Verdict};
-use game_deal::{DealFault, Needs, bounds, complete, fits, law_of_bounds};
+use game_deal::{DealFault, Steps, bounds, complete, fits, law_of_bounds};
 use game_turns::{Passed, play_through};
 use gcg_read::Record;
 use lex_check::Checked;
@@ -33,7 +36,7 @@ pub fn illegal(alloc: Global, line: u32, fault: GameFault) -> Result<Decision, A
 }
 
 /// The verdict that a game is legal.
-fn legal(alloc: Global, passed: &Passed<'_>, pair: &Checked<'_>) -> Result<Decision, AllocError>
+pub fn legal(alloc: Global, passed: &Passed<'_>, pair: &Checked<'_>) -> Result<Decision, AllocError>
     ensures { IfOk result (λ d. IsToldLegal (rules_in passed.now) (pairs.list_in pair.now) (record_in passed.now) d.verdict d.report.items) }
 {
     let complete = passed.complete();
@@ -45,7 +48,7 @@ fn legal(alloc: Global, passed: &Passed<'_>, pair: &Checked<'_>) -> Result<Decis
 }
 
 /// The verdict that no deal was found, and that none is ruled out.
-fn unsettled(alloc: Global) -> Result<Decision, AllocError>
+pub fn unsettled(alloc: Global) -> Result<Decision, AllocError>
     ensures { IfOk result (λ d. IsTold verdict.Unsettled reports.unsettled_line d.verdict d.report.items) }
 {
     let report = unsettled_line(alloc)?;
@@ -55,41 +58,8 @@ fn unsettled(alloc: Global) -> Result<Decision, AllocError>
     })
 }
 
-/// Whether the rule of completion gives a deal, and it fits.
-#[tactic(auto, using(crate::proofs::Deals::deal_fits, crate::proofs::Deals::no_deal_fits, crate::proofs::Deals::plain_fits))]
-fn is_dealt(alloc: Global, passed: &Passed<'_>, needs: &Needs<'_>) -> Result<bool, AllocError>
-    requires { passed_in needs.now ≡ passed.now }
-    ensures same { IfOk result (λ b. IsTrue b ↔ IsDealt (rules_in passed.now) (record_in passed.now).events) }
-    ensures plain { IfOk result (λ b. HaveNoExchange (record_in passed.now).events → IsTrue b) }
-{
-    match complete(alloc, needs)? {
-        Some(deal) => Ok(fits(passed, &deal)),
-        None => Ok(false),
-    }
-}
-
-/// The verdict on a record that exceeds no bound, by the deal that it is tried with.
-#[tactic(auto, using(crate::proofs::Deals::judged_dealt, crate::proofs::Deals::judged_undealt))]
-fn settle(
-    alloc: Global,
-    passed: &Passed<'_>,
-    pair: &Checked<'_>,
-    needs: &Needs<'_>,
-) -> Result<Decision, AllocError>
-    requires needs { passed_in needs.now ≡ passed.now }
-    requires bounded { first_bound (rules_in passed.now) (steps_of (rules_in passed.now) (record_in passed.now).events) ≡ None }
-    requires allowed { AreAllowed (rules_in passed.now) (pairs.list_in pair.now) (record_in passed.now).events }
-    ensures { IfOk result (λ d. IsJudged (rules_in passed.now) (pairs.list_in pair.now) (record_in passed.now) d.verdict d.report.items) }
-{
-    if is_dealt(alloc, passed, needs)? {
-        legal(alloc, passed, pair)
-    } else {
-        unsettled(alloc)
-    }
-}
-
-/// The verdict that a bound is exceeded; want of memory is none.
-fn exceeded(alloc: Global, bound: &DealFault) -> Result<Decision, AllocError>
+/// The verdict that a bound is exceeded.
+pub fn past_bound(alloc: Global, bound: &DealFault) -> Result<Decision, AllocError>
     ensures { IfOk result (λ d. IsToldBound bound.now d.verdict d.report.items) }
 {
     match bound {
@@ -97,12 +67,24 @@ fn exceeded(alloc: Global, bound: &DealFault) -> Result<Decision, AllocError>
         DealFault::TilesShort { line, kind } => {
             illegal(alloc, *line, GameFault::TilesShort(*kind))
         }
-        DealFault::NoMemory => Err(AllocError),
+    }
+}
+
+/// Whether the rule of completion gives a deal, and it fits.
+#[tactic(auto, using(crate::proofs::Deals::deal_fits, crate::proofs::Deals::no_deal_fits, crate::proofs::Deals::plain_fits))]
+pub fn is_dealt(alloc: Global, steps: &Steps<'_>) -> Result<bool, AllocError>
+    ensures same { IfOk result (λ b. IsTrue b ↔ IsDealt (rules_in (passed_in steps.now)) (record_in (passed_in steps.now)).events) }
+    ensures plain { IfOk result (λ b. first_bound (rules_in (passed_in steps.now)) (steps_of (rules_in (passed_in steps.now)) (record_in (passed_in steps.now)).events) ≡ None
+        → HaveNoExchange (record_in (passed_in steps.now)).events → IsTrue b) }
+{
+    match complete(alloc, steps)? {
+        Some(deal) => Ok(fits(steps, &deal)),
+        None => Ok(false),
     }
 }
 
 /// The verdict on a record of which every event is allowed, by the bounds of its racks and by a deal.
-#[tactic(auto, using(crate::proofs::Deals::judged_bound))]
+#[tactic(auto, using(crate::proofs::Deals::judged_bound, crate::proofs::Deals::judged_dealt, crate::proofs::Deals::judged_undealt))]
 fn judge_passed(
     alloc: Global,
     passed: &Passed<'_>,
@@ -112,15 +94,20 @@ fn judge_passed(
     ensures { IfOk result (λ d. IsJudged (rules_in passed.now) (pairs.list_in pair.now) (record_in passed.now) d.verdict d.report.items) }
 {
     law_of_bounds();
-    match bounds(alloc, &*passed) {
-        Ok(needs) => settle(alloc, passed, pair, &needs),
-        Err(bound) => exceeded(alloc, &bound),
+    let steps = Steps::of(alloc, passed)?;
+    if let Some(bound) = bounds(&steps) {
+        return past_bound(alloc, &bound);
+    }
+    if is_dealt(alloc, &steps)? {
+        legal(alloc, passed, pair)
+    } else {
+        unsettled(alloc)
     }
 }
 
 /// The verdict on a record, by the list of a pair.
 #[tactic(auto, using(crate::proofs::Deals::judged_refused))]
-pub fn judge_record(
+fn judge_record(
     alloc: Global,
     rules: &Rules,
     pair: &Checked<'_>,
@@ -132,4 +119,27 @@ pub fn judge_record(
         Ok(passed) => judge_passed(alloc, &passed, pair),
         Err(refusal) => illegal(alloc, refusal.line, GameFault::Rule(refusal.fault)),
     }
+}
+
+/// Whether the game is legal, and the best play of each turn where it is.
+#[derive(Clone, Copy, Debug)]
+pub struct Judging;
+
+impl Question for Judging {
+    ghost use Rattle.engine.specs.Judging.{IsJudged};
+    ghost use Rattle.engine.specs.OwnVerdicts.{judged_own};
+
+    ghost is_answer = { λ question rules words game v report. IsJudged rules words game v report };
+
+    fn answer(
+        &self,
+        alloc: Global,
+        rules: &Rules,
+        pair: &Checked<'_>,
+        game: &Record,
+    ) -> Result<Decision, AllocError> {
+        judge_record(alloc, rules, pair, game)
+    }
+
+    ghost own = { λ question rules words game v report is. judged_own rules words game v report is };
 }

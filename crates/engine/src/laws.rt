@@ -1,7 +1,9 @@
 //! The headline, and what conversion keeps. The functions do nothing: their contracts are the laws.
 ghost use Rattle.engine.specs.Converting.{StaysLexicon};
-ghost use Rattle.engine.specs.Headlines.{LegalMeansLegal, LegalMeansLegalByText};
+ghost use Rattle.engine.specs.Settling.{SettledLegalMeansLegal, SettledIllegalMeansNoGame};
+ghost use Rattle.engine.specs.Headlines.{LegalMeansLegal, LegalMeansLegalByText, IllegalMeansNoGame, PlainGamesAreDecided};
 
+use deal_cuts::law_of_fronts;
 use lex_check::law_of_lexicons;
 
 /// What the verdict legal of [`run`](crate::run) means, by the bytes that its inputs gave and the report that it wrote: the
@@ -25,4 +27,31 @@ pub fn law_of_ruled_games()
     ensures { LegalMeansLegalByText }
 {
     law_of_lexicons();
+}
+
+/// What the verdict illegal of [`run`](crate::run) means: the record is no game by the words of the list. Some event of it is not
+/// allowed, or no deal of the tile set yields every rack.
+pub fn law_of_illegal()
+    ensures { IllegalMeansNoGame }
+{}
+
+/// Of a record without an exchange the verdict of [`run`](crate::run) is legal exactly where it is a game, once the words are a
+/// list, the file is its lexicon, and the text is a record.
+pub fn law_of_plain_games()
+    ensures { PlainGamesAreDecided }
+{}
+
+/// What the verdict legal of [`run_settled`](crate::run_settled) means: what it means of [`run`](crate::run), whichever deal was
+/// found.
+pub fn law_of_settled_games()
+    ensures { SettledLegalMeansLegal }
+{
+    law_of_lexicons();
+}
+
+/// What the verdict illegal of [`run_settled`](crate::run_settled) means: the record is no game by the words of the list.
+pub fn law_of_undealt_games()
+    ensures { SettledIllegalMeansNoGame }
+{
+    law_of_fronts();
 }

@@ -1,11 +1,18 @@
+//! The stage that takes a word list and the bytes of a lexicon file for a pair.
 ghost use Rattle.std.specs.Prelude.{◌≡◌, IfOk};
 ghost use Rattle.check_lists.specs.Checks.{Refuses};
 ghost use Rattle.lex_file.specs.Files.{bytes_of};
-ghost use Rattle.engine.specs.Lexicons.{file_fault, IsPaired, IsRefusedFile, IsRefusedPair};
+ghost use Rattle.engine.specs.Lexicons.{file_fault, IsRefusedFile, IsRefusedPair};
+ghost use Rattle.devices.specs.Devices.{HasRoom};
+ghost use Rattle.lex_file.specs.Formats.{most_file_bytes};
+ghost use Rattle.engine.specs.Stages.{IsRead, IsPairOf};
 
 use crate::decisions::Decision;
+use crate::faults::RunFault;
 use crate::reports::bad_file_line;
+use crate::transfers::read_text;
 use crate::verdicts::Verdict;
+use devices::Input;
 use lex_check::{Checked, Mismatch, Path, pair};
 use lex_file::{FileFault, LexFile, MAX_FILE_BYTES};
 use lex_list::WordList;
@@ -26,15 +33,6 @@ pub enum LexiconFault {
     TooManyArcs,
 }
 
-/// What the comparing of a lexicon file with a word list came to.
-#[derive(Drop)]
-pub enum Paired<'a> {
-    /// The list and the lexicon, which agree.
-    Agreed(Checked<'a>),
-    /// The verdict that the file is not the lexicon of the list.
-    Refused(Decision),
-}
-
 /// Opens a lexicon file. One that has too many bytes is told as such before all else.
 #[tactic(auto, unfolding(crate::specs::Lexicons::file_fault))]
 pub fn open_within(bytes: &[u8]) -> Result<LexFile<'_>, FileFault>
@@ -45,6 +43,22 @@ pub fn open_within(bytes: &[u8]) -> Result<LexFile<'_>, FileFault>
         return Err(FileFault::Length);
     }
     LexFile::open(bytes)
+}
+
+/// Reads the bytes of a lexicon file to their end, or to one byte past 268,435,468 bytes and no further.
+///
+/// # Errors
+///
+/// Where the input failed, or memory was refused.
+#[tactic(auto, using(crate::proofs::Readings::whole, crate::proofs::Readings::failed))]
+pub fn read_lexicon<L: Input>(alloc: Global, lexicon: &mut L) -> Result<Vec<u8>, RunFault>
+    requires { HasRoom (L.device lexicon.old) }
+    ensures { IsRead most_file_bytes (L.device lexicon.old) (L.device lexicon.new) (λ text bytes. bytes.items ≡ text) result }
+{
+    match read_text(alloc, lexicon, MAX_FILE_BYTES) {
+        Ok(bytes) => Ok(bytes),
+        Err(fault) => Err(fault),
+    }
 }
 
 /// The verdict that tells a fault.
@@ -59,28 +73,31 @@ pub fn bad_file(alloc: Global, fault: &LexiconFault) -> Result<Decision, AllocEr
 }
 
 /// The verdict that tells a fault, in place of a list and a lexicon.
-fn refused<'a>(alloc: Global, fault: &LexiconFault) -> Result<Paired<'a>, AllocError>
-    ensures { IfOk result (λ paired. IsRefusedPair fault.now paired) }
+fn refused<'a>(
+    alloc: Global,
+    fault: &LexiconFault,
+) -> Result<Result<Checked<'a>, Decision>, AllocError>
+    ensures { IfOk result (λ read. IsRefusedPair fault.now read) }
 {
     let decision = bad_file(alloc, fault)?;
-    Ok(Paired::Refused(decision))
+    Ok(Err(decision))
 }
 
-/// The word list and the lexicon of a file, or the verdict that the file is not the lexicon of the list.
+/// A word list and the lexicon of these bytes, or the verdict that they are not the lexicon of the list.
 #[tactic(auto, using(crate::proofs::Pairings::bad_form, crate::proofs::Pairings::is_missing, crate::proofs::Pairings::is_extra, crate::proofs::Pairings::is_miscounted, crate::proofs::Pairings::is_agreed))]
 pub fn pair_file<'a>(
     alloc: Global,
     list: &'a WordList,
     bytes: &'a [u8],
-) -> Result<Paired<'a>, AllocError>
-    ensures { IfOk result (λ paired. IsPaired list.now bytes.now paired) }
+) -> Result<Result<Checked<'a>, Decision>, AllocError>
+    ensures { IfOk result (λ read. IsPairOf list.now bytes.now read) }
 {
     let file = match open_within(bytes) {
         Ok(file) => file,
         Err(first) => return refused(alloc, &LexiconFault::Form(first)),
     };
     match pair(alloc, list, file) {
-        Ok(checked) => Ok(Paired::Agreed(checked)),
+        Ok(checked) => Ok(Ok(checked)),
         Err(Mismatch::Missing(path)) => refused(alloc, &LexiconFault::Missing(path)),
         Err(Mismatch::Extra(path)) => refused(alloc, &LexiconFault::Extra(path)),
         Err(Mismatch::WordCount) => refused(alloc, &LexiconFault::WordCount),

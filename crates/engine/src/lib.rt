@@ -1,8 +1,13 @@
 //! The engine of the referee: it reads its inputs, judges the game by the rules, and writes the report.
 //!
 //! [`run`], [`run_build`], [`run_check`], [`run_convert`], [`run_top`] and [`run_tidy`] are the calls that the program makes, and
-//! [`run_ruled`] and [`run_top_ruled`] where it is given a rules text. The contract of [`run`] is the theorem of the whole, from the
+//! [`run_ruled`] and [`run_top_ruled`] where it is given a rules text; [`run_settled`] and [`run_settled_ruled`] search for a deal. The contract of [`run`] is the theorem of the whole, from the
 //! bytes of the inputs to the bytes of the output.
+//!
+//! They are made of stages, which other calls can be made of too. [`read_list`], [`read_rules`] and [`read_record`] read an input and
+//! take it for what it means; [`read_lexicon`] reads a file, and [`pair_file`] takes it and a list for a pair; a [`Question`] is answered on a record
+//! by a pair. [`decide_game`] puts these together, [`decide_by_pair`] does it for one game of many by the same pair, and [`finish`]
+//! writes what was decided.
 #![tactic(auto)]
 
 mod best_plays;
@@ -11,27 +16,43 @@ mod checking;
 mod converting;
 mod decisions;
 mod faults;
+mod games;
 mod judging;
 mod laws;
 mod lexicons;
+mod questions;
+mod records;
 mod reports;
 mod rules_texts;
-mod ruling;
 mod running;
-mod tasks;
+mod settling;
 mod tidying;
 mod topping;
 mod transfers;
 mod verdicts;
-mod word_lists;
+mod words;
 
+pub use best_plays::BestPlays;
 pub use building::run_build;
 pub use checking::run_check;
 pub use converting::run_convert;
+pub use decisions::Decision;
 pub use faults::RunFault;
-pub use laws::{law_of_conversions, law_of_legal, law_of_ruled_games};
-pub use ruling::{run_ruled, run_top_ruled};
-pub use running::run;
+pub use games::{decide_by_pair, decide_by_rules, decide_game};
+pub use judging::Judging;
+pub use laws::{
+    law_of_conversions, law_of_illegal, law_of_legal, law_of_plain_games, law_of_ruled_games,
+    law_of_settled_games, law_of_undealt_games,
+};
+pub use lexicons::{LexiconFault, pair_file, read_lexicon};
+pub use questions::Question;
+pub use records::{read_record, record_from};
+pub use reports::legal_report;
+pub use rules_texts::{read_rules, rules_from};
+pub use running::{run, run_ruled};
+pub use settling::{Settling, run_settled, run_settled_ruled};
 pub use tidying::run_tidy;
-pub use topping::run_top;
+pub use topping::{run_top, run_top_ruled};
+pub use transfers::finish;
 pub use verdicts::{GameFault, Verdict};
+pub use words::{list_from, read_list};

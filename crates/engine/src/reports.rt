@@ -1,3 +1,4 @@
+//! The lines of reports, as bytes.
 ghost use Rattle.std.specs.Prelude.{◌≡◌, ◌++◌, ◌∷◌, [], OnOk, IfOk, codes, map};
 ghost use Rattle.std.specs.Fmt.{signed_decimal};
 ghost use Rattle.lex_check.specs.Checks.{symbol_of};
@@ -77,6 +78,7 @@ fn push_fault(text: &mut Vec<u8>, fault: &GameFault) -> Result<(), AllocError>
         GameFault::Rule(rule) => push_rule(text, rule),
         GameFault::RackTooBig => text.extend_from_slice(b"RackTooBig"),
         GameFault::TilesShort(kind) => push_short(text, kind),
+        GameFault::NoDeal => text.extend_from_slice(b"NoDeal"),
     }
 }
 

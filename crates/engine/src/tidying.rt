@@ -1,17 +1,20 @@
-ghost use Rattle.std.specs.Prelude.{◌≡◌, ◌+◌, ◌++◌, [], IfOk, IfErr, OnOk};
-ghost use Rattle.std.specs.Io.KnownBytes.{Appends};
-ghost use Rattle.devices.specs.Devices.{HasRoom, HasFailed, HasWorked};
-ghost use Rattle.devices.specs.Inputs.{TakesAtMost, IsInput};
+//! The normal form of a record, by the bytes of its input.
+ghost use Rattle.std.specs.Prelude.{◌≡◌, ◌∷◌, [], IfOk};
+ghost use Rattle.devices.specs.Devices.{HasRoom};
 ghost use Rattle.gcg_write.specs.Normal.{normal_of};
+ghost use Rattle.engine.specs.declared.verdicts.Verdict.TheVariants as verdict;
+ghost use Rattle.engine.specs.Runs.{Decides, IsRun};
+ghost use Rattle.engine.specs.Sources.{game_source};
+ghost use Rattle.engine.specs.Telling.{IsTold};
 ghost use Rattle.engine.specs.Tidying.{IsTidied};
-ghost use Rattle.engine.specs.Runs.{most_record_bytes, Answers, GivesUp};
 
-use crate::decisions::{Decision, bad_record};
+use crate::decisions::Decision;
 use crate::faults::RunFault;
-use crate::transfers::{read_text, send};
+use crate::records::read_record;
+use crate::transfers::finish;
 use crate::verdicts::Verdict;
 use devices::{Input, Output};
-use gcg_read::{MAX_BYTES, Record, read};
+use gcg_read::Record;
 use gcg_write::write;
 use std::alloc::{AllocError, Global};
 
@@ -24,19 +27,30 @@ fn normal_form(alloc: Global, game: &Record) -> Result<Vec<u8>, AllocError>
     Ok(text)
 }
 
-/// The normal form of the record of a text, or its first fault.
-fn tidy(alloc: Global, text: &[u8]) -> Result<Decision, AllocError>
-    ensures { IfOk result (λ d. IsTidied text.now d.verdict d.report.items) }
+/// The verdict that it is done, with the normal form of a record.
+fn tidy(alloc: Global, game: &Record) -> Result<Decision, AllocError>
+    ensures { IfOk result (λ d. IsTold verdict.Done (normal_of game.now) d.verdict d.report.items) }
 {
-    match read(alloc, text) {
-        Ok(game) => {
-            let report = normal_form(alloc, &game)?;
-            Ok(Decision {
-                verdict: Verdict::Done,
-                report,
-            })
-        }
-        Err(fault) => bad_record(alloc, &fault),
+    let report = normal_form(alloc, game)?;
+    Ok(Decision {
+        verdict: Verdict::Done,
+        report,
+    })
+}
+
+/// Reads a record, and gives its normal form.
+fn decide_tidy<G: Input>(alloc: Global, game: &mut G) -> Result<Decision, RunFault>
+    requires { HasRoom (G.device game.old) }
+    ensures { Decides (game_source (G.device game.old) (G.device game.new) ∷ []) IsTidied result }
+{
+    let record = match read_record(alloc, game) {
+        Ok(Ok(record)) => record,
+        Ok(Err(decision)) => return Ok(decision),
+        Err(fault) => return Err(fault),
+    };
+    match tidy(alloc, &record) {
+        Ok(decision) => Ok(decision),
+        Err(_) => Err(RunFault::NoMemory),
     }
 }
 
@@ -49,7 +63,6 @@ fn tidy(alloc: Global, text: &[u8]) -> Result<Decision, AllocError>
 ///
 /// `ReadFailed` and `WriteFailed` come only where that device failed, or a write took no byte; `NoMemory` where memory
 /// was refused. After `WriteFailed` a front of the text went out, after the other two nothing.
-#[tactic(auto, using(crate::proofs::Answering::answers, crate::proofs::Answering::stops_reading, crate::proofs::Answering::stops_writing))]
 pub fn run_tidy<G: Input, O: Output>(
     alloc: Global,
     game: &mut G,
@@ -57,24 +70,8 @@ pub fn run_tidy<G: Input, O: Output>(
 ) -> Result<Verdict, RunFault>
     requires game { HasRoom (G.device game.old) }
     requires out { HasRoom (O.device out.old) }
-
-    ensures tidied { IfOk result (λ v. Answers (IsInput most_record_bytes (G.device game.old)) IsTidied v
-        (Appends (O.device out.old).bytes (O.device out.new).bytes)) }
-    ensures worked { OnOk result (HasWorked (G.device game.old) (G.device game.new)
-        × HasWorked (O.device out.old) (O.device out.new)) }
-    ensures gave_up { IfErr result (GivesUp (IsInput most_record_bytes (G.device game.old)) IsTidied
-        (HasFailed (G.device game.old) (G.device game.new)) (HasWorked (G.device game.old) (G.device game.new))
-        (O.device out.old) (O.device out.new)) }
-
-    // The input is not read further than one byte past its limit.
-    ensures game { TakesAtMost (most_record_bytes + 1) (G.device game.old) (G.device game.new) }
+    ensures { IsRun (game_source (G.device game.old) (G.device game.new) ∷ []) IsTidied (O.device out.old) (O.device out.new) result }
 {
-    let text = match read_text(alloc, game, MAX_BYTES) {
-        Ok(text) => text,
-        Err(fault) => return Err(fault),
-    };
-    let Ok(decision) = tidy(alloc, &text) else {
-        return Err(RunFault::NoMemory);
-    };
-    send(out, &decision)
+    let decided = decide_tidy(alloc, game);
+    finish(out, decided)
 }

@@ -1,21 +1,21 @@
-ghost use Rattle.std.specs.Prelude.{◌≡◌, ◌+◌, false, IfOk, IfErr, OnOk};
-ghost use Rattle.std.specs.Io.KnownBytes.{Appends};
-ghost use Rattle.devices.specs.Devices.{HasRoom, HasWorked};
-ghost use Rattle.devices.specs.Inputs.{TakesAtMost};
+//! The ten best plays by a rack on the board after a record, by the bytes of its inputs.
+ghost use Rattle.std.specs.Prelude.{◌≡◌, ◌∷◌, [], false, IfOk, IfErr};
+ghost use Rattle.devices.specs.Devices.{HasRoom};
 ghost use Rattle.gcg_read.specs.Racks.{is_rack};
+ghost use Rattle.engine.specs.declared.faults.RunFault.TheVariants.{NoMemory};
 ghost use Rattle.engine.specs.declared.verdicts.Verdict.TheVariants as verdict;
-ghost use Rattle.engine.specs.Judging.{IsTold};
-ghost use Rattle.engine.specs.Lexicons.{most_lexicon_bytes};
 ghost use Rattle.engine.specs.Reports as reports;
-ghost use Rattle.engine.specs.Runs.{most_record_bytes, most_list_bytes, Answers, GivesUp, AreGiven, OneOfThreeHasFailed};
-ghost use Rattle.engine.specs.Topping.{IsTopped};
+ghost use Rattle.engine.specs.Runs.{IsRun};
+ghost use Rattle.engine.specs.Sources.{rules_source, words_source, lexicon_source, game_source, AreUntouched};
+ghost use Rattle.engine.specs.Telling.{IsTold};
+ghost use Rattle.engine.specs.Topping.{IsTopped, IsToppedByText};
 
+use crate::best_plays::BestPlays;
 use crate::decisions::Decision;
 use crate::faults::RunFault;
+use crate::games::{decide_by_rules, decide_game};
 use crate::reports::bad_rack_line;
-use crate::running::run_task;
-use crate::tasks::Task;
-use crate::transfers::send;
+use crate::transfers::finish;
 use crate::verdicts::Verdict;
 use devices::{Input, Output};
 use gcg_read::read_rack;
@@ -23,7 +23,7 @@ use ref_tiles::Rules;
 use std::alloc::{AllocError, Global};
 
 /// The verdict that a rack is none.
-pub fn bad_rack(alloc: Global) -> Result<Decision, AllocError>
+fn bad_rack(alloc: Global) -> Result<Decision, AllocError>
     ensures { IfOk result (λ d. IsTold verdict.BadRack reports.bad_rack_line d.verdict d.report.items) }
 {
     let report = bad_rack_line(alloc)?;
@@ -31,6 +31,17 @@ pub fn bad_rack(alloc: Global) -> Result<Decision, AllocError>
         verdict: Verdict::BadRack,
         report,
     })
+}
+
+/// The same as what is decided of a call.
+fn decide_bad_rack(alloc: Global) -> Result<Decision, RunFault>
+    ensures told { IfOk result (λ d. IsTold verdict.BadRack reports.bad_rack_line d.verdict d.report.items) }
+    ensures memory { IfErr result (λ fault. fault ≡ NoMemory) }
+{
+    match bad_rack(alloc) {
+        Ok(decision) => Ok(decision),
+        Err(_) => Err(RunFault::NoMemory),
+    }
 }
 
 /// Writes the ten best plays by a rack on the board after a record, by the words of a list and their lexicon.
@@ -45,6 +56,7 @@ pub fn bad_rack(alloc: Global) -> Result<Decision, AllocError>
 ///
 /// `ReadFailed` and `WriteFailed` come only where that device failed, or a write took no byte; `NoMemory` where memory
 /// was refused. After `WriteFailed` a front of the text went out, after the other two nothing.
+
 pub fn run_top<W: Input, L: Input, G: Input, O: Output>(
     alloc: Global,
     words: &mut W,
@@ -59,34 +71,61 @@ pub fn run_top<W: Input, L: Input, G: Input, O: Output>(
     requires game { HasRoom (G.device game.old) }
     requires out { HasRoom (O.device out.old) }
 
-    ensures topped { IfOk result (λ v. Answers (AreGiven (W.device words.old) (L.device lexicon.old) (G.device game.old)) (IsTopped rules.now rack.now) v
-        (Appends (O.device out.old).bytes (O.device out.new).bytes)) }
-    ensures worked { OnOk result (HasWorked (W.device words.old) (W.device words.new)
-        × HasWorked (L.device lexicon.old) (L.device lexicon.new)
-        × HasWorked (G.device game.old) (G.device game.new)
-        × HasWorked (O.device out.old) (O.device out.new)) }
-    ensures gave_up { IfErr result (GivesUp (AreGiven (W.device words.old) (L.device lexicon.old) (G.device game.old)) (IsTopped rules.now rack.now)
-        (OneOfThreeHasFailed (W.device words.old) (W.device words.new) (L.device lexicon.old) (L.device lexicon.new) (G.device game.old) (G.device game.new))
-        (HasWorked (W.device words.old) (W.device words.new) × HasWorked (L.device lexicon.old) (L.device lexicon.new)
-        × HasWorked (G.device game.old) (G.device game.new))
-        (O.device out.old) (O.device out.new)) }
+    ensures run { IsRun (words_source (W.device words.old) (W.device words.new)
+        ∷ lexicon_source (L.device lexicon.old) (L.device lexicon.new) ∷ game_source (G.device game.old) (G.device game.new) ∷ [])
+        (IsTopped rules.now rack.now) (O.device out.old) (O.device out.new) result }
 
-    // No input is read further than one byte past its limit.
-    ensures words { TakesAtMost (most_list_bytes + 1) (W.device words.old) (W.device words.new) }
-    ensures lexicon { TakesAtMost (most_lexicon_bytes + 1) (L.device lexicon.old) (L.device lexicon.new) }
-    ensures game { TakesAtMost (most_record_bytes + 1) (G.device game.old) (G.device game.new) }
-
-    // No input is read behind a rack that is none, or behind an input that is bad.
-    ensures bad_rack { is_rack rack.now ≡ false
-        → (W.device words.new ≡ W.device words.old) × (L.device lexicon.new ≡ L.device lexicon.old) × (G.device game.new ≡ G.device game.old) }
-    ensures bad_list { IfOk result (λ v. v ≡ verdict.BadList → (L.device lexicon.new ≡ L.device lexicon.old) × (G.device game.new ≡ G.device game.old)) }
-    ensures bad_file { IfOk result (λ v. v ≡ verdict.BadFile → G.device game.new ≡ G.device game.old) }
+    // No input is read behind a rack that is none.
+    ensures bad_rack { is_rack rack.now ≡ false → AreUntouched (words_source (W.device words.old) (W.device words.new)
+        ∷ lexicon_source (L.device lexicon.old) (L.device lexicon.new) ∷ game_source (G.device game.old) (G.device game.new) ∷ []) }
 {
-    let Some(tiles) = read_rack(rack) else {
-        let Ok(decision) = bad_rack(alloc) else {
-            return Err(RunFault::NoMemory);
-        };
-        return send(out, &decision);
+    let Some(rack) = read_rack(rack) else {
+        let refused = decide_bad_rack(alloc);
+        return finish(out, refused);
     };
-    run_task(alloc, &Task::Top(tiles), words, lexicon, game, out, rules)
+    let decided = decide_game(alloc, &BestPlays { rack }, rules, words, lexicon, game);
+    finish(out, decided)
+}
+
+/// Writes the ten best plays by a rack as [`run_top`] does, by the rules that a text states.
+///
+/// Where the rack is none, that is the verdict, and no input is read. Else the rules text is read before all other inputs,
+/// as [`run_ruled`](crate::run_ruled) reads it; where it gives no rules, that is the verdict, and no other input is read. Else
+/// all is as `run_top` does it with the rules of the text.
+///
+/// # Errors
+///
+/// `ReadFailed` and `WriteFailed` come only where that device failed, or a write took no byte; `NoMemory` where memory
+/// was refused. After `WriteFailed` a front of the text went out, after the other two nothing.
+
+pub fn run_top_ruled<R: Input, W: Input, L: Input, G: Input, O: Output>(
+    alloc: Global,
+    rules_text: &mut R,
+    words: &mut W,
+    lexicon: &mut L,
+    game: &mut G,
+    rack: &[u8],
+    out: &mut O,
+) -> Result<Verdict, RunFault>
+    requires rules_text { HasRoom (R.device rules_text.old) }
+    requires words { HasRoom (W.device words.old) }
+    requires lexicon { HasRoom (L.device lexicon.old) }
+    requires game { HasRoom (G.device game.old) }
+    requires out { HasRoom (O.device out.old) }
+
+    ensures run { IsRun (rules_source (R.device rules_text.old) (R.device rules_text.new) ∷ words_source (W.device words.old) (W.device words.new)
+        ∷ lexicon_source (L.device lexicon.old) (L.device lexicon.new) ∷ game_source (G.device game.old) (G.device game.new) ∷ [])
+        (IsToppedByText rack.now) (O.device out.old) (O.device out.new) result }
+
+    // No input is read behind a rack that is none.
+    ensures bad_rack { is_rack rack.now ≡ false → AreUntouched (rules_source (R.device rules_text.old) (R.device rules_text.new)
+        ∷ words_source (W.device words.old) (W.device words.new)
+        ∷ lexicon_source (L.device lexicon.old) (L.device lexicon.new) ∷ game_source (G.device game.old) (G.device game.new) ∷ []) }
+{
+    let Some(rack) = read_rack(rack) else {
+        let decided = decide_bad_rack(alloc);
+        return finish(out, decided);
+    };
+    let decided = decide_by_rules(alloc, &BestPlays { rack }, rules_text, words, lexicon, game);
+    finish(out, decided)
 }

@@ -1,10 +1,12 @@
+//! Whole reads of an input, and whole writes of a report.
 ghost use Rattle.std.specs.Prelude.{◌≡◌, ◌+◌, IfOk, IfErr, OnOk, OnErr};
 ghost use Rattle.std.specs.Io.KnownBytes.{Appends};
 ghost use Rattle.devices.specs.Devices.{HasRoom, HasWorked};
 ghost use Rattle.devices.specs.Inputs.{IsInput, TakesAtMost};
 ghost use Rattle.devices.specs.Outputs.{SendsFront};
 ghost use Rattle.engine.specs.declared.faults.RunFault.TheVariants.{WriteFailed};
-ghost use Rattle.engine.specs.Runs.{HasStopped, ReadGivesUp};
+ghost use Rattle.engine.specs.Runs.{HasStopped, IsSent};
+ghost use Rattle.engine.specs.Stages.{ReadGivesUp};
 
 use crate::decisions::Decision;
 use crate::faults::RunFault;
@@ -28,7 +30,7 @@ pub fn read_text<I: Input>(alloc: Global, input: &mut I, limit: usize) -> Result
 }
 
 /// Writes the report of a decision, and gives its verdict.
-pub fn send<O: Output>(out: &mut O, decision: &Decision) -> Result<Verdict, RunFault>
+fn send<O: Output>(out: &mut O, decision: &Decision) -> Result<Verdict, RunFault>
     requires { HasRoom (O.device out.old) }
     ensures verdict { IfOk result (λ v. v ≡ decision.now.verdict) }
     ensures sent { OnOk result (Appends (O.device out.old).bytes (O.device out.new).bytes decision.now.report.items) }
@@ -40,5 +42,19 @@ pub fn send<O: Output>(out: &mut O, decision: &Decision) -> Result<Verdict, RunF
     match write_whole(out, &decision.report) {
         Ok(()) => Ok(decision.verdict),
         Err(_) => Err(RunFault::WriteFailed),
+    }
+}
+
+/// Writes the report of what was decided, and gives its verdict; where nothing was, says why, and writes nothing.
+pub fn finish<O: Output>(
+    out: &mut O,
+    decided: Result<Decision, RunFault>,
+) -> Result<Verdict, RunFault>
+    requires { HasRoom (O.device out.old) }
+    ensures { IsSent decided (O.device out.old) (O.device out.new) result }
+{
+    match decided {
+        Ok(decision) => send(out, &decision),
+        Err(fault) => Err(fault),
     }
 }

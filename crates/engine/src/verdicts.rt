@@ -1,3 +1,4 @@
+//! What the referee answers.
 use game_turns::RuleFault;
 use ref_tiles::Kind;
 
@@ -10,6 +11,8 @@ pub enum GameFault {
     RackTooBig,
     /// By this line the players have shown more tiles of this kind than the game has.
     TilesShort(Kind),
+    /// No deal of the tiles yields the racks up to this line.
+    NoDeal,
 }
 
 /// What the referee answers.

@@ -1,3 +1,4 @@
+//! The best play of a turn, as its line tells it.
 ghost use Rattle.std.specs.Prelude.{◌≡◌, ◌++◌, ◌∷◌, OnOk, option_map};
 ghost use Rattle.std.specs.Fmt.{signed_decimal};
 ghost use Rattle.ref_play.specs.Legality.{IsLegal};

@@ -1,4 +1,5 @@
-ghost use Rattle.std.specs.Prelude.{◌≡◌, ◌<◌, ◌∷◌, ◌++◌, ◌+◌, [], OnOk, length, decimal};
+//! The lines of a legal game's events, and the words in them that are not in the list.
+ghost use Rattle.std.specs.Prelude.{◌≡◌, ◌<◌, ◌∷◌, ◌++◌, ◌+◌, [], OnOk, OnErr, length, decimal};
 ghost use Rattle.ref_play.specs.Words.{items_of};
 ghost use Rattle.game_turns.specs.Machines.{rules_of, state_of};
 ghost use Rattle.game_turns.specs.Passing.{rules_in, record_in};
@@ -93,19 +94,9 @@ fn push_event_line(
     Ok(())
 }
 
-/// Appends the lines of all events of a record that passed, by its rules and the word list of a pair: a line `N NICK EVENT SCORE
-/// TOTAL` for each, N its line in the record. Behind that of a play, an exchange or a pass stands ` best NOTATION SCORE`
-/// with the play that scores most by the stated rack, of several the first by their notations; ` best none` where there is
-/// no legal play with words of the list; ` best -` where the stated rack is not the whole rack. Behind that of a play that
-/// stands then come ` unlisted` and its words that are not in the list, where there are some.
-///
-/// It fails only where the growth of `text` was refused.
+/// Appends the lines of all events of a record that passed.
 #[tactic(auto, using(crate::proofs::ReportLines::one_more_line))]
-pub fn push_event_lines(
-    text: &mut Vec<u8>,
-    passed: &Passed<'_>,
-    pair: &Checked<'_>,
-) -> Result<(), AllocError>
+fn push_lines(text: &mut Vec<u8>, passed: &Passed<'_>, pair: &Checked<'_>) -> Result<(), AllocError>
     ensures { OnOk result (Appends (AreEventLines (rules_in passed.now) (list_in pair.now) (record_in passed.now)
         (length (record_in passed.now).events)) text.old.items text.new.items) }
 {
@@ -115,4 +106,25 @@ pub fn push_event_lines(
         push_event_line(text, passed, pair, &mut machine, &mut follow, place)?;
     }
     Ok(())
+}
+
+/// Appends the lines of all events of a record that passed, by its rules and the word list of a pair: a line `N NICK EVENT SCORE
+/// TOTAL` for each, N its line in the record. Behind that of a play, an exchange or a pass stands ` best NOTATION SCORE`
+/// with the play that scores most by the stated rack, of several the first by their notations; ` best none` where there is
+/// no legal play with words of the list; ` best -` where the stated rack is not the whole rack. Behind that of a play that
+/// stands then come ` unlisted` and its words that are not in the list, where there are some.
+///
+/// It fails only where memory was refused, and then `text` is as it was.
+pub fn push_event_lines(
+    text: &mut Vec<u8>,
+    passed: &Passed<'_>,
+    pair: &Checked<'_>,
+) -> Result<(), AllocError>
+    ensures lines { OnOk result (Appends (AreEventLines (rules_in passed.now) (list_in pair.now) (record_in passed.now)
+        (length (record_in passed.now).events)) text.old.items text.new.items) }
+    ensures refused { OnErr result (text.new.items ≡ text.old.items) }
+{
+    let mut lines = Vec::new(*text.allocator());
+    push_lines(&mut lines, passed, pair)?;
+    text.extend_from_slice(lines.as_slice())
 }

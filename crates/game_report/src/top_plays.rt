@@ -1,3 +1,4 @@
+//! The lines of the best plays on the board after a record.
 ghost use Rattle.std.specs.Prelude.{◌≡◌, ◌++◌, IfOk, OnOk, map};
 ghost use Rattle.ref_play.specs.Legality.{IsLegal};
 ghost use Rattle.gen_sinks.specs.Sinks.{seen, seen_pair};

@@ -1,3 +1,4 @@
+//! Points of racks, and which amounts a bonus or a time penalty may have.
 ghost use Rattle.std.specs.Prelude.{◌≡◌, ◌<◌, ◌≤◌, pos};
 ghost use Rattle.gcg_read.specs.Numerals.{IsPoints};
 ghost use Rattle.game_turns.specs.Checks.{most_points, points_in, is_bonus, is_bonus_for, is_penalty};

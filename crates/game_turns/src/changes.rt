@@ -1,3 +1,4 @@
+//! What each kind of event makes of a state.
 ghost use Rattle.std.specs.Prelude.{◌≡◌, ◌+◌, ◌==◌, ◌&&◌, ◌≤◌, min, true, false, length, Some, if◌then◌else◌};
 ghost use Rattle.ref_play.specs.Legality.{IsLegal};
 ghost use Rattle.game_turns.specs.Seats.{side_of};

@@ -1,3 +1,4 @@
+//! The checks of each kind of event, in their order.
 ghost use Rattle.std.specs.Prelude.{◌≡◌, ◌≤◌, ◌≤ℤ◌, ◌*◌, neg_ℤ, pos, true, false, length, sum, Some, IfOk, IfErr, OnOk};
 ghost use Rattle.ref_play.specs.Legality.{IsLegal};
 ghost use Rattle.ref_play.specs.Texts.{placement_of};

@@ -1,3 +1,4 @@
+//! The faults of an event.
 use ref_play::PlayFault;
 
 /// Why the rules do not allow an event.

@@ -1,3 +1,4 @@
+//! Tests of the kinds of events: plays, withdrawals, turns.
 ghost use Rattle.std.specs.Prelude.{◌≡◌};
 ghost use Rattle.std.specs.Option.{option_copied};
 ghost use Rattle.game_turns.specs.Standing.{is_withdraw};

@@ -1,3 +1,4 @@
+//! What the latest event was, with what the next one may need of it.
 ghost use Rattle.std.specs.Prelude.{pos, ◌≤ℤ◌};
 
 use gcg_read::Seat;

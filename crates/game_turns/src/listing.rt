@@ -1,3 +1,4 @@
+//! How many of the words of a play are listed.
 ghost use Rattle.std.specs.Prelude.{◌≡◌, ◌≤◌, length};
 ghost use Rattle.std.specs.List.{list_all, list_any};
 ghost use Rattle.lex_list.specs.Words.{is_listed};

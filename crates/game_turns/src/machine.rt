@@ -1,3 +1,4 @@
+//! The machine of the turns, and what it tells of a game.
 ghost use Rattle.std.specs.Prelude.{◌≡◌, [], false, option_map};
 ghost use Rattle.ref_play.specs.Words.{items_of};
 ghost use Rattle.game_turns.specs.Seats.{side_of};

@@ -1,3 +1,4 @@
+//! A record that passed, with its rules and its list.
 ghost use Rattle.std.specs.Prelude.{◌≡◌};
 ghost use Rattle.game_turns.specs.Places.{AreAllowed, is_finished};
 

@@ -1,3 +1,4 @@
+//! Going through the events of a record, to its end or to the first refusal.
 ghost use Rattle.std.specs.Prelude.{◌≡◌, ◌↔◌, ◌+◌, ◌<◌, length, slice_get, IsOk, IfOk, OnOk, IfErr};
 ghost use Rattle.std.specs.Option.{option_copied};
 ghost use Rattle.game_turns.specs.Tallies.{tally_at};

@@ -1,3 +1,4 @@
+//! Whose turn it is.
 ghost use Rattle.std.specs.Prelude.{◌≡◌};
 ghost use Rattle.game_turns.specs.Seats.{may_move};
 

@@ -1,3 +1,4 @@
+//! What a game keeps of each player.
 ghost use Rattle.std.specs.Prelude.{◌≡◌, pos, true, false};
 
 use gcg_read::{Points, Seat};

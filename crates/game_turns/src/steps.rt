@@ -1,3 +1,4 @@
+//! A step of the machine: the checks of an event, and then its change.
 ghost use Rattle.std.specs.Prelude.{◌≡◌, not, sum, IfOk, OnOk, OnErr};
 ghost use Rattle.std.specs.Option.{option_copied};
 ghost use Rattle.game_turns.specs.Answers.{Tells};

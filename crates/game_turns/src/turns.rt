@@ -1,3 +1,4 @@
+//! What a step answers of the event that it took.
 /// What an accepted event was.
 #[derive(Clone, Copy, Debug, PartialEq, Eq)]
 pub struct Turn {

@@ -1,3 +1,4 @@
+//! The codes of events that are no plays.
 ghost use Rattle.std.specs.Prelude.{◌≡◌};
 ghost use Rattle.gcg_read.specs.Codes.{unknown_of, dashed_of, bracketed_of, code_of};
 

@@ -1,3 +1,4 @@
+//! The head of an event line, up to its colon.
 ghost use Rattle.std.specs.Prelude.{◌≡◌};
 ghost use Rattle.std.specs.List.{position};
 ghost use Rattle.gcg_read.specs.Cutting.{is_colon, head_of, head_in};

@@ -1,3 +1,4 @@
+//! Players' seats, kinds of events, events and lists of them.
 ghost use Rattle.std.specs.Prelude.{◌≡◌, [], ◌∷◌, ◌++◌, ◌↔◌, length, IsTrue, OnOk, OnErr};
 ghost use Rattle.gcg_read.specs.Players.{same_seat};
 

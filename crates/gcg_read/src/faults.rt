@@ -1,3 +1,4 @@
+//! The faults of a record.
 ghost use Rattle.std.specs.Prelude.{◌≡◌};
 
 use std::alloc::AllocError;

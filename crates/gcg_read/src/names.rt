@@ -1,3 +1,4 @@
+//! Names of players, as bytes.
 ghost use Rattle.std.specs.Prelude.{◌≡◌, [], IfOk};
 
 use std::alloc::{AllocError, Global};

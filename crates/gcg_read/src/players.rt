@@ -1,3 +1,4 @@
+//! The players of a record, and whom a nickname means.
 ghost use Rattle.std.specs.Prelude.{◌≡◌, OnOk, OnErr, not};
 
 use crate::events::Seat;

@@ -1,3 +1,4 @@
+//! Scores and totals, and reading them.
 ghost use Rattle.std.specs.Prelude.{◌≡◌, ◌↔◌, IsSome, IfSome, pos, neg_ℤ, option_map};
 ghost use Rattle.gcg_read.specs.Numerals.{IsPoints, numeral, points_of};
 

@@ -1,3 +1,4 @@
+//! Where a play begins, and its direction.
 ghost use Rattle.std.specs.Prelude.{◌≡◌, ◌<◌, IfSome, option_map};
 ghost use Rattle.gcg_read.specs.Positions.{row_of, column_of, across_of, down_of, position_of};
 

@@ -1,3 +1,4 @@
+//! Lines that name a player.
 ghost use Rattle.std.specs.Prelude.{◌≡◌};
 ghost use Rattle.std.specs.List.{before_first, after_first, list_any};
 ghost use Rattle.gcg_read.specs.Cutting.{is_blank, is_colon};

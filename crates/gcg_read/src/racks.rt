@@ -1,3 +1,4 @@
+//! Racks, as records write them.
 ghost use Rattle.std.specs.Prelude.{◌≡◌};
 ghost use Rattle.gcg_read.specs.Racks.{rack_of};
 

@@ -1,3 +1,4 @@
+//! Reading a record, line by line.
 ghost use Rattle.std.specs.Prelude.{◌≡◌, ◌≤◌, ◌<◌, length};
 ghost use Rattle.gcg_read.specs.Faults.{Gives, Makes};
 ghost use Rattle.gcg_read.specs.Cutting.{lines_in};

@@ -1,3 +1,4 @@
+//! A record: players and events.
 ghost use Rattle.std.specs.Prelude.{◌≡◌};
 
 use crate::events::Events;

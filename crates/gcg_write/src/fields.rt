@@ -1,3 +1,4 @@
+//! The fields of an event line: tiles, positions, words, points.
 ghost use Rattle.std.specs.Prelude.{◌≡◌, ◌++◌, ◌∷◌, OnOk, replicate};
 ghost use Rattle.std.specs.Fmt.{signed_decimal};
 ghost use Rattle.gcg_write.specs.Fields.{letters_text, tiles_text, position_text, word_text, play_text, score_text, points_text};

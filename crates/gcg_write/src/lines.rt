@@ -1,3 +1,4 @@
+//! The lines of the normal form.
 ghost use Rattle.std.specs.Prelude.{◌≡◌, ◌++◌, ◌∷◌, [], OnOk, decimal};
 ghost use Rattle.gcg_write.specs.Fields.{kind_text, points_text, tiles_text, position_text, word_text};
 ghost use Rattle.gcg_write.specs.Normal.{event_text_of, rack_text, head_text, event_line, events_text, full_text, player_lines, text_of_lines, normal_of};

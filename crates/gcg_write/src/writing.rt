@@ -1,3 +1,4 @@
+//! The public calls: a record, an event and a play, appended whole or not at all.
 ghost use Rattle.std.specs.Prelude.{◌≡◌, ◌++◌, ◌<◌, length, OnOk, OnErr};
 ghost use Rattle.std.specs.List.{HoldsAt};
 ghost use Rattle.gcg_write.specs.Fields.{play_text};

@@ -10,6 +10,7 @@ fn single_bits(rt: HostRuntime) {
         file[bit / 8] ^= 1 << (bit % 8);
         let job = Job {
             call: Call::Check,
+            rules: None,
             words: b"AT",
             lexicon: &file,
             game: b"",
@@ -28,6 +29,7 @@ fn cut_records(rt: HostRuntime) {
     for len in 0..WITHDRAWN.game.len() {
         let job = Job {
             call: Call::Judge,
+            rules: None,
             words: WITHDRAWN.words,
             lexicon: WITHDRAWN.lexicon,
             game: &WITHDRAWN.game[..len],

@@ -23,20 +23,20 @@ fn few_bytes_at_once(rt: HostRuntime) {
     }
 }
 
-/// Whether a call reads the words, the lexicon and the record.
-fn inputs_of(call: Call) -> [bool; 3] {
-    match call {
-        Call::Judge | Call::Top(_) => [true, true, true],
-        Call::Build => [true, false, false],
-        Call::Check => [true, true, false],
-        Call::Convert(_) => [false, true, false],
-        Call::Tidy => [false, false, true],
+/// Whether a job reads the words, the lexicon, the record and the rules text.
+fn inputs_of(job: &Job<'_>) -> [bool; 4] {
+    match job.call {
+        Call::Judge | Call::Settle | Call::Top(_) => [true, true, true, job.rules.is_some()],
+        Call::Build => [true, false, false, false],
+        Call::Check => [true, true, false, false],
+        Call::Convert(_) => [false, true, false, false],
+        Call::Tidy => [false, false, true, false],
     }
 }
 
 /// Lets each read of an input fail once, where the other reads work, and tells how many reads there were.
 fn each_read_fails(rt: &impl Abort, alloc: Global, job: &Job<'_>, input: usize) -> usize
-    requires { input < 3 }
+    requires { input < 4 }
 {
     for read in 0..1000 {
         let mut manner = working(7);
@@ -55,8 +55,8 @@ fn each_read_fails(rt: &impl Abort, alloc: Global, job: &Job<'_>, input: usize) 
 
 /// Asserts that a job reads the inputs of its call, and fails with each read of them.
 fn assert_reads(rt: &impl Abort, alloc: Global, job: &Job<'_>) {
-    let read = inputs_of(job.call);
-    for input in 0..3 {
+    let read = inputs_of(job);
+    for input in 0..4 {
         let reads = each_read_fails(rt, alloc, job, input);
         assert_eq!(rt; reads > 0, read[input], "{:?} {input}", job.call);
     }

@@ -1,8 +1,11 @@
 //! Worked rows, asked of the calls of the engine.
 use crate::feeds::{Feed, Mishap, NEVER, Sheet};
-use engine::{RunFault, Verdict, run, run_build, run_check, run_convert, run_tidy, run_top};
+use engine::{
+    GameFault, RunFault, Verdict, run, run_build, run_check, run_convert, run_ruled, run_settled,
+    run_settled_ruled, run_tidy, run_top, run_top_ruled,
+};
 use lex_file::Format;
-use ref_tiles::english_rules;
+use ref_tiles::{ENGLISH_TEXT, english_rules};
 use std::alloc::Global;
 
 /// The file of the word AT.
@@ -61,10 +64,26 @@ pub const EMPTY: [u8; 16] = [
     0x47, 0x41, 0x44, 0x31, 0x00, 0x00, 0x00, 0x00, 0x00, 0x00, 0x00, 0x00, 0x00, 0x00, 0x00, 0x00,
 ];
 
+/// Rules by which there are 14 tiles, else those of the English game.
+#[rattlefmt::skip]
+const SHORT_RULES: &[u8] = b"\
+tile A 2 1\ntile B 0 3\ntile C 0 3\ntile D 1 2\ntile E 2 1\ntile F 0 4\ntile G 0 2\n\
+tile H 0 4\ntile I 1 1\ntile J 0 8\ntile K 0 5\ntile L 0 1\ntile M 0 3\ntile N 1 1\n\
+tile O 1 1\ntile P 0 3\ntile Q 0 10\ntile R 2 1\ntile S 1 1\ntile T 2 1\ntile U 0 1\n\
+tile V 0 4\ntile W 1 4\ntile X 0 8\ntile Y 0 4\ntile Z 0 10\ntile ? 0 0\n\
+row 1 T..d...T...d..T\nrow 2 .D...t...t...D.\nrow 3 ..D...d.d...D..\n\
+row 4 d..D...d...D..d\nrow 5 ....D.....D....\nrow 6 .t...t...t...t.\n\
+row 7 ..d...d.d...d..\nrow 8 T..d...D...d..T\nrow 9 ..d...d.d...d..\n\
+row 10 .t...t...t...t.\nrow 11 ....D.....D....\nrow 12 d..D...d...D..d\n\
+row 13 ..D...d.d...D..\nrow 14 .D...t...t...D.\nrow 15 T..d...T...d..T\n\
+bonus 50\nexchange_min 7\nzero_limit 6\nchallenge_unit 5\ntime_step 5\n";
+
 /// A call of the engine.
 #[derive(Clone, Copy, Debug, PartialEq, Eq)]
 pub enum Call {
     Judge,
+    /// To judge, and to search for a deal.
+    Settle,
     /// With a rack.
     Top(&'static str),
     Build,
@@ -78,6 +97,8 @@ pub enum Call {
 #[derive(Drop)]
 pub struct Job<'a> {
     pub call: Call,
+    /// The rules text that a game is judged by; by the English rules where there is none.
+    pub rules: Option<&'a [u8]>,
     pub words: &'a [u8],
     pub lexicon: &'a [u8],
     pub game: &'a [u8],
@@ -88,6 +109,7 @@ pub struct Job<'a> {
 /// A play that is the best one.
 pub const ONE_PLAY: Job<'static> = Job {
     call: Call::Judge,
+    rules: None,
     words: b"WORD",
     lexicon: &WORD,
     game: b">A: DORWAAE 8E WORD +16 16\n",
@@ -98,6 +120,7 @@ pub const ONE_PLAY: Job<'static> = Job {
 /// A play that is taken back.
 pub const WITHDRAWN: Job<'static> = Job {
     call: Call::Judge,
+    rules: None,
     words: b"WORD\nAT\nRA",
     lexicon: &WORD_AT_RA,
     game: b">A: DORWAAE 8E WORD +16 16\n>B: AT 9G AT +9 9\n>B: AT -- -9 0\n>A: AT 9G AT +9 25\n",
@@ -108,6 +131,7 @@ pub const WITHDRAWN: Job<'static> = Job {
 /// Six passes, and both players lose the points of their racks.
 pub const STALE: Job<'static> = Job {
     call: Call::Judge,
+    rules: None,
     words: b"RETAINS",
     lexicon: &RETAINS,
     game: b">A: - +0 0\n>B: - +0 0\n>A: - +0 0\n>B: - +0 0\n>A: - +0 0\n>B: - +0 0\n>A: AEINRST (AEINRST) -7 -7\n>B: AEINRST (AEINRST) -7 -7\n",
@@ -118,6 +142,7 @@ pub const STALE: Job<'static> = Job {
 /// The one Q is shown again before it can be drawn.
 pub const UNSETTLED: Job<'static> = Job {
     call: Call::Judge,
+    rules: None,
     words: b"WORD",
     lexicon: &WORD,
     game: b">A: Q -Q +0 0\n>B: - +0 0\n>A: Q - +0 0\n",
@@ -125,9 +150,71 @@ pub const UNSETTLED: Job<'static> = Job {
     wrote: b"unsettled\n",
 };
 
+/// The same, settled.
+pub const NO_DEAL: Job<'static> = Job {
+    call: Call::Settle,
+    rules: None,
+    words: b"WORD",
+    lexicon: &WORD,
+    game: b">A: Q -Q +0 0\n>B: - +0 0\n>A: Q - +0 0\n",
+    verdict: Verdict::Illegal {
+        line: 3,
+        fault: GameFault::NoDeal,
+    },
+    wrote: b"illegal line 3: NoDeal\n",
+};
+
+/// The same by the text of the English rules.
+pub const RULED_NO_DEAL: Job<'static> = Job {
+    call: Call::Settle,
+    rules: Some(ENGLISH_TEXT),
+    words: b"WORD",
+    lexicon: &WORD,
+    game: b">A: AEINRST -1 +0 0\n>B: - +0 0\n>A: BCDFGHJ - +0 0\n",
+    verdict: Verdict::Illegal {
+        line: 3,
+        fault: GameFault::NoDeal,
+    },
+    wrote: b"illegal line 3: NoDeal\n",
+};
+
+/// A game whose search finds a deal.
+pub const SETTLED: Job<'static> = Job {
+    call: Call::Settle,
+    rules: None,
+    words: b"WORD",
+    lexicon: &WORD,
+    game: b">A: AEINRST -7 +0 0\n>B: - +0 0\n>A: BCDFGHJ - +0 0\n",
+    verdict: Verdict::Legal { complete: false },
+    wrote: b"legal unfinished\n1 A -7 +0 0 best none\n2 B - +0 0 best -\n3 A - +0 0 best none\n",
+};
+
 /// The best plays with a blank on the empty board.
 pub const BEST_PLAYS: Job<'static> = Job {
     call: Call::Top("?A"),
+    rules: None,
+    words: b"AT",
+    lexicon: &AT,
+    game: b"",
+    verdict: Verdict::Done,
+    wrote: b"8G At 2\n8H At 2\nH7 At 2\nH8 At 2\n",
+};
+
+/// With 14 tiles the player who laid seven is out, and the other rack is what is left.
+pub const RULED: Job<'static> = Job {
+    call: Call::Judge,
+    rules: Some(SHORT_RULES),
+    words: b"RETAINS",
+    lexicon: &RETAINS,
+    game: b">A: AEINRST 8D RETAINS +66 66\n>A: (ADEORTW) +22 88\n",
+    verdict: Verdict::Legal { complete: true },
+    wrote: b"legal complete\n1 A 8D RETAINS +66 66 best 8B RETAINS 66\n2 A (ADEORTW) +22 88\n",
+};
+
+/// The best plays with a blank on the empty board, by the text of the English rules.
+pub const RULED_PLAYS: Job<'static> = Job {
+    call: Call::Top("?A"),
+    rules: Some(ENGLISH_TEXT),
     words: b"AT",
     lexicon: &AT,
     game: b"",
@@ -138,6 +225,7 @@ pub const BEST_PLAYS: Job<'static> = Job {
 /// A lexicon of one word.
 pub const BUILT: Job<'static> = Job {
     call: Call::Build,
+    rules: None,
     words: b"AT",
     lexicon: b"",
     game: b"",
@@ -148,6 +236,7 @@ pub const BUILT: Job<'static> = Job {
 /// The same, checked.
 pub const CHECKED: Job<'static> = Job {
     call: Call::Check,
+    rules: None,
     words: b"AT",
     lexicon: &AT,
     game: b"",
@@ -158,6 +247,7 @@ pub const CHECKED: Job<'static> = Job {
 /// The same lexicon, converted.
 pub const CONVERTED: Job<'static> = Job {
     call: Call::Convert(Format::Gad2),
+    rules: None,
     words: b"",
     lexicon: &AT,
     game: b"",
@@ -168,6 +258,7 @@ pub const CONVERTED: Job<'static> = Job {
 /// And back.
 pub const CONVERTED_BACK: Job<'static> = Job {
     call: Call::Convert(Format::Gad1),
+    rules: None,
     words: b"",
     lexicon: &AT_BY_NODES,
     game: b"",
@@ -178,6 +269,7 @@ pub const CONVERTED_BACK: Job<'static> = Job {
 /// A record with a mark at its front, a note, small letters and blanks.
 pub const TIDIED: Job<'static> = Job {
     call: Call::Tidy,
+    rules: None,
     words: b"",
     lexicon: b"",
     game: b"\xef\xbb\xbf#player1 A  Ann Lee\r\n#note x\n>A:\tDORWAAE  8e WORD 16 16\r\n",
@@ -186,12 +278,17 @@ pub const TIDIED: Job<'static> = Job {
 };
 
 /// All of them.
-pub const JOBS: [Job<'static>; 10] = [
+pub const JOBS: [Job<'static>; 15] = [
     ONE_PLAY,
     WITHDRAWN,
     STALE,
     UNSETTLED,
+    NO_DEAL,
+    RULED_NO_DEAL,
+    SETTLED,
     BEST_PLAYS,
+    RULED,
+    RULED_PLAYS,
     BUILT,
     CHECKED,
     CONVERTED,
@@ -200,11 +297,11 @@ pub const JOBS: [Job<'static>; 10] = [
 ];
 
 /// How the devices of a job behave: how many bytes a read or a write moves at most, and the numbers of the read of each input
-/// that fails, and of the write that meets with a mishap.
+/// (words, lexicon, record, rules text) that fails, and of the write that meets with a mishap.
 #[derive(Clone, Copy, Debug)]
 pub struct Manner {
     pub piece: usize,
-    pub reads: [usize; 3],
+    pub reads: [usize; 4],
     pub writes: usize,
     pub mishap: Mishap,
 }
@@ -213,7 +310,7 @@ pub struct Manner {
 pub fn working(piece: usize) -> Manner {
     Manner {
         piece,
-        reads: [NEVER; 3],
+        reads: [NEVER; 4],
         writes: NEVER,
         mishap: Mishap::Fails,
     }
@@ -230,6 +327,14 @@ pub struct Outcome {
 
 /// Does a job.
 pub fn attempt(alloc: Global, job: &Job<'_>, manner: &Manner) -> Outcome {
+    match job.rules {
+        Some(text) => attempt_ruled(alloc, job, text, manner),
+        None => attempt_english(alloc, job, manner),
+    }
+}
+
+/// Does a job by the English rules.
+fn attempt_english(alloc: Global, job: &Job<'_>, manner: &Manner) -> Outcome {
     let mut words = Feed::new(job.words, manner.piece, manner.reads[0]);
     let mut lexicon = Feed::new(job.lexicon, manner.piece, manner.reads[1]);
     let mut game = Feed::new(job.game, manner.piece, manner.reads[2]);
@@ -237,6 +342,7 @@ pub fn attempt(alloc: Global, job: &Job<'_>, manner: &Manner) -> Outcome {
     let rules = english_rules();
     let answer = match job.call {
         Call::Judge => run(alloc, &mut words, &mut lexicon, &mut game, &mut out, &rules),
+        Call::Settle => run_settled(alloc, &mut words, &mut lexicon, &mut game, &mut out, &rules),
         Call::Top(rack) => run_top(
             alloc,
             &mut words,
@@ -255,5 +361,47 @@ pub fn attempt(alloc: Global, job: &Job<'_>, manner: &Manner) -> Outcome {
         answer,
         out,
         failed: words.has_failed() || lexicon.has_failed() || game.has_failed(),
+    }
+}
+
+/// Does a job that judges a game, or names the best plays of a rack, by a rules text.
+fn attempt_ruled(alloc: Global, job: &Job<'_>, text: &[u8], manner: &Manner) -> Outcome {
+    let mut words = Feed::new(job.words, manner.piece, manner.reads[0]);
+    let mut lexicon = Feed::new(job.lexicon, manner.piece, manner.reads[1]);
+    let mut game = Feed::new(job.game, manner.piece, manner.reads[2]);
+    let mut rules = Feed::new(text, manner.piece, manner.reads[3]);
+    let mut out = Sheet::new(manner.piece, manner.writes, manner.mishap);
+    let answer = match job.call {
+        Call::Top(rack) => run_top_ruled(
+            alloc,
+            &mut rules,
+            &mut words,
+            &mut lexicon,
+            &mut game,
+            rack.as_bytes(),
+            &mut out,
+        ),
+        Call::Settle => run_settled_ruled(
+            alloc,
+            &mut rules,
+            &mut words,
+            &mut lexicon,
+            &mut game,
+            &mut out,
+        ),
+        _ => run_ruled(
+            alloc,
+            &mut rules,
+            &mut words,
+            &mut lexicon,
+            &mut game,
+            &mut out,
+        ),
+    };
+    let failed = words.has_failed() || lexicon.has_failed() || game.has_failed();
+    Outcome {
+        answer,
+        out,
+        failed: failed || rules.has_failed(),
     }
 }

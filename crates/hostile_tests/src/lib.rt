@@ -1,6 +1,6 @@
 //! The tests of hostile use: damaged and extreme inputs (`damaged`, `extreme`), devices that fail (`failing`), and memory that
-//! is refused (`refused`, `refused_plays`, `refused_rules`). They go through the calls of the engine, on jobs that were worked by
-//! hand (`jobs`), over inputs and outputs in memory (`feeds`).
+//! is refused (`refused`, `refused_plays`). They go through the calls of the engine, on jobs that were worked by hand (`jobs`), over
+//! inputs and outputs in memory (`feeds`).
 #![tactic(auto)]
 
 #[cfg(test)]
@@ -17,5 +17,3 @@ mod jobs;
 mod refused;
 #[cfg(test)]
 mod refused_plays;
-#[cfg(test)]
-mod refused_rules;

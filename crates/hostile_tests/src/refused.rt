@@ -1,11 +1,12 @@
 //! Memory that is refused: each request in turn, by `bench/refuse_memory.py`, until a run meets no refusal. Each test is for one
 //! call, and takes little memory besides. Without a refusal the answer is the row's.
 use crate::jobs::{
-    AT, AT_BY_NODES, BEST_PLAYS, BUILT, CHECKED, CONVERTED, CONVERTED_BACK, Job, ONE_PLAY, STALE,
-    TIDIED, UNSETTLED, WITHDRAWN, WORD, attempt, working,
+    AT, AT_BY_NODES, BEST_PLAYS, BUILT, CHECKED, CONVERTED, CONVERTED_BACK, Job, NO_DEAL, ONE_PLAY,
+    RULED, RULED_NO_DEAL, RULED_PLAYS, SETTLED, STALE, TIDIED, UNSETTLED, WITHDRAWN, WORD, attempt,
+    working,
 };
 use engine::RunFault;
-use game_deal::{DealFault, Needs, bounds, complete};
+use game_deal::{DealFault, Steps, bounds, complete};
 use game_turns::play_through;
 use gcg_read::{Record, read};
 use gcg_write::{NoMemory, event_text, write};
@@ -49,8 +50,33 @@ fn run_of_an_unsettled_game(rt: HostRuntime) {
 }
 
 #[test]
+fn run_settled_with_a_deal(rt: HostRuntime) {
+    assert_spared(&rt, rt.alloc(), &SETTLED);
+}
+
+#[test]
+fn run_settled_without(rt: HostRuntime) {
+    assert_spared(&rt, rt.alloc(), &NO_DEAL);
+}
+
+#[test]
+fn run_settled_ruled(rt: HostRuntime) {
+    assert_spared(&rt, rt.alloc(), &RULED_NO_DEAL);
+}
+
+#[test]
 fn run_top(rt: HostRuntime) {
     assert_spared(&rt, rt.alloc(), &BEST_PLAYS);
+}
+
+#[test]
+fn run_ruled(rt: HostRuntime) {
+    assert_spared(&rt, rt.alloc(), &RULED);
+}
+
+#[test]
+fn run_top_ruled(rt: HostRuntime) {
+    assert_spared(&rt, rt.alloc(), &RULED_PLAYS);
 }
 
 #[test]
@@ -163,10 +189,11 @@ fn dealt(alloc: Global, game: &[u8]) -> Option<(Record, WordList)> {
 }
 
 /// The bound that a record exceeds.
-fn exceeded(rt: &impl Abort, alloc: Global, record: &Record, list: &WordList) -> DealFault {
+fn exceeded(rt: &impl Abort, alloc: Global, record: &Record, list: &WordList) -> Option<DealFault> {
     let rules = english_rules();
     let passed = play_through(&rules, record, list).expect(rt, "a record that passed");
-    bounds(alloc, &passed).err().expect(rt, "a fault")
+    let steps = Steps::of(alloc, &passed).ok()?;
+    Some(bounds(&steps).expect(rt, "a fault"))
 }
 
 /// A third blank is shown.
@@ -179,13 +206,15 @@ fn bounds_exceeded(rt: HostRuntime) {
         line: 2,
         kind: Kind::Blank,
     };
-    let fault = exceeded(&rt, rt.alloc(), &record, &list);
-    assert!(rt; fault == short || fault == DealFault::NoMemory);
+    if let Some(fault) = exceeded(&rt, rt.alloc(), &record, &list) {
+        assert_eq!(rt; fault, short);
+    }
 }
 
 /// Asserts that a deal of three steps is found, or memory refused.
-fn assert_complete(rt: &impl Abort, alloc: Global, needs: &Needs<'_>) {
-    if let Ok(deal) = complete(alloc, needs) {
+fn assert_complete(rt: &impl Abort, alloc: Global, steps: &Steps<'_>) {
+    assert_eq!(rt; bounds(steps), None);
+    if let Ok(deal) = complete(alloc, steps) {
         assert_eq!(rt; deal.expect(rt, "a deal").as_slice().len(), 3);
     }
 }
@@ -194,9 +223,8 @@ fn assert_complete(rt: &impl Abort, alloc: Global, needs: &Needs<'_>) {
 fn assert_deal(rt: &impl Abort, alloc: Global, record: &Record, list: &WordList) {
     let rules = english_rules();
     let passed = play_through(&rules, record, list).expect(rt, "a record that passed");
-    match bounds(alloc, &passed) {
-        Ok(needs) => assert_complete(rt, alloc, &needs),
-        Err(fault) => assert_eq!(rt; fault, DealFault::NoMemory),
+    if let Ok(steps) = Steps::of(alloc, &passed) {
+        assert_complete(rt, alloc, &steps);
     }
 }
 

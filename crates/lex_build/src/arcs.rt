@@ -1,3 +1,4 @@
+//! Arcs as words of a file.
 ghost use Rattle.std.specs.Prelude.{◌≡◌, ◌+◌, ◌≤◌, false};
 ghost use Rattle.lex_file.specs.Arcs.{arc_of, is_last};
 ghost use Rattle.lex_file.specs.Formats.{greatest_label, most_arcs};

@@ -1,3 +1,4 @@
+//! Building the file of a word list.
 ghost use Rattle.std.specs.Prelude.{[], MatchResult};
 ghost use Rattle.lex_build.specs.Builds.{IsBuiltOf, IsUnbuilt};
 ghost use Rattle.lex_build.specs.Headers.{IsFileOf};

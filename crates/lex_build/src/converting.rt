@@ -1,3 +1,4 @@
+//! Converting a file into the other format, node by node.
 ghost use Rattle.std.specs.Prelude.{◌≡◌, ◌<◌, ◌≤◌, [], ◌∷◌, length, map, slice_index, MatchResult, OnOk, IfOk, IfErr};
 ghost use Rattle.lex_file.specs.FileWords.{body_of};
 ghost use Rattle.lex_file.specs.Files.{bytes_of, number_of};

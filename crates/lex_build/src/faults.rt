@@ -1,3 +1,4 @@
+//! Why a file is not built.
 /// Why a lexicon file was not made, of a word list or of a file in another format.
 #[derive(Clone, Copy, Debug, PartialEq, Eq)]
 pub enum BuildFault {

@@ -1,3 +1,4 @@
+//! The header of a file.
 ghost use Rattle.std.specs.Prelude.{◌≡◌, ◌++◌, ◌≤◌, length, drop};
 ghost use Rattle.lex_file.specs.Formats.{header_bytes};
 ghost use Rattle.lex_build.specs.Headers.{magic_of, header_of};

@@ -1,3 +1,4 @@
+//! A node as the words of a file, in either format.
 ghost use Rattle.std.specs.Prelude.{◌≡◌, ◌+◌, ◌≤◌, length, OnOk};
 ghost use Rattle.lex_file.specs.FileWords.{body_of};
 ghost use Rattle.lex_build.specs.Bodies.{IsWhole};

@@ -1,3 +1,4 @@
+//! The walk over a lexicon that writes its nodes.
 ghost use Rattle.std.specs.Prelude.{◌≡◌, OnOk, MatchResult};
 ghost use Rattle.lex_file.specs.FileWords.{body_of};
 ghost use Rattle.lex_build.specs.Bodies.{IsKept};

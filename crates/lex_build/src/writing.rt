@@ -1,3 +1,4 @@
+//! The writer that stores equal nodes once.
 ghost use Rattle.std.specs.Prelude.{◌≡◌, ◌+◌, ◌<◌, ◌≤◌, ℕ, [], ◌∷◌, ◌++◌, false, None, length, drop, slice_index, OnOk, IfOk, IfErr};
 ghost use Rattle.lex_file.specs.Arcs.{is_last};
 ghost use Rattle.lex_file.specs.FileWords.{body_of};

@@ -1,3 +1,4 @@
+//! Squares, tiles on them, and runs.
 use ref_board::{Board, Dir, Square};
 use ref_tiles::{Letter, Tile};
 use std::process::Abort;

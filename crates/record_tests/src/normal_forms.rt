@@ -1,3 +1,4 @@
+//! The normal form of records and events.
 use gcg_read::{Event, EventKind, Points, Record, Seat, Text, read};
 use gcg_write::{NoMemory, event_text, law_of_round_trip, write};
 use ref_board::{Dir, Square};

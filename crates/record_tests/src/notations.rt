@@ -1,3 +1,4 @@
+//! How plays are written, and their order.
 use crate::plays::{AT, Text, WORD, after, judged};
 use ref_board::{Board, Dir, Square};
 use ref_play::{Notation, PlayFault, before, law_of_before, notation};

@@ -1,3 +1,4 @@
+//! The best play of a rack.
 use crate::notations::assert_written;
 use crate::plays::{AT, Text, WORD, after};
 use game_notes::{annotate, cross_sets};

@@ -1,3 +1,4 @@
+//! Plays from their texts: words, scores and faults.
 ghost use Rattle.std.specs.Prelude.{IfOk};
 ghost use Rattle.ref_play.specs.Legality.{IsLegal};
 

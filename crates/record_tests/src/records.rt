@@ -1,3 +1,4 @@
+//! The reader of records: faults, plays, codes and names.
 use gcg_read::{
     Event, EventKind, Events, MAX_BYTES, MAX_EVENTS, Name, Player, Players, Points, ReadFault,
     Record, Seat, Text, Why, law_of_faults, law_of_lines, read,

@@ -1,3 +1,4 @@
+//! Tiles, counts, symbols and the English rules.
 use ref_tiles::{
     Counts, Kind, Letter, Premium, Rules, SQUARES, Symbol, Tile, english_rules, law_of_symbols,
 };

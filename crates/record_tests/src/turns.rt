@@ -1,3 +1,4 @@
+//! The turns of records: which events stand, and the first fault of the others.
 use game_turns::{Machine, RuleFault, Turn, law_of_tallies, play_through};
 use gcg_read::{Event, Record, Seat, read};
 use lex_list::WordList;

@@ -1,3 +1,4 @@
+//! What lies beside a square or a stretch of a line.
 ghost use Rattle.std.specs.Prelude.{◌≡◌, ◌≤◌};
 ghost use Rattle.ref_board.specs.Anchors.{follows_tile, precedes_tile, touches};
 

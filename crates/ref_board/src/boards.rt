@@ -1,3 +1,4 @@
+//! The board.
 ghost use Rattle.std.specs.Prelude.{◌≡◌, ◌↔◌, true, ◌<◌, IsTrue, IsSome, length, Some, None, OnSome};
 ghost use Rattle.ref_board.specs.Cells.{empty_board, tile_at, holds, with_tile, HasNoTile, occupied_on, transposed, AreTransposed};
 ghost use Rattle.ref_board.specs.Anchors.{centre, IsAnchor};

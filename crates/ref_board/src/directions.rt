@@ -1,3 +1,4 @@
+//! Across and down.
 ghost use Rattle.std.specs.Prelude.{◌≡◌};
 
 /// The direction of a play or of a run.

@@ -1,3 +1,4 @@
+//! Squares, by number or by line and place.
 ghost use Rattle.std.specs.Prelude.{◌≡◌, ◌<◌, ◌/◌, ◌%◌, ◌↔◌, IsSome, IfSome};
 ghost use Rattle.ref_board.specs.Lines.{square_in, square_at, line_of, place_of};
 

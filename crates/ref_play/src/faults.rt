@@ -1,3 +1,4 @@
+//! The faults of a play.
 ghost use Rattle.std.specs.Prelude.{◌≡◌};
 
 /// Why the text of a play names no play, or why a play is not legal. The order is that in which they are checked.

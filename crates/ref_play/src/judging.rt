@@ -1,3 +1,4 @@
+//! Whether a play is legal, and laying and lifting its tiles.
 ghost use Rattle.std.specs.Prelude.{◌≡◌, ◌↔◌, true, false, IsOk, All};
 ghost use Rattle.ref_play.specs.Placements.{with_tiles, without_tiles, are_rising, HasTiles, EmptiesSquares};
 ghost use Rattle.ref_play.specs.Formed.{runs_formed};

@@ -1,3 +1,4 @@
+//! The single tests of a legal play.
 ghost use Rattle.std.specs.Prelude.{◌≡◌, ◌-◌, ◌<◌, ◌≤◌, true, false, length};
 ghost use Rattle.ref_board.specs.Cells.{holds, occupied_on};
 ghost use Rattle.ref_play.specs.Placements.{with_tiles, are_rising, covers};

@@ -1,3 +1,4 @@
+//! How a play is written, and the order of notations.
 use arrayvec::ArrayVec;
 use ref_board::{Dir, SIDE, Square};
 use ref_tiles::Symbol;

@@ -1,3 +1,4 @@
+//! A tile on its square.
 ghost use Rattle.std.specs.Prelude.{◌≡◌};
 
 use ref_board::Square;

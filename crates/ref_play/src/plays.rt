@@ -1,3 +1,4 @@
+//! Plays.
 ghost use Rattle.std.specs.Prelude.{◌≡◌, IsTrue};
 ghost use Rattle.ref_play.specs.Placements.{is_play};
 

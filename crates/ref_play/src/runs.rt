@@ -1,3 +1,4 @@
+//! The runs that a play forms.
 ghost use Rattle.std.specs.Prelude.{◌≡◌, ◌+◌, ◌<◌, ◌≤◌, ◌++◌, true, length};
 ghost use Rattle.ref_board.specs.Cells.{holds};
 ghost use Rattle.ref_play.specs.Formed.{runs_through, runs_formed};

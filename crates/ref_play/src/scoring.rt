@@ -1,3 +1,4 @@
+//! What a play scores.
 ghost use Rattle.std.specs.Prelude.{◌≡◌, ◌+◌, ◌*◌, ◌<◌, ◌≤◌, length, pos, map, sum_by, All};
 ghost use Rattle.ref_play.specs.Formed.{is_on};
 ghost use Rattle.ref_play.specs.Legality.{IsLegal};

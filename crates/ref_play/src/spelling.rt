@@ -1,3 +1,4 @@
+//! The words that a play forms.
 ghost use Rattle.std.specs.Prelude.{◌≡◌, ◌+◌, ◌≤◌, length, map, All};
 ghost use Rattle.ref_board.specs.Lines.{place_of};
 ghost use Rattle.ref_play.specs.Legality.{IsLegal};

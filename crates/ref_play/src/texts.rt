@@ -1,3 +1,4 @@
+//! The play that a text names.
 ghost use Rattle.std.specs.Prelude.{◌≡◌, ◌+◌, ◌<◌, ◌≤◌, length, Some, None, IfErr, IfOk};
 ghost use Rattle.std.specs.List.{list_all};
 ghost use Rattle.ref_board.specs.Lines.{line_of, place_of};

@@ -1,3 +1,4 @@
+//! The notation of a play, and which of two comes first.
 ghost use Rattle.std.specs.Prelude.{◌≡◌, ◌↔◌, true, IsTrue, [], ◌∷◌};
 ghost use Rattle.ref_board.specs.declared.directions.Dir.TheVariants.{Across};
 ghost use Rattle.ref_board.specs.Cells.{holds};

@@ -1,3 +1,4 @@
+//! Rules from the statements of a whole text.
 ghost use Rattle.std.specs.Prelude.{◌≡◌, ◌<◌, false, IfSome, IfNone};
 ghost use Rattle.ref_tiles.specs.Limits.{is_tile_set, are_points, is_bonus, is_parameter};
 ghost use Rattle.ref_tiles.specs.Parts.{are_in_limits};

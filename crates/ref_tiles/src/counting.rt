@@ -1,3 +1,4 @@
+//! Counts of tiles, kind by kind.
 ghost use Rattle.std.specs.Prelude.{◌≡◌, ◌+◌, ◌-◌, ◌<◌, ◌↔◌, ℕ, IsTrue, IsSome, OnSome, IfNone, length, sum, slice_index};
 ghost use Rattle.ref_tiles.specs.Counting.{no_tiles, count_of, with_count, IsContainedIn};
 

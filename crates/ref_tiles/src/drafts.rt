@@ -1,3 +1,4 @@
+//! What a rules text has stated so far.
 ghost use Rattle.std.specs.Prelude.{◌≡◌, ◌<◌, None, Some, is_some, slice_set, replicate};
 ghost use Rattle.std.specs.List.{list_all};
 ghost use Rattle.ref_tiles.specs.RulesTexts.{entry_at};

@@ -1,3 +1,4 @@
+//! The English rules.
 ghost use Rattle.std.specs.Prelude.{◌≡◌, sum};
 ghost use Rattle.ref_tiles.specs.English.{english_counts, english_points, english_premiums};
 

@@ -1,3 +1,4 @@
+//! The English rules as a text.
 /// The English game as a rules text: [`Rules::read`](crate::Rules::read) makes [`ENGLISH`](crate::ENGLISH) of it.
 #[rattlefmt::skip]
 pub const ENGLISH_TEXT: &[u8] = b"\

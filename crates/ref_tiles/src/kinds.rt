@@ -1,3 +1,4 @@
+//! Kinds of tiles: letters and the blank.
 ghost use Rattle.std.specs.Prelude.{◌≡◌};
 ghost use Rattle.ref_tiles.specs.Kinds.{number_of, kind_of};
 

@@ -1,3 +1,4 @@
+//! Letters, A to Z.
 ghost use Rattle.std.specs.Prelude.{◌≡◌, ◌+◌, ◌<◌};
 
 /// One of the 26 letters of the English alphabet.

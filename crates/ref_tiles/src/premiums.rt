@@ -1,3 +1,4 @@
+//! Premiums of squares.
 ghost use Rattle.std.specs.Prelude.{◌≡◌, ◌≤◌};
 ghost use Rattle.ref_tiles.specs.Rulebook.{letter_factor, word_factor};
 ghost use Rattle.ref_tiles.specs.Codes.{premium_of};

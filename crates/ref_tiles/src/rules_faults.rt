@@ -1,3 +1,4 @@
+//! The faults of a rules text.
 ghost use Rattle.std.specs.Prelude.{◌≡◌};
 
 /// Why a text gives no rules, in the order in which the faults are looked for.

@@ -1,3 +1,4 @@
+//! Reading a rules text, line by line.
 ghost use Rattle.std.specs.Prelude.{◌≡◌, ◌≤◌, IfOk, IfErr, length};
 ghost use Rattle.text_lines.specs.Lines.{lines_in, lines_of};
 ghost use Rattle.ref_tiles.specs.RulesTexts.{most_text_bytes, meaning_of, drafted, more_by, Gives, Makes, IsFaultOf, AreOnce};

@@ -1,3 +1,4 @@
+//! The statement of one line of a rules text.
 ghost use Rattle.std.specs.Prelude.{◌≡◌, ◌<◌, IfOk, IfSome};
 ghost use Rattle.ref_tiles.specs.Statements.{kind_in, row_in, parameter_in, tile_of, row_of, tile_in, premiums_in, number_in, statement_in, statement_of, IsPlace, IsLinePlace};
 ghost use Rattle.text_lines.specs.Fields.{fields_of};

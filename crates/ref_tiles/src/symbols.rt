@@ -1,3 +1,4 @@
+//! The symbols of a play's text.
 ghost use Rattle.std.specs.Prelude.{◌≡◌};
 ghost use Rattle.ref_tiles.specs.Symbols.{symbol_of, byte_of};
 

@@ -1,3 +1,4 @@
+//! Tiles as they lie, blanks with the letter shown.
 ghost use Rattle.std.specs.Prelude.{◌≡◌, IsTrue};
 ghost use Rattle.ref_tiles.specs.Tiles.{can_show};
 

@@ -1,20 +1,33 @@
+//! The command line: the commands that the program knows, and what one asks for.
+
 use clap::error::ErrorKind;
-use clap::{Arg, ArgMatches, Command, Error};
+use clap::{Arg, ArgAction, ArgMatches, Command, Error};
 use lex_file::Format;
 use std::alloc::{AllocError, Global};
 
 /// The names of the formats of a lexicon.
 const FORMATS: [&str; 2] = ["gad1", "gad2"];
 
+/// The names of the files of a game.
+#[derive(Clone, Copy)]
+pub struct GameFiles<'a> {
+    /// The rules text; without one the rules are the English ones.
+    pub rules: Option<&'a str>,
+    /// The word list.
+    pub words: &'a str,
+    /// The lexicon of the words.
+    pub lexicon: &'a str,
+    /// The record.
+    pub game: &'a str,
+}
+
 /// What the command line asks for. Files are told by their names, a rack by its tiles.
 #[derive(Clone, Copy)]
 pub enum Request<'a> {
-    /// To judge the game of a record by a word list and its lexicon, and by the rules of a text where one is named.
+    /// To judge the game of a record, and to search for a deal where `settle` says so.
     Judge {
-        rules: Option<&'a str>,
-        words: &'a str,
-        lexicon: &'a str,
-        game: &'a str,
+        settle: bool,
+        files: GameFiles<'a>,
     },
     /// To write the lexicon of a word list to the file `out`.
     Build {
@@ -32,12 +45,9 @@ pub enum Request<'a> {
         lexicon: &'a str,
         out: &'a str,
     },
-    /// To tell the best plays by a rack on the board after a record, by the rules of a text where one is named.
+    /// To write the best plays by a rack on the board after a record.
     Top {
-        rules: Option<&'a str>,
-        words: &'a str,
-        lexicon: &'a str,
-        game: &'a str,
+        files: GameFiles<'a>,
         rack: &'a str,
     },
     /// To write the normal form of a record.
@@ -84,7 +94,7 @@ fn command<'a>(alloc: Global) -> Result<Command<'a>, AllocError> {
         .subcommand(tidy_command(alloc)?)
 }
 
-/// `judge [--rules FILE] WORDS LEXICON GAME`.
+/// `judge [--settle] [--rules FILE] WORDS LEXICON GAME`.
 fn judge_command<'a>(alloc: Global) -> Result<Command<'a>, AllocError> {
     Command::new(alloc, "judge")
         .about(
@@ -93,6 +103,14 @@ fn judge_command<'a>(alloc: Global) -> Result<Command<'a>, AllocError> {
         .arg(name(alloc, "WORDS", "the word list"))?
         .arg(name(alloc, "LEXICON", "the lexicon file of the words"))?
         .arg(name(alloc, "GAME", "the GCG record"))?
+        .arg(
+            Arg::new(alloc, "settle")
+                .long("settle")
+                .action(ArgAction::SetTrue)
+                .help(
+                    "search for a deal, or a proof that there is none, where the game would be unsettled",
+                ),
+        )?
         .arg(rules_option(alloc))
 }
 
@@ -165,10 +183,8 @@ fn request_of<'a>(matches: &ArgMatches<'a>) -> Option<Request<'a>> {
     let (command, names) = matches.subcommand()?;
     match command {
         "judge" => Some(Request::Judge {
-            rules: names.get_str("rules"),
-            words: names.get_str("WORDS")?,
-            lexicon: names.get_str("LEXICON")?,
-            game: names.get_str("GAME")?,
+            settle: names.get_flag("settle"),
+            files: game_files(names)?,
         }),
         "build" => Some(Request::Build {
             words: names.get_str("WORDS")?,
@@ -184,16 +200,24 @@ fn request_of<'a>(matches: &ArgMatches<'a>) -> Option<Request<'a>> {
             out: names.get_str("OUT")?,
         }),
         "top" => Some(Request::Top {
-            rules: names.get_str("rules"),
-            words: names.get_str("WORDS")?,
-            lexicon: names.get_str("LEXICON")?,
-            game: names.get_str("GAME")?,
+            files: game_files(names)?,
             rack: names.get_str("RACK")?,
         }),
-        _ => Some(Request::Tidy {
+        "tidy" => Some(Request::Tidy {
             game: names.get_str("GAME")?,
         }),
+        _ => None,
     }
+}
+
+/// The files of a game that a command names.
+fn game_files<'a>(names: &ArgMatches<'a>) -> Option<GameFiles<'a>> {
+    Some(GameFiles {
+        rules: names.get_str("rules"),
+        words: names.get_str("WORDS")?,
+        lexicon: names.get_str("LEXICON")?,
+        game: names.get_str("GAME")?,
+    })
 }
 
 /// The format of this name.

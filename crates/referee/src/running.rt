@@ -1,10 +1,13 @@
-use crate::command_line::{Request, mistake, parse_arguments};
+//! What the program does: it opens the files that the command line names, and makes the call of the engine.
+
+use crate::command_line::{GameFiles, Request, mistake, parse_arguments};
 use clap::Error;
 use clap::error::ErrorKind;
 use devices::{FromRead, FromWrite};
 use endings::{Exit, Trouble};
 use engine::{
-    Verdict, run, run_build, run_check, run_convert, run_ruled, run_tidy, run_top, run_top_ruled,
+    Verdict, run, run_build, run_check, run_convert, run_ruled, run_settled, run_settled_ruled,
+    run_tidy, run_top, run_top_ruled,
 };
 use lex_file::Format;
 use ref_tiles::english_rules;
@@ -51,18 +54,7 @@ fn give_up<R: Runtime>(rt: &R, trouble: Trouble<'_>) -> Exit {
 /// Does what was asked for.
 fn answer<R: Runtime + AllocGlobal>(rt: &R, request: Request<'_>) -> Exit {
     let outcome = match request {
-        Request::Judge {
-            rules: None,
-            words,
-            lexicon,
-            game,
-        } => judge(rt, words, lexicon, game),
-        Request::Judge {
-            rules: Some(rules),
-            words,
-            lexicon,
-            game,
-        } => judge_ruled(rt, rules, words, lexicon, game),
+        Request::Judge { settle, files } => judge(rt, settle, files),
         Request::Build { words, out } => build(rt, words, out),
         Request::Check { words, lexicon } => check(rt, words, lexicon),
         Request::Convert {
@@ -70,20 +62,7 @@ fn answer<R: Runtime + AllocGlobal>(rt: &R, request: Request<'_>) -> Exit {
             lexicon,
             out,
         } => convert(rt, format, lexicon, out),
-        Request::Top {
-            rules: None,
-            words,
-            lexicon,
-            game,
-            rack,
-        } => top(rt, words, lexicon, game, rack),
-        Request::Top {
-            rules: Some(rules),
-            words,
-            lexicon,
-            game,
-            rack,
-        } => top_ruled(rt, rules, words, lexicon, game, rack),
+        Request::Top { files, rack } => top(rt, files, rack),
         Request::Tidy { game } => tidy(rt, game),
     };
     match outcome {
@@ -92,22 +71,134 @@ fn answer<R: Runtime + AllocGlobal>(rt: &R, request: Request<'_>) -> Exit {
     }
 }
 
-/// Judges the game of a file by a word list and its lexicon, by the English rules. The report goes to standard output.
+/// The inputs of a game.
+struct GameInputs<F> {
+    words: FromRead<F>,
+    lexicon: FromRead<F>,
+    game: FromRead<F>,
+}
+
+/// Opens the word list, the lexicon and the record of a game, in this order.
+fn open_game<'a, R: Files>(
+    rt: &R,
+    files: GameFiles<'a>,
+) -> Result<GameInputs<R::File>, Trouble<'a>> {
+    Ok(GameInputs {
+        words: open(rt, files.words)?,
+        lexicon: open(rt, files.lexicon)?,
+        game: open(rt, files.game)?,
+    })
+}
+
+/// Judges the game of a record, by the English rules or those of a text; a search for a deal settles it where that is asked
+/// for. The report goes to standard output.
 fn judge<'a, R: Runtime + AllocGlobal>(
     rt: &R,
-    words: &'a str,
-    lexicon: &'a str,
-    game: &'a str,
+    settle: bool,
+    files: GameFiles<'a>,
 ) -> Result<Verdict, Trouble<'a>> {
-    let mut words = FromRead::new(open(rt, words)?);
-    let mut lexicon = FromRead::new(open(rt, lexicon)?);
-    let mut game = FromRead::new(open(rt, game)?);
+    let verdict = match files.rules {
+        None => judge_english(rt, settle, files)?,
+        Some(rules) => judge_ruled(rt, settle, rules, files)?,
+    };
+    if !settle && verdict == Verdict::Unsettled {
+        let _ = rt.eprintln(
+            "unsettled: `judge --settle` searches for a deal that yields the racks",
+        );
+    }
+    Ok(verdict)
+}
+
+/// Judges the game of a record by the English rules.
+fn judge_english<'a, R: Runtime + AllocGlobal>(
+    rt: &R,
+    settle: bool,
+    files: GameFiles<'a>,
+) -> Result<Verdict, Trouble<'a>> {
+    let GameInputs {
+        mut words,
+        mut lexicon,
+        mut game,
+    } = open_game(rt, files)?;
     let mut out = FromWrite::new(io::writer(rt));
-    let verdict = run(
+    let alloc = rt.alloc();
+    let rules = english_rules();
+    let verdict = if settle {
+        run_settled(alloc, &mut words, &mut lexicon, &mut game, &mut out, &rules)?
+    } else {
+        run(alloc, &mut words, &mut lexicon, &mut game, &mut out, &rules)?
+    };
+    Ok(verdict)
+}
+
+/// The same by the rules of a text, whose file is opened first.
+fn judge_ruled<'a, R: Runtime + AllocGlobal>(
+    rt: &R,
+    settle: bool,
+    rules: &'a str,
+    files: GameFiles<'a>,
+) -> Result<Verdict, Trouble<'a>> {
+    let mut rules = open(rt, rules)?;
+    let GameInputs {
+        mut words,
+        mut lexicon,
+        mut game,
+    } = open_game(rt, files)?;
+    let mut out = FromWrite::new(io::writer(rt));
+    let alloc = rt.alloc();
+    let verdict = if settle {
+        run_settled_ruled(
+            alloc,
+            &mut rules,
+            &mut words,
+            &mut lexicon,
+            &mut game,
+            &mut out,
+        )?
+    } else {
+        run_ruled(
+            alloc,
+            &mut rules,
+            &mut words,
+            &mut lexicon,
+            &mut game,
+            &mut out,
+        )?
+    };
+    Ok(verdict)
+}
+
+/// Writes the best plays by a rack on the board after a record, by the English rules or those of a text, to standard output.
+/// The files are opened before the rack is looked at.
+fn top<'a, R: Runtime + AllocGlobal>(
+    rt: &R,
+    files: GameFiles<'a>,
+    rack: &str,
+) -> Result<Verdict, Trouble<'a>> {
+    match files.rules {
+        None => top_english(rt, files, rack.as_bytes()),
+        Some(rules) => top_ruled(rt, rules, files, rack.as_bytes()),
+    }
+}
+
+/// Writes the best plays by the English rules.
+fn top_english<'a, R: Runtime + AllocGlobal>(
+    rt: &R,
+    files: GameFiles<'a>,
+    rack: &[u8],
+) -> Result<Verdict, Trouble<'a>> {
+    let GameInputs {
+        mut words,
+        mut lexicon,
+        mut game,
+    } = open_game(rt, files)?;
+    let mut out = FromWrite::new(io::writer(rt));
+    let verdict = run_top(
         rt.alloc(),
         &mut words,
         &mut lexicon,
         &mut game,
+        rack,
         &mut out,
         &english_rules(),
     )?;
@@ -115,24 +206,26 @@ fn judge<'a, R: Runtime + AllocGlobal>(
 }
 
 /// The same by the rules of a text, whose file is opened first.
-fn judge_ruled<'a, R: Runtime + AllocGlobal>(
+fn top_ruled<'a, R: Runtime + AllocGlobal>(
     rt: &R,
     rules: &'a str,
-    words: &'a str,
-    lexicon: &'a str,
-    game: &'a str,
+    files: GameFiles<'a>,
+    rack: &[u8],
 ) -> Result<Verdict, Trouble<'a>> {
-    let mut rules = FromRead::new(open(rt, rules)?);
-    let mut words = FromRead::new(open(rt, words)?);
-    let mut lexicon = FromRead::new(open(rt, lexicon)?);
-    let mut game = FromRead::new(open(rt, game)?);
+    let mut rules = open(rt, rules)?;
+    let GameInputs {
+        mut words,
+        mut lexicon,
+        mut game,
+    } = open_game(rt, files)?;
     let mut out = FromWrite::new(io::writer(rt));
-    let verdict = run_ruled(
+    let verdict = run_top_ruled(
         rt.alloc(),
         &mut rules,
         &mut words,
         &mut lexicon,
         &mut game,
+        rack,
         &mut out,
     )?;
     Ok(verdict)
@@ -144,7 +237,7 @@ fn build<'a, R: Runtime + AllocGlobal>(
     words: &'a str,
     out: &'a str,
 ) -> Result<Verdict, Trouble<'a>> {
-    let mut words = FromRead::new(open(rt, words)?);
+    let mut words = open(rt, words)?;
     let mut out = FromWrite::new(create(rt, out)?);
     let verdict = run_build(rt.alloc(), &mut words, &mut out)?;
     Ok(verdict)
@@ -156,8 +249,8 @@ fn check<'a, R: Runtime + AllocGlobal>(
     words: &'a str,
     lexicon: &'a str,
 ) -> Result<Verdict, Trouble<'a>> {
-    let mut words = FromRead::new(open(rt, words)?);
-    let mut lexicon = FromRead::new(open(rt, lexicon)?);
+    let mut words = open(rt, words)?;
+    let mut lexicon = open(rt, lexicon)?;
     let mut out = FromWrite::new(io::writer(rt));
     let verdict = run_check(rt.alloc(), &mut words, &mut lexicon, &mut out)?;
     Ok(verdict)
@@ -170,74 +263,24 @@ fn convert<'a, R: Runtime + AllocGlobal>(
     lexicon: &'a str,
     out: &'a str,
 ) -> Result<Verdict, Trouble<'a>> {
-    let mut lexicon = FromRead::new(open(rt, lexicon)?);
+    let mut lexicon = open(rt, lexicon)?;
     let mut out = FromWrite::new(create(rt, out)?);
     let verdict = run_convert(rt.alloc(), &mut lexicon, format, &mut out)?;
     Ok(verdict)
 }
 
-/// Tells the best plays by a rack on the board after the record of a file, by a word list and its lexicon and the English
-/// rules. They go to standard output. The files are opened before the rack is looked at.
-fn top<'a, R: Runtime + AllocGlobal>(
-    rt: &R,
-    words: &'a str,
-    lexicon: &'a str,
-    game: &'a str,
-    rack: &str,
-) -> Result<Verdict, Trouble<'a>> {
-    let mut words = FromRead::new(open(rt, words)?);
-    let mut lexicon = FromRead::new(open(rt, lexicon)?);
-    let mut game = FromRead::new(open(rt, game)?);
-    let mut out = FromWrite::new(io::writer(rt));
-    let verdict = run_top(
-        rt.alloc(),
-        &mut words,
-        &mut lexicon,
-        &mut game,
-        rack.as_bytes(),
-        &mut out,
-        &english_rules(),
-    )?;
-    Ok(verdict)
-}
-
-/// The same by the rules of a text, whose file is opened first.
-fn top_ruled<'a, R: Runtime + AllocGlobal>(
-    rt: &R,
-    rules: &'a str,
-    words: &'a str,
-    lexicon: &'a str,
-    game: &'a str,
-    rack: &str,
-) -> Result<Verdict, Trouble<'a>> {
-    let mut rules = FromRead::new(open(rt, rules)?);
-    let mut words = FromRead::new(open(rt, words)?);
-    let mut lexicon = FromRead::new(open(rt, lexicon)?);
-    let mut game = FromRead::new(open(rt, game)?);
-    let mut out = FromWrite::new(io::writer(rt));
-    let verdict = run_top_ruled(
-        rt.alloc(),
-        &mut rules,
-        &mut words,
-        &mut lexicon,
-        &mut game,
-        rack.as_bytes(),
-        &mut out,
-    )?;
-    Ok(verdict)
-}
-
 /// Writes the normal form of the record of a file to standard output.
 fn tidy<'a, R: Runtime + AllocGlobal>(rt: &R, game: &'a str) -> Result<Verdict, Trouble<'a>> {
-    let mut game = FromRead::new(open(rt, game)?);
+    let mut game = open(rt, game)?;
     let mut out = FromWrite::new(io::writer(rt));
     let verdict = run_tidy(rt.alloc(), &mut game, &mut out)?;
     Ok(verdict)
 }
 
-/// Opens a file to be read.
-fn open<'a, R: Files>(rt: &R, name: &'a str) -> Result<R::File, Trouble<'a>> {
-    opened(name, fs::open(rt, name))
+/// Opens a file as an input.
+fn open<'a, R: Files>(rt: &R, name: &'a str) -> Result<FromRead<R::File>, Trouble<'a>> {
+    let file = opened(name, fs::open(rt, name))?;
+    Ok(FromRead::new(file))
 }
 
 /// Opens a file to be written; it is created, or emptied.

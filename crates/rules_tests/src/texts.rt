@@ -1,3 +1,4 @@
+//! Rules texts: what they state, and their faults.
 use bstr::ByteSlice;
 use ref_tiles::{
     ENGLISH_TEXT, MAX_RULES_BYTES, Premium, Rules, RulesFault, RulesWhy, english_rules,

@@ -1,3 +1,4 @@
+//! Fields of a line, between blanks.
 ghost use Rattle.std.specs.Prelude.{◌≡◌, not};
 ghost use Rattle.std.specs.List.{position};
 ghost use Rattle.text_lines.specs.Fields.{is_blank, fields_of, fields_from};

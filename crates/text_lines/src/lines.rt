@@ -1,3 +1,4 @@
+//! Lines of a text, and a mark at its front.
 ghost use Rattle.std.specs.Prelude.{◌≡◌, ◌<◌, ◌∷◌, IfSome, length};
 ghost use Rattle.std.specs.List.{position};
 ghost use Rattle.text_lines.specs.Lines.{without_mark, without_return, is_feed, lines_in, lines_behind};

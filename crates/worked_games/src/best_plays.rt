@@ -4,7 +4,7 @@ use crate::games::{Row, report_all};
 use ref_tiles::english_rules;
 
 /// By a full rack the play with the highest score, or that there is none; nothing of a rack that is not full.
-pub const RACKS: [Row; 3] = [
+const RACKS: [Row; 3] = [
     // a blank is the T
     Row {
         words: "AT",

@@ -1,7 +1,7 @@
-//! Deals: records that are right line by line, and whether some deal of the tile set yields their racks.
+//! Deals: records that are right line by line, and whether some deal of the tile set yields their racks. That a record without an
+//! exchange is never unsettled is asserted of each record that is judged (`games`).
 use crate::games::{Row, judged, report_all, rules_with};
-use crate::plays::{PLACES, SCORES, TOTALS, UNLISTED};
-use crate::turns::{CHALLENGES, MOVERS, SHORT, STALE_GAMES, WITHDRAWALS};
+use crate::turns::SHORT;
 use engine::{GameFault, Verdict};
 use ref_tiles::{Kind, english_rules};
 
@@ -63,34 +63,6 @@ const WHOLE_SETS: [Row; 3] = [
 #[test]
 fn whole_sets(rt: HostRuntime) {
     report_all(&rt, rt.alloc(), &rules_with(&rt, SHORT, 7), &WHOLE_SETS);
-}
-
-#[test]
-fn games_without_exchanges_are_settled(rt: HostRuntime) {
-    let rules = english_rules();
-    let tables: [&[Row]; 9] = [
-        &PLACES,
-        &SCORES,
-        &TOTALS,
-        &UNLISTED,
-        &MOVERS,
-        &WITHDRAWALS,
-        &CHALLENGES,
-        &STALE_GAMES,
-        &BOUNDS,
-    ];
-    for table in tables {
-        for row in table {
-            let (verdict, _report) = judged(
-                &rt,
-                rt.alloc(),
-                &rules,
-                row.words.as_bytes(),
-                row.game.as_bytes(),
-            );
-            assert!(rt; verdict != Verdict::Unsettled, "{}", row.game);
-        }
-    }
 }
 
 #[test]

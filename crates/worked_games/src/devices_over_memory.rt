@@ -1,3 +1,4 @@
+//! Whole reads and writes over memory, and over devices that fail or are interrupted.
 ghost use Rattle.std.specs.Prelude.{◌≡◌, ◌++◌, ◌+◌, ◌≤◌, take, None, IfOk};
 ghost use Rattle.devices.specs.Devices.{Device, HasRoom};
 

@@ -2,6 +2,7 @@
 use crate::pieces::{Pieces, assert_same};
 use devices::FromWrite;
 use engine::{Verdict, run};
+use gcg_read::{EventKind, read};
 use lex_build::build;
 use lex_list::WordList;
 use ref_tiles::{Counts, Kind, Letter, Rules, english_rules};
@@ -31,7 +32,7 @@ pub fn judged(
 }
 
 /// Judges a record by words, the bytes of a lexicon and rules, and gives the verdict and what was written. Read one by one or
-/// seven at once, the bytes come to the same.
+/// seven at once, the bytes come to the same, and a record without an exchange is settled.
 pub fn judged_by(
     rt: &impl Abort,
     alloc: Global,
@@ -45,7 +46,22 @@ pub fn judged_by(
         let again = judged_in_pieces(rt, alloc, rules, [words, lexicon, game], piece);
         assert_same(rt, &told, &again);
     }
+    assert_settled(rt, alloc, told.0, game);
     told
+}
+
+/// Asserts that a record which stays unsettled has an exchange.
+pub fn assert_settled(rt: &impl Abort, alloc: Global, verdict: Verdict, game: &[u8]) {
+    if verdict == Verdict::Unsettled {
+        let record = read(alloc, game).expect(rt, "a record");
+        let mut events = record.events.as_slice().iter();
+        assert!(rt; events.any(|event| is_exchange(&event.kind)), "{:?}", game);
+    }
+}
+
+/// Whether tiles were exchanged.
+fn is_exchange(kind: &EventKind) -> bool {
+    matches!(kind, EventKind::Exchange(_) | EventKind::ExchangeUnknown(_))
 }
 
 /// The same, by inputs of words, a lexicon and a record that give at most so many bytes a read.

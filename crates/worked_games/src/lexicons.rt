@@ -205,24 +205,38 @@ fn changed(rt: &impl Abort, change: &Change) -> [u8; 36] {
     file
 }
 
+/// Asserts what is written of a bad file by the list AT: where it is checked, and where a record is judged by it.
+fn expect_bad(rt: &impl Abort, alloc: Global, file: &[u8], report: &str) {
+    let told = checked_bytes(rt, alloc, b"AT", file);
+    expect(rt, &told, Verdict::BadFile, report.as_bytes());
+    let told = judged_by(
+        rt,
+        alloc,
+        &english_rules(),
+        b"AT",
+        file,
+        b">A: AEI -5 +0 0\n",
+    );
+    expect(rt, &told, Verdict::BadFile, report.as_bytes());
+}
+
 #[test]
 fn changed_files(rt: HostRuntime) {
     for change in &CHANGES {
-        let told = checked_bytes(&rt, rt.alloc(), b"AT", &changed(&rt, change));
-        expect(&rt, &told, Verdict::BadFile, change.report.as_bytes());
+        let file = changed(&rt, change);
+        expect_bad(&rt, rt.alloc(), &file, change.report);
     }
 }
 
 #[test]
 fn cut_files(rt: HostRuntime) {
     for len in 0..AT.len() {
-        let told = checked_bytes(&rt, rt.alloc(), b"AT", &AT[..len]);
         let want = if len < 16 {
             "bad lexicon: Short\n"
         } else {
             "bad lexicon: Length\n"
         };
-        expect(&rt, &told, Verdict::BadFile, want.as_bytes());
+        expect_bad(&rt, rt.alloc(), &AT[..len], want);
     }
 }
 

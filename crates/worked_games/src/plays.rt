@@ -3,7 +3,7 @@ use crate::games::{Row, report_all};
 use ref_tiles::english_rules;
 
 /// Where a play may lie: on the board, on empty squares, whole, through the centre first, and beside a tile then.
-pub const PLACES: [Row; 9] = [
+const PLACES: [Row; 9] = [
     Row {
         words: "WORD",
         game: ">A: DORWAAE 8D WORD +16 16\n",
@@ -57,7 +57,7 @@ fn places(rt: HostRuntime) {
 }
 
 /// What a play scores: letters, premiums under new tiles, blanks, words across, seven tiles.
-pub const SCORES: [Row; 10] = [
+const SCORES: [Row; 10] = [
     Row {
         words: "WORD",
         game: ">A: DORWAAE 8E WORD +16 16\n",
@@ -116,7 +116,7 @@ fn scores(rt: HostRuntime) {
 }
 
 /// The running total is the sum of the scores of the player.
-pub const TOTALS: [Row; 2] = [
+const TOTALS: [Row; 2] = [
     Row {
         words: "WORD",
         game: ">A: DORWAAE 8E WORD +16 17\n",

@@ -1,10 +1,10 @@
 //! Games that are judged, and best plays that are told, by the rules of a text.
-use crate::games::{Row, lexicon_of};
+use crate::games::{Row, assert_settled, lexicon_of};
 use crate::pieces::{Pieces, assert_same};
 use crate::plays::UNLISTED;
 use bstr::ByteSlice;
 use devices::{FromRead, FromWrite, Input};
-use engine::{RunFault, Verdict, run_ruled, run_top_ruled};
+use engine::{Verdict, run_ruled, run_top_ruled};
 use ref_tiles::{ENGLISH_TEXT, MAX_RULES_BYTES};
 use std::alloc::Global;
 use std::process::Abort;
@@ -61,6 +61,7 @@ fn ruled_by(
         let again = ruled_in_pieces(rt, alloc, [rules, words, lexicon, game], piece);
         assert_same(rt, &told, &again);
     }
+    assert_settled(rt, alloc, told.0, game);
     told
 }
 
@@ -244,73 +245,33 @@ fn long_texts(rt: HostRuntime) {
     }
 }
 
-/// Lets one read of an input of rules, words, a lexicon and a record fail, and gives the answer and what was written.
-fn failing(
+/// Asks for the best plays by a rack after a record, by a rules text, and gives the verdict and what was written.
+fn topped_in_pieces(
+    rt: &impl Abort,
     alloc: Global,
     inputs: [&[u8]; 4],
-    input: usize,
-    reads: usize,
-) -> (Result<Verdict, RunFault>, Vec<u8>) {
-    let pieces = |number: usize| Pieces {
-        rest: inputs[number],
-        piece: 64,
-        reads: if number == input { reads } else { usize::MAX },
-        failures: 0,
-    };
-    let (mut rules, mut words, mut lexicon, mut game) = (
-        pieces(0),
-        pieces(1),
-        pieces(2),
-        pieces(3),
-    );
+    rack: &[u8],
+    piece: usize,
+) -> (Verdict, Vec<u8>) {
+    let mut rules = Pieces::new(inputs[0], piece);
+    let mut words = Pieces::new(inputs[1], piece);
+    let mut lexicon = Pieces::new(inputs[2], piece);
+    let mut game = Pieces::new(inputs[3], piece);
     let mut out = FromWrite::new(Vec::new(alloc));
-    let answer = run_ruled(
+    let verdict = run_top_ruled(
         alloc,
         &mut rules,
         &mut words,
         &mut lexicon,
         &mut game,
+        rack,
         &mut out,
     );
-    (answer, out.into_inner())
+    (verdict.expect(rt, "a verdict"), out.into_inner())
 }
 
-/// Asserts that however late a read of an input fails, that is told, and nothing is written; and what is written where none does.
-fn assert_each_read_counts(
-    rt: &impl Abort,
-    alloc: Global,
-    rules: &[u8],
-    words: &[u8],
-    lexicon: &[u8],
-    game: &[u8],
-    report: &[u8],
-) {
-    let sizes = [rules.len(), words.len(), lexicon.len(), game.len()];
-    for (input, size) in sizes.into_iter().enumerate() {
-        // A read for each 64 bytes or less of an input, and one that finds its end.
-        let most = size.div_ceil(64) + 1;
-        for reads in 0..most {
-            let (answer, out) = failing(alloc, [rules, words, lexicon, game], input, reads);
-            assert_eq!(rt; answer, Err(RunFault::ReadFailed), "{input} {reads}");
-            assert!(rt; out.as_slice().is_empty());
-        }
-        let (answer, out) = failing(alloc, [rules, words, lexicon, game], input, most);
-        assert_eq!(rt; answer, Ok(Verdict::Legal { complete: true }), "{input}");
-        assert_eq!(rt; out.as_slice(), report);
-    }
-}
-
-#[test]
-fn failing_reads(rt: HostRuntime) {
-    let text = text_with(&rt, rt.alloc(), SHORT_TILES);
-    let row = &SHORT_GAMES[0];
-    let file = lexicon_of(&rt, rt.alloc(), row.words.as_bytes());
-    let (words, game) = (row.words.as_bytes(), row.game.as_bytes());
-    let report = row.report.as_bytes();
-    assert_each_read_counts(&rt, rt.alloc(), &text, words, &file, game, report);
-}
-
-/// Asserts what is told of the best plays on an empty board by a rules text, the list AT and the rack `?A`.
+/// Asserts what is told of the best plays on an empty board by a rules text, the list AT and the rack `?A`, however few bytes a read
+/// gives.
 fn assert_topped(
     rt: &impl Abort,
     alloc: Global,
@@ -319,22 +280,17 @@ fn assert_topped(
     want: Verdict,
     told: &str,
 ) {
-    let mut rules = FromRead::new(rules);
-    let mut words = FromRead::new(b"AT".as_slice());
-    let mut lexicon = FromRead::new(lexicon);
-    let mut game = FromRead::new(b"".as_slice());
-    let mut out = FromWrite::new(Vec::new(alloc));
-    let verdict = run_top_ruled(
-        alloc,
-        &mut rules,
-        &mut words,
-        &mut lexicon,
-        &mut game,
-        b"?A",
-        &mut out,
-    );
-    assert_eq!(rt; verdict, Ok(want));
-    assert_eq!(rt; out.into_inner().as_slice(), told.as_bytes());
+    for piece in [1, 7, usize::MAX] {
+        let (verdict, text) = topped_in_pieces(
+            rt,
+            alloc,
+            [rules, b"AT", lexicon, b""],
+            b"?A",
+            piece,
+        );
+        assert_eq!(rt; verdict, want);
+        assert_eq!(rt; text.as_slice(), told.as_bytes());
+    }
 }
 
 /// The best plays by the English text are those by the English rules; by a text with a fault, that is told.

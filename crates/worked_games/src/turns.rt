@@ -9,7 +9,7 @@ pub const SHORT: &[u8] = b"AADEEINORRSTTW";
 const SPARE: &[u8] = b"AAAAADEEINORRSTTW";
 
 /// The players take turns, and a record without events is a game that nobody began.
-pub const MOVERS: [Row; 4] = [
+const MOVERS: [Row; 4] = [
     Row {
         words: "",
         game: "",
@@ -38,7 +38,7 @@ fn movers(rt: HostRuntime) {
 }
 
 /// A play with a word that is not in the list may be withdrawn by the line directly behind it.
-pub const WITHDRAWALS: [Row; 5] = [
+const WITHDRAWALS: [Row; 5] = [
     Row {
         words: "WORD",
         game: ">A: -- +0 0\n",
@@ -72,7 +72,7 @@ fn withdrawals(rt: HostRuntime) {
 }
 
 /// A bonus for a challenge that failed: five points for each of the words that are in the list and were named.
-pub const CHALLENGES: [Row; 8] = [
+const CHALLENGES: [Row; 8] = [
     Row {
         words: "WORD",
         game: ">A: (challenge) +5 5\n",
@@ -171,7 +171,7 @@ fn small_bags(rt: HostRuntime) {
 }
 
 /// After six turns in a row without a standing play each player may lose the points of the own rack.
-pub const STALE_GAMES: [Row; 4] = [
+const STALE_GAMES: [Row; 4] = [
     Row {
         words: "RETAINS",
         game: ">A: - +0 0\n>B: - +0 0\n>A: - +0 0\n>B: - +0 0\n>A: - +0 0\n>B: - +0 0\n>A: AEINRST (AEINRST) -7 -7\n>B: AEINRST (AEINRST) -7 -7\n",

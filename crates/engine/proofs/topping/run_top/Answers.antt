@@ -1,23 +1,18 @@
-use Rattle.std.proofs.Common.{rules}
-use Rattle.std.specs.Io.KnownBytes.{Appends}
-use Rattle.engine.proofs.Toppings.{refused_rack, refused_rack_stops}
+use Rattle.std.proofs.Common.{[], ◌∷◌, refl, sym, ◌∙◌}
+use Rattle.gcg_read.specs.Racks.{rack_of}
+use Rattle.engine.specs.Topping.{IsToppedBy}
+use Rattle.engine.specs.Sources.{words_source, lexicon_source, game_source}
+use Rattle.engine.proofs.Toppings.{no_rack, runs_without, runs_by_rack}
 use Rattle.engine.proofs.topping.run_top.Goals as goal
 
-pub returns-in_default-clause-topped : goal.returns-in_default-clause-topped
-returns-in_default-clause-topped g c =
-    let old = g.O.Output.device c.args.out.now in
-    let new = g.O.Output.device c.send.new.out in
-    refused_rack c.args.rules.now c.args.rack.now (g.W.Input.device c.args.words.now) (g.L.Input.device c.args.lexicon.now) (g.G.Input.device c.args.game.now)
-    c.in-Ok.decision c.send.result (Appends old.bytes new.bytes) (search rules) c.in-Ok.ensures c.send.ensures.verdict c.send.ensures.sent
+pub returns-in_default-clause-run : goal.returns-in_default-clause-run
+returns-in_default-clause-run g c =
+    runs_without (words_source (g.W.Input.device c.args.words.now) (g.W.Input.device c.args.words.now) ∷ lexicon_source (g.L.Input.device c.args.lexicon.now) (g.L.Input.device c.args.lexicon.now) ∷ game_source (g.G.Input.device c.args.game.now) (g.G.Input.device c.args.game.now) ∷ [])
+    (IsToppedBy c.args.rules.now) (rack_of c.args.rack.now) (g.O.Output.device c.args.out.now) (g.O.Output.device c.finish.new.out) c.decide_bad_rack-refused.result c.finish.result
+    (no_rack (rack_of c.args.rack.now) c.read_rack.result c.read_rack.ensures c.in_default.not-Some) (refl, (refl, (refl, tt))) c.decide_bad_rack-refused.ensures.told c.decide_bad_rack-refused.ensures.memory c.finish.ensures
 
-pub returns-in_default-clause-gave_up : goal.returns-in_default-clause-gave_up
-returns-in_default-clause-gave_up g c =
-    refused_rack_stops c.args.rules.now c.args.rack.now (g.W.Input.device c.args.words.now) (g.L.Input.device c.args.lexicon.now) (g.G.Input.device c.args.game.now)
-    c.in-Ok.decision c.send.result (g.O.Output.device c.args.out.now) (g.O.Output.device c.send.new.out) (search rules) c.in-Ok.ensures
-    c.send.ensures.fault c.send.ensures.stopped c.send.ensures.front
-
-pub returns-in_default-clause-worked : goal.returns-in_default-clause-worked
-returns-in_default-clause-worked g c = search rules
-
-pub returns-in_default-clause-bad_rack : goal.returns-in_default-clause-bad_rack
-returns-in_default-clause-bad_rack g c = search rules
+pub returns-clause-run : goal.returns-clause-run
+returns-clause-run g c =
+    runs_by_rack (words_source (g.W.Input.device c.args.words.now) (g.W.Input.device c.decide_game-decided.new.words) ∷ lexicon_source (g.L.Input.device c.args.lexicon.now) (g.L.Input.device c.decide_game-decided.new.lexicon) ∷ game_source (g.G.Input.device c.args.game.now) (g.G.Input.device c.decide_game-decided.new.game) ∷ [])
+    (IsToppedBy c.args.rules.now) (rack_of c.args.rack.now) c.in-Some.rack (g.O.Output.device c.args.out.now) (g.O.Output.device c.finish-2.new.out) c.decide_game-decided.result c.finish-2.result
+    (sym c.read_rack.ensures ∙ c.in-Some.is) c.decide_game-decided.ensures c.finish-2.ensures

@@ -1,4 +1,0 @@
-use Rattle.engine.proofs.rules_texts.rules_from.Goals as goal
-
-pub returns-in-Ok : goal.returns-in-Ok
-returns-in-Ok c = c.in-Ok.ensures.meaning

@@ -1,0 +1,75 @@
+-- The settled verdict on the inputs of a game: by any deal that is found, or by a proof that there is none.
+use Rattle.std.specs.Prelude.{◌≡◌, ◌⊎◌, ℕ, ◌+◌, Bool, List, take, slice_get, Some, None, Ok}
+use Rattle.ref_tiles.specs.declared.rulebook.Rules.{Rules}
+use Rattle.gcg_read.specs.declared.events.Event.{Event}
+use Rattle.gcg_read.specs.declared.records.Record.{Record}
+use Rattle.gcg_read.specs.Records.{record_of}
+use Rattle.lex_list.specs.Lists.{list_of}
+use Rattle.game_turns.specs.Places.{AreAllowed}
+use Rattle.deal_steps.specs.Bounds.{first_bound}
+use Rattle.deal_cuts.specs.Cutting.{HasNoDeal}
+use Rattle.game_deal.specs.Plain.{HaveNoExchange}
+use Rattle.game_deal.specs.Recorded.{steps_of}
+use Rattle.engine.specs.declared.verdicts.GameFault.{GameFault}
+use Rattle.engine.specs.declared.verdicts.GameFault.TheVariants as game
+use Rattle.engine.specs.declared.verdicts.Verdict.{Verdict}
+use Rattle.engine.specs.declared.verdicts.Verdict.TheVariants as verdict
+use Rattle.engine.specs.Headlines.{Texts, in_order, IsLegalGame}
+use Rattle.engine.specs.Judging.{IsToldLegal, IsRefused, IsPastBound}
+use Rattle.engine.specs.Reading.{ReadsNoMore, ReadsList, ReadsLexicon, ReadsRecord, ReadsRules}
+use Rattle.engine.specs.Reports.{illegal_line, unsettled_line}
+use Rattle.engine.specs.Telling.{IsTold}
+use Rattle.engine.specs.Verdicts.{IsGame}
+
+-- the record is a game, and that it is legal is told
+pub record IsSettledLegal (rules : Rules) (words : List (List ℕ)) (r : Record) (v : Verdict) (report : List ℕ) : Type 0 where
+  pub game : IsGame rules words r.events
+  pub told : IsToldLegal rules words r v report
+
+-- Every event is allowed and no bound is exceeded, but no racks fit the steps up to the event on a line; and that is told.
+pub record IsUndealt (rules : Rules) (words : List (List ℕ)) (r : Record) (v : Verdict) (report : List ℕ) : Type 0 where
+  pub allowed : AreAllowed rules words r.events
+  pub bounded : first_bound rules (steps_of rules r.events) ≡ None
+  pub line : ℕ
+  pub place : ℕ
+  pub event : Event
+  pub stands : slice_get r.events place ≡ Some event
+  pub on_line : event.line ≡ line
+  pub undealt : HasNoDeal rules (take (place + 1) (steps_of rules r.events))
+  pub told : IsTold (verdict.Illegal line game.NoDeal) (illegal_line line game.NoDeal) v report
+
+-- Every event is allowed and no bound is exceeded, but neither a deal nor a proof that there is none was found; and that is
+-- told. That is so of records with an exchange alone.
+pub record IsStillOpen (rules : Rules) (words : List (List ℕ)) (r : Record) (v : Verdict) (report : List ℕ) : Type 0 where
+  pub allowed : AreAllowed rules words r.events
+  pub bounded : first_bound rules (steps_of rules r.events) ≡ None
+  pub exchanged : HaveNoExchange r.events → ⊥
+  pub told : IsTold verdict.Unsettled unsettled_line v report
+
+-- what is answered on a record, by the words of a list
+abbrev pub IsSettled : Rules → (words : List (List ℕ)) → Record → Verdict → (report : List ℕ) → Type 0
+IsSettled rules words r v report =
+    IsSettledLegal rules words r v report ⊎ IsRefused rules words r v report ⊎ IsPastBound rules words r v report ⊎ IsUndealt rules words r v report
+    ⊎ IsStillOpen rules words r v report
+
+-- What is answered on the bytes of a word list, a lexicon and a record.
+abbrev pub IsSettledBy : Rules → (texts : List (List ℕ)) → Verdict → (report : List ℕ) → Type 0
+IsSettledBy rules = ReadsList (λ words. ReadsLexicon words (ReadsRecord (λ r. ReadsNoMore (IsSettled rules words r))))
+
+-- the same by the rules that a text means, which is read before the other inputs
+abbrev pub IsSettledByText : (texts : List (List ℕ)) → Verdict → (report : List ℕ) → Type 0
+IsSettledByText = ReadsRules IsSettledBy
+
+-- ---- laws
+
+-- that a game is legal means what the headline says, whichever deal was found
+abbrev pub SettledLegalMeansLegal : Type 0
+SettledLegalMeansLegal =
+    (rules : Rules) (texts : Texts) (complete : Bool) (report : List ℕ) → IsSettledBy rules (in_order texts) (verdict.Legal complete) report
+    → IsLegalGame rules texts complete report
+
+-- that it is illegal means that the record is no game by the words of the list
+abbrev pub SettledIllegalMeansNoGame : Type 0
+SettledIllegalMeansNoGame =
+    (rules : Rules) (texts : Texts) (line : ℕ) (fault : GameFault) (report : List ℕ) → IsSettledBy rules (in_order texts) (verdict.Illegal line fault) report
+    → (words : List (List ℕ)) (game : Record) → list_of texts.words ≡ Ok words → record_of texts.game ≡ Ok game → IsGame rules words game.events → ⊥
