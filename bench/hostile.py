@@ -93,4 +93,5 @@ def main():
             measure(folder, "judge of 500 full racks with 2 blanks by the same", [program, "judge", listed, "padded", "two-blanks"])
 
 
-main()
+if __name__ == "__main__":
+    main()

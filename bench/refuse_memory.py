@@ -1,9 +1,9 @@
 """Refuses each request for memory in turn, until a run meets no refusal: refuse_memory.py TESTS [PROGRAM]
 
-TESTS is crates/hostile_tests/out/hostile_tests_tests, which `rt test` makes in that crate. Each of its tests `refused..` is run alone,
-its first request refused, then its second, and so on: the test itself says whether what came of it may come. PROGRAM is
-crates/referee/out/referee: its commands are run on worked rows in the same way, and each run has to end with the row's output or with
-the status 4, `no memory` on standard error and no output.
+TESTS is crates/hostile_tests/out/hostile_tests_tests, which `rt test` makes in that crate, or crates/deal_tests/out/deal_tests_tests; `-`
+stands for no tests. Each of its tests with `refused` in its name is run alone, its first request refused, then its second, and so on: the
+test itself says whether what came of it may come. PROGRAM is crates/referee/out/referee: its commands are run on worked rows in the
+same way, and each run has to end with the row's output or with the status 4, `no memory` on standard error and no output.
 
 A library that is loaded in front of the C library refuses the request, by malloc or realloc, that the variable REFUSE numbers.
 """
@@ -95,7 +95,7 @@ def tell(name, requests, wrong):
 def try_tests(refuser, tests):
     """Each test of refusals."""
     listed = subprocess.run([tests, "--list"], capture_output=True, text=True, check=True).stdout
-    for name in (it.removesuffix(": test") for it in listed.splitlines() if it.startswith("refused")):
+    for name in (it.removesuffix(": test") for it in listed.splitlines() if "refused" in it):
         yield tell(name, *refuser.each([tests, name], lambda ran, _: ran.returncode == 0 and b"test result: ok" in ran.stdout))
 
 
@@ -126,7 +126,8 @@ def main():
     found = []
     with tempfile.TemporaryDirectory() as folder:
         refuser = Refuser(folder)
-        found += try_tests(refuser, str(Path(sys.argv[1]).resolve()))
+        if sys.argv[1] != "-":
+            found += try_tests(refuser, str(Path(sys.argv[1]).resolve()))
         if len(sys.argv) > 2:
             found += try_program(refuser, str(Path(sys.argv[2]).resolve()))
     wrong = sum(it[1] for it in found)

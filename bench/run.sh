@@ -112,6 +112,6 @@ measure 'sort of the rotated paths' 1 sort --parallel=1 "$work/paths"
 measure 'build of 400,000 random words' 1 "$program" build "$work/words" "$work/built"
 measure 'check of the lexicon of these' 1 "$program" check "$work/words" "$work/harsh"
 measure 'sort of their rotated paths' 1 sort --parallel=1 "$work/harsh-paths"
-# Cross-sets in the middle of that game, made afresh and brought up to plays of 1 to 7 tiles, beside one check; and those of each
-# play of the game.
-"$crosses" "$work/merged" "$here/../examples/game.gcg"
+# Cross-sets in the middle of that game, made afresh and brought up to plays of 1 to 7 tiles, to be read beside the check of this
+# lexicon above; and those of each play of the game.
+"$crosses" "$work/merged-lexicon" "$here/../examples/game.gcg"

@@ -3,13 +3,14 @@ import re
 
 import rules_texts
 from best import best_plays
-from deals import event_of, judge_deal
+from deals import event_of, judge_deal, settled_ways
 from games import board_after, go_through
 from lexicons import build, check, convert
 from records import Fault, read
 from rules import ENGLISH
 
 BOM = b"\xef\xbb\xbf"
+SETTLE = b"unsettled: `judge --settle` searches for a deal that yields the racks\n"
 VERDICTS = {"legal": 0, "illegal": 1, "unsettled": 2, "bad": 3}
 
 
@@ -70,6 +71,16 @@ def judged(words, lexicon, game, text=None):
     return answered(words, lexicon, game, text, report)
 
 
+def settled(words, lexicon, game, text=None):
+    """What `judge --settle` may print, one of these."""
+
+    def ways(listed, players, events, rules):
+        return [told_of(way, game, players) for way in settled_ways(events, listed, rules)]
+
+    answers = answered(words, lexicon, game, text, ways)
+    return answers if isinstance(answers, list) else [answers]
+
+
 def topped(words, lexicon, game, rack, text=None):
     """What `top` is to print."""
 
@@ -102,3 +113,8 @@ def converted(lexicon, name):
 def status_of(output):
     """The exit status that goes with a first line."""
     return VERDICTS.get(output.split(b"\n")[0].split(b":")[0].split(b" ")[0].decode("latin-1"), 0)
+
+
+def error_of(command, output):
+    """What standard error gets beside an answer: where `judge` leaves a game open, that a search may settle it."""
+    return SETTLE if command == "judge" and output == b"unsettled\n" else b""

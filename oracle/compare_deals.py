@@ -33,7 +33,7 @@ def records(cases):
     """Events, the text of their record and the listed words: worked rows, real games and spoiled ones."""
     for text, _, rules, words in ROWS:
         if rules == ENGLISH:
-            yield events_of(text), text, set(words.split())
+            yield events_of(text), text, set(words.split()), False
     for _ in range(cases):
         turns, exchanges, stated = (random.choice(it) for it in ([4, 12, 40, 60], EXCHANGES, ["whole", "part", "mixed"]))
         dealer = Dealer(ENGLISH, turns, exchanges, stated)
@@ -42,9 +42,9 @@ def records(cases):
         if not events:
             continue
         show_last_racks(dealer)
-        for record in (events, spoiled(events)):
+        for record, dealt in ((events, True), (spoiled(events), False)):
             if record:
-                yield record, "".join(map(line, record)), listed
+                yield record, "".join(map(line, record)), listed, dealt
 
 
 def main():

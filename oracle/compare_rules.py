@@ -13,7 +13,7 @@ import tempfile
 from collections import Counter
 from pathlib import Path
 
-from answers import judged, status_of, topped
+from answers import error_of, judged, status_of, topped
 from best import kinds_told
 from compare_games import Maker
 from dealing import Dealer, in_order, likely, line, spoiled, words_in_reach
@@ -65,7 +65,7 @@ class Ruled:
         words = [self.program, command, "--rules", self.rules, self.words, self.lexicon, self.game, *rack]
         ran = subprocess.run(words, capture_output=True, check=False, timeout=60)
         self.seen[f"{command}: {kind_of(expected)}" if command == "judge" or status_of(expected) else "top: plays"] += 1
-        if (ran.returncode, ran.stdout, ran.stderr) != (status_of(expected), expected, b""):
+        if (ran.returncode, ran.stdout, ran.stderr) != (status_of(expected), expected, error_of(command, expected)):
             self.differences += 1
             print(command, "rules", text.decode("latin-1"), "words", self.words.read_text(), "game", self.game.read_text(), sep="\n")
             print(*rack, "program", ran.returncode, ran.stdout.decode(), ran.stderr.decode(), "second judge", expected.decode(), sep="\n")

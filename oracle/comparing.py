@@ -5,7 +5,7 @@ from collections import Counter
 from pathlib import Path
 
 from best import kinds_told
-from deals import judge_deal
+from deals import judge_deal, legal_report, settled_ways
 from lexicons import build
 
 
@@ -13,11 +13,12 @@ class Comparison:
     """A program, a folder for its inputs, and what was told so far."""
 
     def __init__(self, program, folder):
-        self.program, self.differences, self.verdicts, self.kinds = program, 0, Counter(), Counter()
+        self.program, self.differences, self.verdicts, self.kinds, self.settled = program, 0, Counter(), Counter(), Counter()
         self.words, self.lexicon, self.game = (Path(folder, name) for name in ("words", "lexicon", "game"))
 
-    def judge(self, events, text, listed):
-        """Compares the whole reports of a record: its events for the second judge, its text for the program."""
+    def judge(self, events, text, listed, dealt=False):
+        """Compares the whole reports of a record: its events for the second judge, its text for the program. One that was dealt for real
+        has to be legal once it is settled."""
         self.words.write_text("\n".join(sorted(listed)))
         self.lexicon.write_bytes(build(listed))
         self.game.write_text(text)
@@ -30,9 +31,17 @@ class Comparison:
         if told != expected:
             self.differences += 1
             print(text, "listed", *sorted(listed), "program", told, "second judge", expected, sep="\n")
+        ways = [legal_report(events, listed)] if dealt else settled_ways(events, listed)
+        words.insert(2, "--settle")
+        settled = subprocess.run(words, capture_output=True, check=False).stdout.decode()
+        self.settled[settled.split("\n")[0].split(": ")[-1] if settled.startswith("illegal") else settled.split("\n")[0]] += expected == "unsettled\n"
+        if settled not in ways:
+            self.differences += 1
+            print(text, "listed", *sorted(listed), "settled", settled, "second judge", ways[0], sep="\n")
 
     def end(self):
         """Tells what was compared; the exit status is 1 where anything differs."""
         print(f"{self.verdicts.total()} games, {self.differences} differences", dict(sorted(self.verdicts.items())))
+        print("settled of those left open:", ", ".join(f"{kind} {times}" for kind, times in sorted(self.settled.items()) if times))
         print("best plays:", ", ".join(f"{kind} {times}" for kind, times in sorted(self.kinds.items())))
         sys.exit(self.differences > 0)

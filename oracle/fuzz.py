@@ -13,7 +13,7 @@ import time
 from collections import Counter
 from pathlib import Path
 
-from answers import built, checked, converted, judged, status_of, topped, words_of
+from answers import built, checked, converted, error_of, judged, settled, status_of, topped, words_of
 from dealing import Dealer, likely, line, words_in_reach
 from lexicons import GAD2, build, convert
 from records import tidy
@@ -93,12 +93,21 @@ class Fuzzer:
         ran = subprocess.run([self.program, *words], capture_output=True, check=False, timeout=60)
         told = ran.stdout if wrote is None else wrote.read_bytes()
         self.seen[f"{words[0]} {status}"] += 1
-        if told != expected or ran.returncode != status or ran.stderr:
+        if told != expected or ran.returncode != status or ran.stderr != error_of(words[0], expected):
             self.differences += 1
             print(*words, "status", ran.returncode, "for", status, ran.stderr)
             print(" ", told, "  for", expected, sep="\n  ")
             for it in (self.words, self.lexicon, self.game, self.rules):
                 print(" ", it.name, it.read_bytes())
+
+    def settle(self, by, ways):
+        """`judge --settle` has to print one of some answers."""
+        words = ["judge", "--settle", *by, self.words, self.lexicon, self.game]
+        ran = subprocess.run([self.program, *words], capture_output=True, check=False, timeout=60)
+        self.seen[f"judge --settle {ran.returncode}"] += 1
+        if ran.stdout not in ways or ran.returncode != status_of(ran.stdout) or ran.stderr:
+            self.differences += 1
+            print(*words, "status", ran.returncode, ran.stdout, ran.stderr, "for", ways[:2], self.game.read_bytes(), sep="\n  ")
 
     def round(self, words, lexicon, game, text):
         """One run of each command; a text is that of the rules to play by, None for none."""
@@ -107,6 +116,7 @@ class Fuzzer:
         by = ["--rules", self.rules] if text is not None else []
         report = judged(words, lexicon, game, text)
         self.compare(["judge", *by, self.words, self.lexicon, self.game], report, status_of(report))
+        self.settle(by, settled(words, lexicon, game, text))
         rack = choose(["A", "?E", "AEINRST"])
         plays = topped(words, lexicon, game, rack, text)
         self.compare(["top", *by, self.words, self.lexicon, self.game, rack], plays, status_of(plays))

@@ -84,6 +84,7 @@ def with_counts(count):
 
 
 TWO_SETS = with_counts(lambda kind, count: 2 * count)
+SETTLE = "unsettled: `judge --settle` searches for a deal that yields the racks"
 FOURTEEN = with_counts(lambda kind, count: "AADEEINORRSTTW".count(kind))
 WORD = ">A: DORWAAE 8E WORD +16 16\n"
 PASSES = "".join(f">{'AB'[k % 2]}: - +0 0\n" for k in range(6))
@@ -108,6 +109,8 @@ TEXTS = {
     "blanks": ">A: ?? - +0 0\n>B: ? - +0 0\n",
     "big-rack": ">A: AEINRST 8H AT +4 4\n>B: - +0 0\n>A: AAABCDE - +0 4\n",
     "one-q": ">A: Q -Q +0 0\n>B: - +0 0\n>A: Q - +0 0\n",
+    "one-of-seven": ">A: AEINRST -1 +0 0\n>B: - +0 0\n>A: BCDFGHJ - +0 0\n",
+    "two-of-seven": ">A: AEIN -2 +0 0\n>B: - +0 0\n>A: STUV - +0 0\n",
     "unknown": ">A: AEI -5 +0 0\n>B: QU - +0 0\n>A: SX - +0 0\n",
     "not-judged": ON_WORD + ">B: ZZZZZZZ -- -9 0\n>A: AT 9G AT +9 25\n",
     "ends": PASSES + LOST_RACKS,
@@ -256,7 +259,7 @@ def judged(run):
     listed("withdrawn", f"{laid}\n{back}")
     listed("not-judged", f"{laid}\n{back}")
     by_word("blanks", 1, "illegal line 2: TilesShort ?\n")
-    by_word("one-q", 2, "unsettled\n")
+    run.row(["judge", "word", "word.gad", "one-q"], 2, "unsettled\n", error=SETTLE)
     run.row(["judge", "at", "at.gad", "big-rack"], 1, "illegal line 3: RackTooBig\n")
     lines = "1 A -5 +0 0 best -\n2 B - +0 0 best -\n3 A - +0 0 best -\n"
     run.row(["judge", "at", "at.gad", "unknown"], 0, f"legal unfinished\n{lines}")
@@ -270,6 +273,25 @@ def judged(run):
     run.row(["judge", "full-list", "nothing.gad", "nothing"], 0, "legal unfinished\n")
     run.row(["judge", "at", "extra.gad", "number"], 3, "bad lexicon: Extra A\n")
     run.row(["judge", "it-at", "at.gad", "number"], 3, "bad lexicon: Missing I+T\n")
+
+
+def settled(run):
+    """`judge --settle`: as `judge`, but where that says `unsettled`."""
+    by_word = lambda game, status, out: run.row(["judge", "--settle", "word", "word.gad", game], status, out)
+    by_word("line", 0, "legal unfinished\n1 A 8E WORD +16 16 best 8E WORD 16\n")
+    by_word("line-18", 1, "illegal line 1: WrongScore 16\n")
+    by_word("blanks", 1, "illegal line 2: TilesShort ?\n")
+    by_word("one-q", 1, "illegal line 3: NoDeal\n")
+    by_word("one-of-seven", 1, "illegal line 3: NoDeal\n")
+    by_word("number", 3, "bad record line 1: Number\n")
+    lines = "1 A -2 +0 0 best -\n2 B - +0 0 best -\n3 A - +0 0 best -\n"
+    by_word("two-of-seven", 0, f"legal unfinished\n{lines}")
+    run.row(["judge", "word", "word.gad", "one-of-seven"], 2, "unsettled\n", error=SETTLE)
+    run.row(["judge", "--rules", "english.rules", "word", "word.gad", "one-q"], 2, "unsettled\n", error=SETTLE)
+    run.row(["judge", "--settle", "--rules", "english.rules", "word", "word.gad", "one-q"], 1, "illegal line 3: NoDeal\n")
+    run.row(["judge", "--rules", "english.rules", "word", "word.gad", "one-q", "--settle"], 1, "illegal line 3: NoDeal\n")
+    run.row(["judge", "--settle", "--settle", "word", "word.gad", "one-q"], 64, error=None)
+    run.row(["top", "--settle", "word", "word.gad", "one-q", "A"], 64, error=None)
 
 
 def built_and_checked(run):
@@ -536,7 +558,7 @@ def main():
     with tempfile.TemporaryDirectory() as folder:
         files(folder)
         run = Runner(os.path.abspath(sys.argv[1]), folder)
-        for part in (judged, built_and_checked, converted, topped, ruled, tidied, broken, misused):
+        for part in (judged, settled, built_and_checked, converted, topped, ruled, tidied, broken, misused):
             part(run)
         if sys.argv[2:] == ["large"]:
             converted_large(run)

@@ -1,0 +1,65 @@
+#!/usr/bin/env bash
+# Tries the program beside the second judge, in a few minutes: oracle/gate.sh [PROGRAM [TESTS [PROBE]]]
+#
+# PROGRAM is crates/referee/out/referee, TESTS is crates/hostile_tests/out/hostile_tests_tests and PROBE, which shows what settles a record,
+# is crates/settle_probe/out/settle_probe, all as `rt ci` leaves them, unless others are named. Each part is stopped after ten minutes, and has failed then; where a part fails, the end of what it said follows its
+# line. Random inputs are drawn from the date, so that each day tries others; with SEED=20270131 in front they are those of that day.
+# The last line is 'N passed, M failed', and the exit status is 0 where nothing failed.
+set -u
+cd "$(dirname "$0")/.." || exit 2
+program=$(realpath -m "${1:-crates/referee/out/referee}")
+tests=$(realpath -m "${2:-crates/hostile_tests/out/hostile_tests_tests}")
+probe=$(realpath -m "${3:-crates/settle_probe/out/settle_probe}")
+seed=${SEED:-$(date -u +%Y%m%d)}
+said=$(mktemp)
+trap 'rm -f "$said"' EXIT
+export PYTHONDONTWRITEBYTECODE=1
+passed=0
+failed=0
+
+# Runs a script, given with its arguments, as one part.
+part() {
+    local start=$SECONDS status=0
+    timeout -k 10 600 python3 "$@" > "$said" 2>&1 < /dev/null || status=$?
+    if [ "$status" = 0 ]; then
+        passed=$((passed + 1))
+        echo "passed in $((SECONDS - start)) s: $*"
+        tail -n 2 "$said"
+    else
+        failed=$((failed + 1))
+        echo "FAILED in $((SECONDS - start)) s with status $status: $*"
+        tail -n 40 "$said"
+    fi
+}
+
+if [ -x "$program" ]; then
+    part oracle/program.py "$program"
+    part oracle/compare_records.py "$program" 1000 "$seed"
+    part oracle/compare_games.py "$program" 200 "$seed"
+    part oracle/compare_deals.py "$program" 40 "$seed"
+    part oracle/compare_lexicons.py "$program" 100 "$seed"
+    part oracle/compare_tops.py "$program" 50 "$seed"
+    part oracle/compare_rules.py "$program" 20 "$seed"
+    part oracle/fuzz.py "$program" 60 "$seed"
+else
+    failed=$((failed + 1))
+    echo "FAILED: there is no program $program"
+fi
+if [ -x "$probe" ]; then
+    part oracle/compare_settlings.py "$probe" 5 "$seed"
+else
+    failed=$((failed + 1))
+    echo "FAILED: there is no program $probe"
+fi
+part oracle/try_best.py 10 "$seed"
+part oracle/try_deals.py 10 "$seed"
+part oracle/try_lexicons.py 200 "$seed"
+part oracle/try_rules.py 100 "$seed"
+if command -v cc > /dev/null; then
+    [ ! -x "$program" ] || part bench/refuse_memory.py - "$program"
+    [ ! -x "$tests" ] || part bench/refuse_memory.py "$tests"
+else
+    echo "left out: refused memory, which needs a C compiler"
+fi
+echo "$passed passed, $failed failed"
+[ "$failed" = 0 ]
