@@ -71,19 +71,16 @@ fn answer<R: Runtime + AllocGlobal>(rt: &R, request: Request<'_>) -> Exit {
     }
 }
 
-/// The inputs of a game.
-struct GameInputs<F> {
-    words: FromRead<F>,
-    lexicon: FromRead<F>,
-    game: FromRead<F>,
+/// The open files of a game.
+struct OpenGame<F> {
+    words: F,
+    lexicon: F,
+    game: F,
 }
 
 /// Opens the word list, the lexicon and the record of a game, in this order.
-fn open_game<'a, R: Files>(
-    rt: &R,
-    files: GameFiles<'a>,
-) -> Result<GameInputs<R::File>, Trouble<'a>> {
-    Ok(GameInputs {
+fn open_game<'a, R: Files>(rt: &R, files: GameFiles<'a>) -> Result<OpenGame<R::File>, Trouble<'a>> {
+    Ok(OpenGame {
         words: open(rt, files.words)?,
         lexicon: open(rt, files.lexicon)?,
         game: open(rt, files.game)?,
@@ -115,11 +112,14 @@ fn judge_english<'a, R: Runtime + AllocGlobal>(
     settle: bool,
     files: GameFiles<'a>,
 ) -> Result<Verdict, Trouble<'a>> {
-    let GameInputs {
-        mut words,
-        mut lexicon,
-        mut game,
+    let OpenGame {
+        words,
+        lexicon,
+        game,
     } = open_game(rt, files)?;
+    let mut words = FromRead::new(words);
+    let mut lexicon = FromRead::new(lexicon);
+    let mut game = FromRead::new(game);
     let mut out = FromWrite::new(io::writer(rt));
     let alloc = rt.alloc();
     let rules = english_rules();
@@ -138,12 +138,15 @@ fn judge_ruled<'a, R: Runtime + AllocGlobal>(
     rules: &'a str,
     files: GameFiles<'a>,
 ) -> Result<Verdict, Trouble<'a>> {
-    let mut rules = open(rt, rules)?;
-    let GameInputs {
-        mut words,
-        mut lexicon,
-        mut game,
+    let mut rules = FromRead::new(open(rt, rules)?);
+    let OpenGame {
+        words,
+        lexicon,
+        game,
     } = open_game(rt, files)?;
+    let mut words = FromRead::new(words);
+    let mut lexicon = FromRead::new(lexicon);
+    let mut game = FromRead::new(game);
     let mut out = FromWrite::new(io::writer(rt));
     let alloc = rt.alloc();
     let verdict = if settle {
@@ -187,11 +190,14 @@ fn top_english<'a, R: Runtime + AllocGlobal>(
     files: GameFiles<'a>,
     rack: &[u8],
 ) -> Result<Verdict, Trouble<'a>> {
-    let GameInputs {
-        mut words,
-        mut lexicon,
-        mut game,
+    let OpenGame {
+        words,
+        lexicon,
+        game,
     } = open_game(rt, files)?;
+    let mut words = FromRead::new(words);
+    let mut lexicon = FromRead::new(lexicon);
+    let mut game = FromRead::new(game);
     let mut out = FromWrite::new(io::writer(rt));
     let verdict = run_top(
         rt.alloc(),
@@ -212,12 +218,15 @@ fn top_ruled<'a, R: Runtime + AllocGlobal>(
     files: GameFiles<'a>,
     rack: &[u8],
 ) -> Result<Verdict, Trouble<'a>> {
-    let mut rules = open(rt, rules)?;
-    let GameInputs {
-        mut words,
-        mut lexicon,
-        mut game,
+    let mut rules = FromRead::new(open(rt, rules)?);
+    let OpenGame {
+        words,
+        lexicon,
+        game,
     } = open_game(rt, files)?;
+    let mut words = FromRead::new(words);
+    let mut lexicon = FromRead::new(lexicon);
+    let mut game = FromRead::new(game);
     let mut out = FromWrite::new(io::writer(rt));
     let verdict = run_top_ruled(
         rt.alloc(),
@@ -237,7 +246,7 @@ fn build<'a, R: Runtime + AllocGlobal>(
     words: &'a str,
     out: &'a str,
 ) -> Result<Verdict, Trouble<'a>> {
-    let mut words = open(rt, words)?;
+    let mut words = FromRead::new(open(rt, words)?);
     let mut out = FromWrite::new(create(rt, out)?);
     let verdict = run_build(rt.alloc(), &mut words, &mut out)?;
     Ok(verdict)
@@ -249,8 +258,8 @@ fn check<'a, R: Runtime + AllocGlobal>(
     words: &'a str,
     lexicon: &'a str,
 ) -> Result<Verdict, Trouble<'a>> {
-    let mut words = open(rt, words)?;
-    let mut lexicon = open(rt, lexicon)?;
+    let mut words = FromRead::new(open(rt, words)?);
+    let mut lexicon = FromRead::new(open(rt, lexicon)?);
     let mut out = FromWrite::new(io::writer(rt));
     let verdict = run_check(rt.alloc(), &mut words, &mut lexicon, &mut out)?;
     Ok(verdict)
@@ -263,7 +272,7 @@ fn convert<'a, R: Runtime + AllocGlobal>(
     lexicon: &'a str,
     out: &'a str,
 ) -> Result<Verdict, Trouble<'a>> {
-    let mut lexicon = open(rt, lexicon)?;
+    let mut lexicon = FromRead::new(open(rt, lexicon)?);
     let mut out = FromWrite::new(create(rt, out)?);
     let verdict = run_convert(rt.alloc(), &mut lexicon, format, &mut out)?;
     Ok(verdict)
@@ -271,16 +280,15 @@ fn convert<'a, R: Runtime + AllocGlobal>(
 
 /// Writes the normal form of the record of a file to standard output.
 fn tidy<'a, R: Runtime + AllocGlobal>(rt: &R, game: &'a str) -> Result<Verdict, Trouble<'a>> {
-    let mut game = open(rt, game)?;
+    let mut game = FromRead::new(open(rt, game)?);
     let mut out = FromWrite::new(io::writer(rt));
     let verdict = run_tidy(rt.alloc(), &mut game, &mut out)?;
     Ok(verdict)
 }
 
-/// Opens a file as an input.
-fn open<'a, R: Files>(rt: &R, name: &'a str) -> Result<FromRead<R::File>, Trouble<'a>> {
-    let file = opened(name, fs::open(rt, name))?;
-    Ok(FromRead::new(file))
+/// Opens a file to be read.
+fn open<'a, R: Files>(rt: &R, name: &'a str) -> Result<R::File, Trouble<'a>> {
+    opened(name, fs::open(rt, name))
 }
 
 /// Opens a file to be written; it is created, or emptied.
