@@ -239,12 +239,9 @@ agreed words has is most holds string =
     (most.all string there))))
     (λ path. holds string ((tested words capitals string).0 path))
 
--- the same by a count, and the number of letters
-pub told : (words : List (List ℕ)) (has : List ℕ → Bool) (strings letters : ℕ) → IsWordList words → HoldsPaths has words → IsCount has strings
-    → letters ≡ letters_of words → letters ≤ 6000000 → OnTrue (eqb strings letters) (StandsFor has words)
-told words has strings letters is holds count number few =
-    OnTrue_from (eqb strings letters) (StandsFor has words)
-    (λ same.
-    let equal = eqb-true strings letters same in
+-- the same by a count that is the number of letters
+pub told : (words : List (List ℕ)) (has : List ℕ → Bool) (strings letters : ℕ) → IsWordList words → IsCount has strings
+    → letters ≡ letters_of words → letters ≤ 6000000 → strings ≡ letters → HoldsPaths has words → StandsFor has words
+told words has strings letters is count number few equal holds =
     let total : strings ≡ letters_of words = equal ∙ number in
-    agreed words has is (subst (HasAtMost has) total (count (omega arith))) holds)
+    agreed words has is (subst (HasAtMost has) total (count (omega arith))) holds

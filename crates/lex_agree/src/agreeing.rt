@@ -1,4 +1,4 @@
-//! The answer: by the paths of first letters, the turns of letters and the count together.
+//! The answer: by the count, the paths of first letters and the turns of letters together.
 ghost use Rattle.std.specs.Prelude.{◌≡◌};
 ghost use Rattle.std.specs.Bool.{OnTrue};
 ghost use Rattle.lex_list.specs.RotatedPaths.{StandsFor};
@@ -19,6 +19,8 @@ const MOST_WORDS: usize = 48;
 
 /// Whether a compiled lexicon has exactly the rotated paths of a word list, where that is told by its nodes and by its
 /// count of strings. Where it is not told so, or memory runs out, the answer is no.
+///
+/// The count comes first: it takes one pass over the nodes, and most files that are wrong have another one.
 pub fn agree(alloc: Global, list: &WordList, file: &LexFile<'_>) -> bool
     ensures { OnTrue result (StandsFor (language_of (bytes_of file.now)) list.now) }
 {
@@ -26,11 +28,14 @@ pub fn agree(alloc: Global, list: &WordList, file: &LexFile<'_>) -> bool
     if file.place(file.root()) as usize > MOST_WORDS * letters {
         return false;
     }
-    if !has_firsts(list, file) || !all_turn_over(file, letters) {
-        return false;
-    }
     let Ok(strings) = count_strings(alloc, file) else {
         return false;
     };
-    strings as usize == letters
+    if strings as usize != letters {
+        return false;
+    }
+    if !has_firsts(list, file) {
+        return false;
+    }
+    all_turn_over(file, letters)
 }
