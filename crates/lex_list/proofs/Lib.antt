@@ -4,3 +4,4 @@ pub mod Meanings
 pub mod RotatedPaths
 pub mod Splitting
 mod Examples
+pub mod Rows

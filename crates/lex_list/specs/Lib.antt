@@ -4,3 +4,4 @@ pub mod Words
 pub mod Lists
 pub mod RotatedPaths
 pub mod Laws
+pub mod WordSets

@@ -1,6 +1,6 @@
 -- The word list of a text: the set of the words of its lines, or the first fault.
 use Rattle.std.specs.Prelude.{◌≡◌, ◌≢◌, ◌⊎◌, ℕ, ◌+◌, ◌<◌, ◌≤◌, nat_lt, nat_le, List, [], ◌∷◌, ◌++◌, length, map, Option, Some, None, Result, Ok, Err, ◌↔◌, if◌then◌else◌}
-use Rattle.std.specs.BTreeSet.{BTreeSet, insert_key}
+use Rattle.std.specs.BTreeSet.{insert_key}
 use Rattle.std.specs.Char.{is_ascii_alphabetic, to_ascii_uppercase}
 use Rattle.std.specs.List.{fold, list_all, Any, Contains}
 use Rattle.std.specs.Option.{option_or}
@@ -104,9 +104,9 @@ abbrev pub Makes : List (List ℕ) → Result (Unit {0}) ListFault → Result (L
 Makes new (Ok _) meaning = meaning ≡ Ok new
 Makes new (Err fault) meaning = (fault ≡ no_memory) ⊎ (meaning ≡ Err fault)
 
--- a set has the words of lines
-abbrev pub Reads : Result (BTreeSet (List ℕ)) ListFault → Result (List (List ℕ)) ListFault → Type 0
-Reads (Ok set) meaning = meaning ≡ Ok set.keys
+-- the words that were read are those of the lines
+abbrev pub Reads : Result (List (List ℕ)) ListFault → Result (List (List ℕ)) ListFault → Type 0
+Reads (Ok words) meaning = meaning ≡ Ok words
 Reads (Err fault) meaning = (fault ≡ no_memory) ⊎ (meaning ≡ Err fault)
 
 -- the word of a line

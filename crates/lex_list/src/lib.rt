@@ -10,6 +10,7 @@ mod faults;
 mod laws;
 mod lists;
 mod reading;
+mod word_sets;
 mod words;
 
 pub use faults::{ListFault, ListWhy};

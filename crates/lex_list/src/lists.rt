@@ -2,9 +2,9 @@
 ghost use Rattle.std.specs.Prelude.{◌≡◌, ◌<◌, ◌↔◌, [], IsTrue, IfOk, length, slice_index_or};
 ghost use Rattle.std.specs.List.{Contains};
 
+use crate::word_sets::WordSet;
 use crate::words::Word;
 use std::alloc::{AllocError, Global};
-use std::collections::BTreeSet;
 use std::marker::Model;
 
 /// A set of words, in byte order. Contracts see the list of the words, in capitals.
@@ -28,12 +28,12 @@ impl WordList {
     ghost use Rattle.lex_list.specs.Words.{IsWordList, is_listed, is_word};
 
     /// The list of a set of words.
-    pub(crate) fn of_set(alloc: Global, words: BTreeSet<Word>) -> Result<WordList, AllocError>
-        requires { IsWordList words.keys }
-        ensures { IfOk result (λ list. list ≡ words.keys) }
+    pub(crate) fn of_set(alloc: Global, words: WordSet) -> Result<WordList, AllocError>
+        requires { IsWordList words }
+        ensures { IfOk result (λ list. list ≡ words) }
     {
         Ok(WordList {
-            words: words.into_iter().collect(alloc)?,
+            words: words.into_vec(alloc)?,
         })
     }
 

@@ -9,9 +9,9 @@ ghost use Rattle.lex_list.specs.Words.{has_word_length};
 
 use crate::faults::{ListFault, ListWhy};
 use crate::lists::WordList;
+use crate::word_sets::WordSet;
 use crate::words::{MAX_LETTERS, Word};
 use std::alloc::Global;
-use std::collections::BTreeSet;
 use text_lines::{cut_line, without_mark};
 
 /// The most bytes of a word list: 16 MiB.
@@ -49,11 +49,11 @@ impl WordList {
 
 /// Reads the lines of a text.
 #[tactic(auto, using(crate::proofs::Steps::progress_empty))]
-fn read_lines(alloc: Global, text: &[u8]) -> Result<BTreeSet<Word>, ListFault>
+fn read_lines(alloc: Global, text: &[u8]) -> Result<WordSet, ListFault>
     requires { length text.now ≤ most_list_bytes }
     ensures { Reads result (list_in (lines_in text.now)) }
 {
-    let mut words = BTreeSet::new(alloc);
+    let mut words = WordSet::new(alloc);
     let mut line = 0;
     let mut left = Some(text);
     while let Some(rest) = left {
@@ -67,8 +67,8 @@ fn read_lines(alloc: Global, text: &[u8]) -> Result<BTreeSet<Word>, ListFault>
 
 /// Reads one line, and adds its word to those of the lines before it.
 #[tactic(auto, using(crate::proofs::Steps::line_empty, crate::proofs::Steps::line_bad, crate::proofs::Steps::line_many, crate::proofs::Steps::line_good))]
-fn take_line(words: &mut BTreeSet<Word>, line: u32, text: &[u8]) -> Result<(), ListFault>
-    ensures { Makes words.new.keys result (line_in words.old.keys line text.now) }
+fn take_line(words: &mut WordSet, line: u32, text: &[u8]) -> Result<(), ListFault>
+    ensures { Makes words.new result (line_in words.old line text.now) }
 {
     if text.is_empty() {
         return Ok(());
@@ -77,7 +77,7 @@ fn take_line(words: &mut BTreeSet<Word>, line: u32, text: &[u8]) -> Result<(), L
         Ok(word) => word,
         Err(why) => return Err(ListFault { line, why }),
     };
-    let Ok(_) = words.insert(word) else {
+    let Ok(()) = words.insert(word) else {
         return Err(ListFault::no_memory());
     };
     if words.len() > MAX_WORDS {

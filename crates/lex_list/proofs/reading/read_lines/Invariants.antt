@@ -8,7 +8,7 @@ use Rattle.lex_list.proofs.reading.read_lines.Given as goal
 abbrev pub invariant-loop-left : goal.invariant-loop-left
 invariant-loop-left l =
     record {
-      so_far : Progress (lines_in l.text) l.words.keys l.line (lines_behind l.left);
+      so_far : Progress (lines_in l.text) l.words l.line (lines_behind l.left);
       room : IfSome l.left (λ rest. l.line + length rest.now ≤ most_list_bytes);
       few : l.line ≤ most_list_bytes + 1;
     }
