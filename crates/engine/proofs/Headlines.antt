@@ -337,7 +337,7 @@ settled_no_game fronts rules words r line fault report is game =
     (λ (past : IsPastBound rules words r (verdict.Illegal line fault) report). past.exceeded.undealt game.racks game.dealt)
     (λ (last : IsUndealt rules words r (verdict.Illegal line fault) report ⊎ IsStillOpen rules words r (verdict.Illegal line fault) report).
     ⊎_elim
-    (λ (none : IsUndealt rules words r (verdict.Illegal line fault) report). fronts rules (steps_of rules r.events) (none.place + 1) none.undealt game.racks game.dealt)
+    (λ (none : IsUndealt rules words r (verdict.Illegal line fault) report). fronts rules (steps_of rules r.events) (none.ends.place + 1) none.ends.undealt game.racks game.dealt)
     (λ (left : IsStillOpen rules words r (verdict.Illegal line fault) report). let both = left.told.verdict_is in cc)
     last)
     others)

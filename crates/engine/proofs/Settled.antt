@@ -1,5 +1,5 @@
 -- Settled verdicts on records.
-use Rattle.std.proofs.Common.{◌≡◌, ℕ, Bool, true, false, List, Some, None, IsTrue, ◌↔◌, sym, subst, ◌∙◌, inl, inr}
+use Rattle.std.proofs.Common.{◌≡◌, ℕ, Bool, true, false, List, Some, None, IsTrue, ◌↔◌, sym, ◌∙◌, inl, inr}
 use Rattle.ref_tiles.specs.declared.rulebook.Rules.{Rules}
 use Rattle.gcg_read.specs.declared.records.Record.{Record}
 use Rattle.gcg_read.specs.declared.events.Event.{Event}
@@ -16,7 +16,6 @@ use Rattle.game_deal.specs.Bounded.{FitsRecord}
 use Rattle.game_deal.specs.Laws.{FittingIsBounded}
 use Rattle.game_deal.specs.Plain.{HaveNoExchange}
 use Rattle.game_deal.specs.Recorded.{steps_of}
-use Rattle.game_deal.specs.Settling.{EndsOnLine}
 use Rattle.engine.specs.declared.verdicts.GameFault.TheVariants as game
 use Rattle.engine.specs.declared.verdicts.Verdict.{Verdict}
 use Rattle.engine.specs.declared.verdicts.Verdict.TheVariants as verdict
@@ -24,7 +23,9 @@ use Rattle.engine.specs.Judging.{IsToldBound, IsToldLegal}
 use Rattle.engine.specs.Reports.{illegal_line, unsettled_line}
 use Rattle.engine.specs.Settling.{IsSettled}
 use Rattle.engine.specs.Telling.{IsTold}
-use Rattle.engine.specs.Verdicts.{IsDealt}
+use Rattle.engine.specs.Racks.{AreFound}
+use Rattle.engine.specs.declared.racks.RackFinding.TheVariants as rack
+use Rattle.engine.specs.Verdicts.{IsDealt, HasNoDealBy, IsOpenGame}
 use Rattle.engine.proofs.Deals.{exceeds}
 use Rattle.engine.proofs.Headlines.{some_of}
 
@@ -37,43 +38,47 @@ pub past : FittingIsBounded → (rules : Rules) (words : List (List ℕ)) (r : R
 past law rules words r bound v report allowed is told =
     inr (inr (inl (record { bound = bound; exceeded = exceeds law rules words r.events bound allowed is; told = told })))
 
--- ---- the deal that is tried first
+-- ---- the racks
 
-pub dealt_first : (rules : Rules) (words : List (List ℕ)) (r : Record) (b : Bool) (v : Verdict) (report : List ℕ) → AreAllowed rules words r.events → b ≡ true → IsTrue b ↔ IsDealt rules r.events
-    → IsToldLegal rules words r v report → IsSettled rules words r v report
-dealt_first rules words r b v report allowed holds same told =
-    let deal = some_of (dealt rules (steps_of rules r.events)) (Fits rules (steps_of rules r.events)) (same.0 holds) in
-    inl (record { game = record { allowed = allowed; racks = deal.0; dealt = deal.1 }; told = told })
+pub by_deal : (passed : Passed) (words : List (List ℕ)) (v : Verdict) (report : List ℕ) → AreAllowed (rules_in passed) words (record_in passed).events → AreFound passed rack.Dealt
+    → IsToldLegal (rules_in passed) words (record_in passed) v report → IsSettled (rules_in passed) words (record_in passed) v report
+by_deal passed words v report allowed deal told = inl (record { game = record { allowed = allowed; racks = deal.racks; dealt = deal.fits }; told = told })
+
+pub ends_on : (passed : Passed) (words : List (List ℕ)) (line : ℕ) → AreAllowed (rules_in passed) words (record_in passed).events → AreFound passed (rack.NoDeal line)
+    → HasNoDealBy (rules_in passed) words (record_in passed).events line
+ends_on passed words line allowed found =
+    record {
+      allowed = allowed;
+      bounded = found.0;
+      place = found.1.place;
+      event = found.1.event;
+      stands = found.1.stands;
+      on_line = found.1.on_line;
+      undealt = found.1.undealt;
+    }
+
+pub ruled_out : (passed : Passed) (words : List (List ℕ)) (line : ℕ) (v : Verdict) (report : List ℕ) → AreAllowed (rules_in passed) words (record_in passed).events → AreFound passed (rack.NoDeal line)
+    → IsTold (verdict.Illegal line game.NoDeal) (illegal_line line game.NoDeal) v report → IsSettled (rules_in passed) words (record_in passed) v report
+ruled_out passed words line v report allowed found told = inr (inr (inr (inl (record { line = line; ends = ends_on passed words line allowed found; told = told }))))
+
+pub open_game : (passed : Passed) (words : List (List ℕ)) → AreAllowed (rules_in passed) words (record_in passed).events → AreFound passed rack.Unknown
+    → IsOpenGame (rules_in passed) words (record_in passed).events
+open_game passed words allowed found = record { allowed = allowed; bounded = found.0; exchanged = found.1 }
+
+pub left_open : (passed : Passed) (words : List (List ℕ)) (v : Verdict) (report : List ℕ) → AreAllowed (rules_in passed) words (record_in passed).events → AreFound passed rack.Unknown
+    → IsTold verdict.Unsettled unsettled_line v report → IsSettled (rules_in passed) words (record_in passed) v report
+left_open passed words v report allowed found told = inr (inr (inr (inr (record { left = open_game passed words allowed found; told = told }))))
+
+-- ---- the deal that is tried first, and the search
+
+pub dealt_first : (passed : Passed) (b : Bool) → b ≡ true → IsTrue b ↔ IsDealt (rules_in passed) (record_in passed).events → AreFound passed rack.Dealt
+dealt_first passed b holds same =
+    let deal = some_of (dealt (rules_in passed) (steps_of (rules_in passed) (record_in passed).events)) (Fits (rules_in passed) (steps_of (rules_in passed) (record_in passed).events)) (same.0 holds) in
+    record { racks = deal.0; fits = deal.1 }
 
 pub not_plain : (rules : Rules) (events : List Event) (b : Bool) → first_bound rules (steps_of rules events) ≡ None → b ≡ false
     → (first_bound rules (steps_of rules events) ≡ None → HaveNoExchange events → IsTrue b) → HaveNoExchange events → ⊥
 not_plain rules events b bounded fails plain none = let both : false ≡ true = sym fails ∙ plain bounded none in cc
 
--- ---- the search
-
-pub found : (passed own : Passed) (words : List (List ℕ)) (racks : List Held) (v : Verdict) (report : List ℕ) → own ≡ passed → AreAllowed (rules_in passed) words (record_in passed).events
-    → FitsRecord own racks → IsToldLegal (rules_in passed) words (record_in passed) v report → IsSettled (rules_in passed) words (record_in passed) v report
-found passed own words racks v report same allowed fits told =
-    inl (record { game = record { allowed = allowed; racks = racks; dealt = subst (λ (p : Passed). FitsRecord p racks) same fits }; told = told })
-
-pub ruled_out : (passed own : Passed) (words : List (List ℕ)) (line : ℕ) (v : Verdict) (report : List ℕ) → own ≡ passed → AreAllowed (rules_in passed) words (record_in passed).events
-    → first_bound (rules_in passed) (steps_of (rules_in passed) (record_in passed).events) ≡ None → EndsOnLine own line
-    → IsTold (verdict.Illegal line game.NoDeal) (illegal_line line game.NoDeal) v report → IsSettled (rules_in passed) words (record_in passed) v report
-ruled_out passed own words line v report same allowed bounded ends told =
-    let here : EndsOnLine passed line = subst (λ (p : Passed). EndsOnLine p line) same ends in
-    inr (inr (inr (inl (record {
-      allowed = allowed;
-      bounded = bounded;
-      line = line;
-      place = here.place;
-      event = here.event;
-      stands = here.stands;
-      on_line = here.on_line;
-      undealt = here.undealt;
-      told = told;
-    }))))
-
-pub left_open : (rules : Rules) (words : List (List ℕ)) (r : Record) (v : Verdict) (report : List ℕ) → AreAllowed rules words r.events → first_bound rules (steps_of rules r.events) ≡ None
-    → (HaveNoExchange r.events → ⊥) → IsTold verdict.Unsettled unsettled_line v report → IsSettled rules words r v report
-left_open rules words r v report allowed bounded exchanged told =
-    inr (inr (inr (inr (record { allowed = allowed; bounded = bounded; exchanged = exchanged; told = told }))))
+pub found_deal : (passed : Passed) (racks : List Held) → FitsRecord passed racks → AreFound passed rack.Dealt
+found_deal passed racks fits = record { racks = racks; fits = fits }

@@ -6,6 +6,7 @@ pub mod Stages
 pub mod Sources
 pub mod Runs
 pub mod Verdicts
+pub mod Racks
 pub mod Judging
 pub mod Topping
 pub mod Tidying

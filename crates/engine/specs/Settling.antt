@@ -1,15 +1,9 @@
 -- The settled verdict on the inputs of a game: by any deal that is found, or by a proof that there is none.
-use Rattle.std.specs.Prelude.{◌≡◌, ◌⊎◌, ℕ, ◌+◌, Bool, List, take, slice_get, Some, None, Ok}
+use Rattle.std.specs.Prelude.{◌≡◌, ◌⊎◌, ℕ, Bool, List, Ok}
 use Rattle.ref_tiles.specs.declared.rulebook.Rules.{Rules}
-use Rattle.gcg_read.specs.declared.events.Event.{Event}
 use Rattle.gcg_read.specs.declared.records.Record.{Record}
 use Rattle.gcg_read.specs.Records.{record_of}
 use Rattle.lex_list.specs.Lists.{list_of}
-use Rattle.game_turns.specs.Places.{AreAllowed}
-use Rattle.deal_steps.specs.Bounds.{first_bound}
-use Rattle.deal_cuts.specs.Cutting.{HasNoDeal}
-use Rattle.game_deal.specs.Plain.{HaveNoExchange}
-use Rattle.game_deal.specs.Recorded.{steps_of}
 use Rattle.engine.specs.declared.verdicts.GameFault.{GameFault}
 use Rattle.engine.specs.declared.verdicts.GameFault.TheVariants as game
 use Rattle.engine.specs.declared.verdicts.Verdict.{Verdict}
@@ -19,31 +13,22 @@ use Rattle.engine.specs.Judging.{IsToldLegal, IsRefused, IsPastBound}
 use Rattle.engine.specs.Reading.{ReadsNoMore, ReadsList, ReadsLexicon, ReadsRecord, ReadsRules}
 use Rattle.engine.specs.Reports.{illegal_line, unsettled_line}
 use Rattle.engine.specs.Telling.{IsTold}
-use Rattle.engine.specs.Verdicts.{IsGame}
+use Rattle.engine.specs.Verdicts.{IsGame, HasNoDealBy, IsOpenGame}
 
 -- the record is a game, and that it is legal is told
 pub record IsSettledLegal (rules : Rules) (words : List (List ℕ)) (r : Record) (v : Verdict) (report : List ℕ) : Type 0 where
   pub game : IsGame rules words r.events
   pub told : IsToldLegal rules words r v report
 
--- Every event is allowed and no bound is exceeded, but no racks fit the steps up to the event on a line; and that is told.
+-- no racks fit the steps up to the event on a line, and that is told
 pub record IsUndealt (rules : Rules) (words : List (List ℕ)) (r : Record) (v : Verdict) (report : List ℕ) : Type 0 where
-  pub allowed : AreAllowed rules words r.events
-  pub bounded : first_bound rules (steps_of rules r.events) ≡ None
   pub line : ℕ
-  pub place : ℕ
-  pub event : Event
-  pub stands : slice_get r.events place ≡ Some event
-  pub on_line : event.line ≡ line
-  pub undealt : HasNoDeal rules (take (place + 1) (steps_of rules r.events))
+  pub ends : HasNoDealBy rules words r.events line
   pub told : IsTold (verdict.Illegal line game.NoDeal) (illegal_line line game.NoDeal) v report
 
--- Every event is allowed and no bound is exceeded, but neither a deal nor a proof that there is none was found; and that is
--- told. That is so of records with an exchange alone.
+-- neither a deal nor a proof that there is none was found, and that is told
 pub record IsStillOpen (rules : Rules) (words : List (List ℕ)) (r : Record) (v : Verdict) (report : List ℕ) : Type 0 where
-  pub allowed : AreAllowed rules words r.events
-  pub bounded : first_bound rules (steps_of rules r.events) ≡ None
-  pub exchanged : HaveNoExchange r.events → ⊥
+  pub left : IsOpenGame rules words r.events
   pub told : IsTold verdict.Unsettled unsettled_line v report
 
 -- what is answered on a record, by the words of a list

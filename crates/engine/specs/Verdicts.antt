@@ -1,5 +1,5 @@
 -- What the verdicts on a record say, by the words of a list.
-use Rattle.std.specs.Prelude.{◌≡◌, ℕ, List, Some, None}
+use Rattle.std.specs.Prelude.{◌≡◌, ℕ, ◌+◌, List, take, slice_get, Some, None}
 use Rattle.std.specs.Option.{IsSomeAnd}
 use Rattle.ref_tiles.specs.declared.rulebook.Rules.{Rules}
 use Rattle.gcg_read.specs.declared.events.Event.{Event}
@@ -9,6 +9,7 @@ use Rattle.deal_steps.specs.declared.deals.Held.{Held}
 use Rattle.deal_steps.specs.Bounds.{first_bound}
 use Rattle.deal_steps.specs.Fitting.{Fits}
 use Rattle.deal_completion.specs.Completion.{dealt}
+use Rattle.deal_cuts.specs.Cutting.{HasNoDeal}
 use Rattle.game_deal.specs.Recorded.{steps_of}
 use Rattle.game_deal.specs.Plain.{HaveNoExchange}
 
@@ -34,4 +35,21 @@ pub record IsUnsettled (rules : Rules) (list : List (List ℕ)) (events : List E
   pub allowed : AreAllowed rules list events
   pub bounded : first_bound rules (steps_of rules events) ≡ None
   pub undealt : IsDealt rules events → ⊥
+  pub exchanged : HaveNoExchange events → ⊥
+
+-- Every event is allowed and no bound is exceeded, but no racks fit the steps up to the event on a line: so no deal fits.
+pub record HasNoDealBy (rules : Rules) (list : List (List ℕ)) (events : List Event) (line : ℕ) : Type 0 where
+  pub allowed : AreAllowed rules list events
+  pub bounded : first_bound rules (steps_of rules events) ≡ None
+  pub place : ℕ
+  pub event : Event
+  pub stands : slice_get events place ≡ Some event
+  pub on_line : event.line ≡ line
+  pub undealt : HasNoDeal rules (take (place + 1) (steps_of rules events))
+
+-- Every event is allowed and no bound is exceeded, but neither a deal nor a proof that there is none was found. That is so of
+-- records with an exchange alone.
+pub record IsOpenGame (rules : Rules) (list : List (List ℕ)) (events : List Event) : Type 0 where
+  pub allowed : AreAllowed rules list events
+  pub bounded : first_bound rules (steps_of rules events) ≡ None
   pub exchanged : HaveNoExchange events → ⊥

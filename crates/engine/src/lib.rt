@@ -21,6 +21,7 @@ mod judging;
 mod laws;
 mod lexicons;
 mod questions;
+mod racks;
 mod records;
 mod reports;
 mod rules_texts;
@@ -46,6 +47,7 @@ pub use laws::{
 };
 pub use lexicons::{LexiconFault, pair_file, read_lexicon};
 pub use questions::Question;
+pub use racks::{RackFinding, settle_racks};
 pub use records::{read_record, record_from};
 pub use reports::legal_report;
 pub use rules_texts::{read_rules, rules_from};

@@ -1,11 +1,8 @@
 //! Whether the game of a record is legal, by any deal that is found, or by a proof that there is none.
-ghost use Rattle.std.specs.Prelude.{◌≡◌, ◌∷◌, [], Bool, None, IfOk};
+ghost use Rattle.std.specs.Prelude.{◌≡◌, ◌∷◌, [], Bool, IfOk};
 ghost use Rattle.devices.specs.Devices.{HasRoom};
 ghost use Rattle.game_turns.specs.Passing.{rules_in, record_in};
 ghost use Rattle.game_turns.specs.Places.{AreAllowed};
-ghost use Rattle.game_deal.specs.Bounded.{IsBounded};
-ghost use Rattle.game_deal.specs.Plain.{HaveNoExchange};
-ghost use Rattle.game_deal.specs.Stepping.{passed_in};
 ghost use Rattle.lex_check.specs.Pairs as pairs;
 ghost use Rattle.engine.specs.declared.verdicts.GameFault.TheVariants as game;
 ghost use Rattle.engine.specs.declared.verdicts.Verdict.TheVariants as verdict;
@@ -17,43 +14,22 @@ ghost use Rattle.engine.specs.Sources.{rules_source, words_source, lexicon_sourc
 use crate::decisions::Decision;
 use crate::faults::RunFault;
 use crate::games::{decide_by_rules, decide_game};
-use crate::judging::{illegal, is_dealt, legal, past_bound, unsettled};
+use crate::judging::{illegal, legal, past_bound, unsettled};
 use crate::laws::law_of_settled_games;
 use crate::questions::Question;
+use crate::racks::{RackFinding, settle_racks};
 use crate::transfers::finish;
 use crate::verdicts::{GameFault, Verdict};
 use devices::{Input, Output};
-use game_deal::{Settled, Steps, bounds, law_of_bounds, settle};
+use game_deal::law_of_bounds;
 use game_turns::{Passed, play_through};
 use gcg_read::Record;
 use lex_check::Checked;
 use ref_tiles::Rules;
 use std::alloc::{AllocError, Global};
 
-/// The verdict on a record that exceeds no bound, by a search for a deal or a proof that there is none.
-#[tactic(auto, using(crate::proofs::Settled::found, crate::proofs::Settled::ruled_out, crate::proofs::Settled::left_open))]
-fn search_deal(
-    alloc: Global,
-    passed: &Passed<'_>,
-    pair: &Checked<'_>,
-    steps: &Steps<'_>,
-) -> Result<Decision, AllocError>
-    requires steps { passed_in steps.now ≡ passed.now }
-    requires allowed { AreAllowed (rules_in passed.now) (pairs.list_in pair.now) (record_in passed.now).events }
-    requires bounded { IsBounded passed.now }
-    requires exchanged { HaveNoExchange (record_in passed.now).events → ⊥ }
-    ensures { IfOk result (λ d. IsSettled (rules_in passed.now) (pairs.list_in pair.now) (record_in passed.now) d.verdict d.report.items) }
-{
-    match settle(alloc, steps)? {
-        Settled::Dealt(_) => legal(alloc, passed, pair),
-        Settled::NoDeal { line } => illegal(alloc, line, GameFault::NoDeal),
-        Settled::Unknown => unsettled(alloc),
-    }
-}
-
-/// The verdict on a record of which every event is allowed, by the bounds of its racks, the deal that is tried first, and a
-/// search.
-#[tactic(auto, using(crate::proofs::Settled::past, crate::proofs::Settled::dealt_first, crate::proofs::Settled::not_plain))]
+/// The verdict on a record of which every event is allowed, by what is found of its racks.
+#[tactic(auto, using(crate::proofs::Settled::by_deal, crate::proofs::Settled::past, crate::proofs::Settled::ruled_out, crate::proofs::Settled::left_open))]
 fn settle_passed(
     alloc: Global,
     passed: &Passed<'_>,
@@ -63,14 +39,12 @@ fn settle_passed(
     ensures { IfOk result (λ d. IsSettled (rules_in passed.now) (pairs.list_in pair.now) (record_in passed.now) d.verdict d.report.items) }
 {
     law_of_bounds();
-    let steps = Steps::of(alloc, passed)?;
-    if let Some(bound) = bounds(&steps) {
-        return past_bound(alloc, &bound);
+    match settle_racks(alloc, passed)? {
+        RackFinding::Dealt => legal(alloc, passed, pair),
+        RackFinding::PastBound(bound) => past_bound(alloc, &bound),
+        RackFinding::NoDeal { line } => illegal(alloc, line, GameFault::NoDeal),
+        RackFinding::Unknown => unsettled(alloc),
     }
-    if is_dealt(alloc, &steps)? {
-        return legal(alloc, passed, pair);
-    }
-    search_deal(alloc, passed, pair, &steps)
 }
 
 /// The verdict on a record, by the list of a pair.

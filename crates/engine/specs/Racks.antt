@@ -1,0 +1,23 @@
+-- What is found of the racks of a record that passed.
+use Rattle.std.specs.Prelude.{◌≡◌, List, Some}
+use Rattle.game_turns.specs.declared.passed.Passed.{Passed}
+use Rattle.game_turns.specs.Passing.{record_in}
+use Rattle.deal_steps.specs.declared.deals.Held.{Held}
+use Rattle.game_deal.specs.Bounded.{bound_in, IsBounded, FitsRecord}
+use Rattle.game_deal.specs.Plain.{HaveNoExchange}
+use Rattle.game_deal.specs.Settling.{EndsOnLine}
+use Rattle.engine.specs.declared.racks.RackFinding.{RackFinding}
+use Rattle.engine.specs.declared.racks.RackFinding.TheVariants as rack
+
+-- some deal yields every rack
+pub record HasDeal (passed : Passed) : Type 0 where
+  pub racks : List Held
+  pub fits : FitsRecord passed racks
+
+-- A deal fits, or a bound is exceeded, or no racks fit the steps up to a line; or neither a deal nor a proof that there is none
+-- was found, and that only where tiles were exchanged.
+abbrev pub AreFound : Passed → RackFinding → Type 0
+AreFound passed rack.Dealt = HasDeal passed
+AreFound passed (rack.PastBound bound) = bound_in passed ≡ Some bound
+AreFound passed (rack.NoDeal line) = IsBounded passed × EndsOnLine passed line
+AreFound passed rack.Unknown = IsBounded passed × (HaveNoExchange (record_in passed).events → ⊥)
