@@ -285,7 +285,7 @@ settled_run law rules first second third old new result run =
 legal_never : (rules : Rules) (words : List (List ℕ)) (r : Record) (line : ℕ) (fault : GameFault) (report : List ℕ) → IsLegal rules words r (verdict.Illegal line fault) report → ⊥
 legal_never rules words r line fault report legal = let both = legal.told.verdict_is in cc
 
-first_not_allowed : (rules : Rules) (words : List (List ℕ)) (events : List Event) (line : ℕ) (why : RuleFault) → IsFirstRefusal rules words events line why → AreAllowed rules words events → ⊥
+pub first_not_allowed : (rules : Rules) (words : List (List ℕ)) (events : List Event) (line : ℕ) (why : RuleFault) → IsFirstRefusal rules words events line why → AreAllowed rules words events → ⊥
 first_not_allowed rules words events line why first allowed =
     let none : fault_at rules words events first.place ≡ None = allowed first.place (slice_get_within events first.place first.event first.stands) in
     let both : None ≡ Some why = sym none ∙ first.fails in

@@ -1,8 +1,9 @@
 -- What the stages come to that read an input.
-use Rattle.std.proofs.Common.{◌≡◌, ◌⊎◌, ℕ, List, Ok, Err, refl, ap, subst, ⊎_elim, ◌+◌}
+use Rattle.std.proofs.Common.{◌≡◌, ◌⊎◌, ℕ, List, Result, Ok, Err, refl, ap, subst, sym, ◌∙◌, ⊎_elim, ◌+◌}
 use Rattle.devices.specs.Devices.{Device, HasWorked}
 use Rattle.devices.specs.Inputs.{IsInput, TakesAtMost}
 use Rattle.gcg_read.specs.declared.faults.ReadFault.{ReadFault}
+use Rattle.gcg_read.specs.declared.records.Record.{Record}
 use Rattle.gcg_read.specs.declared.faults.Why.TheVariants as why
 use Rattle.gcg_read.specs.Faults as reading
 use Rattle.gcg_read.specs.Records.{record_of}
@@ -55,10 +56,13 @@ no_list text fault d given known told =
     (λ (e : list_of text ≡ Err fault). (fault, e, told))
     given
 
-pub no_record : (text : List ℕ) (fault : ReadFault) (d : Decision) → (fault ≡ reading.no_memory) ⊎ (record_of text ≡ Err fault) → (fault.why ≡ why.NoMemory → ⊥)
-    → IsTold verdict.BadRecord (bad_record_line fault) d.verdict d.report.items → IsRecordOf text (Err d)
-no_record text fault d given known told =
+pub no_game : (text : List ℕ) (fault : ReadFault) → (fault ≡ reading.no_memory) ⊎ (record_of text ≡ Err fault) → (fault.why ≡ why.NoMemory → ⊥) → Err fault ≡ record_of text
+no_game text fault given known =
     ⊎_elim
     (λ (none : fault ≡ reading.no_memory). absurd (known (ap (λ (f : ReadFault). f.why) none)))
-    (λ (e : record_of text ≡ Err fault). (fault, e, told))
+    (λ (e : record_of text ≡ Err fault). sym e)
     given
+
+pub no_record : (text : List ℕ) (given : Result Record ReadFault) (fault : ReadFault) (d : Decision) → given ≡ record_of text → given ≡ Err fault
+    → IsTold verdict.BadRecord (bad_record_line fault) d.verdict d.report.items → IsRecordOf text (Err d)
+no_record text given fault d same is told = (fault, sym same ∙ is, told)

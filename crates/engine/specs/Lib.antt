@@ -16,3 +16,4 @@ pub mod Converting
 pub mod Headlines
 pub mod Settling
 pub mod OwnVerdicts
+pub mod Archiving

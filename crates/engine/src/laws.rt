@@ -1,4 +1,5 @@
 //! The headline, and what conversion keeps. The functions do nothing: their contracts are the laws.
+ghost use Rattle.engine.specs.Archiving.{FindingsDecide};
 ghost use Rattle.engine.specs.Converting.{StaysLexicon};
 ghost use Rattle.engine.specs.Settling.{SettledLegalMeansLegal, SettledIllegalMeansNoGame};
 ghost use Rattle.engine.specs.Headlines.{LegalMeansLegal, LegalMeansLegalByText, IllegalMeansNoGame, PlainGamesAreDecided};
@@ -52,6 +53,15 @@ pub fn law_of_settled_games()
 /// What the verdict illegal of [`run_settled`](crate::run_settled) means: the record is no game by the words of the list.
 pub fn law_of_undealt_games()
     ensures { SettledIllegalMeansNoGame }
+{
+    law_of_fronts();
+}
+
+/// What an entry of an archive means where it says illegal: the record is no game by the words of the list. And of a record
+/// without an exchange it never says unsettled.
+#[tactic(auto, using(crate::proofs::FoundGames::findings_decide))]
+pub fn law_of_findings()
+    ensures { FindingsDecide }
 {
     law_of_fronts();
 }

@@ -15,7 +15,9 @@ mod building;
 mod checking;
 mod converting;
 mod decisions;
+mod entries;
 mod faults;
+mod findings;
 mod games;
 mod judging;
 mod laws;
@@ -29,7 +31,9 @@ mod running;
 mod settling;
 mod tidying;
 mod topping;
+mod totals;
 mod transfers;
+mod unlisted;
 mod verdicts;
 mod words;
 
@@ -38,23 +42,26 @@ pub use building::run_build;
 pub use checking::run_check;
 pub use converting::run_convert;
 pub use decisions::Decision;
+pub use entries::{Entry, archive_entry};
 pub use faults::RunFault;
+pub use findings::Finding;
 pub use games::{decide_by_pair, decide_by_rules, decide_game};
 pub use judging::Judging;
 pub use laws::{
-    law_of_conversions, law_of_illegal, law_of_legal, law_of_plain_games, law_of_ruled_games,
-    law_of_settled_games, law_of_undealt_games,
+    law_of_conversions, law_of_findings, law_of_illegal, law_of_legal, law_of_plain_games,
+    law_of_ruled_games, law_of_settled_games, law_of_undealt_games,
 };
 pub use lexicons::{LexiconFault, pair_file, read_lexicon};
 pub use questions::Question;
 pub use racks::{RackFinding, settle_racks};
-pub use records::{read_record, record_from};
-pub use reports::legal_report;
+pub use records::{game_from, read_record, record_from};
+pub use reports::{fault_text, legal_report};
 pub use rules_texts::{read_rules, rules_from};
 pub use running::{run, run_ruled};
 pub use settling::{Settling, run_settled, run_settled_ruled};
 pub use tidying::run_tidy;
 pub use topping::{run_top, run_top_ruled};
+pub use totals::last_total;
 pub use transfers::finish;
 pub use verdicts::{GameFault, Verdict};
 pub use words::{list_from, read_list};

@@ -1,7 +1,7 @@
 //! The stages that read a record and take it through the rules.
-ghost use Rattle.std.specs.Prelude.{IfOk};
+ghost use Rattle.std.specs.Prelude.{◌≡◌, IfOk};
 ghost use Rattle.devices.specs.Devices.{HasRoom};
-ghost use Rattle.gcg_read.specs.Records.{most_bytes};
+ghost use Rattle.gcg_read.specs.Records.{most_bytes, record_of};
 ghost use Rattle.engine.specs.Stages.{IsRead, IsRecordOf};
 ghost use Rattle.engine.specs.declared.verdicts.Verdict.TheVariants as verdict;
 ghost use Rattle.engine.specs.Reports as reports;
@@ -27,10 +27,10 @@ fn bad_record(alloc: Global, fault: &ReadFault) -> Result<Decision, AllocError>
     })
 }
 
-/// The record of a text, or the verdict that it is none.
-#[tactic(auto, using(crate::proofs::Readings::no_record))]
-pub fn record_from(alloc: Global, text: &[u8]) -> Result<Result<Record, Decision>, AllocError>
-    ensures { IfOk result (λ read. IsRecordOf text.now read) }
+/// The record of a text, or its first fault.
+#[tactic(auto, using(crate::proofs::Readings::no_game))]
+pub fn game_from(alloc: Global, text: &[u8]) -> Result<Result<Record, ReadFault>, AllocError>
+    ensures { IfOk result (λ read. read ≡ record_of text.now) }
 {
     let fault = match read(alloc, text) {
         Ok(game) => return Ok(Ok(game)),
@@ -39,6 +39,18 @@ pub fn record_from(alloc: Global, text: &[u8]) -> Result<Result<Record, Decision
     if fault.why == Why::NoMemory {
         return Err(AllocError);
     }
+    Ok(Err(fault))
+}
+
+/// The record of a text, or the verdict that it is none.
+#[tactic(auto, using(crate::proofs::Readings::no_record))]
+pub fn record_from(alloc: Global, text: &[u8]) -> Result<Result<Record, Decision>, AllocError>
+    ensures { IfOk result (λ read. IsRecordOf text.now read) }
+{
+    let fault = match game_from(alloc, text)? {
+        Ok(game) => return Ok(Ok(game)),
+        Err(fault) => fault,
+    };
     let decision = bad_record(alloc, &fault)?;
     Ok(Err(decision))
 }

@@ -82,6 +82,15 @@ fn push_fault(text: &mut Vec<u8>, fault: &GameFault) -> Result<(), AllocError>
     }
 }
 
+/// The text of a fault of a game, as a report tells it: its name, and the number that was expected or the kind that is short.
+pub fn fault_text(alloc: Global, fault: &GameFault) -> Result<Vec<u8>, AllocError>
+    ensures { IfOk result (λ text. text.items ≡ fault_text fault.now) }
+{
+    let mut text = Vec::new(alloc);
+    push_fault(&mut text, fault)?;
+    Ok(text)
+}
+
 /// Appends ` line N`, or nothing where the line is 0.
 fn push_line(text: &mut Vec<u8>, line: u32) -> Result<(), AllocError>
     ensures { OnOk result (text.new.items ≡ text.old.items ++ line_text line) }

@@ -1,0 +1,209 @@
+//! The entry of one game of many, by a word list and a lexicon that were read before.
+ghost use Rattle.std.specs.Prelude.{◌≡◌, IfOk, None};
+ghost use Rattle.devices.specs.Devices.{HasRoom};
+ghost use Rattle.gcg_read.specs.Records.{most_bytes};
+ghost use Rattle.game_turns.specs.Passing.{rules_in, record_in, list_in};
+ghost use Rattle.game_turns.specs.Places.{AreAllowed};
+ghost use Rattle.lex_check.specs.Pairs as pairs;
+ghost use Rattle.engine.specs.declared.findings.Finding.TheVariants as finding;
+ghost use Rattle.engine.specs.declared.verdicts.GameFault.TheVariants as game;
+ghost use Rattle.engine.specs.Archiving.{past_bound, IsFinding, AreUnlisted, IsEntry, IsEntryOf};
+ghost use Rattle.engine.specs.Stages.{IsRead};
+
+use crate::faults::RunFault;
+use crate::findings::Finding;
+use crate::racks::{RackFinding, settle_racks};
+use crate::records::game_from;
+use crate::transfers::read_text;
+use crate::unlisted::unlisted_plays;
+use crate::verdicts::GameFault;
+use devices::Input;
+use game_deal::{DealFault, law_of_bounds};
+use game_turns::{Passed, RuleFault, play_through};
+use gcg_read::{MAX_BYTES, ReadFault, Record};
+use lex_check::Checked;
+use ref_tiles::Rules;
+use std::alloc::{AllocError, Global};
+
+/// The entry of a game in an archive.
+#[derive(Drop)]
+pub struct Entry {
+    /// The record of the game.
+    pub record: Record,
+    /// What is found of it.
+    pub finding: Finding,
+    /// How many of its plays stand with a word that is not in the list; none where some event is not allowed.
+    pub unlisted: Option<usize>,
+}
+
+/// What is found of a game whose racks exceed a bound.
+fn past_bound(bound: &DealFault) -> Finding
+    ensures { result ≡ past_bound bound.now }
+{
+    match bound {
+        DealFault::RackTooBig { line } => Finding::Illegal {
+            line: *line,
+            fault: GameFault::RackTooBig,
+        },
+        DealFault::TilesShort { line, kind } => Finding::Illegal {
+            line: *line,
+            fault: GameFault::TilesShort(*kind),
+        },
+    }
+}
+
+/// What is found of a record that passed.
+#[tactic(auto, using(crate::proofs::FoundGames::by_deal, crate::proofs::FoundGames::past, crate::proofs::Settled::ends_on, crate::proofs::Settled::open_game))]
+fn find_passed(
+    alloc: Global,
+    passed: &Passed<'_>,
+    pair: &Checked<'_>,
+) -> Result<Finding, AllocError>
+    requires { AreAllowed (rules_in passed.now) (pairs.list_in pair.now) (record_in passed.now).events }
+    ensures { IfOk result (IsFinding (rules_in passed.now) (pairs.list_in pair.now) (record_in passed.now)) }
+{
+    law_of_bounds();
+    match settle_racks(alloc, passed)? {
+        RackFinding::Dealt => Ok(Finding::Legal {
+            complete: passed.complete(),
+        }),
+        RackFinding::PastBound(bound) => Ok(past_bound(&bound)),
+        RackFinding::NoDeal { line } => Ok(Finding::Illegal {
+            line,
+            fault: GameFault::NoDeal,
+        }),
+        RackFinding::Unknown => Ok(Finding::Unsettled),
+    }
+}
+
+/// What is found of a record, and how many of its plays stand with a word that is not in the list, where every event is allowed.
+#[derive(Drop)]
+struct Found {
+    finding: Finding,
+    unlisted: Option<usize>,
+}
+
+/// What is found of a record with an event that is not allowed.
+fn refused(line: u32, fault: RuleFault) -> Found
+    ensures finding { result.finding ≡ finding.Illegal line (game.Rule fault) }
+    ensures unlisted { result.unlisted ≡ None }
+{
+    Found {
+        finding: Finding::Illegal {
+            line,
+            fault: GameFault::Rule(fault),
+        },
+        unlisted: None,
+    }
+}
+
+/// What is found of a record that passed, or that it has no event.
+fn find_events(
+    alloc: Global,
+    passed: &Passed<'_>,
+    pair: &Checked<'_>,
+) -> Result<Finding, AllocError>
+    requires { AreAllowed (rules_in passed.now) (pairs.list_in pair.now) (record_in passed.now).events }
+    ensures { IfOk result (IsFinding (rules_in passed.now) (pairs.list_in pair.now) (record_in passed.now)) }
+{
+    if passed.record().events.is_empty() {
+        return Ok(Finding::NoGame);
+    }
+    find_passed(alloc, passed, pair)
+}
+
+/// What is found of a record of which every event is allowed.
+fn allowed(alloc: Global, passed: &Passed<'_>, pair: &Checked<'_>) -> Result<Found, AllocError>
+    requires allowed { AreAllowed (rules_in passed.now) (pairs.list_in pair.now) (record_in passed.now).events }
+    requires list { list_in passed.now ≡ pairs.list_in pair.now }
+    ensures found { IfOk result (λ f. IsFinding (rules_in passed.now) (pairs.list_in pair.now) (record_in passed.now) f.finding) }
+    ensures unlisted { IfOk result (λ f. AreUnlisted (rules_in passed.now) (pairs.list_in pair.now) (record_in passed.now).events f.unlisted) }
+{
+    let finding = find_events(alloc, passed, pair)?;
+    let plays = unlisted_plays(passed);
+    Ok(Found {
+        finding,
+        unlisted: Some(plays),
+    })
+}
+
+/// What is found of a record, by the list of a pair.
+#[tactic(auto, using(crate::proofs::FoundGames::not_allowed))]
+fn find(
+    alloc: Global,
+    rules: &Rules,
+    pair: &Checked<'_>,
+    game: &Record,
+) -> Result<Found, AllocError>
+    ensures found { IfOk result (λ f. IsFinding rules.now (pairs.list_in pair.now) game.now f.finding) }
+    ensures unlisted { IfOk result (λ f. AreUnlisted rules.now (pairs.list_in pair.now) game.now.events f.unlisted) }
+{
+    match play_through(rules, game, pair.list()) {
+        Ok(passed) => allowed(alloc, &passed, pair),
+        Err(refusal) => Ok(refused(refusal.line, refusal.fault)),
+    }
+}
+
+/// The entry of a record.
+fn entry_of(
+    alloc: Global,
+    rules: &Rules,
+    pair: &Checked<'_>,
+    game: Record,
+) -> Result<Entry, AllocError>
+    ensures entry { IfOk result (IsEntry rules.now (pairs.list_in pair.now)) }
+    ensures game { IfOk result (λ entry. entry.record ≡ game) }
+{
+    let found = find(alloc, rules, pair, &game)?;
+    Ok(Entry {
+        record: game,
+        finding: found.finding,
+        unlisted: found.unlisted,
+    })
+}
+
+/// The entry of the record of a text, or the fault of the record.
+fn entry_from(
+    alloc: Global,
+    rules: &Rules,
+    pair: &Checked<'_>,
+    text: &[u8],
+) -> Result<Result<Entry, ReadFault>, AllocError>
+    ensures { IfOk result (IsEntryOf rules.now (pairs.list_in pair.now) text.now) }
+{
+    match game_from(alloc, text)? {
+        Ok(record) => {
+            let entry = entry_of(alloc, rules, pair, record)?;
+            Ok(Ok(entry))
+        }
+        Err(fault) => Ok(Err(fault)),
+    }
+}
+
+/// Reads the record of one game of many and settles it, by a word list and its lexicon that were read before: what
+/// [`run_settled`](crate::run_settled) would find of it, without its report. The answer is the entry of the game, or the
+/// first fault of its record.
+///
+/// The input is read to its end, or to one byte past 1 MiB and no further.
+///
+/// # Errors
+///
+/// `ReadFailed` comes only where the input failed; `NoMemory` where memory was refused.
+pub fn archive_entry<G: Input>(
+    alloc: Global,
+    rules: &Rules,
+    pair: &Checked<'_>,
+    game: &mut G,
+) -> Result<Result<Entry, ReadFault>, RunFault>
+    requires { HasRoom (G.device game.old) }
+    ensures { IsRead most_bytes (G.device game.old) (G.device game.new) (IsEntryOf rules.now (pairs.list_in pair.now)) result }
+{
+    let text = match read_text(alloc, game, MAX_BYTES) {
+        Ok(text) => text,
+        Err(fault) => return Err(fault),
+    };
+    match entry_from(alloc, rules, pair, &text) {
+        Ok(read) => Ok(read),
+        Err(_) => Err(RunFault::NoMemory),
+    }
+}

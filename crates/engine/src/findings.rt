@@ -1,0 +1,24 @@
+//! What is found of the game of a record, without a report.
+
+use crate::verdicts::GameFault;
+
+/// What is found of the game of a record.
+#[derive(Clone, Copy, Debug, PartialEq, Eq)]
+pub enum Finding {
+    /// The record has no event.
+    NoGame,
+    /// Every event is allowed, and some deal of the tiles yields every rack.
+    Legal {
+        /// Whether the game has ended.
+        complete: bool,
+    },
+    /// Some event is not allowed, or no deal of the tiles yields every rack.
+    Illegal {
+        /// The line of the first such event, or up to which the racks cannot be.
+        line: u32,
+        /// Why.
+        fault: GameFault,
+    },
+    /// Every event is allowed, and neither a deal nor a proof that there is none was found.
+    Unsettled,
+}
