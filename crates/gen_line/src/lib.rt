@@ -6,7 +6,7 @@
 //! over the letters with which a string of the lexicon goes on, each once, and tries those that the square and the rack
 //! allow. It takes no memory.
 //!
-//! What becomes of a move is not known here: [`walk_line`] gives each to a [`Taker`].
+//! What becomes of a move is not known here: [`walk_anchor`] gives each to a [`Taker`].
 #![tactic(auto)]
 
 mod branches;
@@ -19,4 +19,4 @@ mod walking;
 pub use cells::{Cell, Open};
 pub use laws::law_of_line_moves;
 pub use takers::Taker;
-pub use walking::walk_line;
+pub use walking::walk_anchor;

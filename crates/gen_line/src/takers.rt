@@ -1,5 +1,5 @@
 //! What takes the moves of a line, one by one.
-ghost use Rattle.std.specs.Prelude.{◌≡◌, ◌<◌, ℕ, List, [], ◌∷◌, Bool, true, false, IsOk, IsTrue};
+ghost use Rattle.std.specs.Prelude.{◌≡◌, List, [], ◌∷◌, ℕ, Bool, false, IsOk};
 ghost use Rattle.gen_line.specs.Walk.{Took};
 
 use std::alloc::AllocError as NoMemory;
@@ -27,16 +27,8 @@ pub trait Taker<S> {
     // What a sink has after one more move.
     ghost tell: { Self → Purpose → Items → List ℕ → Items };
 
-    // What the taker knows of the moves of an anchor, which are those whose first anchor it is.
-    ghost offers: { Self → ℕ → List ℕ → Type 0 };
-
     // Whether the sink may be refused memory.
     ghost grows: { Bool };
-
-    /// Whether no move of an anchor would change what the sink has, so that none need be looked for.
-    fn passes(&self, anchor: usize, sink: &S) -> bool
-        requires { anchor < 15 }
-        ensures { IsTrue result → (y : List ℕ) → offers self.now anchor y → tell self.now (made_for sink.now) (items sink.now) y ≡ items sink.now };
 
     /// Gives a sink a move.
     ///

@@ -1,6 +1,6 @@
-//! The walk over one line: from each anchor to the left, and then to the right.
+//! The walk over one line from one of its anchors: to the left, and then to the right.
 ghost use Rattle.std.specs.Prelude.{◌≡◌, ◌<◌, ◌≤◌, ◌+◌, ◌&&◌, ℕ, List, false, IsOk, drop, length};
-ghost use Rattle.gen_line.specs.Model.{starts_free, line_moves};
+ghost use Rattle.gen_line.specs.Model.{starts_free};
 ghost use Rattle.lex_file.specs.Walking.{IsOpen, strings};
 ghost use Rattle.gen_line.specs.Walk.{Took, Every, gives_leaf, gives_right, gives_tries_right, gives_letter_right, gives_try_right, gives_turn, gives_left, gives_tries_left, gives_letter_left, gives_try_left, gives_anchor, anchor_moves};
 
@@ -324,13 +324,11 @@ impl<L: PathLex, T> LineWalk<'_, L, T> {
         Ok(())
     }
 
-    /// Gives the moves of which the anchor of the walk is the first anchor covered, where it is one. They are not looked for
-    /// where none would change what the sink has.
-    pub fn from_anchor<S>(&self, tiles: &Tiles, sink: &mut S) -> Result<(), NoMemory>
+    /// Gives the moves of which the anchor of the walk is the first anchor covered, where it is one.
+    fn from_anchor<S>(&self, tiles: &Tiles, sink: &mut S) -> Result<(), NoMemory>
     where
         T: Taker<S>,
         requires anchor { self.now.anchor < 15 }
-        requires offers { Every (T.offers self.now.taker.now self.now.anchor) (gives_anchor (L.language self.now.lex.now) self.now.line.now tiles.now.fresh tiles.now.rack self.now.anchor) }
         requires can { Every (T.can_take self.now.taker.now (T.made_for sink.old)) (gives_anchor (L.language self.now.lex.now) self.now.line.now tiles.now.fresh tiles.now.rack self.now.anchor) }
         ensures made_for { T.made_for sink.new ≡ T.made_for sink.old }
         ensures took { Took (T.tell self.now.taker.now (T.made_for sink.old)) (T.items sink.old) (gives_anchor (L.language self.now.lex.now) self.now.line.now tiles.now.fresh tiles.now.rack self.now.anchor) (T.items sink.new) result }
@@ -340,9 +338,6 @@ impl<L: PathLex, T> LineWalk<'_, L, T> {
             Cell::Old(_) => Ok(()),
             Cell::Free(free) => {
                 if !free.anchor {
-                    return Ok(());
-                }
-                if self.taker.passes(self.anchor, sink) {
                     return Ok(());
                 }
                 let start = Step {
@@ -355,39 +350,37 @@ impl<L: PathLex, T> LineWalk<'_, L, T> {
     }
 }
 
-/// Gives a sink the moves of a line, each once: the new tiles lie on free places that allow them, in one whole stretch
-/// that spells a word of the lexicon, and one of them on an anchor; the rack has them.
+/// Gives a sink the moves of a line of which a place is the first anchor covered, each once, where the place is an anchor: the
+/// new tiles lie on free places that allow them, in one whole stretch that spells a word of the lexicon; the rack has them.
 ///
 /// A rack has a number for each kind of tile: A to Z, and then blanks.
 ///
 /// # Errors
 ///
 /// Where the sink was refused memory. It then has a front of the moves.
-pub fn walk_line<L: PathLex, S, T: Taker<S>>(
+pub fn walk_anchor<L: PathLex, S, T: Taker<S>>(
     lex: &L,
     line: &[Cell; 15],
+    anchor: usize,
     rack: &[u8; 27],
     taker: &T,
     sink: &mut S,
 ) -> Result<(), NoMemory>
-    requires offers { (anchor : ℕ) → anchor < 15 → Every (T.offers taker.now anchor) (anchor_moves (L.language lex.now) line.now rack.now anchor) }
-    requires can { Every (T.can_take taker.now (T.made_for sink.old)) (line_moves (L.language lex.now) line.now rack.now) }
+    requires anchor { anchor < 15 }
+    requires can { Every (T.can_take taker.now (T.made_for sink.old)) (anchor_moves (L.language lex.now) line.now rack.now anchor) }
     ensures made_for { T.made_for sink.new ≡ T.made_for sink.old }
-    ensures took { Took (T.tell taker.now (T.made_for sink.old)) (T.items sink.old) (line_moves (L.language lex.now) line.now rack.now) (T.items sink.new) result }
+    ensures took { Took (T.tell taker.now (T.made_for sink.old)) (T.items sink.old) (anchor_moves (L.language lex.now) line.now rack.now anchor) (T.items sink.new) result }
     ensures steady { T.grows ≡ false → IsOk result }
 {
     let tiles = Tiles {
         fresh: [0; 15],
         rack: *rack,
     };
-    for anchor in 0..line.len() {
-        let walk = LineWalk {
-            lex,
-            line,
-            anchor,
-            taker,
-        };
-        walk.from_anchor(&tiles, sink)?;
-    }
-    Ok(())
+    let walk = LineWalk {
+        lex,
+        line,
+        anchor,
+        taker,
+    };
+    walk.from_anchor(&tiles, sink)
 }

@@ -84,7 +84,7 @@ every_with A P [] a h = tt
 every_with A P (x ∷ xs) a h = ((a, h.0), every_with A P xs a h.1)
 
 -- ---- what was taken of the entries is taken of the plays
-add_all-flat_map : {I X Y : Type 0} (add : I → X → I) (f : Y → List X) (old : I) (ys : List Y) → add_all (λ items y. add_all add items (f y)) old ys ≡ add_all add old (flat_map f ys)
+pub add_all-flat_map : {I X Y : Type 0} (add : I → X → I) (f : Y → List X) (old : I) (ys : List Y) → add_all (λ items y. add_all add items (f y)) old ys ≡ add_all add old (flat_map f ys)
 add_all-flat_map add f old [] = refl
 add_all-flat_map add f old (y ∷ ys) =
     add_all-flat_map add f (add_all add old (f y)) ys ∙ sym (add_all-append add old (f y) (flat_map f ys))

@@ -14,3 +14,5 @@ pub mod Worths
 pub mod Bounding
 pub mod Longest
 pub mod Offering
+pub mod Reordering
+pub mod Starting

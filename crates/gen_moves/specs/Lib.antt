@@ -4,3 +4,4 @@ pub mod Findings
 pub mod Laws
 pub mod Telling
 pub mod Bounds
+pub mod Starts

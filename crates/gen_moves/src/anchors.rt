@@ -1,12 +1,14 @@
 //! Upper bounds of the plays of each anchor of a line.
-ghost use Rattle.std.specs.Prelude.{◌≡◌, ◌*◌, ◌<◌, ◌≤◌, ℕ, true, slice_index};
+ghost use Rattle.std.specs.Prelude.{◌≡◌, ◌*◌, ◌<◌, ◌≤◌, ℕ, Bool, true, List, [], slice_index, slice_index_or};
 ghost use Rattle.gen_line.specs.Cells.{cell_at, is_anchor_cell};
-ghost use Rattle.gen_moves.specs.Bounds.{IsSmall, IsAnchorBound, place_in, rack_points};
+ghost use Rattle.gen_moves.specs.Bounds.{IsSmall, IsAnchorBound, HasScores, AreOffers, place_in, rack_points};
+ghost use Rattle.gen_moves.specs.Starts.{AreUnder, bound_in};
 
-use crate::places::Place;
+use crate::places::{Place, line_places};
 use crate::stretches::longest;
+use gen_cross::Cross;
 use gen_line::Cell;
-use ref_board::SIDE;
+use ref_board::{Board, Dir, SIDE};
 use ref_tiles::{KINDS, Rules};
 
 /// Whether a cell is an anchor.
@@ -48,7 +50,7 @@ fn anchor_bound(
 }
 
 /// Such a number for each anchor of a line.
-pub fn anchor_bounds(
+fn anchor_bounds(
     cells: &[Cell; SIDE],
     places: &[Place; SIDE],
     points: u64,
@@ -64,6 +66,47 @@ pub fn anchor_bounds(
         if is_anchor(&cells[anchor]) {
             bounds[anchor] = anchor_bound(cells, places, anchor, points, bonus);
         }
+    }
+    bounds
+}
+
+/// Numbers that no play passes along a line, for each place of which it is the first anchor covered.
+fn line_bounds(
+    rules: &Rules,
+    board: &Board,
+    cross: &Cross,
+    dir: Dir,
+    line: usize,
+    cells: &[Cell; SIDE],
+    points: u64,
+) -> [u64; SIDE]
+    requires line { line < 15 }
+    requires points { points ≤ 2000000 }
+    requires scores { HasScores rules.now board.now cross.now }
+    ensures { (g : List ℕ → Bool) (rack : List ℕ) → AreOffers rules.now points board.now g cells.now rack dir line
+        → (h : ℕ) → h < 15 → AreUnder rules.now board.now g cells.now rack dir line h (slice_index result h) }
+{
+    let places = line_places(rules, board, cross, dir, line);
+    anchor_bounds(cells, &places, points, rules.bonus as u64)
+}
+
+/// Such numbers for all lines of a direction.
+pub fn all_bounds(
+    rules: &Rules,
+    board: &Board,
+    cross: &Cross,
+    dir: Dir,
+    lines: &[[Cell; SIDE]; SIDE],
+    points: u64,
+) -> [[u64; SIDE]; SIDE]
+    requires points { points ≤ 2000000 }
+    requires scores { HasScores rules.now board.now cross.now }
+    ensures { (line : ℕ) → line < 15 → (g : List ℕ → Bool) (rack : List ℕ) → AreOffers rules.now points board.now g (slice_index_or lines.now line []) rack dir line
+        → (h : ℕ) → h < 15 → AreUnder rules.now board.now g (slice_index_or lines.now line []) rack dir line h (bound_in result line h) }
+{
+    let mut bounds = [[0; SIDE]; SIDE];
+    for line in 0..SIDE {
+        bounds[line] = line_bounds(rules, board, cross, dir, line, &lines[line], points);
     }
     bounds
 }

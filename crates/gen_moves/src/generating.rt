@@ -1,91 +1,113 @@
 //! Every legal, valid play that a rack allows on a board.
-ghost use Rattle.std.specs.Prelude.{◌≡◌, ℕ, ◌<◌, ◌≤◌, List, [], false, slice_index_or, IsOk};
+ghost use Rattle.std.specs.Prelude.{◌≡◌, ℕ, ◌<◌, ◌≤ℤ◌, pos, List, false, All, IsOk, IsTrue};
+ghost use Rattle.std.specs.List.{flat_map};
 ghost use Rattle.lex_list.specs.RotatedPaths.{StandsFor};
 ghost use Rattle.ref_play.specs.Best.{Given, AreAll};
 ghost use Rattle.gen_cross.specs.Values.{IsRight};
-ghost use Rattle.gen_line.specs.Model.{line_moves};
-ghost use Rattle.gen_line.specs.Walk.{Every, Took};
+ghost use Rattle.gen_line.specs.Walk.{Took};
 ghost use Rattle.gen_sinks.specs.Sinks.{IsFor};
-ghost use Rattle.gen_moves.specs.Findings.{given_on, given_along};
 ghost use Rattle.gen_moves.specs.Laws.{AreLong};
-ghost use Rattle.gen_moves.specs.Bounds.{HasScores, AreOffers};
-ghost use Rattle.gen_moves.specs.Telling.{IsFit, spot_of, same_cells};
+ghost use Rattle.gen_moves.specs.Telling.{both_cells};
+ghost use Rattle.gen_moves.specs.Starts.{IsGood, given_from};
 
-use crate::anchors::{anchor_bounds, points_of_rack};
+use crate::anchors::{all_bounds, points_of_rack};
 use crate::lines::all_cells;
-use crate::places::line_places;
 use crate::spots::Spot;
+use crate::starts::{STARTS, Start, all_starts, best_first};
 use crate::telling::LinePlays;
 use gen_cross::Cross;
-use gen_line::{Cell, walk_line};
+use gen_line::{Cell, walk_anchor};
 use gen_sinks::{NoMemory, Sink};
 use lex_file::PathLex;
 use ref_board::{Board, Dir, SIDE};
 use ref_tiles::{Counts, KINDS, Rules};
 
-/// Gives a sink the plays of one line.
-fn on_line<L: PathLex, S: Sink>(
-    rules: &Rules,
-    spot: &Spot,
-    cross: &Cross,
-    lines: &[[Cell; SIDE]; SIDE],
-    rack: &[u8; KINDS],
-    points: u64,
-    lex: &L,
-    sink: &mut S,
-) -> Result<(), NoMemory>
-    requires line { spot.now.line < 15 }
-    requires sink { IsFor (S.made_for sink.old) spot.now.board }
-    requires can { Every (IsFit spot.now) (line_moves (L.language lex.now) (slice_index_or lines.now spot.now.line []) rack.now) }
-    requires points { points ≤ 2000000 }
-    requires scores { HasScores rules.now spot.now.board cross.now }
-    requires offers { AreOffers rules.now points spot.now.board (L.language lex.now) (slice_index_or lines.now spot.now.line []) rack.now spot.now.dir spot.now.line }
-    ensures made_for { S.made_for sink.new ≡ S.made_for sink.old }
-    ensures took { Took (S.add (S.made_for sink.old)) (S.items sink.old)
-        (given_on rules.now spot.now.board (L.language lex.now) (same_cells lines.now) rack.now spot.now.dir spot.now.line) (S.items sink.new) result }
-    ensures steady { S.grows ≡ false → IsOk result }
+/// The greatest number that is looked for among scores.
+const MOST: u64 = i32::MAX as u64;
+
+/// The cells of a line.
+fn cells_of<'a>(
+    across: &'a [[Cell; SIDE]; SIDE],
+    down: &'a [[Cell; SIDE]; SIDE],
+    dir: Dir,
+    line: usize,
+) -> &'a [Cell; SIDE]
+    requires { line < 15 }
+    ensures { result.now ≡ both_cells across.now down.now dir line }
 {
-    let cells = &lines[spot.line];
-    let places = line_places(rules, &spot.board, cross, spot.dir, spot.line);
-    let bounds = anchor_bounds(cells, &places, points, rules.bonus as u64);
-    let plays = LinePlays {
-        rules,
-        spot,
-        bounds: &bounds,
-    };
-    walk_line(lex, cells, rack, &plays, sink)
+    match dir {
+        Dir::Across => &across[line],
+        Dir::Down => &down[line],
+    }
 }
 
-/// Gives a sink the plays along one direction.
-fn along<L: PathLex, S: Sink>(
+/// Whether no play that scores so much at the most would change what a sink has.
+fn passes<S: Sink>(sink: &S, bound: u64) -> bool
+    ensures { IsTrue result → (given : Given) → given.score ≤ℤ pos bound → S.add (S.made_for sink.now) (S.items sink.now) given ≡ S.items sink.now }
+{
+    if bound > MOST {
+        return false;
+    }
+    sink.skips(bound as i32)
+}
+
+/// Gives a sink the plays of one start. They are not looked for where none of them would change what it has.
+fn from_start<L: PathLex, S: Sink>(
     rules: &Rules,
     board: &Board,
-    dir: Dir,
-    cross: &Cross,
-    lines: &[[Cell; SIDE]; SIDE],
+    across: &[[Cell; SIDE]; SIDE],
+    down: &[[Cell; SIDE]; SIDE],
     rack: &[u8; KINDS],
-    points: u64,
     lex: &L,
+    start: &Start,
     sink: &mut S,
 ) -> Result<(), NoMemory>
     requires sink { IsFor (S.made_for sink.old) board.now }
-    requires can { (line : ℕ) → line < 15
-        → Every (IsFit (spot_of board.now dir line)) (line_moves (L.language lex.now) (slice_index_or lines.now line []) rack.now) }
-    requires points { points ≤ 2000000 }
-    requires scores { HasScores rules.now board.now cross.now }
-    requires offers { (line : ℕ) → line < 15 → AreOffers rules.now points board.now (L.language lex.now) (slice_index_or lines.now line []) rack.now dir line }
+    requires good { IsGood rules.now board.now (L.language lex.now) (both_cells across.now down.now) rack.now start.now }
     ensures made_for { S.made_for sink.new ≡ S.made_for sink.old }
     ensures took { Took (S.add (S.made_for sink.old)) (S.items sink.old)
-        (given_along rules.now board.now (L.language lex.now) (same_cells lines.now) rack.now dir) (S.items sink.new) result }
+        (given_from rules.now board.now (L.language lex.now) (both_cells across.now down.now) rack.now start.now) (S.items sink.new) result }
     ensures steady { S.grows ≡ false → IsOk result }
 {
-    for line in 0..SIDE {
-        let spot = Spot {
-            board: *board,
-            dir,
-            line,
-        };
-        on_line(rules, &spot, cross, lines, rack, points, lex, sink)?;
+    let Start {
+        dir,
+        line,
+        place,
+        bound,
+    } = *start;
+    if passes(sink, bound) {
+        return Ok(());
+    }
+    let cells = cells_of(across, down, dir, line);
+    let spot = Spot {
+        board: *board,
+        dir,
+        line,
+    };
+    let plays = LinePlays { rules, spot: &spot };
+    walk_anchor(lex, cells, place, rack, &plays, sink)
+}
+
+/// Gives a sink the plays of all starts, one after another.
+fn from_starts<L: PathLex, S: Sink>(
+    rules: &Rules,
+    board: &Board,
+    across: &[[Cell; SIDE]; SIDE],
+    down: &[[Cell; SIDE]; SIDE],
+    rack: &[u8; KINDS],
+    lex: &L,
+    starts: &[Start; STARTS],
+    sink: &mut S,
+) -> Result<(), NoMemory>
+    requires sink { IsFor (S.made_for sink.old) board.now }
+    requires good { All (IsGood rules.now board.now (L.language lex.now) (both_cells across.now down.now) rack.now) starts.now }
+    ensures made_for { S.made_for sink.new ≡ S.made_for sink.old }
+    ensures took { Took (S.add (S.made_for sink.old)) (S.items sink.old)
+        (flat_map (given_from rules.now board.now (L.language lex.now) (both_cells across.now down.now) rack.now) starts.now) (S.items sink.new) result }
+    ensures steady { S.grows ≡ false → IsOk result }
+{
+    for number in 0..STARTS {
+        from_start(rules, board, across, down, rack, lex, &starts[number], sink)?;
     }
     Ok(())
 }
@@ -123,26 +145,9 @@ pub fn generate<L: PathLex, S: Sink>(
     let down = all_cells(board, cross, Dir::Down);
     let numbers = rack.numbers();
     let points = points_of_rack(rules, &numbers);
-    along(
-        rules,
-        board,
-        Dir::Across,
-        cross,
-        &across,
-        &numbers,
-        points,
-        lex,
-        sink,
-    )?;
-    along(
-        rules,
-        board,
-        Dir::Down,
-        cross,
-        &down,
-        &numbers,
-        points,
-        lex,
-        sink,
-    )
+    let starts = best_first(all_starts(
+        &all_bounds(rules, board, cross, Dir::Across, &across, points),
+        &all_bounds(rules, board, cross, Dir::Down, &down, points),
+    ));
+    from_starts(rules, board, &across, &down, &numbers, lex, &starts, sink)
 }

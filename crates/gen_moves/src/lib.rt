@@ -8,6 +8,7 @@ mod laws;
 mod lines;
 mod places;
 mod spots;
+mod starts;
 mod stretches;
 mod telling;
 

@@ -6,25 +6,19 @@ use ref_board::SIDE;
 use ref_play::score;
 use ref_tiles::Rules;
 
-/// The greatest number that is looked for among scores.
-const MOST: u64 = i32::MAX as u64;
-
 /// What makes plays of the moves of a line, each with its score, and gives them to a sink.
 #[derive(Drop)]
 pub struct LinePlays<'a> {
     pub rules: &'a Rules,
     pub spot: &'a Spot,
-    /// For each place of the line a number that no play passes of which it is the first anchor covered.
-    pub bounds: &'a [u64; SIDE],
 }
 
 impl<S: Sink> Taker<S> for LinePlays<'_> {
-    ghost use Rattle.std.specs.Prelude.{List, Option, slice_index};
+    ghost use Rattle.std.specs.Prelude.{List, Option};
     ghost use Rattle.ref_tiles.specs.declared.tiles.Tile.{Tile};
     ghost use Rattle.ref_play.specs.Best.{Given};
     ghost use Rattle.gen_sinks.specs.Sinks.{IsFor};
     ghost use Rattle.gen_moves.specs.Telling.{IsFit, tell};
-    ghost use Rattle.gen_moves.specs.Bounds.{TellsUnder};
 
     ghost Items = { List Given };
 
@@ -38,17 +32,7 @@ impl<S: Sink> Taker<S> for LinePlays<'_> {
 
     ghost tell = { λ plays board items entries. tell plays.rules.now plays.spot.now (S.add board) items entries };
 
-    ghost offers = { λ plays anchor entries. TellsUnder plays.rules.now plays.spot.now.board plays.spot.now.dir plays.spot.now.line entries (slice_index plays.bounds.now anchor) };
-
     ghost grows = { S.grows };
-
-    fn passes(&self, anchor: usize, sink: &S) -> bool {
-        let bound = self.bounds[anchor];
-        if bound > MOST {
-            return false;
-        }
-        sink.skips(bound as i32)
-    }
 
     fn take(&self, fresh: &[u8; SIDE], sink: &mut S) -> Result<(), NoMemory> {
         let Some(play) = self.spot.play_of(fresh) else {

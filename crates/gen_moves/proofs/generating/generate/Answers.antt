@@ -1,85 +1,61 @@
-use Rattle.std.proofs.Common.{subst, sym}
+use Rattle.std.proofs.Common.{◌≡◌, ◌<◌, length, subst, sym, ℕ, List, arith}
+use Rattle.std.specs.List.{flat_map}
+use Rattle.std.proofs.lemmas.List.Sorted.{All-permutation}
+use Rattle.ref_board.specs.declared.directions.Dir.{Dir}
 use Rattle.ref_board.specs.declared.directions.Dir.TheVariants.{Across, Down}
-use Rattle.gen_line.proofs.Sinks.{took-refused, took-for}
-use Rattle.ref_play.specs.Best.{AreAll}
-use Rattle.gen_moves.specs.Findings.{given_by, given_along}
-use Rattle.gen_moves.specs.Telling.{same_cells, both_cells}
+use Rattle.ref_play.specs.Best.{Given, AreAll}
+use Rattle.gen_moves.specs.declared.starts.Start.{Start}
+use Rattle.gen_moves.specs.Telling.{both_cells}
 use Rattle.gen_moves.specs.Bounds.{AreOffers}
+use Rattle.gen_moves.specs.Starts.{IsGood, given_from}
 use Rattle.gen_moves.proofs.Offering.{all_offers, right_scores}
 use Rattle.gen_moves.proofs.Gathering.{given_all}
 use Rattle.gen_moves.proofs.Settings.{lists, setting_of}
-use Rattle.gen_moves.proofs.Fitting.{moves_fit, took_both, front_first}
+use Rattle.gen_moves.proofs.Reordering.{all_reordered}
+use Rattle.gen_moves.proofs.Starting.{all_good, starts_give}
 use Rattle.gen_moves.proofs.generating.generate.Goals as goal
 
-pub along-requires-clause-can : goal.along-requires-clause-can
-along-requires-clause-can g c =
-    let g' = g.L.PathLex.language c.args.lex.now in
-    let a = c.all_cells-across.result in
-    let b = c.all_cells-down.result in
-    let s = setting_of c.args.rules.now g.words c.args.board.now c.args.cross.now g' a b c.len-size.ensures.size c.requires.1.1.1.1.0 c.requires.1.1.1.1.1.0 c.requires.1.1.1.1.1.1.0 (c.all_cells-across.ensures g.words) (c.all_cells-down.ensures g.words) in
-    λ line low. moves_fit g.words c.args.board.now g' (lists g.words) (both_cells a b) s c.numbers-numbers.result Across line low
+pub all_bounds-requires-clause-scores : goal.all_bounds-requires-clause-scores
+all_bounds-requires-clause-scores g c = right_scores c.args.rules.now g.words c.args.board.now c.args.cross.now c.len-size.ensures.size c.requires.1.1.1.1.1.1.0
 
-pub along-requires-2-clause-can : goal.along-requires-2-clause-can
-along-requires-2-clause-can g c =
-    let g' = g.L.PathLex.language c.args.lex.now in
-    let a = c.all_cells-across.result in
-    let b = c.all_cells-down.result in
-    let s = setting_of c.args.rules.now g.words c.args.board.now c.args.cross.now g' a b c.len-size.ensures.size c.requires.1.1.1.1.0 c.requires.1.1.1.1.1.0 c.requires.1.1.1.1.1.1.0 (c.all_cells-across.ensures g.words) (c.all_cells-down.ensures g.words) in
-    λ line low. moves_fit g.words c.args.board.now g' (lists g.words) (both_cells a b) s c.numbers-numbers.result Down line low
+pub all_bounds-requires-2-clause-scores : goal.all_bounds-requires-2-clause-scores
+all_bounds-requires-2-clause-scores g c = right_scores c.args.rules.now g.words c.args.board.now c.args.cross.now c.len-size.ensures.size c.requires.1.1.1.1.1.1.0
 
-pub returns-in_err-along-clause-all : goal.returns-in_err-along-clause-all
-returns-in_err-along-clause-all g c =
-    let g' = g.L.PathLex.language c.args.lex.now in
+pub from_starts-requires-clause-good : goal.from_starts-requires-clause-good
+from_starts-requires-clause-good g c =
+    let path = g.L.PathLex.language c.args.lex.now in
+    let rules = c.args.rules.now in
     let board = c.args.board.now in
     let a = c.all_cells-across.result in
     let b = c.all_cells-down.result in
     let rack = c.numbers-numbers.result in
-    let s = setting_of c.args.rules.now g.words board c.args.cross.now g' a b c.len-size.ensures.size c.requires.1.1.1.1.0 c.requires.1.1.1.1.1.0 c.requires.1.1.1.1.1.1.0 (c.all_cells-across.ensures g.words) (c.all_cells-down.ensures g.words) in (
-      given_by c.args.rules.now board g' (both_cells a b) rack,
-      subst (λ r. AreAll c.args.rules.now g.words board r (given_by c.args.rules.now board g' (both_cells a b) rack)) c.numbers-numbers.ensures.numbers
-          (given_all c.args.rules.now g.words board g' (lists g.words) (both_cells a b) s rack),
-      took-refused _ _ _ _ _ _ c.from_residual.ensures.1
-          (front_first c.args.rules.now board g' a b rack (g.S.Sink.add (g.S.Sink.made_for c.args.sink.now)) (g.S.Sink.items c.args.sink.now) (g.S.Sink.items c.along.new.sink) c.in_err-along.ensures.took),
-    )
+    let s = setting_of rules g.words board c.args.cross.now path a b c.len-size.ensures.size c.requires.1.1.1.1.0 c.requires.1.1.1.1.1.0 c.requires.1.1.1.1.1.1.0 (c.all_cells-across.ensures g.words) (c.all_cells-down.ensures g.words) in
+    let offers : (d : Dir) (line : ℕ) → line < 15 → AreOffers rules c.points_of_rack-points.result board path (both_cells a b d line) rack d line =
+    λ d line low.
+    subst (λ n. AreOffers rules n board path (both_cells a b d line) rack d line) (sym c.points_of_rack-points.ensures.points)
+    (all_offers rules g.words board path (lists g.words) (both_cells a b) s rack d line low) in
+    let size : length c.all_starts.result ≡ 450 = omega arith in
+    All-permutation (IsGood rules board path (both_cells a b) rack) c.all_starts.result c.best_first-starts.result c.best_first-starts.ensures
+    (all_good rules g.words board path (lists g.words) (both_cells a b) s rack c.all_bounds.result c.all_bounds-2.result c.all_starts.result size c.all_starts.ensures
+    (λ line low h below. c.all_bounds.ensures line low path rack (offers Across line low) h below)
+    (λ line low h below. c.all_bounds-2.ensures line low path rack (offers Down line low) h below))
 
 pub returns-clause-all : goal.returns-clause-all
 returns-clause-all g c =
-    let g' = g.L.PathLex.language c.args.lex.now in
+    let path = g.L.PathLex.language c.args.lex.now in
+    let rules = c.args.rules.now in
     let board = c.args.board.now in
     let a = c.all_cells-across.result in
     let b = c.all_cells-down.result in
     let rack = c.numbers-numbers.result in
-    let s = setting_of c.args.rules.now g.words board c.args.cross.now g' a b c.len-size.ensures.size c.requires.1.1.1.1.0 c.requires.1.1.1.1.1.0 c.requires.1.1.1.1.1.1.0 (c.all_cells-across.ensures g.words) (c.all_cells-down.ensures g.words) in (
-      given_by c.args.rules.now board g' (both_cells a b) rack,
-      subst (λ r. AreAll c.args.rules.now g.words board r (given_by c.args.rules.now board g' (both_cells a b) rack)) c.numbers-numbers.ensures.numbers
-          (given_all c.args.rules.now g.words board g' (lists g.words) (both_cells a b) s rack),
-      took_both c.args.rules.now board g' a b rack (g.S.Sink.add (g.S.Sink.made_for c.args.sink.now)) (g.S.Sink.items c.args.sink.now) (g.S.Sink.items c.along.new.sink) (g.S.Sink.items c.along-2.new.sink) c.along-2.result
-          c.in_ok-along.ensures.took
-          (took-for g.S.Sink.add _ _ _ (given_along c.args.rules.now board g' (same_cells b) rack Down) _ _ c.in_ok-along.ensures.made_for c.along-2.ensures.took),
+    let s = setting_of rules g.words board c.args.cross.now path a b c.len-size.ensures.size c.requires.1.1.1.1.0 c.requires.1.1.1.1.1.0 c.requires.1.1.1.1.1.1.0 (c.all_cells-across.ensures g.words) (c.all_cells-down.ensures g.words) in
+    let given : Start → List Given = given_from rules board path (both_cells a b) rack in
+    let size : length c.all_starts.result ≡ 450 = omega arith in
+    let all : AreAll rules g.words board rack (flat_map given c.all_starts.result) =
+    subst (AreAll rules g.words board rack) (sym (starts_give rules g.words board path (lists g.words) (both_cells a b) s rack c.all_bounds.result c.all_bounds-2.result c.all_starts.result size c.all_starts.ensures))
+    (given_all rules g.words board path (lists g.words) (both_cells a b) s rack) in (
+      flat_map given c.best_first-starts.result,
+      subst (λ r. AreAll rules g.words board r (flat_map given c.best_first-starts.result)) c.numbers-numbers.ensures.numbers
+          (all_reordered given c.all_starts.result c.best_first-starts.result rules g.words board rack c.best_first-starts.ensures all),
+      c.from_starts.ensures.took,
     )
-
-pub along-requires-clause-scores : goal.along-requires-clause-scores
-along-requires-clause-scores g c = right_scores c.args.rules.now g.words c.args.board.now c.args.cross.now c.len-size.ensures.size c.requires.1.1.1.1.1.1.0
-
-pub along-requires-clause-offers : goal.along-requires-clause-offers
-along-requires-clause-offers g c =
-    let g' = g.L.PathLex.language c.args.lex.now in
-    let a = c.all_cells-across.result in
-    let b = c.all_cells-down.result in
-    let s = setting_of c.args.rules.now g.words c.args.board.now c.args.cross.now g' a b c.len-size.ensures.size c.requires.1.1.1.1.0 c.requires.1.1.1.1.1.0 c.requires.1.1.1.1.1.1.0 (c.all_cells-across.ensures g.words) (c.all_cells-down.ensures g.words) in
-    λ line low.
-    subst (λ n. AreOffers c.args.rules.now n c.args.board.now g' (both_cells a b Across line) c.numbers-numbers.result Across line) (sym c.points_of_rack-points.ensures.points)
-    (all_offers c.args.rules.now g.words c.args.board.now g' (lists g.words) (both_cells a b) s c.numbers-numbers.result Across line low)
-
-pub along-requires-2-clause-scores : goal.along-requires-2-clause-scores
-along-requires-2-clause-scores g c = right_scores c.args.rules.now g.words c.args.board.now c.args.cross.now c.len-size.ensures.size c.requires.1.1.1.1.1.1.0
-
-pub along-requires-2-clause-offers : goal.along-requires-2-clause-offers
-along-requires-2-clause-offers g c =
-    let g' = g.L.PathLex.language c.args.lex.now in
-    let a = c.all_cells-across.result in
-    let b = c.all_cells-down.result in
-    let s = setting_of c.args.rules.now g.words c.args.board.now c.args.cross.now g' a b c.len-size.ensures.size c.requires.1.1.1.1.0 c.requires.1.1.1.1.1.0 c.requires.1.1.1.1.1.1.0 (c.all_cells-across.ensures g.words) (c.all_cells-down.ensures g.words) in
-    λ line low.
-    subst (λ n. AreOffers c.args.rules.now n c.args.board.now g' (both_cells a b Down line) c.numbers-numbers.result Down line) (sym c.points_of_rack-points.ensures.points)
-    (all_offers c.args.rules.now g.words c.args.board.now g' (lists g.words) (both_cells a b) s c.numbers-numbers.result Down line low)

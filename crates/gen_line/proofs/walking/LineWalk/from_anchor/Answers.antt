@@ -1,4 +1,4 @@
-use Rattle.gen_line.proofs.Sinks.{every-same, took-same, nothing-took, all-still}
+use Rattle.gen_line.proofs.Sinks.{every-same, took-same, nothing-took}
 use Rattle.gen_line.proofs.Anchors.{anchor_old, anchor_not, start_same}
 use Rattle.gen_line.proofs.walking.LineWalk.from_anchor.Goals as goal
 
@@ -13,10 +13,7 @@ tries_left-requires-clause-can g c =
     let tail = g.L.PathLex.tail c.args.self.now.lex.now in
     every-same _ _ _ (start_same tail c.root.result _ _ _ _ _ _ c.root.ensures.tails c.in-Free.is c.if-not-free.false) c.requires.can
 
-pub returns-else-passes-clause-took : goal.returns-else-passes-clause-took
-returns-else-passes-clause-took g c =
+pub returns-else-not-free-clause-took : goal.returns-else-not-free-clause-took
+returns-else-not-free-clause-took g c =
     let tail = g.L.PathLex.tail c.args.self.now.lex.now in
     took-same _ _ _ _ _ _ (start_same tail c.root.result _ _ _ _ _ _ c.root.ensures.tails c.in-Free.is c.if-not-free.false) c.tries_left.ensures.took
-
-pub returns-then-passes-clause-took : goal.returns-then-passes-clause-took
-returns-then-passes-clause-took g c = all-still _ _ _ _ (c.passes.ensures c.if-passes.true) c.requires.offers

@@ -1,0 +1,50 @@
+-- The places of a board from which plays are looked for, and what each gives.
+use Rattle.std.specs.Prelude.{◌≡◌, ℕ, ◌/◌, ◌%◌, ◌<◌, nat_lt, Bool, List, [], length, slice_index, slice_index_or, Option, if◌then◌else◌}
+use Rattle.std.specs.List.{flat_map}
+use Rattle.ref_tiles.specs.declared.tiles.Tile.{Tile}
+use Rattle.ref_tiles.specs.declared.rulebook.Rules.{Rules}
+use Rattle.ref_board.specs.declared.directions.Dir.{Dir}
+use Rattle.ref_board.specs.declared.directions.Dir.TheVariants.{Across, Down}
+use Rattle.ref_play.specs.Best.{Given}
+use Rattle.gen_line.specs.declared.cells.Cell.{Cell}
+use Rattle.gen_line.specs.Walk.{Every, anchor_moves}
+use Rattle.gen_moves.specs.declared.starts.Start.{Start}
+use Rattle.gen_moves.specs.Findings.{told}
+use Rattle.gen_moves.specs.Telling.{IsFit, spot_of}
+use Rattle.gen_moves.specs.Bounds.{TellsUnder}
+
+-- the direction of a numbered place: those of the lines across come first
+abbrev pub dir_of : ℕ → Dir
+dir_of k = if nat_lt k 225 then Across else Down
+
+-- the bound of a place, by those of the lines of its direction
+abbrev pub bound_in : List (List ℕ) → ℕ → ℕ → ℕ
+bound_in bounds line place = slice_index (slice_index_or bounds line []) place
+
+-- the place of a number, with its bound
+pub record IsStartOf (across down : List (List ℕ)) (k : ℕ) (s : Start) : Type 0 where
+  pub dir : s.dir ≡ dir_of k
+  pub line : s.line ≡ k / 15 % 15
+  pub place : s.place ≡ k % 15
+  pub bound : s.bound ≡ bound_in (if nat_lt k 225 then across else down) (k / 15 % 15) (k % 15)
+
+abbrev pub AreStarts : List (List ℕ) → List (List ℕ) → List Start → Type 0
+AreStarts across down starts = (k : ℕ) (d : Start) → k < 450 → IsStartOf across down k (slice_index_or starts k d)
+
+-- what a place of a line gives: the plays of the moves of which it is the first anchor covered
+abbrev pub given_at : Rules → List (Option Tile) → (List ℕ → Bool) → (Dir → ℕ → List Cell) → List ℕ → Dir → ℕ → ℕ → List Given
+given_at rules board g cells rack d line h = flat_map (told rules board d line) (anchor_moves g (cells d line) rack h)
+
+abbrev pub given_from : Rules → List (Option Tile) → (List ℕ → Bool) → (Dir → ℕ → List Cell) → List ℕ → Start → List Given
+given_from rules board g cells rack s = given_at rules board g cells rack s.dir s.line s.place
+
+-- none of these plays passes a bound
+abbrev pub AreUnder : Rules → List (Option Tile) → (List ℕ → Bool) → List Cell → List ℕ → Dir → ℕ → ℕ → ℕ → Type 0
+AreUnder rules board g cells rack d line h bound = Every (λ y. TellsUnder rules board d line y bound) (anchor_moves g cells rack h)
+
+-- what is known of a start: its place is on the board, its moves are plays, and none of them passes its bound
+pub record IsGood (rules : Rules) (board : List (Option Tile)) (g : List ℕ → Bool) (cells : Dir → ℕ → List Cell) (rack : List ℕ) (s : Start) : Type 0 where
+  pub line : s.line < 15
+  pub place : s.place < 15
+  pub fits : Every (IsFit (spot_of board s.dir s.line)) (anchor_moves g (cells s.dir s.line) rack s.place)
+  pub under : AreUnder rules board g (cells s.dir s.line) rack s.dir s.line s.place s.bound

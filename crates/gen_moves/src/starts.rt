@@ -1,0 +1,70 @@
+//! The places of a board from which plays are looked for, those that can score most first.
+ghost use Rattle.std.specs.Prelude.{◌≡◌, ◌<◌, ℕ, length};
+ghost use Rattle.std.specs.List.Sorted.{IsPermutation};
+ghost use Rattle.gen_moves.specs.Starts.{IsStartOf, AreStarts};
+
+use ref_board::{Dir, SIDE};
+
+/// How many places the lines of both directions have.
+pub const STARTS: usize = 2 * SIDE * SIDE;
+
+/// A place of a line, from which the plays are looked for of which it is the first anchor covered.
+#[derive(Clone, Copy)]
+pub struct Start {
+    /// The direction of the line.
+    pub dir: Dir,
+    /// Its row across, its column down, from 0.
+    pub line: usize,
+    /// The place on the line, from 0.
+    pub place: usize,
+    /// A number that none of these plays passes.
+    pub bound: u64,
+}
+
+/// The place of a number: those of the lines across come first.
+fn start_of(across: &[[u64; SIDE]; SIDE], down: &[[u64; SIDE]; SIDE], number: usize) -> Start
+    requires { number < 450 }
+    ensures { IsStartOf across.now down.now number result }
+{
+    let line = number / SIDE % SIDE;
+    let place = number % SIDE;
+    if number < SIDE * SIDE {
+        return Start {
+            dir: Dir::Across,
+            line,
+            place,
+            bound: across[line][place],
+        };
+    }
+    Start {
+        dir: Dir::Down,
+        line,
+        place,
+        bound: down[line][place],
+    }
+}
+
+/// All places of both directions, by bounds for the plays of each.
+pub fn all_starts(across: &[[u64; SIDE]; SIDE], down: &[[u64; SIDE]; SIDE]) -> [Start; STARTS]
+    ensures { AreStarts across.now down.now result }
+{
+    let mut starts = [Start {
+        dir: Dir::Across,
+        line: 0,
+        place: 0,
+        bound: 0,
+    }; STARTS];
+    for number in 0..STARTS {
+        starts[number] = start_of(across, down, number);
+    }
+    starts
+}
+
+/// The same places, those first whose plays can score most.
+pub fn best_first(starts: [Start; STARTS]) -> [Start; STARTS]
+    ensures { IsPermutation starts result }
+{
+    let mut sorted = starts;
+    sorted.sort_unstable_by_key(|start| u64::MAX - start.bound);
+    sorted
+}
