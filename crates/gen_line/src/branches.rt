@@ -1,9 +1,33 @@
-//! The letters with which the strings of a lexicon go on, one after another.
-ghost use Rattle.std.specs.Prelude.{◌≡◌, ◌<◌, ◌≤◌, ◌+◌, ℕ, List, ◌∷◌, IfNone, IfSome};
+//! The mark and the letters with which the strings of a lexicon go on, one after another.
+ghost use Rattle.std.specs.Prelude.{◌≡◌, ◌<◌, ◌≤◌, ◌+◌, ℕ, List, ◌∷◌, false, IfNone, IfSome};
 ghost use Rattle.lex_file.specs.Lexicons.{NoTail};
 ghost use Rattle.lex_file.specs.Walking.{IsOpen, strings};
 
-use lex_file::{Onward, PathLex};
+use lex_file::{Onward, PathLex, Step};
+
+/// The label between the two parts of a rotated word: the lowest of all.
+const MARK: u8 = 0;
+
+/// What stands behind the mark, or None where no string goes on with it. It is the first label of a node that has it, so that
+/// no other one is looked at.
+#[inline(always)]
+pub fn behind_mark<L: PathLex>(lex: &L, at: Step<L::Node>) -> Option<Step<L::Node>>
+    requires { IsOpen (L.is_node lex.now) at.next }
+    ensures none { IfNone result ((t : List ℕ) → strings (L.tail lex.now) at (0 ∷ t) ≡ false) }
+    ensures some { IfSome result (λ s. (t : List ℕ) → strings (L.tail lex.now) at (0 ∷ t) ≡ strings (L.tail lex.now) s t) }
+    ensures open { IfSome result (λ s. IsOpen (L.is_node lex.now) s.next) }
+{
+    let Some(node) = at.next else {
+        return None;
+    };
+    let Some(on) = lex.branch_on(node, MARK, lex.rest(node)) else {
+        return None;
+    };
+    if on.branch.label == MARK {
+        return Some(on.branch.step);
+    }
+    None
+}
 
 /// The first label from `from` on with which some tail of a node begins, what stands behind it, and what is left of the node
 /// behind that label.

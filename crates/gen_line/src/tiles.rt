@@ -15,6 +15,7 @@ pub struct Tiles {
 }
 
 /// The letter that a new tile shows, 0 for A to 25 for Z.
+#[inline(always)]
 fn letter(entry: u8) -> u8
     requires { 0 < entry }
     ensures { result ≡ letter_of entry }
@@ -23,6 +24,7 @@ fn letter(entry: u8) -> u8
 }
 
 /// The kind of a new tile.
+#[inline(always)]
 fn kind(entry: u8) -> u8
     requires { 0 < entry }
     ensures { result ≡ kind_of entry }
@@ -36,6 +38,7 @@ fn kind(entry: u8) -> u8
 
 impl Tiles {
     /// Whether a square and the rack allow a new tile.
+    #[inline(always)]
     pub fn allow(&self, free: &Open, entry: u8) -> bool
         requires low { 0 < entry }
         requires high { entry < 53 }
@@ -45,6 +48,7 @@ impl Tiles {
     }
 
     /// The tiles once a new one was put on a place.
+    #[inline(always)]
     pub fn with(&self, place: usize, entry: u8) -> Tiles
         requires place { place < 15 }
         requires low { 0 < entry }

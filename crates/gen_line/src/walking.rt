@@ -4,15 +4,12 @@ ghost use Rattle.gen_line.specs.Model.{starts_free};
 ghost use Rattle.lex_file.specs.Walking.{IsOpen, strings};
 ghost use Rattle.gen_line.specs.Walk.{Took, Every, gives_leaf, gives_right, gives_tries_right, gives_letter_right, gives_try_right, gives_turn, gives_left, gives_tries_left, gives_letter_left, gives_try_left, gives_anchor, anchor_moves};
 
-use crate::branches::next_letter;
+use crate::branches::{behind_mark, next_letter};
 use crate::cells::{Cell, Open};
 use crate::takers::Taker;
 use crate::tiles::Tiles;
 use lex_file::{Branch, PathLex, Step, advance};
 use std::alloc::AllocError as NoMemory;
-
-/// The label between the two parts of a rotated word.
-const MARK: u8 = 0;
 
 /// A walk over a line from one of its anchors: to the left, and then, behind the mark, to the right.
 #[derive(Drop)]
@@ -36,6 +33,7 @@ fn ends_at(line: &[Cell; 15], place: usize, accepts: bool) -> bool
 
 impl<L: PathLex, T> LineWalk<'_, L, T> {
     /// Gives the sink the tiles that lie on the line, where they are a move.
+    #[inline(always)]
     fn offer<S>(&self, is_move: bool, tiles: &Tiles, sink: &mut S) -> Result<(), NoMemory>
     where
         T: Taker<S>,
@@ -85,6 +83,7 @@ impl<L: PathLex, T> LineWalk<'_, L, T> {
 
     /// Gives the moves with a new tile here.
     #[cycle(right)]
+    #[inline(always)]
     fn tries_right<S>(
         &self,
         at: Step<L::Node>,
@@ -119,6 +118,7 @@ impl<L: PathLex, T> LineWalk<'_, L, T> {
     /// Gives the moves with a tile here that shows the letter of a label, where the lexicon goes on so: a tile of the letter
     /// and then a blank.
     #[cycle(right)]
+    #[inline(always)]
     fn letter_right<S>(
         &self,
         next: Step<L::Node>,
@@ -145,6 +145,7 @@ impl<L: PathLex, T> LineWalk<'_, L, T> {
 
     /// Gives the moves with this new tile here, behind which the lexicon goes on so, where the square and the rack allow it.
     #[cycle(right)]
+    #[inline(always)]
     fn one_right<S>(
         &self,
         next: Step<L::Node>,
@@ -173,6 +174,7 @@ impl<L: PathLex, T> LineWalk<'_, L, T> {
 
     /// Gives the moves that begin at the left end of what was walked: those that end at the anchor, and those that go on
     /// behind the mark.
+    #[inline(always)]
     fn turn<S>(&self, at: Step<L::Node>, tiles: &Tiles, sink: &mut S) -> Result<(), NoMemory>
     where
         T: Taker<S>,
@@ -184,7 +186,7 @@ impl<L: PathLex, T> LineWalk<'_, L, T> {
         ensures steady { T.grows ≡ false → IsOk result }
     {
         self.offer(ends_at(self.line, self.anchor + 1, at.accepts), tiles, sink)?;
-        match advance(self.lex, at, MARK) {
+        match behind_mark(self.lex, at) {
             Some(behind) => {
                 let onward = Step {
                     accepts: false,
@@ -235,6 +237,7 @@ impl<L: PathLex, T> LineWalk<'_, L, T> {
 
     /// Gives the moves with a new tile here.
     #[cycle(left)]
+    #[inline(always)]
     fn tries_left<S>(
         &self,
         at: Step<L::Node>,
@@ -270,6 +273,7 @@ impl<L: PathLex, T> LineWalk<'_, L, T> {
     /// Gives the moves with a tile here that shows the letter of a label, where the lexicon goes on so: a tile of the letter
     /// and then a blank.
     #[cycle(left)]
+    #[inline(always)]
     fn letter_left<S>(
         &self,
         next: Step<L::Node>,
@@ -297,6 +301,7 @@ impl<L: PathLex, T> LineWalk<'_, L, T> {
 
     /// Gives the moves with this new tile here, behind which the lexicon goes on so, where the square and the rack allow it.
     #[cycle(left)]
+    #[inline(always)]
     fn one_left<S>(
         &self,
         next: Step<L::Node>,
