@@ -1,5 +1,5 @@
 -- No play of a stretch scores more than its bound.
-use Rattle.std.proofs.Common.{◌≡◌, ◌≢◌, ℕ, zero, suc, ◌+◌, ◌*◌, ◌<◌, ◌≤◌, ◌==◌, Bool, true, false, nat_le, List, [], ◌∷◌, map, length, get_or, sum_by, Option, Some, None, is_some, refl, sym, ap, ◌∙◌, subst, arith, ⊎_elim, if◌then◌else◌}
+use Rattle.std.proofs.Common.{◌≡◌, ◌≢◌, ℕ, zero, suc, ◌+◌, ◌-◌, ◌*◌, ◌<◌, ◌≤◌, ◌==◌, Bool, true, false, nat_le, List, [], ◌∷◌, map, length, get_or, sum_by, Option, Some, None, is_some, refl, sym, ap, ◌∙◌, subst, arith, ⊎_elim, if◌then◌else◌}
 use Rattle.std.specs.Prelude.{Contains, IsSome}
 use Rattle.std.specs.List.{range_with_len}
 use Rattle.std.proofs.lemmas.List.Sums.{sum_by-cons}
@@ -33,7 +33,7 @@ use Rattle.gen_moves.proofs.Entering.{put_from, put_there, on_top}
 use Rattle.gen_moves.proofs.MovePlaces.{at_place, put_by, put_at, there_then, move_sound}
 use Rattle.gen_moves.proofs.Moving.{move_candidate}
 use Rattle.gen_moves.proofs.Sums as sums
-use Rattle.gen_moves.proofs.Sums.{total-first, total-mono, total-scaled, sum_put, count_put, product_put, put_within}
+use Rattle.gen_moves.proofs.Sums.{total-first, total-mono, total-scaled, total-both, sum_put, count_put, product_put, put_within}
 use Rattle.gen_moves.proofs.Worths.{worth, worth_within}
 
 -- a sum over a range, at another place
@@ -56,6 +56,11 @@ range_sum g h b a (suc n) le =
     let split = sum_by-cons g b (range_with_len (b + 1) n) in
     let all = total-first h a n in
     omega arith
+
+-- a point on each place, and what is above it
+one_above : (c p : ℕ) → c * p ≤ c + c * (p - 1)
+one_above zero p = omega arith
+one_above (suc c) p = let rest = one_above c p in omega arith
 
 some_is : {A : Type 0} (o : Option A) → IsSome o → o ≡ None → ⊥
 some_is None h e = false≢true h
@@ -117,7 +122,7 @@ module _ (rules : Rules) (words : List (List ℕ)) (d : Dir) (board : List (Opti
 
   -- what the square of a place adds to the word of the stretch
   point_le : (i letter : ℕ) → i < 15 → ((places i).free ≡ true → (places i).letter ≤ letter) → (o : Option Tile) → entry i ≡ o
-      → square_points rules (with_tiles board (put_by d line y)) (put_by d line y) (square_at d line i) ≤ (places i).old + letter * sums.at_place (worth rules) d line i o
+      → square_points rules (with_tiles board (put_by d line y)) (put_by d line y) (square_at d line i) ≤ ((places i).old + (places i).letter) + letter * sums.at_place (worth rules) d line i o
   point_le i letter below most None e =
       let square = square_at d line i in
       let there : tile_at (with_tiles board (put_by d line y)) square ≡ tile_at board square = there_then d board line y i size low below ∙ ap (λ (o : Option Tile). on_top o (tile_at board square)) e in
@@ -140,28 +145,31 @@ module _ (rules : Rules) (words : List (List ℕ)) (d : Dir) (board : List (Opti
       let laid : Contains (put_by d line y) q = put_there d line entry 0 15 i t (omega arith) (omega arith) e in
       let cover : covers (put_by d line y) square ≡ true = covered (put_by d line y) square q laid refl in
       let free = new_free i below t e in
-      let le : letter_factor (premium_at rules square) ≤ letter = let a = (known i below).letter free in let b = most free in omega arith in
+      let own = (known i below).letter free in
+      let le : letter_factor (premium_at rules square) ≤ letter = let b = most free in omega arith in
       let points = points_of rules t.kind in
       let is : square_points rules (with_tiles board (put_by d line y)) (put_by d line y) square ≡ points * letter_factor (premium_at rules square) =
       ap (λ (o : Option Tile). points_on rules o * factor_on rules (put_by d line y) square) there
       ∙ ap (λ (b : Bool). points * (if b then letter_factor (premium_at rules square) else 1)) cover in
       let swap = mul_comm points (letter_factor (premium_at rules square)) in
-      let more : letter_factor (premium_at rules square) * points ≤ letter * points = mul-le-mul le (omega arith) in
+      let one = one_above (letter_factor (premium_at rules square)) points in
+      let more : letter_factor (premium_at rules square) * (points - 1) ≤ letter * (points - 1) = mul-le-mul le (omega arith) in
       omega arith
 
   letters_le : (letter : ℕ) → ((i : ℕ) → first ≤ i → i < first + len → (places i).free ≡ true → (places i).letter ≤ letter)
-      → letters_score rules (with_tiles board (put_by d line y)) (put_by d line y) (run_of d line (first, len)) ≤ total (λ i. (places i).old) first len + letter * total weight first len
+      → letters_score rules (with_tiles board (put_by d line y)) (put_by d line y) (run_of d line (first, len)) ≤ total (λ i. (places i).old) first len + total (λ i. (places i).letter) first len + letter * total weight first len
   unfolding letters_score
   letters_le letter most =
       let inside = move.whole.inside in
       let each =
-      range_sum (λ k. square_points rules (with_tiles board (put_by d line y)) (put_by d line y) (along d (square_at d line first) k)) (λ i. (places i).old + letter * weight i) 0 first len
+      range_sum (λ k. square_points rules (with_tiles board (put_by d line y)) (put_by d line y) (along d (square_at d line first) k)) (λ i. ((places i).old + (places i).letter) + letter * weight i) 0 first len
       (λ k less.
       let zero_k : 0 + k ≡ k = omega arith in
       let at : along d (square_at d line first) (0 + k) ≡ square_at d line (first + k) = ap (along d (square_at d line first)) zero_k ∙ along_at d line first k in
       let le = point_le (first + k) letter (omega arith) (most (first + k) (omega arith) (omega arith)) (entry (first + k)) refl in
-      subst (λ s. square_points rules (with_tiles board (put_by d line y)) (put_by d line y) s ≤ (places (first + k)).old + letter * weight (first + k)) (sym at) le) in
-      let split = total-scaled (λ i. (places i).old) weight letter first len in
+      subst (λ s. square_points rules (with_tiles board (put_by d line y)) (put_by d line y) s ≤ ((places (first + k)).old + (places (first + k)).letter) + letter * weight (first + k)) (sym at) le) in
+      let split = total-scaled (λ i. (places i).old + (places i).letter) weight letter first len in
+      let both = total-both (λ i. (places i).old) (λ i. (places i).letter) first len in
       omega arith
 
   factor_le : (run : Run) → words_factor rules (put_by d line y) run ≤ times (λ i. (places i).word) first len
@@ -178,24 +186,26 @@ module _ (rules : Rules) (words : List (List ℕ)) (d : Dir) (board : List (Opti
       by i false one le = one
 
   crosses_le : (cross : ℕ) → ((i : ℕ) → first ≤ i → i < first + len → (places i).free ≡ true → (places i).cross ≤ cross)
-      → sum_by (λ (p : Placed). cross_score rules (other_dir d) board p.square p.tile) (put_by d line y) ≤ total (λ i. (places i).side) first len + cross * total weight first len
+      → sum_by (λ (p : Placed). cross_score rules (other_dir d) board p.square p.tile) (put_by d line y) ≤ total (λ i. (places i).side) first len + total (λ i. (places i).cross) first len + cross * total weight first len
   crosses_le cross most =
       let inside = move.whole.inside in
       let score : Placed → ℕ = λ p. cross_score rules (other_dir d) board p.square p.tile in
       let is = ap (sum_by score) tiles_are ∙ sum_put score d line entry first len in
       let each =
-      total-mono (λ i. sums.at_place score d line i (entry i)) (λ i. (places i).side + cross * weight i) first len
+      total-mono (λ i. sums.at_place score d line i (entry i)) (λ i. ((places i).side + (places i).cross) + cross * weight i) first len
       (λ i from upto. by i (omega arith) (most i from upto) (entry i) refl) in
-      let split = total-scaled (λ i. (places i).side) weight cross first len in
+      let split = total-scaled (λ i. (places i).side + (places i).cross) weight cross first len in
+      let both = total-both (λ i. (places i).side) (λ i. (places i).cross) first len in
       omega arith
     where
       by : (i : ℕ) → i < 15 → ((places i).free ≡ true → (places i).cross ≤ cross) → (o : Option Tile) → entry i ≡ o
-          → sums.at_place (λ (p : Placed). cross_score rules (other_dir d) board p.square p.tile) d line i o ≤ (places i).side + cross * sums.at_place (worth rules) d line i o
+          → sums.at_place (λ (p : Placed). cross_score rules (other_dir d) board p.square p.tile) d line i o ≤ ((places i).side + (places i).cross) + cross * sums.at_place (worth rules) d line i o
       by i below top None e = omega arith
       by i below top (Some t) e =
           let free = new_free i below t e in
           let le = (known i below).cross free t in
-          let more : (places i).cross * points_of rules t.kind ≤ cross * points_of rules t.kind = mul-le-mul (top free) (omega arith) in
+          let one = one_above (places i).cross (points_of rules t.kind) in
+          let more : (places i).cross * (points_of rules t.kind - 1) ≤ cross * (points_of rules t.kind - 1) = mul-le-mul (top free) (omega arith) in
           omega arith
 
   -- the bound
@@ -219,7 +229,7 @@ module _ (rules : Rules) (words : List (List ℕ)) (d : Dir) (board : List (Opti
       omega arith in
       let letters_here = letters_le letter letters in
       let letters_more : letter * total weight first len ≤ letter * points = mul-le-mul (omega arith) weights in
-      let line_le : letters_score rules (with_tiles board ps) ps run ≤ total (λ i. (places i).old) first len + letter * points = omega arith in
+      let line_le : letters_score rules (with_tiles board ps) ps run ≤ total (λ i. (places i).old) first len + total (λ i. (places i).letter) first len + letter * points = omega arith in
       let run_le = mul-le-mul line_le (factor_le run) in
       let cross_here = crosses_le cross crosses in
       let cross_more : cross * total weight first len ≤ cross * points = mul-le-mul (omega arith) weights in

@@ -32,14 +32,17 @@ times-up f a m (suc n) le some =
 -- one place more
 pub sum_more : (places : ℕ → Place) (first n at : ℕ) (s more : Sum) → at ≡ first + n → IsSum places first n s
     → more.old ≡ s.old + (places at).old → more.word ≡ s.word * (places at).word → more.side ≡ s.side + (places at).side → more.free ≡ s.free + one_if (places at).free
+    → more.letters ≡ s.letters + (places at).letter → more.crosses ≡ s.crosses + (places at).cross
     → s.letter ≤ more.letter → (places at).letter ≤ more.letter → s.cross ≤ more.cross → (places at).cross ≤ more.cross → IsSum places first (suc n) more
 unfolding total times
-sum_more places first n at s more is sum old word side free letter_before letter cross_before cross =
+sum_more places first n at s more is sum old word side free letters crosses letter_before letter cross_before cross =
     record {
       old = old ∙ ap (λ m. m + (places at).old) sum.old ∙ ap (λ k. total (λ i. (places i).old) first n + (places k).old) is;
       word = word ∙ ap (λ m. m * (places at).word) sum.word ∙ ap (λ k. times (λ i. (places i).word) first n * (places k).word) is;
       side = side ∙ ap (λ m. m + (places at).side) sum.side ∙ ap (λ k. total (λ i. (places i).side) first n + (places k).side) is;
       free = free ∙ ap (λ m. m + one_if (places at).free) sum.free ∙ ap (λ k. free_count places first n + one_if (places k).free) is;
+      letters = letters ∙ ap (λ m. m + (places at).letter) sum.letters ∙ ap (λ k. total (λ i. (places i).letter) first n + (places k).letter) is;
+      crosses = crosses ∙ ap (λ m. m + (places at).cross) sum.crosses ∙ ap (λ k. total (λ i. (places i).cross) first n + (places k).cross) is;
       letter = λ i low high open'.
           ⊎_elim
           (λ (here : i ≡ at). let e = ap (λ k. (places k).letter) here in omega arith)
@@ -54,19 +57,23 @@ sum_more places first n at s more is sum old word side free letter_before letter
 
 -- the bound of a sum bounds each shorter stretch
 pub sum_bound : (bonus points : ℕ) (places : ℕ → Place) (first n : ℕ) (s : Sum) (bound : ℕ) → first + n ≤ 15 → IsSum places first n s → ((i : ℕ) → i < 15 → IsSmall (places i))
-    → bound ≡ (s.old + s.letter * points) * s.word + (s.side + s.cross * points) + (if nat_le 7 s.free then bonus else 0)
+    → bound ≡ (s.old + s.letters + s.letter * points) * s.word + (s.side + s.crosses + s.cross * points) + (if nat_le 7 s.free then bonus else 0)
     → ((len : ℕ) → first + len ≤ 15 → free_count places first len ≤ 7 → len ≤ n) → IsBoundFrom bonus points places first bound
 sum_bound bonus points places first n s bound inside sum small is reach len in' few =
     let le = reach len in' few in
     let old = total-up (λ i. (places i).old) first len n le in
     let side = total-up (λ i. (places i).side) first len n le in
     let free = total-up (λ i. one_if (places i).free) first len n le in
+    let letters = total-up (λ i. (places i).letter) first len n le in
+    let crosses = total-up (λ i. (places i).cross) first len n le in
+    let letters_is = sum.letters in
+    let crosses_is = sum.crosses in
     let word = times-up (λ i. (places i).word) first len n le (λ i low high. (small i (omega arith)).some) in
     let old_is = sum.old in
     let side_is = sum.side in
     let free_is = sum.free in
     let word_is = sum.word in
-    let main : (total (λ i. (places i).old) first len + s.letter * points) * times (λ i. (places i).word) first len ≤ (s.old + s.letter * points) * s.word = mul-le-mul (omega arith) (omega arith) in
+    let main : (total (λ i. (places i).old) first len + total (λ i. (places i).letter) first len + s.letter * points) * times (λ i. (places i).word) first len ≤ (s.old + s.letters + s.letter * points) * s.word = mul-le-mul (omega arith) (omega arith) in
     let top = bonus_up (free_count places first len) s.free (omega arith) in
     record {
       letter = s.letter;
@@ -104,8 +111,8 @@ pub word_most : (n word : ℕ) → n ≤ 15 → word ≤ 3 ^ n → word ≤ 1434
 word_most n word few le = let most : 3 ^ n ≤ 14348907 = pow-le-pow_right {n = 3} (omega arith) {i = n} {j = 15} few in omega arith
 
 pub small_more : (n : ℕ) (s more : Sum) (p : Place) → IsSmallSum n s → IsSmall p → more.old ≡ s.old + p.old → more.word ≡ s.word * p.word → more.side ≡ s.side + p.side
-    → more.free ≡ s.free + one_if p.free → more.letter ≤ 3 → more.cross ≤ 9 → IsSmallSum (n + 1) more
-small_more n s more p small one old word side free letter cross =
+    → more.free ≡ s.free + one_if p.free → more.letters ≡ s.letters + p.letter → more.crosses ≡ s.crosses + p.cross → more.letter ≤ 3 → more.cross ≤ 9 → IsSmallSum (n + 1) more
+small_more n s more p small one old word side free letters crosses letter cross =
     let word_le = factor_limit n s.word p.word small.word one.word in
     let a = small.old in
     let b = one.old in
@@ -113,7 +120,11 @@ small_more n s more p small one old word side free letter cross =
     let d = one.side in
     let e = small.free in
     let f = at_most_one p.free in
-    record { old = omega arith; word = omega arith; side = omega arith; free = omega arith; letter = letter; cross = cross }
+    let h = small.letters in
+    let i = one.letter in
+    let j = small.crosses in
+    let k = one.cross in
+    record { old = omega arith; word = omega arith; side = omega arith; free = omega arith; letters = omega arith; crosses = omega arith; letter = letter; cross = cross }
   where
     at_most_one : (b : Bool) → one_if b ≤ 1
     at_most_one true = omega arith

@@ -58,6 +58,11 @@ total-scaled f g c a (suc n) =
     distribute zero x y = omega arith
     distribute (suc c) x y = let rest = distribute c x y in omega arith
 
+pub total-both : (f g : ℕ → ℕ) (a n : ℕ) → total (λ i. f i + g i) a n ≡ total f a n + total g a n
+unfolding total
+total-both f g a zero = refl
+total-both f g a (suc n) = let fewer = total-both f g a n in omega arith
+
 pub times-some : (f : ℕ → ℕ) (a n : ℕ) → ((i : ℕ) → 1 ≤ f i) → 1 ≤ times f a n
 unfolding times
 times-some f a zero h = omega arith

@@ -1,5 +1,5 @@
 -- The points of the tiles that a placement takes from a rack.
-use Rattle.std.proofs.Common.{◌≡◌, ℕ, zero, suc, ◌+◌, ◌*◌, ◌<◌, ◌≤◌, ◌==◌, Bool, List, [], ◌∷◌, get_or, sum_by, refl, sym, ap, ◌∙◌, arith, ⊎_elim, if◌then◌else◌}
+use Rattle.std.proofs.Common.{◌≡◌, ℕ, zero, suc, ◌+◌, ◌-◌, ◌*◌, ◌<◌, ◌≤◌, ◌==◌, Bool, List, [], ◌∷◌, get_or, sum_by, refl, sym, ap, ◌∙◌, arith, ⊎_elim, if◌then◌else◌}
 use Rattle.std.specs.Prelude.{slice_index}
 use Rattle.std.proofs.lemmas.List.Sums.{sum_by-cons}
 use Rattle.std.proofs.lemmas.Bool.{cases_eq, eq-eqb, ne_eqb}
@@ -14,15 +14,15 @@ use Rattle.ref_play.specs.Candidates.{used}
 use Rattle.gen_moves.specs.Bounds.{total, kind_points, rack_points}
 use Rattle.gen_moves.proofs.Sums.{total-mono, total-same}
 
--- the points of a tile of a placement
+-- what the points of a tile of a placement are above one
 abbrev pub worth : Rules → Placed → ℕ
-worth rules p = points_of rules p.tile.kind
+worth rules p = points_of rules p.tile.kind - 1
 
-points_by_number : (rules : Rules) (k : Kind) → points_of rules k ≡ kind_points rules (number_of k)
+points_by_number : (rules : Rules) (k : Kind) → points_of rules k - 1 ≡ kind_points rules (number_of k)
 points_by_number rules (kind.Letter l) =
     let low = l.in_range in
     let other = ne_eqb l.index 26 (omega arith) in
-    sym (ap (λ (b : Bool). if b then 0 else slice_index rules.points l.index) other)
+    sym (ap (λ (b : Bool). (if b then 0 else slice_index rules.points l.index) - 1) other)
 points_by_number rules kind.Blank = refl
 
 number_low : (k : Kind) → number_of k < 27
@@ -66,7 +66,7 @@ worth_by_kinds rules (p ∷ ps) =
     ∙ sym (total-same (λ k. used (p ∷ ps) k * kind_points rules k) (λ k. ((if number_of p.tile.kind == k then 1 else 0) + used ps k) * kind_points rules k) 0 27
     (λ k low high. ap (λ m. m * kind_points rules k) (sum_by-cons (λ (q : Placed). if number_of q.tile.kind == k then 1 else 0) p ps)))
 
--- tiles that are on the rack have no more points than it
+-- tiles that are on the rack have no more points above one than it
 pub worth_within : (rules : Rules) (rack : List ℕ) (ps : List Placed) → ((k : ℕ) → used ps k ≤ slice_index rack k) → sum_by (worth rules) ps ≤ rack_points rules rack 27
 unfolding rack_points
 worth_within rules rack ps from =
@@ -79,12 +79,12 @@ pub rack_none : (rules : Rules) (rack : List ℕ) → rack_points rules rack 0 �
 unfolding rack_points total
 rack_none rules rack = refl
 
-pub rack_more : (rules : Rules) (rack : List ℕ) (k : ℕ) → k < 26 → rack_points rules rack (k + 1) ≡ rack_points rules rack k + get_or rack k 0 * get_or rules.points k 0
+pub rack_more : (rules : Rules) (rack : List ℕ) (k : ℕ) → k < 26 → rack_points rules rack (k + 1) ≡ rack_points rules rack k + get_or rack k 0 * (get_or rules.points k 0 - 1)
 unfolding rack_points total
 rack_more rules rack k few =
     let next : k + 1 ≡ suc k = omega arith in
     let at : 0 + k ≡ k = omega arith in
-    let letter : kind_points rules k ≡ get_or rules.points k 0 = ap (λ (b : Bool). if b then 0 else get_or rules.points k 0) (ne_eqb k 26 (omega arith)) in
+    let letter : kind_points rules k ≡ get_or rules.points k 0 - 1 = ap (λ (b : Bool). (if b then 0 else get_or rules.points k 0) - 1) (ne_eqb k 26 (omega arith)) in
     ap (λ n. total (λ j. get_or rack j 0 * kind_points rules j) 0 n) next
     ∙ ap (λ j. total (λ j. get_or rack j 0 * kind_points rules j) 0 k + get_or rack j 0 * kind_points rules j) at
     ∙ ap (λ w. total (λ j. get_or rack j 0 * kind_points rules j) 0 k + get_or rack k 0 * w) letter

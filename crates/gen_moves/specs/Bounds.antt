@@ -1,5 +1,5 @@
 -- Upper bounds of the scores of the plays of a stretch, by what each of its places adds and the points of the rack.
-use Rattle.std.specs.Prelude.{◌≡◌, ℕ, zero, suc, ◌+◌, ◌*◌, ◌^◌, ◌<◌, ◌≤◌, ◌≤ℤ◌, pos, Bool, true, false, ◌==◌, nat_le, List, Option, None, IsSome, slice_index, slice_index_or, if◌then◌else◌}
+use Rattle.std.specs.Prelude.{◌≡◌, ℕ, zero, suc, ◌+◌, ◌-◌, ◌*◌, ◌^◌, ◌<◌, ◌≤◌, ◌≤ℤ◌, pos, Bool, true, false, ◌==◌, nat_le, List, Option, None, IsSome, slice_index, slice_index_or, if◌then◌else◌}
 use Rattle.ref_tiles.specs.declared.tiles.Tile.{Tile}
 use Rattle.ref_tiles.specs.declared.rulebook.Rules.{Rules}
 use Rattle.ref_tiles.specs.Rulebook.{points_of, premium_at, letter_factor, word_factor}
@@ -52,19 +52,19 @@ one_if b = if b then 1 else 0
 abbrev pub free_count : (ℕ → Place) → ℕ → ℕ → ℕ
 free_count places first len = total (λ i. one_if (places i).free) first len
 
--- the points of the tiles of a rack, those of the first so many kinds
+-- what the points of a tile are above one, and those of the tiles of a rack of the first so many kinds
 abbrev pub kind_points : Rules → ℕ → ℕ
-kind_points rules k = if k == 26 then 0 else slice_index rules.points k
+kind_points rules k = (if k == 26 then 0 else slice_index rules.points k) - 1
 
 unfoldable pub rack_points : Rules → List ℕ → ℕ → ℕ
 rack_points rules rack n = total (λ k. slice_index rack k * kind_points rules k) 0 n
 
--- The bound of the plays of a stretch, by the points of the rack, a letter premium and a factor of cross words that no free
--- place of the stretch passes.
+-- The bound of the plays of a stretch: one point on each of its places, and what the tiles of the rack have above one point by a
+-- letter premium and a factor of cross words that no free place of the stretch passes.
 abbrev pub stretch_bound : ℕ → (ℕ → Place) → ℕ → ℕ → ℕ → ℕ → ℕ → ℕ
 stretch_bound bonus places first len points letter cross =
-    (total (λ i. (places i).old) first len + letter * points) * times (λ i. (places i).word) first len
-    + (total (λ i. (places i).side) first len + cross * points)
+    (total (λ i. (places i).old) first len + total (λ i. (places i).letter) first len + letter * points) * times (λ i. (places i).word) first len
+    + (total (λ i. (places i).side) first len + total (λ i. (places i).cross) first len + cross * points)
     + (if nat_le 7 (free_count places first len) then bonus else 0)
 
 -- a number that no play of a stretch passes, by some such letter premium and some such factor
@@ -90,6 +90,8 @@ pub record IsSum (places : ℕ → Place) (first len : ℕ) (sum : Sum) : Type 0
   pub word : sum.word ≡ times (λ i. (places i).word) first len
   pub side : sum.side ≡ total (λ i. (places i).side) first len
   pub free : sum.free ≡ free_count places first len
+  pub letters : sum.letters ≡ total (λ i. (places i).letter) first len
+  pub crosses : sum.crosses ≡ total (λ i. (places i).cross) first len
   pub letter : (i : ℕ) → first ≤ i → i < first + len → (places i).free ≡ true → (places i).letter ≤ sum.letter
   pub cross : (i : ℕ) → first ≤ i → i < first + len → (places i).free ≡ true → (places i).cross ≤ sum.cross
 
@@ -107,6 +109,8 @@ pub record IsSmallSum (len : ℕ) (sum : Sum) : Type 0 where
   pub word : sum.word ≤ 3 ^ len
   pub side : sum.side ≤ 196605 * len
   pub free : sum.free ≤ len
+  pub letters : sum.letters ≤ 3 * len
+  pub crosses : sum.crosses ≤ 9 * len
   pub letter : sum.letter ≤ 3
   pub cross : sum.cross ≤ 9
 

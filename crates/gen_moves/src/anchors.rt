@@ -1,5 +1,5 @@
 //! Upper bounds of the plays of each anchor of a line.
-ghost use Rattle.std.specs.Prelude.{◌≡◌, ◌*◌, ◌<◌, ◌≤◌, ℕ, Bool, true, List, [], slice_index, slice_index_or};
+ghost use Rattle.std.specs.Prelude.{◌≡◌, ◌-◌, ◌*◌, ◌<◌, ◌≤◌, ℕ, Bool, true, List, [], slice_index, slice_index_or};
 ghost use Rattle.gen_line.specs.Cells.{cell_at, is_anchor_cell};
 ghost use Rattle.gen_moves.specs.Bounds.{IsSmall, IsAnchorBound, HasScores, AreOffers, place_in, rack_points};
 ghost use Rattle.gen_moves.specs.Starts.{AreUnder, bound_in};
@@ -111,6 +111,13 @@ pub fn all_bounds(
     bounds
 }
 
+/// What the points of a tile are above one.
+fn above_one(points: u8) -> u8
+    ensures { result ≡ points - 1 }
+{
+    points.saturating_sub(1)
+}
+
 /// The points of so many tiles of a kind.
 fn points_of_tiles(number: u8, points: u8) -> u64
     ensures points { result ≡ number * points }
@@ -119,14 +126,14 @@ fn points_of_tiles(number: u8, points: u8) -> u64
     number as u64 * points as u64
 }
 
-/// The points of the tiles of a rack.
+/// What the points of the tiles of a rack are above one for each tile.
 pub fn points_of_rack(rules: &Rules, rack: &[u8; KINDS]) -> u64
     ensures points { result ≡ rack_points rules.now rack.now 27 }
     ensures limit { result ≤ 2000000 }
 {
     let mut points = 0;
     for kind in 0..rules.points.len() {
-        points += points_of_tiles(rack[kind], rules.points[kind]);
+        points += points_of_tiles(rack[kind], above_one(rules.points[kind]));
     }
     points
 }

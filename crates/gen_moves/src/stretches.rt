@@ -20,6 +20,10 @@ pub struct Sum {
     pub cross: u64,
     /// The number of free places.
     pub free: u64,
+    /// The sum of the letter premiums.
+    pub letters: u64,
+    /// The sum of the factors of cross words.
+    pub crosses: u64,
 }
 
 /// The greater of two numbers.
@@ -44,6 +48,8 @@ impl Sum {
             letter: 0,
             cross: 0,
             free: 0,
+            letters: 0,
+            crosses: 0,
         }
     }
 
@@ -53,6 +59,8 @@ impl Sum {
         requires word { self.now.word ≤ 4782969 }
         requires side { self.now.side ≤ 2752470 }
         requires free { self.now.free ≤ 14 }
+        requires letters { self.now.letters ≤ 42 }
+        requires crosses { self.now.crosses ≤ 126 }
         requires letter { self.now.letter ≤ 3 }
         requires cross { self.now.cross ≤ 9 }
         requires place { IsSmall place.now }
@@ -60,6 +68,8 @@ impl Sum {
         ensures word { result.word ≡ self.now.word * place.now.word }
         ensures side { result.side ≡ self.now.side + place.now.side }
         ensures free { result.free ≡ self.now.free + one_if place.now.free }
+        ensures letters { result.letters ≡ self.now.letters + place.now.letter }
+        ensures crosses { result.crosses ≡ self.now.crosses + place.now.cross }
         ensures letter_before { self.now.letter ≤ result.letter }
         ensures letter { place.now.letter ≤ result.letter }
         ensures letter_limit { result.letter ≤ 3 }
@@ -74,6 +84,8 @@ impl Sum {
             letter: greater(self.letter, place.letter),
             cross: greater(self.cross, place.cross),
             free: self.free + u64::from(place.free),
+            letters: self.letters + place.letter,
+            crosses: self.crosses + place.cross,
         }
     }
 
@@ -84,12 +96,14 @@ impl Sum {
         requires side { self.now.side ≤ 2949075 }
         requires letter { self.now.letter ≤ 3 }
         requires cross { self.now.cross ≤ 9 }
+        requires letters { self.now.letters ≤ 45 }
+        requires crosses { self.now.crosses ≤ 135 }
         requires points { points ≤ 2000000 }
         requires bonus { bonus ≤ 65535 }
-        ensures { result ≡ (self.now.old + self.now.letter * points) * self.now.word + (self.now.side + self.now.cross * points) + (if nat_le 7 self.now.free then bonus else 0) }
+        ensures { result ≡ (self.now.old + self.now.letters + self.now.letter * points) * self.now.word + (self.now.side + self.now.crosses + self.now.cross * points) + (if nat_le 7 self.now.free then bonus else 0) }
     {
-        let letters = self.old + self.letter * points;
-        let crosses = self.side + self.cross * points;
+        let letters = self.old + self.letters + self.letter * points;
+        let crosses = self.side + self.crosses + self.cross * points;
         let on_top = if self.free >= 7 { bonus } else { 0 };
         letters * self.word + crosses + on_top
     }

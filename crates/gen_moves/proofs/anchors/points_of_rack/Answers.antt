@@ -1,4 +1,4 @@
-use Rattle.std.proofs.Common.{◌≡◌, ◌<◌, ◌+◌, ◌*◌, ℕ, get_or, sym, ap, ◌∙◌, arith}
+use Rattle.std.proofs.Common.{◌≡◌, ◌<◌, ◌+◌, ◌-◌, ◌*◌, ℕ, get_or, sym, ap, ◌∙◌, arith}
 use Rattle.gen_moves.specs.Bounds.{rack_points}
 use Rattle.gen_moves.proofs.Worths.{rack_none, rack_more, rack_all}
 use Rattle.gen_moves.proofs.anchors.points_of_rack.Goals as goal
@@ -11,7 +11,8 @@ loop-kind-preserved c =
     let few : c.loop-kind.kind < 26 = omega arith in
     record {
       points = ap (λ (m : ℕ). c.loop-kind.points + m) c.points_of_tiles-points.ensures.points
-          ∙ ap (λ (m : ℕ). m + get_or c.args.rack.now c.loop-kind.kind 0 * get_or c.args.rules.now.points c.loop-kind.kind 0) c.loop-kind.invariant.points ∙ sym (rack_more c.args.rules.now c.args.rack.now c.loop-kind.kind few);
+          ∙ ap (λ (p : ℕ). c.loop-kind.points + get_or c.args.rack.now c.loop-kind.kind 0 * p) c.above_one.ensures
+          ∙ ap (λ (m : ℕ). m + get_or c.args.rack.now c.loop-kind.kind 0 * (get_or c.args.rules.now.points c.loop-kind.kind 0 - 1)) c.loop-kind.invariant.points ∙ sym (rack_more c.args.rules.now c.args.rack.now c.loop-kind.kind few);
       limit = omega (arith, c.points_of_tiles-points.ensures.limit, c.loop-kind.invariant.limit);
     }
 

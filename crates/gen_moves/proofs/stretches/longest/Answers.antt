@@ -30,9 +30,9 @@ loop-place-preserved c =
     let e = c.with-sum.ensures in
     record {
       sum = subst (λ k. IsSum places c.args.first k c.with-sum.result) (sym next)
-          (sum_more places c.args.first n c.loop-place.place c.loop-place.sum c.with-sum.result at c.loop-place.invariant.sum e.old e.word e.side e.free e.letter_before e.letter e.cross_before e.cross);
+          (sum_more places c.args.first n c.loop-place.place c.loop-place.sum c.with-sum.result at c.loop-place.invariant.sum e.old e.word e.side e.free e.letters e.crosses e.letter_before e.letter e.cross_before e.cross);
       small = subst (λ k. IsSmallSum k c.with-sum.result) (sym more)
-          (small_more n c.loop-place.sum c.with-sum.result (places c.loop-place.place) c.loop-place.invariant.small (c.requires.small c.loop-place.place (omega arith)) e.old e.word e.side e.free e.letter_limit e.cross_limit);
+          (small_more n c.loop-place.sum c.with-sum.result (places c.loop-place.place) c.loop-place.invariant.small (c.requires.small c.loop-place.place (omega arith)) e.old e.word e.side e.free e.letters e.crosses e.letter_limit e.cross_limit);
     }
 
 pub bound-requires-2-clause-word : goal.bound-requires-2-clause-word

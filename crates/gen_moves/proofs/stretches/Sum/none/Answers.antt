@@ -4,4 +4,4 @@ use Rattle.gen_moves.proofs.stretches.Sum.none.Goals as goal
 
 pub returns-clause-sum : goal.returns-clause-sum
 unfolding total times
-returns-clause-sum c places first = record { old = refl; word = refl; side = refl; free = refl; letter = λ i low high free. absurd (omega arith); cross = λ i low high free. absurd (omega arith) }
+returns-clause-sum c places first = record { old = refl; word = refl; side = refl; free = refl; letters = refl; crosses = refl; letter = λ i low high free. absurd (omega arith); cross = λ i low high free. absurd (omega arith) }
