@@ -3,7 +3,8 @@
 TESTS is crates/hostile_tests/out/hostile_tests_tests, which `rt test` makes in that crate, or crates/deal_tests/out/deal_tests_tests; `-`
 stands for no tests. Each of its tests with `refused` in its name is run alone, its first request refused, then its second, and so on: the
 test itself says whether what came of it may come. PROGRAM is crates/referee/out/referee: its commands are run on worked rows in the
-same way, and each run has to end with the row's output or with the status 4, `no memory` on standard error and no output.
+same way, and each run has to end with the row's output or with the status 4, `no memory` on standard error and no output; a run of `archive`
+may also say of one game that there was no memory for it, and go on.
 
 A library that is loaded in front of the C library refuses the request, by malloc or realloc, that the variable REFUSE numbers.
 """
@@ -57,7 +58,19 @@ ROWS = [  # the command, the words, the record
     (["convert", "gad2", "lexicon", "out"], "AT\n", ""),
     (["top", "words", "lexicon", "game", "?A"], "AT\n", ""),
     (["tidy", "game"], "", UNTIDY),
+    (["archive", "words", "lexicon", "game", "nowhere", "game"], ON_WORD, TURNS),
+    (["archive", "--json", "--names", "names", "words", "lexicon"], "AT\n", ">A: Q -Q +0 0\n>B: - +0 0\n>A: Q - +0 0\n"),
 ]
+
+
+def is_archive(ran, row):
+    """Whether lines are those of a row but for one game for which there was no memory; or those of the first games, where there was none for
+    a line at all."""
+    told, wanted = ran.stdout.splitlines(), row.stdout.splitlines()
+    if (ran.returncode, ran.stderr) == (4, b"no memory\n"):
+        return told == wanted[: len(told)]
+    changed = [it for it, want in zip(told, wanted) if it != want]
+    return (ran.returncode, ran.stderr, len(told)) == (4, b"", len(wanted)) and len(changed) == 1 and b"unread" in changed[0] and b"no memory" in changed[0]
 
 
 class Refuser:
@@ -104,6 +117,7 @@ def try_program(refuser, program):
     for words, listed, game in ROWS:
         Path(refuser.folder, "words").write_text(listed)
         Path(refuser.folder, "game").write_bytes(game.encode())
+        Path(refuser.folder, "names").write_text("game\nnowhere\ngame\n")
         subprocess.run([program, "build", "words", "lexicon"], cwd=refuser.folder, check=True)
         out = Path(refuser.folder, "out")
         row = refuser.run([program, *words], 0)[0]
@@ -111,12 +125,14 @@ def try_program(refuser, program):
         wrote = out.read_bytes() if makes_out else b""
         out.unlink(missing_ok=True)
 
-        def is_good(ran, refused, row=row, wrote=wrote, makes_out=makes_out):
+        def is_good(ran, refused, row=row, wrote=wrote, makes_out=makes_out, words=words):
             # What an earlier run left in OUT is gone before the next one, which may end before it opens OUT.
             now = out.read_bytes() if makes_out and out.exists() else b""
             out.unlink(missing_ok=True)
             if (ran.returncode, ran.stdout, ran.stderr, now) == (row.returncode, row.stdout, row.stderr, wrote):
                 return True
+            if words[0] == "archive":
+                return refused and is_archive(ran, row)
             return refused and (ran.returncode, ran.stdout, ran.stderr, now) == (4, b"", b"no memory\n", b"")
 
         yield tell(f"referee {words[0]}: {game.splitlines()[-1] if game else listed.strip()}", *refuser.each([program, *words], is_good))

@@ -115,6 +115,9 @@ def status_of(output):
     return VERDICTS.get(output.split(b"\n")[0].split(b":")[0].split(b" ")[0].decode("latin-1"), 0)
 
 
-def error_of(command, output):
-    """What standard error gets beside an answer: where `judge` leaves a game open, that a search may settle it."""
-    return SETTLE if command == "judge" and output == b"unsettled\n" else b""
+def error_of(command, output, game):
+    """What standard error gets beside an answer: where `judge` leaves a game open, that a search may settle it; where the record of the
+    file `game` has no event, that it may be none."""
+    if command == "judge" and output == b"unsettled\n":
+        return SETTLE
+    return f"no event: is {game} a game record?\n".encode() if command == "judge" and output == b"legal unfinished\n" else b""

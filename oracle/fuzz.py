@@ -73,6 +73,9 @@ def with_word(data):
     return data[:at] + (choose([word, word, random.getrandbits(32)]) % 2**32).to_bytes(4, "little") + data[at + 4 :]
 
 
+TEXT_DAMAGES = [with_bit, with_part, with_part, cut, with_lines_moved, with_token, with_token]
+
+
 def damaged(data, ways, most):
     """Bytes with a few changes of some ways."""
     for _ in range(random.randint(min(1, most), most)):
@@ -93,7 +96,7 @@ class Fuzzer:
         ran = subprocess.run([self.program, *words], capture_output=True, check=False, timeout=60)
         told = ran.stdout if wrote is None else wrote.read_bytes()
         self.seen[f"{words[0]} {status}"] += 1
-        if told != expected or ran.returncode != status or ran.stderr != error_of(words[0], expected):
+        if told != expected or ran.returncode != status or ran.stderr != error_of(words[0], expected, self.game):
             self.differences += 1
             print(*words, "status", ran.returncode, "for", status, ran.stderr)
             print(" ", told, "  for", expected, sep="\n  ")
@@ -105,7 +108,7 @@ class Fuzzer:
         words = ["judge", "--settle", *by, self.words, self.lexicon, self.game]
         ran = subprocess.run([self.program, *words], capture_output=True, check=False, timeout=60)
         self.seen[f"judge --settle {ran.returncode}"] += 1
-        if ran.stdout not in ways or ran.returncode != status_of(ran.stdout) or ran.stderr:
+        if ran.stdout not in ways or ran.returncode != status_of(ran.stdout) or ran.stderr != error_of("judge", b"" if ran.stdout == b"unsettled\n" else ran.stdout, self.game):
             self.differences += 1
             print(*words, "status", ran.returncode, ran.stdout, ran.stderr, "for", ways[:2], self.game.read_bytes(), sep="\n  ")
 
@@ -158,7 +161,7 @@ def lexicon_of(listed):
 def damaged_round(fuzzer, rules, game, listed):
     """A round with some of its inputs damaged."""
     bad = damages()
-    texts = [with_bit, with_part, with_part, cut, with_lines_moved, with_token, with_token]
+    texts = TEXT_DAMAGES
     words = damaged("".join(f"{word}\n" for word in sorted(listed)).encode(), texts[:5], bad[0])
     # mostly the lexicon of the damaged list, so that more than its first fault is tried
     read_now = words_of(words)
@@ -187,4 +190,5 @@ def main():
     sys.exit(fuzzer.differences > 0)
 
 
-main()
+if __name__ == "__main__":
+    main()

@@ -40,6 +40,8 @@ if [ -x "$program" ]; then
     part oracle/compare_lexicons.py "$program" 100 "$seed"
     part oracle/compare_tops.py "$program" 50 "$seed"
     part oracle/compare_rules.py "$program" 20 "$seed"
+    part oracle/compare_archive.py "$program" 60 "$seed"
+    part oracle/archive_scripts.py "$program" 30 "$seed"
     part oracle/fuzz.py "$program" 60 "$seed"
 else
     failed=$((failed + 1))

@@ -4,6 +4,7 @@ Every row is a command line with what has to come of it: the exit status, the by
 error, and what is in the file OUT of `build` and `convert`. The answers were made by hand from the rules and the formats. With `large`
 there are rows of lexicon files at the limits of their formats too, which take some hundred megabytes of disk and of memory.
 """
+import json
 import os
 import resource
 import struct
@@ -84,6 +85,7 @@ def with_counts(count):
 
 
 TWO_SETS = with_counts(lambda kind, count: 2 * count)
+NO_EVENT = "no event: is {} a game record?"
 SETTLE = "unsettled: `judge --settle` searches for a deal that yields the racks"
 FOURTEEN = with_counts(lambda kind, count: "AADEEINORRSTTW".count(kind))
 WORD = ">A: DORWAAE 8E WORD +16 16\n"
@@ -143,6 +145,12 @@ TEXTS = {
     "retains": "RETAINS\n",
     "seven": ">A: AEINRST - +0 0\n",
     "page": "<html>\n<body>no game</body>\n</html>\n",
+    "indented": " " + WORD,
+    "named": "#player1 Ann Ann Lee\n#player2 Bob Bob Roe\n",
+    "tab\there": WORD,
+    "two\nlines": WORD,
+    "back\\slash": WORD,
+    "caf\u00e9": WORD,
     "untidy": "\ufeff#player1 A  Ann Lee\r\n#note x\n>A:\tDORWAAE  8e WORD 16 16\r\n",
 }
 CHANGED = {  # the lexicon of AT with one change, and the line that tells it
@@ -187,6 +195,8 @@ def files(folder):
     Path(folder, "nothing-masks.gad").write_bytes(EMPTY_MASKS)
     for size in range(len(AT_FILE)):
         Path(folder, f"front-{size}.gad").write_bytes(AT_FILE[:size])
+    Path(folder, "utf-16").write_bytes(WORD.encode("utf-16"))
+    Path(folder, "latin").write_bytes(WORD.replace("A:", "\u00c9va:").encode("latin-1"))
     Path(folder, "many").write_text("".join(f"{word}\n" for word in many_words()))
     Path(folder, "folder").mkdir()
 
@@ -199,6 +209,48 @@ def many_words():
         for _ in range(14):
             word, number = word + letters[number % 26], number // 26 + 7 * (number % 26) + 1
         yield word
+
+
+# What `archive` says of a game by the list WORD, or by WORD, AT and RA, and the status of it alone.
+ARCHIVED = {
+    "word": [
+        ("line", "legal unfinished - - 1 A 16 - - 0", 0),
+        ("ends", "legal complete - - 8 A -7 B -7 0", 0),
+        ("unknown", "legal unfinished - - 3 A 0 B 0 0", 0),
+        ("two-of-seven", "legal unfinished - - 3 A 0 B 0 0", 0),
+        ("line-18", "illegal - 1 WrongScore_16 1 A 18 - - -", 1),
+        ("line-17", "illegal - 1 WrongTotal_16 1 A 17 - - -", 1),
+        ("line-8d", "illegal - 1 MissesCentre 1 A 16 - - -", 1),
+        ("turn", "illegal - 2 NotYourTurn 2 A 16 - - -", 1),
+        ("blanks", "illegal - 2 TilesShort_? 2 A 0 B 0 0", 1),
+        ("one-q", "illegal - 3 NoDeal 3 A 0 B 0 0", 1),
+        ("one-of-seven", "illegal - 3 NoDeal 3 A 0 B 0 0", 1),
+        ("too-soon", "illegal - 6 NotOver 6 A 0 B -7 -", 1),
+        ("third", "bad_record - 3 ThirdPlayer - - - - - -", 3),
+        ("number", "bad_record - 1 Number - - - - - -", 3),
+        ("long-game", "bad_record - - TooLong - - - - - -", 3),
+        ("nothing", "no_game - - - 0 - - - - 0", 3),
+        ("page", "no_game - - - 0 - - - - 0", 3),
+        ("utf-16", "no_game - - - 0 - - - - 0", 3),
+        ("indented", "no_game - - - 0 - - - - 0", 3),
+        ("named", "no_game - - - 0 Ann - Bob - 0", 3),
+        ("nowhere", "unread - - cannot_open - - - - - -", 4),
+        ("no/where", "unread - - cannot_open - - - - - -", 4),
+        ("", "unread - - cannot_open - - - - - -", 4),
+        ("folder", "unread - - read_failed - - - - - -", 4),
+    ],
+    "word-at-ra": [
+        ("line", "legal unfinished - - 1 A 16 - - 0", 0),
+        ("unlisted", "legal unfinished - - 2 A 16 B 9 1", 0),
+        ("withdrawn", "legal unfinished - - 4 A 25 B 0 1", 0),
+    ],
+}
+FIELDS = "name verdict ending line fault events player1 total1 player2 total2 unlisted".split()
+
+
+def told_of(name, text):
+    """The fields of a line of ARCHIVED."""
+    return [name, *(field.replace("_", " ") for field in text.split())]
 
 
 class Runner:
@@ -239,9 +291,9 @@ def judged(run):
     run.row(["build", "word-at-ra", "word-at-ra.gad"], 0)
     by_word = lambda game, status, out: run.row(["judge", "word", "word.gad", game], status, out)
     by_word("line", 0, "legal unfinished\n1 A 8E WORD +16 16 best 8E WORD 16\n")
-    by_word("nothing", 0, "legal unfinished\n")
-    by_word("page", 0, "legal unfinished\n")
-    by_word("full-game", 0, "legal unfinished\n")
+    for game in ("nothing", "page", "full-game"):
+        for more in ([], ["--settle"], ["--rules", "english.rules"], ["--settle", "--rules", "english.rules"]):
+            run.row(["judge", *more, "word", "word.gad", game], 0, "legal unfinished\n", error=NO_EVENT.format(game))
     lines = "".join(f"{k + 1} {'AB'[k % 2]} - +0 0 best -\n" for k in range(6))
     by_word("ends", 0, f"legal complete\n{lines}7 A (AEINRST) -7 -7\n8 B (AEINRST) -7 -7\n")
     by_word("too-soon", 1, "illegal line 6: NotOver\n")
@@ -266,11 +318,11 @@ def judged(run):
     run.row(["judge", "at", "at.gad", "with-blank"], 0, "legal unfinished\n1 A - +0 0 best 8G At 2\n")
     run.row(["judge", "at", "at.gad", "no-play"], 0, "legal unfinished\n1 A - +0 0 best none\n2 B - +0 0 best 8G AT 4\n")
     run.row(["judge", "nothing", "nothing.gad", "no-play"], 0, "legal unfinished\n1 A - +0 0 best none\n2 B - +0 0 best none\n")
-    run.row(["judge", "nothing", "nothing.gad", "nothing"], 0, "legal unfinished\n")
+    run.row(["judge", "nothing", "nothing.gad", "nothing"], 0, "legal unfinished\n", error=NO_EVENT.format("nothing"))
     run.row(["judge", "digit", "at.gad", "line"], 3, "bad word list line 2: BadLetter\n")
     run.row(["judge", "short-word", "at.gad", "line"], 3, "bad word list line 1: BadLength\n")
     run.row(["judge", "long-list", "at.gad", "line"], 3, "bad word list: TooLong\n")
-    run.row(["judge", "full-list", "nothing.gad", "nothing"], 0, "legal unfinished\n")
+    run.row(["judge", "full-list", "nothing.gad", "nothing"], 0, "legal unfinished\n", error=NO_EVENT.format("nothing"))
     run.row(["judge", "at", "extra.gad", "number"], 3, "bad lexicon: Extra A\n")
     run.row(["judge", "it-at", "at.gad", "number"], 3, "bad lexicon: Missing I+T\n")
 
@@ -353,7 +405,7 @@ def converted(run):
     run.row(["convert", "gad2", "nowhere", "out"], 4, error="cannot open nowhere", wrote=b"something")
     run.row(["convert", "gad2", "at.gad", "no/where"], 4, error="cannot open no/where")
     run.row(["convert", "gad2", "nowhere", "no/where"], 4, error="cannot open nowhere")
-    run.row(["convert", "gad2", "folder", "out"], 4, error="read failed", wrote=b"")
+    run.row(["convert", "gad2", "folder", "out"], 4, error="cannot read folder", wrote=b"")
     for form in ("gad3", "GAD2", "gad", "2", ""):
         Path(run.folder, "out").write_bytes(b"something")
         run.row(["convert", form, "at.gad", "out"], 64, error=None, wrote=b"something")
@@ -453,7 +505,7 @@ def ruled_tops(run):
     run.row(["top", "--rules", "tiles.rules", "at", "at.gad", "nothing", "A1"], 3, "bad rack\n")
     run.row(["top", "--rules", "folder", "folder", "folder", "folder", "A1"], 3, "bad rack\n")
     run.row(["top", "--rules", "nowhere", "at", "at.gad", "nothing", "A1"], 4, error="cannot open nowhere")
-    run.row(["top", "--rules", "folder", "at", "at.gad", "nothing", "A"], 4, error="read failed")
+    run.row(["top", "--rules", "folder", "at", "at.gad", "nothing", "A"], 4, error="cannot read folder")
 
 
 def ruled_lines(run):
@@ -465,7 +517,7 @@ def ruled_lines(run):
     run.row(["top", "at", "at.gad", "nothing", "Q", "--rules", "english.rules"], 0, "none\n")
     run.row(["judge", "--rules", "nowhere", "elsewhere", "at.gad", "line"], 4, error="cannot open nowhere")
     run.row(["judge", "--rules", "tiles.rules", "elsewhere", "at.gad", "line"], 4, error="cannot open elsewhere")
-    run.row(["judge", "--rules", "folder", "digit", "at.gad", "line"], 4, error="read failed")
+    run.row(["judge", "--rules", "folder", "digit", "at.gad", "line"], 4, error="cannot read folder")
     # What stands behind a bad rules text is not read.
     run.row(["judge", "--rules", "tiles.rules", "folder", "folder", "folder"], 3, "bad rules line 1: Unknown\n")
     run.row(["judge", "--rules", "english.rules", "digit", "folder", "folder"], 3, "bad word list line 2: BadLetter\n")
@@ -496,7 +548,7 @@ def topped(run):
     # The files are opened before the rack is looked at, and none is read behind a rack that is none.
     run.row(["top", "at", "at.gad", "nowhere", "A1"], 4, error="cannot open nowhere")
     run.row(["top", "folder", "folder", "folder", "A1"], 3, "bad rack\n")
-    run.row(["top", "at", "at.gad", "folder", "A"], 4, error="read failed")
+    run.row(["top", "at", "at.gad", "folder", "A"], 4, error="cannot read folder")
 
 
 def tidied(run):
@@ -508,6 +560,88 @@ def tidied(run):
     run.row(["tidy", "long-game"], 3, "bad record: TooLong\n")
     run.row(["tidy", "/dev/stdin"], 0, normal, stdin=TEXTS["untidy"])
     run.row(["tidy", "-"], 4, error="cannot open -", stdin=TEXTS["untidy"])
+
+
+def archived(run):
+    """`archive`, by what it says of each game alone and of all together, in both forms."""
+    for words, rows in ARCHIVED.items():
+        names, lines = [words, f"{words}.gad"], ["\t".join(told_of(name, text)) + "\n" for name, text, _ in rows]
+        for (name, _, status), line in zip(rows, lines):
+            run.row(["archive", *names, name], status, line)
+        every = [name for name, _, _ in rows]
+        worst = max(status for _, _, status in rows)
+        run.row(["archive", *names, *every], worst, "".join(lines))
+        run.row(["archive", "--quiet", *names, *reversed(every)], worst, "".join(reversed(lines)))
+        run.row(["archive", "--progress", *names, *every], worst, "".join(lines), error=f"games done: {len(rows)}")
+        objects = subprocess.run([run.program, "archive", "--json", *names, *every], cwd=run.folder, capture_output=True, check=False)
+        told = [json.loads(text) for text in objects.stdout.decode().splitlines()]
+        run.expect("the names of a JSON object", all(list(it) == FIELDS for it in told))
+        texts = [["-" if it[field] is None else str(it[field]) for field in FIELDS] for it in told]
+        run.expect("JSON objects", texts == [told_of(name, text) for name, text, _ in rows] and objects.returncode == worst)
+    archived_names(run)
+    archived_inputs(run)
+    archived_lines(run)
+
+
+def archived_names(run):
+    """Where names stand, and how a line has them."""
+    legal = "\tlegal\tunfinished\t-\t-\t1\tA\t16\t-\t-\t0\n"
+    unread = "\tunread\t-\t-\tcannot open\t-\t-\t-\t-\t-\t-\n"
+    Path(run.folder, "names").write_bytes(b"line\n\n\nno\xff\xfewhere\ncaf\xc3\xa9\nback\\slash\ntab\there\nline\r\nline")
+    out = f"line{legal}no\ufffd\ufffdwhere{unread}caf\u00e9{legal}back\\\\slash{legal}tab\\there{legal}line\r{unread}line{legal}"
+    run.row(["archive", "--names", "names", "word", "word.gad"], 4, out)
+    run.row(["archive", "word", "word.gad", "--names=names"], 4, out)
+    run.row(["archive", "--names", "-", "word", "word.gad"], 0, f"line{legal}", stdin="\nline\n")
+    run.row(["archive", "--names", "-", "word", "word.gad"], 0, "", stdin="")
+    run.row(["archive", "--names", "nothing", "word", "word.gad"], 0, "")
+    run.row(["archive", "--names", "nothing", "--progress", "word", "word.gad"], 0, "", error="games done: 0")
+    run.row(["archive", "word", "word.gad", "two\nlines"], 0, f"two\\nlines{legal}")
+    run.row(["archive", "word", "word.gad", "/dev/stdin"], 0, f"/dev/stdin{legal}", stdin=WORD)
+    nick = legal.replace("A", "\ufffdva")
+    run.row(["archive", "word", "word.gad", "latin"], 0, f"latin{nick}")
+    objects = ["two\\nlines", "back\\\\slash", "tab\\there", "caf\u00e9", "\ufffdva"]
+    told = subprocess.run([run.program, "archive", "--json", "word", "word.gad", "two\nlines", "back\\slash", "tab\there", "caf\u00e9", "latin"],
+                          cwd=run.folder, capture_output=True, check=False).stdout.decode()
+    read = [json.loads(text) for text in told.splitlines()]
+    run.expect("names in JSON", [it["name"] for it in read] == ["two\nlines", "back\\slash", "tab\there", "caf\u00e9", "latin"])
+    run.expect("how JSON writes them", all(text in told for text in objects) and read[-1]["player1"] == "\ufffdva")
+
+
+def archived_inputs(run):
+    """The inputs that are read once: where one is bad or cannot be read, no game is read."""
+    run.row(["archive", "digit", "at.gad", "nowhere"], 3, "bad word list line 2: BadLetter\n")
+    run.row(["archive", "--json", "at", "extra.gad", "folder"], 3, "bad lexicon: Extra A\n")
+    run.row(["archive", "it-at", "at.gad", "line"], 3, "bad lexicon: Missing I+T\n")
+    run.row(["archive", "--rules", "tiles.rules", "digit", "folder", "folder"], 3, "bad rules line 1: Unknown\n")
+    run.row(["archive", "--rules", "english.rules", "digit", "folder", "folder"], 3, "bad word list line 2: BadLetter\n")
+    for words in (["nowhere", "at.gad"], ["at", "nowhere"], ["--names", "nowhere", "at", "at.gad"], ["--rules", "nowhere", "digit", "at.gad"]):
+        games = [] if "--names" in words else ["line"]
+        run.row(["archive", *words, *games], 4, error="cannot open nowhere")
+    for words in (["folder", "at.gad"], ["at", "folder"], ["--names", "folder", "at", "at.gad"], ["--rules", "folder", "digit", "at.gad"]):
+        games = [] if "--names" in words else ["line"]
+        run.row(["archive", *words, *games], 4, error="cannot read folder")
+    run.row(["archive", "--rules", "two-sets.rules", "at", "at.gad", "blanks"], 0, "blanks\tlegal\tunfinished\t-\t-\t2\tA\t0\tB\t0\t0\n")
+    run.row(["archive", "--rules", "fourteen.rules", "retains", "retains.gad", "goes-out"], 0, "goes-out\tlegal\tcomplete\t-\t-\t2\tA\t88\t-\t-\t0\n")
+    run.row(["archive", "many", "at.gad", "line"], 4, error="no memory", room=1 << 23)
+    if os.path.exists("/dev/full"):
+        run.row(["archive", "word", "word.gad", "nowhere", "line"], 4, error="write failed", stdout="/dev/full")
+        run.row(["archive", "digit", "word.gad", "line"], 4, error="write failed", stdout="/dev/full")
+
+
+def archived_lines(run):
+    """Each line goes out before the next game is read, and the progress is told every hundred games."""
+    Path(run.folder, "names").write_text("line\n" * 250)
+    ran = subprocess.run([run.program, "archive", "--progress", "--names", "names", "word", "word.gad"], cwd=run.folder, capture_output=True, check=False)
+    run.expect("the progress", ran.stderr.decode() == "".join(f"games done: {count}\n" for count in (100, 200, 250)))
+    run.expect("a line for each name", ran.stdout.count(b"\n") == 250)
+    words = [run.program, "archive", "--names", "-", "word", "word.gad"]
+    pipes = {"stdin": subprocess.PIPE, "stdout": subprocess.PIPE, "bufsize": 0}
+    with subprocess.Popen(words, cwd=run.folder, **pipes) as process:
+        for name in (b"line", b"nowhere", b"line"):
+            process.stdin.write(name + b"\n")
+            run.expect("a line before the next name", process.stdout.readline().startswith(name + b"\t"))
+        process.stdin.close()
+        run.expect("the status of all", process.wait(run.patience) == 4)
 
 
 def broken(run):
@@ -524,11 +658,11 @@ def broken(run):
     run.row(["build", "at", "no/where"], 4, error="cannot open no/where")
     run.row(["build", "at", "folder"], 4, error="cannot open folder")
     for words in (["judge", "folder", "at.gad", "line"], ["judge", "at", "folder", "line"], ["judge", "at", "at.gad", "folder"]):
-        run.row(words, 4, error="read failed")
-    run.row(["check", "at", "folder"], 4, error="read failed")
-    run.row(["tidy", "folder"], 4, error="read failed")
+        run.row(words, 4, error="cannot read folder")
+    run.row(["check", "at", "folder"], 4, error="cannot read folder")
+    run.row(["tidy", "folder"], 4, error="cannot read folder")
     Path(run.folder, "out").write_text("something")
-    run.row(["build", "folder", "out"], 4, error="read failed", wrote=b"")
+    run.row(["build", "folder", "out"], 4, error="cannot read folder", wrote=b"")
     # What stands behind a bad word list or a bad lexicon is not read.
     run.row(["judge", "digit", "folder", "folder"], 3, "bad word list line 2: BadLetter\n")
     run.row(["judge", "at", "extra.gad", "folder"], 3, "bad lexicon: Extra A\n")
@@ -546,6 +680,10 @@ def misused(run):
     """Status 64: no request, and help. The text is not fixed, but there is some, and nothing on standard output."""
     for words in ([], ["help"], ["--help"], ["-h"], ["judge", "--help"], ["--version"], ["top"], ["Judge", "at", "at.gad", "line"]):
         run.row(words, 64, error=None)
+    for words in ([], ["--names"], ["--names", "names", "line"], ["--progress", "--quiet", "line"], ["--loud", "line"], ["--json", "--json", "line"]):
+        run.row(["archive", "word", "word.gad", *words], 64, error=None)
+    run.row(["archive", "word"], 64, error=None)
+    run.row(["archive", "--settle", "word", "word.gad", "line"], 64, error=None)
     for command, count in [("judge", 3), ("build", 2), ("check", 2), ("convert", 3), ("top", 4), ("tidy", 1)]:
         for names in range(count):
             run.row([command, *["at"] * names], 64, error=None)
@@ -558,7 +696,7 @@ def main():
     with tempfile.TemporaryDirectory() as folder:
         files(folder)
         run = Runner(os.path.abspath(sys.argv[1]), folder)
-        for part in (judged, settled, built_and_checked, converted, topped, ruled, tidied, broken, misused):
+        for part in (judged, settled, built_and_checked, converted, topped, ruled, tidied, archived, broken, misused):
             part(run)
         if sys.argv[2:] == ["large"]:
             converted_large(run)

@@ -1,5 +1,6 @@
 -- The exit statuses of the program.
-use Rattle.std.specs.Prelude.{ℕ}
+use Rattle.std.specs.Prelude.{ℕ, List}
+use Rattle.std.specs.Borrow.{Bor}
 use Rattle.endings.specs.declared.exits.Exit.{Exit}
 use Rattle.endings.specs.declared.exits.Exit.TheVariants.{Fine, Illegal, Unsettled, BadInput, Broken, Usage}
 use Rattle.endings.specs.declared.exits.Trouble.{Trouble}
@@ -30,8 +31,8 @@ exit_of verdict.Done = Fine
 exit_of verdict.BadRack = BadInput
 exit_of verdict.BadRules = BadInput
 
--- what kept the program from its end, where a call gave up
-abbrev pub trouble_of : RunFault → Trouble
-trouble_of run.ReadFailed = trouble.ReadFailed
-trouble_of run.WriteFailed = trouble.WriteFailed
-trouble_of run.NoMemory = trouble.NoMemory
+-- what kept the program from its end, where a call gave up and this file is the one that failed, if one did
+abbrev pub trouble_of : RunFault → Bor (List ℕ) → Trouble
+trouble_of run.ReadFailed input = trouble.CannotRead input
+trouble_of run.WriteFailed input = trouble.WriteFailed
+trouble_of run.NoMemory input = trouble.NoMemory

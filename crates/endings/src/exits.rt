@@ -1,5 +1,5 @@
 //! The exit status of each verdict, and what keeps the program from its end.
-ghost use Rattle.std.specs.Prelude.{◌≡◌};
+ghost use Rattle.std.specs.Prelude.{◌≡◌, max};
 
 use engine::{RunFault, Verdict};
 use std::fmt;
@@ -37,13 +37,24 @@ impl Exit {
             Exit::Usage => 64,
         }
     }
+
+    /// The one with the greater status.
+    pub fn worse(self, other: Exit) -> Exit
+        ensures { status_of result ≡ max (status_of self) (status_of other) }
+    {
+        if self.status() < other.status() {
+            other
+        } else {
+            self
+        }
+    }
 }
 
 /// What kept the program from its end. Its text is what standard error gets.
 #[derive(Clone, Copy, Debug, PartialEq, Eq)]
 pub enum Trouble<'a> {
-    /// An input failed.
-    ReadFailed,
+    /// The file of this name could not be read.
+    CannotRead(&'a str),
     /// The output failed, or took no byte of a write.
     WriteFailed,
     /// Memory was refused.
@@ -55,7 +66,7 @@ pub enum Trouble<'a> {
 impl fmt::Display for Trouble<'_> {
     fn fmt<W: fmt::Write>(&self, f: &mut fmt::Formatter<W>) -> fmt::Result {
         match self {
-            Trouble::ReadFailed => write!(f, "read failed"),
+            Trouble::CannotRead(name) => write!(f, "cannot read {name}"),
             Trouble::WriteFailed => write!(f, "write failed"),
             Trouble::NoMemory => write!(f, "no memory"),
             Trouble::CannotOpen(name) => write!(f, "cannot open {name}"),
@@ -63,15 +74,15 @@ impl fmt::Display for Trouble<'_> {
     }
 }
 
-impl From<RunFault> for Trouble<'_> {
-    ghost use Rattle.std.specs.Prelude.{◌≡◌};
+impl<'a> Trouble<'a> {
     ghost use Rattle.endings.specs.Exits.{trouble_of};
 
-    ghost from_gives = { λ fault trouble. trouble ≡ trouble_of fault };
-
-    fn from(fault: RunFault) -> Self {
+    /// What kept the program from its end, where a call gave up. `input` is the file that failed, where one did.
+    pub fn of(fault: RunFault, input: &'a str) -> Trouble<'a>
+        ensures { result ≡ trouble_of fault input.entry }
+    {
         match fault {
-            RunFault::ReadFailed => Trouble::ReadFailed,
+            RunFault::ReadFailed => Trouble::CannotRead(input),
             RunFault::WriteFailed => Trouble::WriteFailed,
             RunFault::NoMemory => Trouble::NoMemory,
         }

@@ -21,14 +21,63 @@ pub struct GameFiles<'a> {
     pub game: &'a str,
 }
 
-/// What the command line asks for. Files are told by their names, a rack by its tiles.
+/// Where the names of the games of an archive stand.
+#[derive(Drop)]
+pub enum ArchiveNames<'a> {
+    /// On the command line.
+    Given(Vec<&'a str>),
+    /// In the file of this name, or on standard input where it is `-`.
+    Listed(&'a str),
+}
+
+impl<'a> ArchiveNames<'a> {
+    /// The file that the names are read from.
+    pub fn source(&self) -> &'a str {
+        match self {
+            ArchiveNames::Given(_) => "",
+            ArchiveNames::Listed(name) => *name,
+        }
+    }
+}
+
+/// What is said of the progress of a run.
 #[derive(Clone, Copy)]
+pub enum Progressing {
+    /// That it is to be told.
+    Shown,
+    /// That it is not.
+    Quiet,
+    /// Nothing.
+    Unsaid,
+}
+
+/// The games of an archive, and what they are judged by.
+#[derive(Drop)]
+pub struct Archive<'a> {
+    /// The rules text; without one the rules are the English ones.
+    pub rules: Option<&'a str>,
+    /// The word list.
+    pub words: &'a str,
+    /// The lexicon of the words.
+    pub lexicon: &'a str,
+    /// The names of the records.
+    pub names: ArchiveNames<'a>,
+    /// Whether the lines are JSON objects.
+    pub json: bool,
+    /// Whether it is told how many games are done.
+    pub progress: Progressing,
+}
+
+/// What the command line asks for. Files are told by their names, a rack by its tiles.
+#[derive(Drop)]
 pub enum Request<'a> {
     /// To judge the game of a record, and to search for a deal where `settle` says so.
     Judge {
         settle: bool,
         files: GameFiles<'a>,
     },
+    /// To judge many games, and to tell each on one line.
+    Archive(Archive<'a>),
     /// To write the lexicon of a word list to the file `out`.
     Build {
         words: &'a str,
@@ -64,7 +113,7 @@ pub enum Request<'a> {
 /// its text.
 pub fn parse_arguments<'a>(alloc: Global, arguments: &'a [String]) -> Result<Request<'a>, Error> {
     let matches = command(alloc)?.try_get_matches_from(arguments)?;
-    match request_of(&matches) {
+    match request_of(alloc, &matches)? {
         Some(request) => Ok(request),
         None => Err(mistake(alloc, "a command with its names is needed")),
     }
@@ -87,6 +136,7 @@ fn command<'a>(alloc: Global) -> Result<Command<'a>, AllocError> {
         .about("Judges a game of Scrabble from its record, and keeps the lexicon of a word list")
         .subcommand_required(true)
         .subcommand(judge_command(alloc)?)?
+        .subcommand(archive_command(alloc)?)?
         .subcommand(build_command(alloc)?)?
         .subcommand(check_command(alloc)?)?
         .subcommand(convert_command(alloc)?)?
@@ -103,14 +153,42 @@ fn judge_command<'a>(alloc: Global) -> Result<Command<'a>, AllocError> {
         .arg(name(alloc, "WORDS", "the word list"))?
         .arg(name(alloc, "LEXICON", "the lexicon file of the words"))?
         .arg(name(alloc, "GAME", "the GCG record"))?
+        .arg(flag(
+            alloc,
+            "settle",
+            "search for a deal, or a proof that there is none, where the game would be unsettled",
+        ))?
+        .arg(rules_option(alloc))
+}
+
+/// `archive [--rules FILE] [--names FILE] [--json] [--progress|--quiet] WORDS LEXICON [GAME...]`.
+fn archive_command<'a>(alloc: Global) -> Result<Command<'a>, AllocError> {
+    Command::new(alloc, "archive")
+        .about("Judges many games by one word list and one lexicon, and tells each on one line")
+        .arg(name(alloc, "WORDS", "the word list"))?
+        .arg(name(alloc, "LEXICON", "the lexicon file of the words"))?
         .arg(
-            Arg::new(alloc, "settle")
-                .long("settle")
-                .action(ArgAction::SetTrue)
-                .help(
-                    "search for a deal, or a proof that there is none, where the game would be unsettled",
-                ),
+            Arg::new(alloc, "GAME")
+                .action(ArgAction::Append)
+                .num_args(1..)
+                .required_unless_present("names")?
+                .conflicts_with("names")?
+                .help("the GCG records"),
         )?
+        .arg(
+            Arg::new(alloc, "names")
+                .long("names")
+                .value_name("FILE")
+                .help("the names of the records, one a line; - is standard input"),
+        )?
+        .arg(flag(alloc, "json", "write each line as a JSON object"))?
+        .arg(flag(
+            alloc,
+            "progress",
+            "tell on standard error how many games are done",
+        )
+        .conflicts_with("quiet")?)?
+        .arg(flag(alloc, "quiet", "do not tell how many games are done"))?
         .arg(rules_option(alloc))
 }
 
@@ -170,6 +248,14 @@ fn name<'a>(alloc: Global, name: &'a str, help: &'a str) -> Arg<'a> {
     Arg::new(alloc, name).required(true).help(help)
 }
 
+/// An option without a value.
+fn flag<'a>(alloc: Global, name: &'a str, help: &'a str) -> Arg<'a> {
+    Arg::new(alloc, name)
+        .long(name)
+        .action(ArgAction::SetTrue)
+        .help(help)
+}
+
 /// The option that names a rules text.
 fn rules_option<'a>(alloc: Global) -> Arg<'a> {
     Arg::new(alloc, "rules")
@@ -179,8 +265,54 @@ fn rules_option<'a>(alloc: Global) -> Arg<'a> {
 }
 
 /// What the matches of a parse ask for: there is always something, since every argument is required.
-fn request_of<'a>(matches: &ArgMatches<'a>) -> Option<Request<'a>> {
-    let (command, names) = matches.subcommand()?;
+fn request_of<'a>(
+    alloc: Global,
+    matches: &ArgMatches<'a>,
+) -> Result<Option<Request<'a>>, AllocError> {
+    let Some((command, names)) = matches.subcommand() else {
+        return Ok(None);
+    };
+    if command == "archive" {
+        return archive_of(alloc, names);
+    }
+    Ok(small_request_of(command, names))
+}
+
+/// What the matches of `archive` ask for.
+fn archive_of<'a>(
+    alloc: Global,
+    names: &ArgMatches<'a>,
+) -> Result<Option<Request<'a>>, AllocError> {
+    let (Some(words), Some(lexicon)) = (names.get_str("WORDS"), names.get_str("LEXICON")) else {
+        return Ok(None);
+    };
+    let games = match names.get_str("names") {
+        Some(file) => ArchiveNames::Listed(file),
+        None => ArchiveNames::Given(Vec::from_slice(alloc, names.get_strs("GAME").unwrap_or(&[]))?),
+    };
+    Ok(Some(Request::Archive(Archive {
+        rules: names.get_str("rules"),
+        words,
+        lexicon,
+        names: games,
+        json: names.get_flag("json"),
+        progress: wanted_progress(names),
+    })))
+}
+
+/// What is said of the progress of a run.
+fn wanted_progress(names: &ArgMatches<'_>) -> Progressing {
+    if names.get_flag("progress") {
+        Progressing::Shown
+    } else if names.get_flag("quiet") {
+        Progressing::Quiet
+    } else {
+        Progressing::Unsaid
+    }
+}
+
+/// What the matches of a command ask for that is about a few files.
+fn small_request_of<'a>(command: &str, names: &ArgMatches<'a>) -> Option<Request<'a>> {
     match command {
         "judge" => Some(Request::Judge {
             settle: names.get_flag("settle"),

@@ -3,12 +3,21 @@
 //! Exit statuses: 0 legal or done, 1 illegal, 2 unsettled, 3 bad input, 4 a device or memory, 64 the command line.
 #![tactic(auto)]
 
+mod archiving;
 mod command_line;
+mod counted;
+mod files;
+mod games;
+mod lexicons;
+mod names;
+mod progress;
 mod running;
 
 use crate::running::run_program;
+use std::io::IsTerminal;
 use std::process::ExitCode;
 
 fn main(rt: HostRuntime) -> ExitCode {
-    ExitCode::from(run_program(&rt).status())
+    let watched = rt.stderr().is_terminal();
+    ExitCode::from(run_program(&rt, watched).status())
 }

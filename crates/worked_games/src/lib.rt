@@ -6,6 +6,8 @@
 #![tactic(auto)]
 
 #[cfg(test)]
+mod archiving;
+#[cfg(test)]
 mod best_plays;
 #[cfg(test)]
 mod converting;

@@ -1,0 +1,38 @@
+-- The words of a line, and how the program ends after it.
+use Rattle.std.specs.Prelude.{ℕ, List, codes}
+use Rattle.endings.specs.declared.exits.Exit.{Exit}
+use Rattle.endings.specs.declared.exits.Exit.TheVariants as exit
+use Rattle.archive_lines.specs.declared.answers.Answer.{Answer}
+use Rattle.archive_lines.specs.declared.answers.Answer.TheVariants.{Legal, Illegal, Unsettled, BadRecord, NoGame, Unread}
+use Rattle.archive_lines.specs.declared.answers.Ending.{Ending}
+use Rattle.archive_lines.specs.declared.answers.Ending.TheVariants.{Complete, Unfinished}
+use Rattle.archive_lines.specs.declared.answers.Unread.{Unread as Reason}
+use Rattle.archive_lines.specs.declared.answers.Unread.TheVariants.{CannotOpen, ReadFailed, NoMemory}
+
+abbrev pub answer_text : Answer → List ℕ
+answer_text Legal = codes "legal"
+answer_text Illegal = codes "illegal"
+answer_text Unsettled = codes "unsettled"
+answer_text BadRecord = codes "bad record"
+answer_text NoGame = codes "no game"
+answer_text Unread = codes "unread"
+
+-- how the program ends after a line with this answer
+abbrev pub exit_of : Answer → Exit
+exit_of Legal = exit.Fine
+exit_of Illegal = exit.Illegal
+exit_of Unsettled = exit.Unsettled
+exit_of BadRecord = exit.BadInput
+exit_of NoGame = exit.BadInput
+exit_of Unread = exit.Broken
+
+-- whether a legal game has ended
+abbrev pub ending_text : Ending → List ℕ
+ending_text Complete = codes "complete"
+ending_text Unfinished = codes "unfinished"
+
+-- why a game is unread
+abbrev pub unread_text : Reason → List ℕ
+unread_text CannotOpen = codes "cannot open"
+unread_text ReadFailed = codes "read failed"
+unread_text NoMemory = codes "no memory"

@@ -1,0 +1,118 @@
+//! What a line answers of a game, and how the program ends after it.
+ghost use Rattle.std.specs.Prelude.{◌≡◌};
+
+use endings::Exit;
+use serde::{Described, Serialize, Serializer};
+
+/// What a line answers of a game.
+#[derive(Clone, Copy, Debug, PartialEq, Eq)]
+pub enum Answer {
+    /// The game is legal.
+    Legal,
+    /// The game is illegal.
+    Illegal,
+    /// Whether the game is legal was not settled.
+    Unsettled,
+    /// The file is no record.
+    BadRecord,
+    /// The record has no event.
+    NoGame,
+    /// The file was not opened or not read to its end, or memory was refused.
+    Unread,
+}
+
+impl Answer {
+    ghost use Rattle.archive_lines.specs.Answers.{answer_text, exit_of};
+
+    /// The answer as a line has it.
+    pub fn name(self) -> &'static str
+        ensures { result.now ≡ answer_text self }
+    {
+        match self {
+            Answer::Legal => "legal",
+            Answer::Illegal => "illegal",
+            Answer::Unsettled => "unsettled",
+            Answer::BadRecord => "bad record",
+            Answer::NoGame => "no game",
+            Answer::Unread => "unread",
+        }
+    }
+
+    /// How the program ends where no other game has a greater status.
+    pub fn exit(self) -> Exit
+        ensures { result ≡ exit_of self }
+    {
+        match self {
+            Answer::Legal => Exit::Fine,
+            Answer::Illegal => Exit::Illegal,
+            Answer::Unsettled => Exit::Unsettled,
+            Answer::BadRecord | Answer::NoGame => Exit::BadInput,
+            Answer::Unread => Exit::Broken,
+        }
+    }
+}
+
+impl Described for Answer {}
+
+impl Serialize for Answer {
+    fn serialize<S: Serializer>(&self, out: &mut S) -> Result<(), S::Error> {
+        self.name().serialize(out)
+    }
+}
+
+/// Whether a legal game has ended.
+#[derive(Clone, Copy, Debug, PartialEq, Eq)]
+pub enum Ending {
+    /// It has.
+    Complete,
+    /// It has not.
+    Unfinished,
+}
+
+impl Ending {
+    ghost use Rattle.archive_lines.specs.Answers.{ending_text};
+
+    /// The ending as a line has it.
+    pub fn name(self) -> &'static str
+        ensures { result.now ≡ ending_text self }
+    {
+        match self {
+            Ending::Complete => "complete",
+            Ending::Unfinished => "unfinished",
+        }
+    }
+}
+
+impl Described for Ending {}
+
+impl Serialize for Ending {
+    fn serialize<S: Serializer>(&self, out: &mut S) -> Result<(), S::Error> {
+        self.name().serialize(out)
+    }
+}
+
+/// Why a game is unread.
+#[derive(Clone, Copy, Debug, PartialEq, Eq)]
+pub enum Unread {
+    /// The file could not be opened.
+    CannotOpen,
+    /// The file could not be read to its end.
+    ReadFailed,
+    /// Memory was refused.
+    NoMemory,
+}
+
+impl Unread {
+    ghost use Rattle.archive_lines.specs.Answers.{unread_text};
+
+    /// The reason as a line has it.
+    pub fn name(self) -> &'static str
+        ensures { result.now ≡ unread_text self }
+    {
+        match self {
+            Unread::CannotOpen => "cannot open",
+            Unread::ReadFailed => "read failed",
+            Unread::NoMemory => "no memory",
+        }
+    }
+}

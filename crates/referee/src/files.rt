@@ -1,0 +1,56 @@
+//! The files of a call: how they are opened, and what is told of the one that failed.
+
+use devices::FromRead;
+use endings::Trouble;
+use engine::{RunFault, Verdict};
+use std::io::Read;
+use std::rt::Files;
+use std::{fs, io};
+
+/// Opens a file to be read.
+pub fn open<'a, R: Files>(rt: &R, name: &'a str) -> Result<R::File, Trouble<'a>> {
+    opened(name, fs::open(rt, name))
+}
+
+/// Creates a file to be written, or empties it.
+pub fn create<'a, R: Files>(rt: &R, name: &'a str) -> Result<R::File, Trouble<'a>> {
+    opened(name, fs::create(rt, name))
+}
+
+/// The file of this name, or what kept it from being opened.
+fn opened<'a, F>(name: &'a str, file: io::Result<F>) -> Result<F, Trouble<'a>> {
+    match file {
+        Ok(file) => Ok(file),
+        Err(error) if error.kind() == io::ErrorKind::OutOfMemory => Err(Trouble::NoMemory),
+        Err(_) => Err(Trouble::CannotOpen(name)),
+    }
+}
+
+/// An input after a call: the name of its file, and how often a read of it failed.
+#[derive(Clone, Copy)]
+pub struct InputFile<'a> {
+    name: &'a str,
+    failures: u64,
+}
+
+/// The input of the file of this name.
+pub fn used<'a, F: Read + Drop>(name: &'a str, input: &FromRead<F>) -> InputFile<'a> {
+    InputFile {
+        name,
+        failures: input.failures(),
+    }
+}
+
+/// What a call came to. Where an input failed, it is the first of these that has a failure.
+pub fn told<'a>(
+    outcome: Result<Verdict, RunFault>,
+    inputs: &[InputFile<'a>],
+) -> Result<Verdict, Trouble<'a>> {
+    match outcome {
+        Ok(verdict) => Ok(verdict),
+        Err(fault) => {
+            let failed = inputs.iter().find(|input| input.failures > 0);
+            Err(Trouble::of(fault, failed.map_or("", |input| input.name)))
+        }
+    }
+}

@@ -1,0 +1,237 @@
+//! The commands that are about one game.
+
+use crate::command_line::GameFiles;
+use crate::counted::Counted;
+use crate::files::{open, told, used};
+use devices::{FromRead, FromWrite};
+use endings::Trouble;
+use engine::{
+    Verdict, run, run_ruled, run_settled, run_settled_ruled, run_tidy, run_top, run_top_ruled,
+};
+use ref_tiles::english_rules;
+use std::io;
+use std::rt::{Files, Runtime};
+
+/// How long the report of a legal game is of which no event is told.
+const WITHOUT_EVENTS: u64 = b"legal unfinished\n".len() as u64;
+
+/// The open files of a game.
+struct OpenGame<F> {
+    words: F,
+    lexicon: F,
+    game: F,
+}
+
+/// Opens the word list, the lexicon and the record of a game, in this order.
+fn open_game<'a, R: Files>(rt: &R, files: GameFiles<'a>) -> Result<OpenGame<R::File>, Trouble<'a>> {
+    Ok(OpenGame {
+        words: open(rt, files.words)?,
+        lexicon: open(rt, files.lexicon)?,
+        game: open(rt, files.game)?,
+    })
+}
+
+/// What `judge` found, and how long its report is.
+#[derive(Clone, Copy)]
+struct Judged {
+    verdict: Verdict,
+    bytes: u64,
+}
+
+/// Judges the game of a record, by the English rules or those of a text; a search for a deal settles it where that is asked
+/// for. The report goes to standard output.
+pub fn judge<'a, R: Runtime + AllocGlobal>(
+    rt: &R,
+    settle: bool,
+    files: GameFiles<'a>,
+) -> Result<Verdict, Trouble<'a>> {
+    let judged = match files.rules {
+        None => judge_english(rt, settle, files)?,
+        Some(rules) => judge_ruled(rt, settle, rules, files)?,
+    };
+    advise(rt, settle, files.game, judged);
+    Ok(judged.verdict)
+}
+
+/// Says beside a report what may be done about it: where a search may settle the game, and where the record has no event.
+fn advise<R: Runtime>(rt: &R, settle: bool, game: &str, judged: Judged) {
+    match judged.verdict {
+        Verdict::Unsettled if !settle => {
+            let _ = rt.eprintln(
+                "unsettled: `judge --settle` searches for a deal that yields the racks",
+            );
+        }
+        Verdict::Legal { .. } if judged.bytes == WITHOUT_EVENTS => {
+            let _ = rt.eprintln(format_args!("no event: is {game} a game record?"));
+        }
+        _ => {}
+    }
+}
+
+/// Judges the game of a record by the English rules.
+fn judge_english<'a, R: Runtime + AllocGlobal>(
+    rt: &R,
+    settle: bool,
+    files: GameFiles<'a>,
+) -> Result<Judged, Trouble<'a>> {
+    let OpenGame {
+        words,
+        lexicon,
+        game,
+    } = open_game(rt, files)?;
+    let mut words = FromRead::new(words);
+    let mut lexicon = FromRead::new(lexicon);
+    let mut game = FromRead::new(game);
+    let mut out = FromWrite::new(Counted::new(io::writer(rt)));
+    let alloc = rt.alloc();
+    let rules = english_rules();
+    let outcome = if settle {
+        run_settled(alloc, &mut words, &mut lexicon, &mut game, &mut out, &rules)
+    } else {
+        run(alloc, &mut words, &mut lexicon, &mut game, &mut out, &rules)
+    };
+    let inputs = [
+        used(files.words, &words),
+        used(files.lexicon, &lexicon),
+        used(files.game, &game),
+    ];
+    let verdict = told(outcome, &inputs)?;
+    let bytes = out.into_inner().taken();
+    Ok(Judged { verdict, bytes })
+}
+
+/// The same by the rules of a text, whose file is opened first.
+fn judge_ruled<'a, R: Runtime + AllocGlobal>(
+    rt: &R,
+    settle: bool,
+    rules: &'a str,
+    files: GameFiles<'a>,
+) -> Result<Judged, Trouble<'a>> {
+    let mut text = FromRead::new(open(rt, rules)?);
+    let OpenGame {
+        words,
+        lexicon,
+        game,
+    } = open_game(rt, files)?;
+    let mut words = FromRead::new(words);
+    let mut lexicon = FromRead::new(lexicon);
+    let mut game = FromRead::new(game);
+    let mut out = FromWrite::new(Counted::new(io::writer(rt)));
+    let alloc = rt.alloc();
+    let outcome = if settle {
+        run_settled_ruled(
+            alloc,
+            &mut text,
+            &mut words,
+            &mut lexicon,
+            &mut game,
+            &mut out,
+        )
+    } else {
+        run_ruled(
+            alloc,
+            &mut text,
+            &mut words,
+            &mut lexicon,
+            &mut game,
+            &mut out,
+        )
+    };
+    let inputs = [
+        used(rules, &text),
+        used(files.words, &words),
+        used(files.lexicon, &lexicon),
+        used(files.game, &game),
+    ];
+    let verdict = told(outcome, &inputs)?;
+    let bytes = out.into_inner().taken();
+    Ok(Judged { verdict, bytes })
+}
+
+/// Writes the best plays by a rack on the board after a record, by the English rules or those of a text, to standard output.
+/// The files are opened before the rack is looked at.
+pub fn top<'a, R: Runtime + AllocGlobal>(
+    rt: &R,
+    files: GameFiles<'a>,
+    rack: &str,
+) -> Result<Verdict, Trouble<'a>> {
+    match files.rules {
+        None => top_english(rt, files, rack.as_bytes()),
+        Some(rules) => top_ruled(rt, rules, files, rack.as_bytes()),
+    }
+}
+
+/// Writes the best plays by the English rules.
+fn top_english<'a, R: Runtime + AllocGlobal>(
+    rt: &R,
+    files: GameFiles<'a>,
+    rack: &[u8],
+) -> Result<Verdict, Trouble<'a>> {
+    let OpenGame {
+        words,
+        lexicon,
+        game,
+    } = open_game(rt, files)?;
+    let mut words = FromRead::new(words);
+    let mut lexicon = FromRead::new(lexicon);
+    let mut game = FromRead::new(game);
+    let mut out = FromWrite::new(io::writer(rt));
+    let outcome = run_top(
+        rt.alloc(),
+        &mut words,
+        &mut lexicon,
+        &mut game,
+        rack,
+        &mut out,
+        &english_rules(),
+    );
+    let inputs = [
+        used(files.words, &words),
+        used(files.lexicon, &lexicon),
+        used(files.game, &game),
+    ];
+    told(outcome, &inputs)
+}
+
+/// The same by the rules of a text, whose file is opened first.
+fn top_ruled<'a, R: Runtime + AllocGlobal>(
+    rt: &R,
+    rules: &'a str,
+    files: GameFiles<'a>,
+    rack: &[u8],
+) -> Result<Verdict, Trouble<'a>> {
+    let mut text = FromRead::new(open(rt, rules)?);
+    let OpenGame {
+        words,
+        lexicon,
+        game,
+    } = open_game(rt, files)?;
+    let mut words = FromRead::new(words);
+    let mut lexicon = FromRead::new(lexicon);
+    let mut game = FromRead::new(game);
+    let mut out = FromWrite::new(io::writer(rt));
+    let outcome = run_top_ruled(
+        rt.alloc(),
+        &mut text,
+        &mut words,
+        &mut lexicon,
+        &mut game,
+        rack,
+        &mut out,
+    );
+    let inputs = [
+        used(rules, &text),
+        used(files.words, &words),
+        used(files.lexicon, &lexicon),
+        used(files.game, &game),
+    ];
+    told(outcome, &inputs)
+}
+
+/// Writes the normal form of the record of a file to standard output.
+pub fn tidy<'a, R: Runtime + AllocGlobal>(rt: &R, game: &'a str) -> Result<Verdict, Trouble<'a>> {
+    let mut record = FromRead::new(open(rt, game)?);
+    let mut out = FromWrite::new(io::writer(rt));
+    let outcome = run_tidy(rt.alloc(), &mut record, &mut out);
+    told(outcome, &[used(game, &record)])
+}

@@ -1,0 +1,47 @@
+//! The commands that keep the lexicon of a word list.
+
+use crate::files::{create, open, told, used};
+use devices::{FromRead, FromWrite};
+use endings::Trouble;
+use engine::{Verdict, run_build, run_check, run_convert};
+use lex_file::Format;
+use std::io;
+use std::rt::Runtime;
+
+/// Writes the lexicon of a word list, or the line of the list's fault, to the file `out`.
+pub fn build<'a, R: Runtime + AllocGlobal>(
+    rt: &R,
+    words: &'a str,
+    out: &'a str,
+) -> Result<Verdict, Trouble<'a>> {
+    let mut list = FromRead::new(open(rt, words)?);
+    let mut out = FromWrite::new(create(rt, out)?);
+    let outcome = run_build(rt.alloc(), &mut list, &mut out);
+    told(outcome, &[used(words, &list)])
+}
+
+/// Compares a lexicon with a word list. What was found goes to standard output.
+pub fn check<'a, R: Runtime + AllocGlobal>(
+    rt: &R,
+    words: &'a str,
+    lexicon: &'a str,
+) -> Result<Verdict, Trouble<'a>> {
+    let mut list = FromRead::new(open(rt, words)?);
+    let mut file = FromRead::new(open(rt, lexicon)?);
+    let mut out = FromWrite::new(io::writer(rt));
+    let outcome = run_check(rt.alloc(), &mut list, &mut file, &mut out);
+    told(outcome, &[used(words, &list), used(lexicon, &file)])
+}
+
+/// Writes a lexicon in a format, or the line of the lexicon's fault, to the file `out`.
+pub fn convert<'a, R: Runtime + AllocGlobal>(
+    rt: &R,
+    format: Format,
+    lexicon: &'a str,
+    out: &'a str,
+) -> Result<Verdict, Trouble<'a>> {
+    let mut file = FromRead::new(open(rt, lexicon)?);
+    let mut out = FromWrite::new(create(rt, out)?);
+    let outcome = run_convert(rt.alloc(), &mut file, format, &mut out);
+    told(outcome, &[used(lexicon, &file)])
+}

@@ -1,0 +1,63 @@
+//! The names of the games of an archive, one after the other.
+
+use std::io::{self, BufRead};
+
+/// Where the names of games come from.
+pub trait Names {
+    /// Puts the next name into the buffer, which is empty, and tells whether there is one.
+    fn next_name(&mut self, name: &mut Vec<u8>) -> io::Result<bool>;
+}
+
+/// The names that the command line gives.
+#[derive(Drop)]
+pub struct Given<'a> {
+    rest: &'a [&'a str],
+}
+
+impl<'a> Given<'a> {
+    /// These names.
+    pub fn new(names: &'a [&'a str]) -> Given<'a> {
+        Given { rest: names }
+    }
+}
+
+impl Names for Given<'_> {
+    fn next_name(&mut self, name: &mut Vec<u8>) -> io::Result<bool> {
+        let Some((first, rest)) = self.rest.split_first() else {
+            return Ok(false);
+        };
+        self.rest = rest;
+        name.extend_from_slice(first.as_bytes())?;
+        Ok(true)
+    }
+}
+
+/// The names of a text, one a line; an empty line is none.
+#[derive(Drop)]
+pub struct Listed<B> {
+    reader: B,
+}
+
+impl<B: BufRead + Drop> Listed<B> {
+    /// The names of the text that is read here.
+    pub fn new(reader: B) -> Listed<B> {
+        Listed { reader }
+    }
+}
+
+impl<B: BufRead + Drop> Names for Listed<B> {
+    fn next_name(&mut self, name: &mut Vec<u8>) -> io::Result<bool> {
+        for _ in 0..u64::MAX {
+            if self.reader.read_until(b'\n', name)? == 0 {
+                return Ok(false);
+            }
+            if name.last() == Some(&b'\n') {
+                name.pop();
+            }
+            if !name.is_empty() {
+                return Ok(true);
+            }
+        }
+        Ok(false)
+    }
+}

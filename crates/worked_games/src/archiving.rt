@@ -1,0 +1,127 @@
+//! Lines of an archive.
+use archive_lines::{Answer, Fields, Unread, push_escaped, push_json_line, push_tab_line};
+use engine::{Entry, Finding, GameFault};
+use game_turns::RuleFault;
+use gcg_read::{ReadFault, Record, Why};
+use std::alloc::Global;
+use std::process::Abort;
+
+/// The line of these fields, in both forms.
+fn lines_of(rt: &impl Abort, alloc: Global, fields: &Fields<'_>) -> (Vec<u8>, Vec<u8>) {
+    let mut tabs = Vec::new(alloc);
+    push_tab_line(&mut tabs, fields).expect(rt, "a line");
+    let mut object = Vec::new(alloc);
+    push_json_line(alloc, &mut object, fields).expect(rt, "an object");
+    (tabs, object)
+}
+
+#[test]
+fn names_in_lines(rt: HostRuntime) {
+    let rows: [(&str, &str); 6] = [
+        ("a.gcg", "a.gcg"),
+        ("", ""),
+        ("a\tb", "a\\tb"),
+        ("a\nb", "a\\nb"),
+        ("a\\tb", "a\\\\tb"),
+        ("\\\t\n\u{e9}", "\\\\\\t\\n\u{e9}"),
+    ];
+    for (name, want) in rows {
+        let mut line = Vec::new(rt.alloc());
+        push_escaped(&mut line, name.as_bytes()).expect(&rt, "a name");
+        assert_eq!(rt; line.as_slice(), want.as_bytes(), "{want}");
+    }
+}
+
+#[test]
+fn statuses_of_answers(rt: HostRuntime) {
+    let rows: [(Answer, u8); 6] = [
+        (Answer::Legal, 0),
+        (Answer::Illegal, 1),
+        (Answer::Unsettled, 2),
+        (Answer::BadRecord, 3),
+        (Answer::NoGame, 3),
+        (Answer::Unread, 4),
+    ];
+    for (answer, status) in rows {
+        assert_eq!(rt; answer.exit().status(), status);
+        for (other, other_status) in rows {
+            let worse = answer.exit().worse(other.exit());
+            assert_eq!(rt; worse.status(), status.max(other_status));
+        }
+    }
+}
+
+#[test]
+fn lines_without_an_entry(rt: HostRuntime) {
+    let why = ReadFault {
+        line: 0,
+        why: Why::TooLong,
+    };
+    let rows: [(Fields<'_>, &str, &str); 3] = [
+        (
+            Fields::unread("a", Unread::CannotOpen),
+            "a\tunread\t-\t-\tcannot open\t-\t-\t-\t-\t-\t-\n",
+            "{\"name\":\"a\",\"verdict\":\"unread\",\"ending\":null,\"line\":null,\"fault\":\"cannot open\",\"events\":null,\"player1\":null,\"total1\":null,\"player2\":null,\"total2\":null,\"unlisted\":null}\n",
+        ),
+        (
+            Fields::unread("a", Unread::ReadFailed),
+            "a\tunread\t-\t-\tread failed\t-\t-\t-\t-\t-\t-\n",
+            "{\"name\":\"a\",\"verdict\":\"unread\",\"ending\":null,\"line\":null,\"fault\":\"read failed\",\"events\":null,\"player1\":null,\"total1\":null,\"player2\":null,\"total2\":null,\"unlisted\":null}\n",
+        ),
+        (
+            Fields::bad_record("a\t\"", &why),
+            "a\\t\"\tbad record\t-\t-\tTooLong\t-\t-\t-\t-\t-\t-\n",
+            "{\"name\":\"a\\t\\\"\",\"verdict\":\"bad record\",\"ending\":null,\"line\":null,\"fault\":\"TooLong\",\"events\":null,\"player1\":null,\"total1\":null,\"player2\":null,\"total2\":null,\"unlisted\":null}\n",
+        ),
+    ];
+    for (fields, tabs, object) in rows {
+        let told = lines_of(&rt, rt.alloc(), &fields);
+        assert_eq!(rt; told.0.as_slice(), tabs.as_bytes(), "{tabs}");
+        assert_eq!(rt; told.1.as_slice(), object.as_bytes(), "{object}");
+    }
+}
+
+#[test]
+fn lines_of_findings(rt: HostRuntime) {
+    let wrong = GameFault::Rule(RuleFault::WrongScore(16));
+    let rows: [(Finding, Option<usize>, &str); 5] = [
+        (
+            Finding::Legal { complete: true },
+            Some(0),
+            "a\tlegal\tcomplete\t-\t-\t0\t-\t-\t-\t-\t0\n",
+        ),
+        (
+            Finding::Legal { complete: false },
+            Some(2),
+            "a\tlegal\tunfinished\t-\t-\t0\t-\t-\t-\t-\t2\n",
+        ),
+        (
+            Finding::Illegal {
+                line: 7,
+                fault: wrong,
+            },
+            None,
+            "a\tillegal\t-\t7\tWrongScore 16\t0\t-\t-\t-\t-\t-\n",
+        ),
+        (
+            Finding::Unsettled,
+            Some(1),
+            "a\tunsettled\t-\t-\t-\t0\t-\t-\t-\t-\t1\n",
+        ),
+        (
+            Finding::NoGame,
+            Some(0),
+            "a\tno game\t-\t-\t-\t0\t-\t-\t-\t-\t0\n",
+        ),
+    ];
+    for (finding, unlisted, want) in rows {
+        let entry = Entry {
+            record: Record::empty(rt.alloc()),
+            finding,
+            unlisted,
+        };
+        let fields = Fields::of_entry(rt.alloc(), "a", &entry).expect(&rt, "fields");
+        let told = lines_of(&rt, rt.alloc(), &fields);
+        assert_eq!(rt; told.0.as_slice(), want.as_bytes(), "{want}");
+    }
+}

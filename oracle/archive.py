@@ -1,0 +1,97 @@
+"""What `archive` says of a game, by the second judge: the fields of its line, and the two forms of a line."""
+import json
+
+from deals import decide, event_of
+from games import go_through
+from records import Fault, read
+from rules import ENGLISH
+
+NAMES = ["name", "verdict", "ending", "line", "fault", "events", "player1", "total1", "player2", "total2", "unlisted"]
+NUMBERS = {"line", "events", "total1", "total2", "unlisted"}
+STATUSES = {"legal": 0, "illegal": 1, "unsettled": 2, "bad record": 3, "no game": 3, "unread": 4}
+ESCAPES = {"\\": "\\\\", "\t": "\\t", "\n": "\\n"}
+
+
+def fields(name, verdict, **others):
+    """A line, by the names of its fields; what is not told is None."""
+    return dict.fromkeys(NAMES) | {"name": name, "verdict": verdict} | others
+
+
+def unread(name, why):
+    return fields(name, "unread", fault=why)
+
+
+def known(players, events):
+    """What is said of the players and the events of a record, whatever its verdict is."""
+    told = {"events": len(events)}
+    for seat, number in enumerate("12"):
+        totals = [event.total for event in events if event.player == seat]
+        nick = players[seat][0].decode(errors="replace") if players[seat] else ""
+        told |= {f"player{number}": nick or None, f"total{number}": totals[-1] if totals else None}
+    return told
+
+
+def ways(name, game, listed, rules=ENGLISH, dealt=False):
+    """The lines of which one has to be said of the bytes of a game. One that was dealt for real is legal where each event is allowed."""
+    try:
+        players, said = read(game)
+    except Fault as fault:
+        return [fields(name, "bad record", line=fault.line or None, fault=fault.why)]
+    events = [event_of(it) for it in said]
+    told = known(players, events)
+    if not events:
+        return [fields(name, "no game", unlisted=0, **told)]
+    numbers = [k for k, text in enumerate(game.removeprefix(b"\xef\xbb\xbf").split(b"\n"), 1) if text.startswith(b">")]
+    allowed, lines = go_through(events, listed, rules=rules)
+    told["unlisted"] = None if allowed.startswith("illegal") else sum(line.unlisted != "" for line in lines)
+    legal = fields(name, "legal", ending=allowed.split()[-1], **told)
+    if dealt and not allowed.startswith("illegal"):
+        return [legal]
+    verdict = decide(events, listed, rules)[0].strip()
+    if verdict.startswith("illegal"):
+        place, fault = verdict.removeprefix("illegal line ").split(": ")
+        return [fields(name, "illegal", line=numbers[int(place) - 1], fault=fault, **told)]
+    if verdict == "unsettled":
+        none = [fields(name, "illegal", line=number, fault="NoDeal", **told) for number in numbers]
+        return [legal, *none, fields(name, "unsettled", **told)]
+    return [legal]
+
+
+def tab_line(told):
+    """A line in the form with tabs."""
+    texts = ["-" if told[it] is None else str(told[it]) for it in NAMES]
+    texts[0] = "".join(ESCAPES.get(symbol, symbol) for symbol in told["name"])
+    return "\t".join(texts) + "\n"
+
+
+def read_tab_line(text):
+    """The fields of a line without its LF. A nickname of `-` cannot be told from none."""
+    texts = dict(zip(NAMES, text.split("\t"), strict=True))
+    shown = "".join({"t": "\t", "n": "\n", "\\": "\\"}[it[0]] + it[1:] if k else it for k, it in split_escapes(texts["name"]))
+    told = {it: None if text == "-" else int(text) if it in NUMBERS else text for it, text in texts.items()}
+    return told | {"name": shown}
+
+
+def split_escapes(name):
+    """The parts of an escaped name, each but the first behind a backslash that begins an escape."""
+    parts, at = [(0, "")], 0
+    while at < len(name):
+        if name[at] == "\\":
+            at += 1
+            parts.append((1, name[at]))
+        else:
+            parts[-1] = parts[-1][0], parts[-1][1] + name[at]
+        at += 1
+    return parts
+
+
+def read_json_line(text):
+    """The fields of a JSON object, which stand in their order."""
+    told = json.loads(text)
+    assert list(told) == NAMES, text
+    return told
+
+
+def status_of(lines):
+    """The exit status after these lines."""
+    return max((STATUSES[told["verdict"]] for told in lines), default=0)

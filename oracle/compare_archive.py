@@ -1,0 +1,133 @@
+"""Compares `referee archive` with the second judge: compare_archive.py PROGRAM CASES SEED
+
+Each run is of games by one list: games that nobody dealt, games that were dealt for real in each style, such games with a rack spoiled, and
+damaged records, with names that no file has and a folder among them. Every run is made in both forms, which have to say the same. One
+run in four is by a rules text.
+"""
+import random
+import subprocess
+import sys
+import tempfile
+from collections import Counter
+from pathlib import Path
+
+from archive import read_json_line, read_tab_line, status_of, tab_line, unread, ways
+from compare_games import Maker
+from dealing import Dealer, likely, line, spoiled
+from fuzz import TEXT_DAMAGES, damaged
+from lexicons import GAD2, build, convert
+from rules import ENGLISH
+from rules_texts import text_of
+from ruling import random_rules
+
+choose = random.choice
+STYLES = ["whole", "one", "mixed", "part", "none"]
+BOTH = ("known", "unknown")
+NAMES = ["a game", "tab\there", "back\\slash", "é", "ﬁne", "a'b", 'quote"', "-"]
+
+
+def text_from(events):
+    return "".join(map(line, events)).encode()
+
+
+def dealt_games(rules):
+    """A game that was dealt for real, and the same with a rack spoiled: the bytes, the listed words, what was taken back, and whether it was dealt."""
+    dealer = Dealer(rules, choose([4, 25, 40]), choose([(), BOTH, BOTH]), choose(STYLES), choose([4, 15, 40]))
+    events, _, listed = dealer.game()
+    yield text_from(events), set(listed) - dealer.phonies, dealer.phonies, True
+    changed = spoiled(events, rules)
+    if changed:
+        yield text_from(changed), set(), set(), False
+
+
+def other_games(rules):
+    """A game that nobody dealt, mostly, or a damaged record, or a file without an event."""
+    if likely(0.1):
+        yield choose([b"", b"<html>\n", b"#player1 A Ann Lee\n", b" >A: - +0 0\n", b"\xff\xfe>\0A\0:\0"]), set(), set(), False
+        return
+    maker = Maker(choose([2, 6, 40, 120]), rules)
+    game = text_from(maker.game())
+    listed = maker.listed
+    if likely(0.4):
+        game = damaged(game, TEXT_DAMAGES, 2)
+    yield game, listed, maker.phonies, False
+
+
+def some_games(rules, count):
+    """Games, and a list for them, of which nothing that was taken back is in the list."""
+    games, listed, phonies = [], set(), set()
+    while len(games) < count:
+        for game, words, back, dealt in dealt_games(rules) if likely(0.6) else other_games(rules):
+            games.append((game, dealt))
+            listed |= words
+            phonies |= back
+    return games, {word for word in listed - phonies if 2 <= len(word) <= 15}
+
+
+class Archives:
+    """A program, a folder for its inputs, and what was told so far."""
+
+    def __init__(self, program, folder):
+        self.program, self.folder, self.differences, self.seen = program, Path(folder), 0, Counter()
+        (self.folder / "folder").mkdir()
+
+    def put(self, games, listed, rules):
+        """Writes the inputs of a run, and tells the lines of which one has to be said of each name."""
+        (self.folder / "words").write_text("\n".join(sorted(listed)))
+        (self.folder / "lexicon").write_bytes(choose([build(listed), convert(build(listed), GAD2)]))
+        (self.folder / "rules").write_bytes(text_of(rules))
+        wanted = []
+        for number, (game, dealt) in enumerate(games):
+            name = f"game{number}" if likely(0.8) else f"{choose(NAMES)} {number}"
+            (self.folder / name).write_bytes(game)
+            wanted.append(ways(name, game, listed, rules, dealt))
+        wanted.insert(random.randint(0, len(wanted)), [unread("nowhere", "cannot open")])
+        wanted.insert(random.randint(0, len(wanted)), [unread("folder", "read failed")])
+        (self.folder / "names").write_text("".join(f"{told[0]['name']}\n" for told in wanted if "\n" not in told[0]["name"]))
+        return wanted
+
+    def run(self, games, listed, rules):
+        """One run in both forms."""
+        wanted = self.put(games, listed, rules)
+        by = ["--rules", "rules"] if rules != ENGLISH or likely(0.2) else []
+        names = [told[0]["name"] for told in wanted]
+        given = ["--names", "names", "words", "lexicon"] if likely(0.5) else ["words", "lexicon", "--", *names]
+        tabs = self.lines([*by, *given], wanted, lambda text: read_tab_line(text.removesuffix("\n")))
+        objects = self.lines(["--json", *by, *given], wanted, read_json_line)
+        for text, told in zip(tabs, objects):
+            self.expect(text[0] == tab_line(told[1]), "two forms", text[0], told[0])
+
+    def lines(self, words, wanted, reading):
+        """The lines of a run with what they say, each of which has to be one of those that are wanted of its name."""
+        ran = subprocess.run([self.program, "archive", *words], cwd=self.folder, capture_output=True, check=False, timeout=600)
+        texts = ran.stdout.decode().splitlines(keepends=True) if ran.stdout.endswith(b"\n") else []
+        self.expect(len(texts) == len(wanted) and not ran.stderr, *words, ran.stdout[-500:], ran.stderr)
+        told = [(text, reading(text)) for text in ran.stdout.decode().split("\n")[:-1] for text in [text + "\n"]]
+        for (text, said), allowed in zip(told, wanted):
+            self.seen[said["verdict"] + (f" {said['fault']}" if said["verdict"] == "unread" else "")] += 1
+            self.expect(said in allowed, text, *allowed[:2])
+        self.expect(ran.returncode == status_of([said for _, said in told]), *words, "status", ran.returncode)
+        return told
+
+    def expect(self, good, *what):
+        if not good:
+            self.differences += 1
+            print(*what, sep="\n  ")
+
+
+def main():
+    program, cases = str(Path(sys.argv[1]).resolve()), int(sys.argv[2])
+    random.seed(int(sys.argv[3]))
+    made = 0
+    with tempfile.TemporaryDirectory() as folder:
+        archives = Archives(program, folder)
+        while made < cases:
+            rules = ENGLISH if likely(0.75) else random_rules()
+            games, listed = some_games(rules, min(40, cases - made))
+            archives.run(games, listed, rules)
+            made += len(games)
+    print(f"{made} games, {archives.differences} differences", dict(sorted(archives.seen.items())))
+    sys.exit(archives.differences > 0)
+
+
+main()
