@@ -1,5 +1,5 @@
 -- Words in a row that is in order, and moved from its end into a tree.
-use Rattle.std.proofs.Common.{◌≡◌, ℕ, Bool, true, Ordering, zero, suc, ◌+◌, ◌-◌, List, [], ◌∷◌, ◌++◌, length, Option, Some, None, arith, append_assoc, sym, ap, subst, refl, ◌∙◌}
+use Rattle.std.proofs.Common.{◌≡◌, ℕ, Bool, true, Ordering, zero, suc, ◌-◌, List, [], ◌∷◌, ◌++◌, length, Some, arith, append_assoc, sym, ap, subst, refl, ◌∙◌}
 use Rattle.std.specs.Bool.{OnTrue}
 use Rattle.std.specs.BTreeSet.{insert_key}
 use Rattle.std.specs.List.{AllByRecursion, slice_get}

@@ -39,7 +39,7 @@ fn faults(rt: HostRuntime) {
 }
 
 /// Texts and their words.
-const LISTS: [(&[u8], &[&[u8]]); 7] = [
+const LISTS: [(&[u8], &[&[u8]]); 11] = [
     (b"", &[]),
     (b"\xef\xbb\xbf", &[]),
     (b"\n\r\n\r", &[]),
@@ -53,6 +53,10 @@ const LISTS: [(&[u8], &[&[u8]]); 7] = [
         b"abcdefghijklmno\nABCDEFGHIJKLMNO\r\nabcdefghijklmnz",
         &[b"ABCDEFGHIJKLMNO", b"ABCDEFGHIJKLMNZ"],
     ),
+    (b"AT\nATE\nBE\nBE", &[b"AT", b"ATE", b"BE"]),
+    (b"AT\nATE\nBE\nAT\nZA", &[b"AT", b"ATE", b"BE", b"ZA"]),
+    (b"AT\nBE\nZA\nAN\nZO", &[b"AN", b"AT", b"BE", b"ZA", b"ZO"]),
+    (b"BE\nAT\nBE\nZA\nAT", &[b"AT", b"BE", b"ZA"]),
 ];
 
 /// The list of a text.
@@ -122,6 +126,19 @@ fn distinct_lines(rt: &impl Abort, alloc: Global, lines: u32) -> Vec<u8> {
     text
 }
 
+/// The same number of lines, in the order of bytes.
+fn rising_lines(rt: &impl Abort, alloc: Global, lines: u32) -> Vec<u8> {
+    let mut text = Vec::new(alloc);
+    for line in 0..lines {
+        for unit in [17_576, 676, 26, 1] {
+            text.push(b'A' + (line / unit % 26) as u8)
+                .expect(rt, "memory");
+        }
+        text.push(b'\n').expect(rt, "memory");
+    }
+    text
+}
+
 /// The fault of a text.
 fn fault_of(alloc: Global, text: &[u8]) -> Option<ListFault> {
     WordList::read(alloc, text).err()
@@ -140,6 +157,34 @@ fn limit_of_words(rt: HostRuntime) {
     text.extend_from_slice(b"baaa\n").expect(&rt, "memory");
     assert_many(&rt, &list_of(&rt, rt.alloc(), &text));
     text.extend_from_slice(b"\nQI\nA1").expect(&rt, "memory");
+    let one_more = ListFault {
+        line: 400_003,
+        why: ListWhy::TooMany,
+    };
+    assert_eq!(rt; fault_of(rt.alloc(), &text), Some(one_more));
+}
+
+#[test]
+fn limit_of_words_in_order(rt: HostRuntime) {
+    let mut text = rising_lines(&rt, rt.alloc(), 400_000);
+    assert_eq!(rt; list_of(&rt, rt.alloc(), &text).len(), MAX_WORDS);
+    text.extend_from_slice(b"ZZZZZ").expect(&rt, "memory");
+    let one_more = ListFault {
+        line: 400_001,
+        why: ListWhy::TooMany,
+    };
+    assert_eq!(rt; fault_of(rt.alloc(), &text), Some(one_more));
+}
+
+#[test]
+fn limit_of_words_in_order_but_the_last(rt: HostRuntime) {
+    let mut text = rising_lines(&rt, rt.alloc(), 400_000);
+    text.extend_from_slice(b"aaaa\naaab\n")
+        .expect(&rt, "memory");
+    let list = list_of(&rt, rt.alloc(), &text);
+    assert_eq!(rt; list.len(), MAX_WORDS);
+    assert!(rt; list.has(b"AAAB"));
+    text.extend_from_slice(b"QI\nA1").expect(&rt, "memory");
     let one_more = ListFault {
         line: 400_003,
         why: ListWhy::TooMany,
