@@ -11,23 +11,24 @@ pub trait Names {
 /// The names that the command line gives.
 #[derive(Drop)]
 pub struct Given<'a> {
-    rest: &'a [&'a str],
+    names: &'a [&'a str],
+    next: usize,
 }
 
 impl<'a> Given<'a> {
     /// These names.
     pub fn new(names: &'a [&'a str]) -> Given<'a> {
-        Given { rest: names }
+        Given { names, next: 0 }
     }
 }
 
 impl Names for Given<'_> {
     fn next_name(&mut self, name: &mut Vec<u8>) -> io::Result<bool> {
-        let Some((first, rest)) = self.rest.split_first() else {
+        let Some(given) = self.names.get(self.next) else {
             return Ok(false);
         };
-        self.rest = rest;
-        name.extend_from_slice(first.as_bytes())?;
+        name.extend_from_slice(given.as_bytes())?;
+        self.next = self.next.saturating_add(1);
         Ok(true)
     }
 }
