@@ -52,38 +52,50 @@ def least(folder, words, runs=5):
     return min(measured(folder, words) for _ in range(runs))
 
 
-def main():
-    program = str(Path(sys.argv[1]).resolve())
+def make(folder, lists):
+    """Writes the games, lists of their names, and where no list is given one of the words of the games with its lexicon."""
     random.seed(1)
+    games, listed = some_games(1000)
+    for number, game in enumerate(games):
+        Path(folder, f"{number}.gcg").write_text(game)
+    if not lists:
+        Path(folder, "words").write_text("\n".join(sorted(listed)))
+        Path(folder, "lexicon").write_bytes(build(listed))
+    names = [f"{number}.gcg\n" for number in range(1000)]
+    Path(folder, "one").write_text("".join(names))
+    Path(folder, "ten").write_text("".join(names) * 10)
+    Path(folder, "empty").write_bytes(b"")
+    Path(folder, "page.html").write_text("<html>\n<body>no game</body>\n</html>\n")
+    Path(folder, "folder").mkdir()
+    for at, name in ((0, "empty"), (300, "page.html"), (700, "folder"), (1003, "missing")):
+        names.insert(at, f"{name}\n")
+    Path(folder, "more").write_text("".join(names))
+
+
+def verdicts(folder):
+    """How many of the lines that the last run told have each verdict."""
+    return dict(Counter(text.split("\t")[1] for text in Path(folder, "told").read_text().splitlines()))
+
+
+def main():
+    program, lists = str(Path(sys.argv[1]).resolve()), [str(Path(name).resolve()) for name in sys.argv[2:4]]
     with tempfile.TemporaryDirectory() as folder:
-        games, listed = some_games(1000)
-        for number, game in enumerate(games):
-            Path(folder, f"{number}.gcg").write_text(game)
-        files = [str(Path(name).resolve()) for name in sys.argv[2:4]]
-        if not files:
-            Path(folder, "words").write_text("\n".join(sorted(listed)))
-            Path(folder, "lexicon").write_bytes(build(listed))
-            files = ["words", "lexicon"]
-        names = [f"{number}.gcg\n" for number in range(1000)]
-        Path(folder, "one").write_text("".join(names))
-        Path(folder, "ten").write_text("".join(names) * 10)
+        # The peak memory of a run counts that of the process that starts it, so the inputs are made by another one.
+        child = os.fork()
+        if child == 0:
+            make(folder, lists)
+            os._exit(0)
+        os.waitpid(child, 0)
+        files = lists or ["words", "lexicon"]
         check = least(folder, [program, "check", *files])
         print(f"check: {check[0]:.3f} s, {check[1]:.3f} s of a processor, at most {check[2]} kB")
         one = least(folder, [program, "archive", "--names", "one", *files])
-        verdicts = Counter(text.split("\t")[1] for text in Path(folder, "told").read_text().splitlines())
-        print(f"1,000 games: {one[0]:.3f} s, {one[1]:.3f} s of a processor, at most {one[2]} kB, {one[3]} lines, {dict(verdicts)}")
+        print(f"1,000 games: {one[0]:.3f} s, {one[1]:.3f} s of a processor, at most {one[2]} kB, {one[3]} lines, {verdicts(folder)}")
         print(f"beyond one check: {one[0] - check[0]:.3f} s, {one[1] - check[1]:.3f} s of a processor")
         ten = least(folder, [program, "archive", "--names", "ten", *files], 2)
         print(f"10,000 games: {ten[0]:.3f} s, {ten[1]:.3f} s of a processor, at most {ten[2]} kB, {ten[3]} lines, {ten[2] - one[2]} kB more")
-        Path(folder, "empty").write_bytes(b"")
-        Path(folder, "page.html").write_text("<html>\n<body>no game</body>\n</html>\n")
-        Path(folder, "folder").mkdir()
-        for at, name in ((0, "empty"), (300, "page.html"), (700, "folder"), (1003, "missing")):
-            names.insert(at, f"{name}\n")
-        Path(folder, "more").write_text("".join(names))
         more = measured(folder, [program, "archive", "--names", "more", *files])
-        verdicts = Counter(text.split("\t")[1] for text in Path(folder, "told").read_text().splitlines())
-        print(f"{len(names)} names: {more[3]} lines, {dict(verdicts)}")
+        print(f"1,004 names: {more[3]} lines, {verdicts(folder)}")
 
 
 main()
