@@ -7,6 +7,8 @@ pub mod Gathering
 pub mod Settings
 pub mod Fitting
 pub mod CellLaws
+pub mod Alone
+pub mod Narrowing
 pub mod Writing
 pub mod Taking
 pub mod Sums

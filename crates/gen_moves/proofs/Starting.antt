@@ -23,6 +23,7 @@ use Rattle.gen_moves.specs.Bounds.{TellsUnder}
 use Rattle.gen_moves.specs.Starts.{IsStartOf, AreStarts, IsGood, AreUnder, dir_of, bound_in, given_at, given_from}
 use Rattle.gen_moves.proofs.Fitting.{moves_fit, add_all-flat_map, join_flat}
 use Rattle.gen_moves.proofs.Offering.{passed_over}
+use Rattle.gen_moves.proofs.Gathering.{line_labelled}
 
 -- ---- a start that is left out
 pub left_out : (rules : Rules) (board : List (Option Tile)) (d : Dir) (line bound : ℕ) (ys : List (List ℕ)) (add : List Given → Given → List Given) (items : List Given)
@@ -63,7 +64,7 @@ good_by : (rules : Rules) (words : List (List ℕ)) (board : List (Option Tile))
     → AreUnder rules board g (cells d line) rack d line h bound → IsGood rules board g cells rack s
 good_by rules words board g listed cells setting rack s d line h bound is_dir is_line is_place is_bound low below under =
     let there : IsGood rules board g cells rack (record { dir = d; line = line; place = h; bound = bound }) =
-    record { line = low; place = below; fits = anchor_fits words board g listed cells setting rack d line h low below; under = under } in
+    record { line = low; place = below; fits = anchor_fits words board g listed cells setting rack d line h low below; under = under; spelt = record { listed = listed; splits = setting.splits; labels = line_labelled words d board line (cells d line) (setting.lines d line low) } } in
     let with_bound = subst (λ (n : ℕ). IsGood rules board g cells rack (record { dir = d; line = line; place = h; bound = n })) (sym is_bound) there in
     let with_place = subst (λ (n : ℕ). IsGood rules board g cells rack (record { dir = d; line = line; place = n; bound = s.bound })) (sym is_place) with_bound in
     let with_line = subst (λ (n : ℕ). IsGood rules board g cells rack (record { dir = d; line = n; place = s.place; bound = s.bound })) (sym is_line) with_place in

@@ -5,3 +5,4 @@ pub mod Laws
 pub mod Telling
 pub mod Bounds
 pub mod Starts
+pub mod Narrowing

@@ -12,6 +12,7 @@ use Rattle.gen_moves.specs.declared.starts.Start.{Start}
 use Rattle.gen_moves.specs.Findings.{told}
 use Rattle.gen_moves.specs.Telling.{IsFit, spot_of}
 use Rattle.gen_moves.specs.Bounds.{TellsUnder}
+use Rattle.gen_moves.specs.Narrowing.{IsSpelt}
 
 -- the direction of a numbered place: those of the lines across come first
 abbrev pub dir_of : ℕ → Dir
@@ -42,9 +43,11 @@ given_from rules board g cells rack s = given_at rules board g cells rack s.dir 
 abbrev pub AreUnder : Rules → List (Option Tile) → (List ℕ → Bool) → List Cell → List ℕ → Dir → ℕ → ℕ → ℕ → Type 0
 AreUnder rules board g cells rack d line h bound = Every (λ y. TellsUnder rules board d line y bound) (anchor_moves g cells rack h)
 
--- what is known of a start: its place is on the board, its moves are plays, and none of them passes its bound
+-- what is known of a start: its place is on the board, its moves are plays, none of them passes its bound, and the lexicon has the
+-- paths of words
 pub record IsGood (rules : Rules) (board : List (Option Tile)) (g : List ℕ → Bool) (cells : Dir → ℕ → List Cell) (rack : List ℕ) (s : Start) : Type 0 where
   pub line : s.line < 15
   pub place : s.place < 15
   pub fits : Every (IsFit (spot_of board s.dir s.line)) (anchor_moves g (cells s.dir s.line) rack s.place)
   pub under : AreUnder rules board g (cells s.dir s.line) rack s.dir s.line s.place s.bound
+  pub spelt : IsSpelt g (cells s.dir s.line)

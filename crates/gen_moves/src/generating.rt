@@ -11,6 +11,7 @@ ghost use Rattle.gen_moves.specs.Telling.{both_cells};
 ghost use Rattle.gen_moves.specs.Starts.{IsGood, given_from};
 
 use crate::anchors::{all_bounds, points_of_rack};
+use crate::fronts::narrowed;
 use crate::lines::all_cells;
 use crate::spots::Spot;
 use crate::starts::{STARTS, Start, all_starts, best_first};
@@ -78,14 +79,14 @@ fn from_start<L: PathLex, S: Sink>(
     if passes(sink, bound) {
         return Ok(());
     }
-    let cells = cells_of(across, down, dir, line);
+    let cells = narrowed(lex, cells_of(across, down, dir, line), place);
     let spot = Spot {
         board: *board,
         dir,
         line,
     };
     let plays = LinePlays { rules, spot: &spot };
-    walk_anchor(lex, cells, place, rack, &plays, sink)
+    walk_anchor(lex, &cells, place, rack, &plays, sink)
 }
 
 /// Gives a sink the plays of all starts, one after another.

@@ -1,9 +1,13 @@
 //! What each place of a line adds to the score of a play, at the most.
-ghost use Rattle.std.specs.Prelude.{◌≡◌, ◌<◌, ◌≤◌, ℕ};
+ghost use Rattle.std.specs.Prelude.{◌≡◌, ◌<◌, ◌≤◌, ℕ, ◌⊎◌};
+ghost use Rattle.ref_tiles.specs.declared.tiles.Tile.{Tile};
+ghost use Rattle.ref_tiles.specs.declared.rulebook.Rules.{Rules};
+ghost use Rattle.ref_board.specs.Lines.{other_dir};
+ghost use Rattle.ref_play.specs.Crosses.{cross_score};
 ghost use Rattle.gen_moves.specs.Bounds.{IsPlaceOf, IsSmall, ArePlaces, HasScores, place_in};
 
 use gen_cross::Cross;
-use ref_board::{Board, Dir, SIDE, Square};
+use ref_board::{Board, Dir, SIDE, Square, follows_tile, precedes_tile};
 use ref_play::points_on;
 use ref_tiles::Rules;
 
@@ -22,6 +26,19 @@ pub struct Place {
     pub side: u64,
     /// By what the cross word multiplies the points of a new tile.
     pub cross: u64,
+}
+
+/// By what the cross word through an empty square multiplies the points of a new tile, by the premiums of the square; where no
+/// tile lies beside it across the play, there is no such word.
+fn cross_factor(board: &Board, dir: Dir, square: Square, premiums: u64) -> u64
+    ensures limit { result ≤ premiums }
+    ensures factor { (result ≡ premiums) ⊎ ((rules : Rules) (t : Tile) → cross_score rules (other_dir dir) board.now square t ≡ 0) }
+{
+    let _squares = board.len();
+    if follows_tile(board, dir.other(), square) || precedes_tile(board, dir.other(), square, 1) {
+        return premiums;
+    }
+    0
 }
 
 /// What a square adds to the score of a play of a direction.
@@ -48,7 +65,7 @@ fn place_of(rules: &Rules, board: &Board, cross: &Cross, dir: Dir, square: Squar
         letter,
         word,
         side: cross.side(dir, square) as u64 * word,
-        cross: letter * word,
+        cross: cross_factor(board, dir, square, letter * word),
     }
 }
 

@@ -25,6 +25,7 @@ impl Arc {
     ghost use Rattle.lex_file.specs.Arcs.{arc_of};
 
     /// The arc that a word of a GAD1 file stores.
+    #[inline(always)]
     pub(crate) fn of_word(word: u32) -> Arc
         ensures { result ≡ arc_of word }
     {

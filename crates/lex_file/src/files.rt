@@ -126,6 +126,7 @@ impl<'a> LexFile<'a> {
 
     /// The bytes behind the header.
     #[tactic(auto, using(crate::proofs::Views::long))]
+    #[inline(always)]
     fn body(&self) -> &'a [u8]
         ensures { result.now ≡ drop header_bytes (bytes_of self.now) }
     {
@@ -178,6 +179,7 @@ impl<'a> LexFile<'a> {
 
     /// What stands behind an arc of a node.
     #[tactic(auto, using(crate::proofs::Walks::step_accepts, crate::proofs::Walks::step_ends))]
+    #[inline(always)]
     fn step_over(&self, node: Node, arc: Arc) -> Step<Node>
         requires node { IsTrue (is_file_node (bytes_of self.now) node.first) }
         requires arc { arc_with arc.label (file_node (bytes_of self.now) node.first) ≡ Some arc }

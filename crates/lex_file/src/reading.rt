@@ -9,6 +9,7 @@ use byteorder::{ByteOrder, LittleEndian};
 
 /// The number of words of 32 bits in some bytes.
 #[tactic(auto, using(crate::proofs::Runs::count))]
+#[inline(always)]
 pub fn word_count(bytes: &[u8]) -> usize
     ensures count { result ≡ length (words_in bytes.now) }
     ensures small { result < 2 ^ 62 }
@@ -17,6 +18,7 @@ pub fn word_count(bytes: &[u8]) -> usize
 }
 
 /// The word at a place, from 0.
+#[inline(always)]
 pub fn word_at(bytes: &[u8], place: usize) -> u32
     requires { place < length (words_in bytes.now) }
     ensures { result ≡ slice_index (words_in bytes.now) place }
@@ -34,6 +36,7 @@ pub fn begins(arcs: &[u8], place: usize) -> bool
 }
 
 /// Whether a word stores the last arc of its node.
+#[inline(always)]
 pub fn is_last(word: u32) -> bool
     ensures { result ≡ is_last word }
 {

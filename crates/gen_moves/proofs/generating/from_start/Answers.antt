@@ -1,8 +1,9 @@
-use Rattle.std.proofs.Common.{◌≡◌, sym, subst, List, ℕ}
+use Rattle.std.proofs.Common.{◌≡◌, sym, ap, ◌∙◌, subst, List, ℕ}
 use Rattle.gen_line.specs.declared.cells.Cell.{Cell}
 use Rattle.gen_line.specs.Walk.{Every, Took, anchor_moves}
 use Rattle.gen_sinks.specs.Sinks.{IsFor}
 use Rattle.gen_moves.specs.Telling.{IsFit, both_cells, spot_of, tell}
+use Rattle.gen_moves.specs.Narrowing.{IsSpelt}
 use Rattle.gen_moves.proofs.Fitting.{every_with, took_told}
 use Rattle.gen_moves.proofs.Starting.{left_out}
 use Rattle.gen_moves.proofs.generating.from_start.Goals as goal
@@ -19,21 +20,26 @@ walk_anchor-requires-clause-can g c =
     let s = c.args.start.now in
     let path = g.L.PathLex.language c.args.lex.now in
     let board = c.args.board.now in
+    let rack = c.args.rack.now in
+    let cells = both_cells c.args.across.now c.args.down.now s.dir s.line in
+    let same : anchor_moves path c.narrowed-cells.result rack s.place ≡ anchor_moves path cells rack s.place =
+    c.narrowed-cells.ensures (subst (IsSpelt path) (sym c.cells_of.ensures) c.requires.good.spelt) rack ∙ ap (λ (ds : List Cell). anchor_moves path ds rack s.place) c.cells_of.ensures in
     subst
-    (λ (cells : List Cell). Every (λ y. IsFor (g.S.Sink.made_for c.args.sink.now) board × IsFit (spot_of board s.dir s.line) y) (anchor_moves path cells c.args.rack.now s.place))
-    (sym c.cells_of-cells.ensures)
-    (every_with (IsFor (g.S.Sink.made_for c.args.sink.now) board) (IsFit (spot_of board s.dir s.line))
-    (anchor_moves path (both_cells c.args.across.now c.args.down.now s.dir s.line) c.args.rack.now s.place) c.requires.sink c.requires.good.fits)
+    (λ (ys : List (List ℕ)). Every (λ y. IsFor (g.S.Sink.made_for c.args.sink.now) board × IsFit (spot_of board s.dir s.line) y) ys)
+    (sym same)
+    (every_with (IsFor (g.S.Sink.made_for c.args.sink.now) board) (IsFit (spot_of board s.dir s.line)) (anchor_moves path cells rack s.place) c.requires.sink c.requires.good.fits)
 
 pub returns-clause-took : goal.returns-clause-took
 returns-clause-took g c =
     let s = c.args.start.now in
     let path = g.L.PathLex.language c.args.lex.now in
     let board = c.args.board.now in
+    let rack = c.args.rack.now in
+    let cells = both_cells c.args.across.now c.args.down.now s.dir s.line in
     let add = g.S.Sink.add (g.S.Sink.made_for c.args.sink.now) in
     let old = g.S.Sink.items c.args.sink.now in
     let new = g.S.Sink.items c.walk_anchor.new.sink in
-    took_told c.args.rules.now (spot_of board s.dir s.line) add old
-    (anchor_moves path (both_cells c.args.across.now c.args.down.now s.dir s.line) c.args.rack.now s.place) new c.walk_anchor.result
-    (subst (λ (cells : List Cell). Took (tell c.args.rules.now (spot_of board s.dir s.line) add) old (anchor_moves path cells c.args.rack.now s.place) new c.walk_anchor.result)
-    c.cells_of-cells.ensures c.walk_anchor.ensures.took)
+    let same : anchor_moves path c.narrowed-cells.result rack s.place ≡ anchor_moves path cells rack s.place =
+    c.narrowed-cells.ensures (subst (IsSpelt path) (sym c.cells_of.ensures) c.requires.good.spelt) rack ∙ ap (λ (ds : List Cell). anchor_moves path ds rack s.place) c.cells_of.ensures in
+    took_told c.args.rules.now (spot_of board s.dir s.line) add old (anchor_moves path cells rack s.place) new c.walk_anchor.result
+    (subst (λ (ys : List (List ℕ)). Took (tell c.args.rules.now (spot_of board s.dir s.line) add) old ys new c.walk_anchor.result) same c.walk_anchor.ensures.took)
