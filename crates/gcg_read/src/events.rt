@@ -103,6 +103,9 @@ impl Model for Events {
 }
 
 impl Events {
+    ghost use Rattle.std.specs.Prelude.{slice_get, slice_set, Some, None};
+    ghost use Rattle.gcg_read.specs.declared.events.Event.{Event};
+
     /// No events. It takes no memory.
     pub fn new(alloc: Global) -> Events
         ensures { result ≡ [] }
@@ -131,6 +134,28 @@ impl Events {
         ensures { IsTrue result ↔ (self.now ≡ []) }
     {
         self.items.is_empty()
+    }
+
+    /// Gives the event at a place another score. Where there is no event, nothing is changed.
+    pub fn set_score(&mut self, place: usize, score: Points)
+        ensures there { (e : Event) → slice_get self.old place ≡ Some e
+            → self.new ≡ slice_set self.old place (record e { score = score }) }
+        ensures past { slice_get self.old place ≡ None → self.new ≡ self.old }
+    {
+        if let Some(event) = self.items.get_mut(place) {
+            event.score = score;
+        }
+    }
+
+    /// Gives the event at a place another total. Where there is no event, nothing is changed.
+    pub fn set_total(&mut self, place: usize, total: Points)
+        ensures there { (e : Event) → slice_get self.old place ≡ Some e
+            → self.new ≡ slice_set self.old place (record e { total = total }) }
+        ensures past { slice_get self.old place ≡ None → self.new ≡ self.old }
+    {
+        if let Some(event) = self.items.get_mut(place) {
+            event.total = total;
+        }
     }
 
     /// Puts an event behind the others. It fails only where memory runs out, and then the events stay.

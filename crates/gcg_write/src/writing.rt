@@ -1,14 +1,14 @@
 //! The public calls: a record, an event and a play, appended whole or not at all.
 ghost use Rattle.std.specs.Prelude.{◌≡◌, ◌++◌, ◌<◌, length, OnOk, OnErr};
 ghost use Rattle.std.specs.List.{HoldsAt};
-ghost use Rattle.gcg_write.specs.Fields.{play_text};
+ghost use Rattle.gcg_write.specs.Fields.{play_text, tiles_text};
 ghost use Rattle.gcg_write.specs.Normal.{normal_of, event_text_of};
 
-use crate::fields::push_play;
+use crate::fields::{push_play, push_tiles};
 use crate::lines::{push_event, push_record};
 use gcg_read::Record;
 use ref_board::{Dir, Square};
-use ref_tiles::Symbol;
+use ref_tiles::{Counts, Symbol};
 
 /// Memory ran out.
 pub use std::alloc::AllocError as NoMemory;
@@ -51,6 +51,20 @@ pub fn play_text(at: Square, dir: Dir, word: &[Symbol], out: &mut Vec<u8>) -> Re
 {
     let len = out.len();
     let written = push_play(at, dir, word, out);
+    if written.is_err() {
+        out.truncate(len);
+    }
+    written
+}
+
+/// Appends tiles, A to Z and then `?` for each blank. It fails only where the growth of `out` was refused, and then `out` is
+/// as it was.
+pub fn tiles_text(tiles: &Counts, out: &mut Vec<u8>) -> Result<(), NoMemory>
+    ensures written { OnOk result (out.new.items ≡ out.old.items ++ tiles_text tiles.now) }
+    ensures refused { OnErr result (out.new.items ≡ out.old.items) }
+{
+    let len = out.len();
+    let written = push_tiles(tiles, out);
     if written.is_err() {
         out.truncate(len);
     }

@@ -1,0 +1,6 @@
+pub mod Places
+pub mod Laying
+pub mod Marks
+pub mod Tiles
+pub mod Sheets
+pub mod Texts

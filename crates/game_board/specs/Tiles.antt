@@ -1,0 +1,19 @@
+-- The tiles that are not on the board.
+use Rattle.std.specs.Prelude.{ℕ, ◌-◌, ◌==◌, Bool, false, List, Option, Some, None, slice_index, count_by, sum_by}
+use Rattle.std.specs.List.{range_with_len}
+use Rattle.ref_tiles.specs.declared.tiles.Tile.{Tile}
+use Rattle.ref_tiles.specs.declared.rulebook.Rules.{Rules}
+use Rattle.ref_tiles.specs.Kinds.{number_of}
+
+-- whether a tile of a kind lies on a square, by the number of the kind
+abbrev pub is_of : ℕ → Option Tile → Bool
+is_of number None = false
+is_of number (Some tile) = number_of tile.kind == number
+
+-- how many tiles of a kind are not on the board: those of the game less those on the board, as far as they go
+unfoldable pub off_board : Rules → List (Option Tile) → (number : ℕ) → ℕ
+off_board rules board number = slice_index rules.counts number - count_by (is_of number) board
+
+-- how many tiles of all kinds are not on the board
+unfoldable pub all_off : Rules → List (Option Tile) → (kinds : ℕ) → ℕ
+all_off rules board kinds = sum_by (off_board rules board) (range_with_len 0 kinds)

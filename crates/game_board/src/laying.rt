@@ -1,0 +1,98 @@
+//! Laying the plays of a record.
+ghost use Rattle.std.specs.Prelude.{◌≡◌, ◌<◌, ◌≤◌, ◌+◌, length, slice_get, if◌then◌else◌, Some, None, IfOk, OnOk, IfErr};
+ghost use Rattle.ref_play.specs.Legality.{IsLegal};
+ghost use Rattle.ref_play.specs.Texts.{placement_of};
+ghost use Rattle.game_turns.specs.Checks.{play_fault};
+ghost use Rattle.game_turns.specs.Tallies.{withdraws as next_withdraws};
+ghost use Rattle.game_board.specs.Laying.{board_before, kind_fault, laid_on, AreLaid};
+
+use game_turns::withdraws;
+use gcg_read::{Event, EventKind};
+use ref_board::{Board, Dir, Square};
+use ref_play::{Play, PlayFault, apply, from_text, judge};
+use ref_tiles::Symbol;
+
+/// The play that a text names, where it is legal.
+#[tactic(auto, unfolding(game_turns::specs::Checks::play_fault))]
+fn legal_play(board: &Board, at: Square, dir: Dir, word: &[Symbol]) -> Result<Play, PlayFault>
+    ensures fault { IfErr result (λ why. play_fault board.now dir at word.now ≡ Some why) }
+    ensures none { OnOk result (play_fault board.now dir at word.now ≡ None) }
+    ensures legal { IfOk result (λ play. IsLegal board.now play.tiles.items) }
+    ensures tiles { IfOk result (λ play. play.tiles.items ≡ placement_of board.now dir at word.now) }
+{
+    let play = from_text(board, at, dir, word)?;
+    judge(board, &play)?;
+    Ok(play)
+}
+
+/// The board with the play of an event, where it is one and can be laid.
+fn lay(board: &Board, kind: &EventKind) -> Result<Board, PlayFault>
+    ensures fault { IfErr result (λ why. kind_fault board.now kind.now ≡ Some why) }
+    ensures none { OnOk result (kind_fault board.now kind.now ≡ None) }
+    ensures laid { IfOk result (λ laid. laid ≡ laid_on board.now kind.now) }
+{
+    let mut laid = *board;
+    if let EventKind::Play { at, dir, word } = kind {
+        let play = legal_play(board, *at, *dir, word.as_slice())?;
+        apply(&mut laid, &play);
+    }
+    Ok(laid)
+}
+
+/// Whether the event behind a place takes the play there back.
+#[tactic(auto, using(game_turns::proofs::PlaceLaws::copied_get))]
+fn is_taken_back(events: &[Event], place: usize) -> bool
+    requires { place < length events.now }
+    ensures { result ≡ next_withdraws (slice_get events.now (place + 1)) }
+{
+    withdraws(events.get(place + 1))
+}
+
+/// The board behind an event: that before it where the event is taken back.
+fn kept(old: &Board, laid: &Board, taken_back: bool) -> Board
+    ensures { result ≡ if taken_back then old.now else laid.now }
+{
+    if taken_back { *old } else { *laid }
+}
+
+/// The board of a record as far as its plays can be laid.
+#[derive(Drop)]
+pub struct Laying {
+    /// The board.
+    pub board: Board,
+    /// The place of the event before which it is, counted from 0; that behind the last event is the number of events.
+    pub end: usize,
+    /// Why the play at the place cannot be laid, where that ended the laying.
+    pub fault: Option<PlayFault>,
+}
+
+/// Lays the plays of a record before a place, counted from 0. It ends at the first play whose text or placement has a fault,
+/// where there is one before the place. A play that is taken back comes off the board behind its withdrawal. Nothing else is
+/// asked of the events.
+pub fn lay_plays(events: &[Event], place: usize) -> Laying
+    requires { place ≤ length events.now }
+    ensures end { result.end ≤ place }
+    ensures laid { AreLaid events.now place result.end result.fault }
+    ensures board { result.board ≡ board_before events.now result.end }
+{
+    let mut standing = Board::empty();
+    let mut board = standing;
+    for end in 0..place {
+        match lay(&standing, &events[end].kind) {
+            Ok(laid) => board = laid,
+            Err(why) => {
+                return Laying {
+                    board,
+                    end,
+                    fault: Some(why),
+                };
+            }
+        }
+        standing = kept(&standing, &board, is_taken_back(events, end));
+    }
+    Laying {
+        board,
+        end: place,
+        fault: None,
+    }
+}

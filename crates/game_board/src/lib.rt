@@ -1,0 +1,19 @@
+//! The board of a record, before one of its lines or after the last, and the same as a text.
+//!
+//! [`place_of_line`] finds the event that a line means, [`lay_plays`] lays the plays before it, and [`board_text`] writes the
+//! board that they make. It needs no word list: nothing is asked of an event but that its play can be laid.
+#![tactic(auto)]
+
+mod laying;
+mod marks;
+mod places;
+mod sheets;
+mod texts;
+mod tiles;
+
+pub use laying::{Laying, lay_plays};
+pub use marks::square_mark;
+pub use places::place_of_line;
+pub use sheets::last_total;
+pub use texts::board_text;
+pub use tiles::tiles_off;

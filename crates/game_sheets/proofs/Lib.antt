@@ -1,0 +1,8 @@
+pub mod Shapes
+pub mod Numbers
+pub mod Fronts
+pub mod Mends
+pub mod Sheets
+pub mod Totals
+pub mod WrongPlaces
+pub mod Audits

@@ -1,0 +1,162 @@
+-- One event of a sheet with another number.
+use Rattle.std.proofs.Common.{◌≡◌, ◌⊎◌, inl, inr, ℕ, ℤ, zero, suc, List, [], ◌∷◌, set, slice_get, Option, Some, None, refl, sym, ap, ◌∙◌, subst}
+use Rattle.std.specs.Prelude.{⊤, Result, Ok, Err, IfErr, OnErr}
+use Rattle.std.specs.Option.{option_or}
+use Rattle.std.proofs.lemmas.Bool.{cases_eq}
+use Rattle.std.proofs.lemmas.List.{length-set}
+use Rattle.std.proofs.lemmas.Option.{same_Some}
+use Rattle.check_lists.proofs.CheckLaws.{some_fault}
+use Rattle.ref_tiles.specs.declared.rulebook.Rules.{Rules}
+use Rattle.gcg_read.specs.Numerals.{IsPoints}
+use Rattle.gcg_read.specs.declared.events.Event.{Event}
+use Rattle.game_turns.specs.declared.faults.RuleFault.{RuleFault}
+use Rattle.game_turns.specs.declared.faults.RuleFault.TheVariants as fault
+use Rattle.game_turns.specs.Answers.{Tells}
+use Rattle.game_turns.specs.Seats.{side_of}
+use Rattle.game_turns.specs.Tallies.{State}
+use Rattle.game_turns.specs.Checks.{fault_in}
+use Rattle.game_turns.specs.Places.{fault_of_event}
+use Rattle.game_sheets.specs.Corrections.{right_score, right_total, IsRenumbered, IsLeft}
+use Rattle.game_sheets.specs.Mending.{IsMendedAt}
+use Rattle.game_sheets.proofs.Fronts.{itself, all_themselves, all_through}
+use Rattle.game_sheets.proofs.Numbers.{score_cures, wrong_not_given, total_cures, total_told}
+
+-- ---- a list with another item
+
+set_there : (events : List Event) (place : ℕ) (e x : Event) → slice_get events place ≡ Some e → slice_get (set events place x) place ≡ Some x
+set_there [] place e x is = cc
+set_there (d ∷ rest) zero e x is = refl
+set_there (d ∷ rest) (suc place) e x is = set_there rest place e x is
+
+set_elsewhere : (events : List Event) (place k : ℕ) (x : Event) → (k ≡ place → ⊥) → slice_get (set events place x) k ≡ slice_get events k
+set_elsewhere [] place k x other = refl
+set_elsewhere (d ∷ rest) zero zero x other = absurd (other refl)
+set_elsewhere (d ∷ rest) zero (suc k) x other = refl
+set_elsewhere (d ∷ rest) (suc place) zero x other = refl
+set_elsewhere (d ∷ rest) (suc place) (suc k) x other = set_elsewhere rest place k x (λ same. other (ap suc same))
+
+-- ---- nothing, one number, and one behind another
+
+pub unchanged : (events : List Event) (place : ℕ) → IsMendedAt events events place
+unchanged events place = record { renumbered = all_themselves events; others = λ k other. refl }
+
+each_mended : (events : List Event) (place : ℕ) (e x : Event) → slice_get events place ≡ Some e → IsRenumbered e x
+    → (k : ℕ) (a b : Event) → slice_get events k ≡ Some a → slice_get (set events place x) k ≡ Some b → (k ≡ place) ⊎ (k ≡ place → ⊥) → IsRenumbered a b
+each_mended events place e x is like k a b of_a of_b (inl same) =
+    let first : a ≡ e = same_Some a e (sym of_a ∙ ap (slice_get events) same ∙ is) in
+    let second : b ≡ x = same_Some b x (sym of_b ∙ ap (slice_get (set events place x)) same ∙ set_there events place e x is) in
+    subst (λ y. IsRenumbered y b) (sym first) (subst (IsRenumbered e) (sym second) like)
+each_mended events place e x is like k a b of_a of_b (inr other) =
+    let same : a ≡ b = same_Some a b (sym of_a ∙ sym (set_elsewhere events place k x other) ∙ of_b) in
+    subst (IsRenumbered a) same (itself a)
+
+pub one_set : (events : List Event) (place : ℕ) (e x : Event) → slice_get events place ≡ Some e → IsRenumbered e x → IsMendedAt events (set events place x) place
+one_set events place e x is like =
+    record {
+      renumbered = record { as_many = length-set events place x; each = λ k a b of_a of_b. each_mended events place e x is like k a b of_a of_b (cases_eq k place) };
+      others = λ k other. set_elsewhere events place k x other;
+    }
+
+pub mended_through : (a b d : List Event) (place : ℕ) → IsMendedAt a b place → IsMendedAt b d place → IsMendedAt a d place
+mended_through a b d place first second =
+    record { renumbered = all_through a b d first.renumbered second.renumbered; others = λ k other. second.others k other ∙ first.others k other }
+
+-- ---- the faults that name a number
+
+total_is : (why : RuleFault) (right : ℤ) → right_total why ≡ Some right → why ≡ fault.WrongTotal right
+total_is (fault.WrongTotal n) right e = ap fault.WrongTotal (same_Some n right e)
+total_is (fault.WrongScore n) right e = cc
+total_is fault.NotYourTurn right e = cc
+total_is (fault.Play why) right e = cc
+total_is fault.NothingToWithdraw right e = cc
+total_is fault.WithdrawnValid right e = cc
+total_is fault.BonusOnPhony right e = cc
+total_is fault.BadBonus right e = cc
+total_is fault.ExchangeRefused right e = cc
+total_is fault.ExchangeSize right e = cc
+total_is fault.GameOver right e = cc
+total_is fault.NotOver right e = cc
+total_is fault.LastRackSize right e = cc
+total_is fault.BadTime right e = cc
+total_is fault.TooManyUsed right e = cc
+
+-- ---- an event whose total is wrong, and one whose score is
+
+-- a fault that is told is of an event
+record IsFaulty (rules : Rules) (list : List (List ℕ)) (s : State) (o : Option Event) (why : RuleFault) : Type 0 where
+  event : Event
+  is : o ≡ Some event
+  fails : fault_in rules list s event ≡ Some why
+
+of_event : (rules : Rules) (list : List (List ℕ)) (s : State) (o : Option Event) (why : RuleFault) → fault_of_event rules list s o ≡ Some why
+    → IsFaulty rules list s o why
+of_event rules list s None why told = absurd (some_fault why (sym told))
+of_event rules list s (Some e) why told = record { event = e; is = refl; fails = told }
+
+there_of : (rules : Rules) (list : List (List ℕ)) (s : State) (events new : List Event) (place : ℕ) (e x : Event) → slice_get events place ≡ Some e → new ≡ set events place x
+    → fault_of_event rules list s (slice_get new place) ≡ fault_in rules list s x
+there_of rules list s events new place e x is made =
+    ap (λ es. fault_of_event rules list s (slice_get es place)) made ∙ ap (fault_of_event rules list s) (set_there events place e x is)
+
+pub record IsCured (rules : Rules) (list : List (List ℕ)) (s : State) (old new : List Event) (place : ℕ) : Type 0 where
+  pub mended : IsMendedAt old new place
+  pub told : fault_of_event rules list s (slice_get new place) ≡ None
+
+pub total_set : (rules : Rules) (list : List (List ℕ)) (s : State) (events new : List Event) (place : ℕ) (why : RuleFault) (right total : ℤ)
+    → fault_of_event rules list s (slice_get events place) ≡ Some why → right_total why ≡ Some right → total ≡ right
+    → ((e : Event) → slice_get events place ≡ Some e → new ≡ set events place (record e { total = total })) → IsCured rules list s events new place
+total_set rules list s events new place why right total told named same made =
+    let of = of_event rules list s (slice_get events place) why told in
+    let e = of.event in
+    let x : Event = record e { total = total } in
+    let wrong = of.fails ∙ ap Some (total_is why right named) in
+    let like : IsRenumbered e x = record { line = refl; player = refl; rack = refl; kind = refl; given = λ given. refl } in
+    let cured : fault_in rules list s x ≡ None = ap (λ n. fault_in rules list s (record e { total = n })) same ∙ total_cures rules list s e right wrong in
+    record {
+      mended = subst (λ es. IsMendedAt events es place) (sym (made e of.is)) (one_set events place e x of.is like);
+      told = there_of rules list s events new place e x of.is (made e of.is) ∙ cured;
+    }
+
+-- with the right score, nothing but the total is wrong
+pub record IsScored (rules : Rules) (list : List (List ℕ)) (s : State) (old new : List Event) (place : ℕ) : Type 0 where
+  pub mended : IsMendedAt old new place
+  pub told : (why : RuleFault) → fault_of_event rules list s (slice_get new place) ≡ Some why → right_score why ≡ None
+
+pub score_set : (rules : Rules) (list : List (List ℕ)) (s : State) (events new : List Event) (place : ℕ) (score : ℤ)
+    → fault_of_event rules list s (slice_get events place) ≡ Some (fault.WrongScore score)
+    → ((e : Event) → slice_get events place ≡ Some e → new ≡ set events place (record e { score = score })) → IsScored rules list s events new place
+score_set rules list s events new place score told made =
+    let of = of_event rules list s (slice_get events place) (fault.WrongScore score) told in
+    let e = of.event in
+    let x : Event = record e { score = score } in
+    let like : IsRenumbered e x =
+    record { line = refl; player = refl; rack = refl; kind = refl; given = λ given. absurd (wrong_not_given rules list s e score of.fails given) } in
+    record {
+      mended = subst (λ es. IsMendedAt events es place) (sym (made e of.is)) (one_set events place e x of.is like);
+      told = λ why of_why.
+          ap right_score (total_told (side_of s.sides e.player).total score e.total why
+          (sym (score_cures rules list s e score of.fails) ∙ sym (there_of rules list s events new place e x of.is (made e of.is)) ∙ of_why));
+    }
+
+-- ---- answers
+
+pub never : (rules : Rules) (list : List (List ℕ)) (s : State) (o : Option Event) (P : RuleFault → Type 0) (result : Result ⊤ RuleFault) → fault_of_event rules list s o ≡ None
+    → Tells result (fault_of_event rules list s o) → IfErr result P
+never rules list s o P (Ok x) none told = tt
+never rules list s o P (Err why) none told = absurd (some_fault why (sym told ∙ none))
+
+pub never_same : (rules : Rules) (list : List (List ℕ)) (s : State) (o : Option Event) (P : Type 0) (result : Result ⊤ RuleFault) → fault_of_event rules list s o ≡ None
+    → Tells result (fault_of_event rules list s o) → OnErr result P
+never_same rules list s o P (Ok x) none told = tt
+never_same rules list s o P (Err why) none told = absurd (some_fault why (sym told ∙ none))
+
+left_number : (why : RuleFault) → right_score why ≡ None → ((right : ℤ) → right_total why ≡ Some right → IsPoints right → ⊥) → IsLeft why
+left_number why none left right named = left right (sym (ap (λ o. option_or o (right_total why)) none) ∙ named)
+
+pub score_left : (rules : Rules) (list : List (List ℕ)) (s : State) (mid new : List Event) (place : ℕ) (result : Result ⊤ RuleFault)
+    → Tells result (fault_of_event rules list s (slice_get new place)) → OnErr result (new ≡ mid)
+    → ((why : RuleFault) → fault_of_event rules list s (slice_get mid place) ≡ Some why → right_score why ≡ None)
+    → IfErr result (λ why. (right : ℤ) → right_total why ≡ Some right → IsPoints right → ⊥) → IfErr result IsLeft
+score_left rules list s mid new place (Ok x) told same only left = tt
+score_left rules list s mid new place (Err why) told same only left =
+    left_number why (only why (sym (ap (λ es. fault_of_event rules list s (slice_get es place)) same) ∙ told)) left

@@ -1,0 +1,133 @@
+-- A sheet that is corrected event by event.
+use Rattle.std.proofs.Common.{◌≡◌, ℕ, zero, suc, ◌+◌, ◌<◌, ◌≤◌, List, [], ◌∷◌, length, take, get_or, slice_get, Option, Some, None, refl, sym, ap, ◌∙◌, subst, arith}
+use Rattle.std.proofs.lemmas.Option.{slice_get-get_or, slice_get_read, same_Some}
+use Rattle.ref_tiles.specs.declared.rulebook.Rules.{Rules}
+use Rattle.gcg_read.specs.declared.events.Event.{Event}
+use Rattle.game_turns.specs.declared.faults.RuleFault.{RuleFault}
+use Rattle.game_turns.specs.Laws.{NextTallyIsAfter}
+use Rattle.game_turns.specs.Tallies.{State, tally_at, withdraws}
+use Rattle.game_turns.specs.Changes.{after}
+use Rattle.game_turns.specs.Places.{fault_of_event, fault_at, AreAllowedTo}
+use Rattle.game_turns.proofs.PlaceLaws.{allowed_more}
+use Rattle.game_sheets.specs.Corrections.{AreRenumbered, IsCorrection, HavePoints, IsLeft, StopsAt}
+use Rattle.game_sheets.specs.Mending.{IsMendedAt, after_event, state_behind}
+use Rattle.game_sheets.proofs.Fronts.{all_themselves, all_through, same_tally, no_correction}
+
+-- ---- lists that agree up to a place
+
+take_next : {X : Type 0} (xs ys : List X) (k : ℕ) → ((j : ℕ) → j < suc k → slice_get xs j ≡ slice_get ys j) → (j : ℕ) → j < k → slice_get xs (suc j) ≡ slice_get ys (suc j)
+take_next xs ys k same j below = same (suc j) (omega arith)
+
+same_take : {X : Type 0} (xs ys : List X) (k : ℕ) → ((j : ℕ) → j < k → slice_get xs j ≡ slice_get ys j) → take k xs ≡ take k ys
+same_take xs ys zero same = refl
+same_take [] [] (suc k) same = refl
+same_take [] (y ∷ ys) (suc k) same = cc (same 0 (omega arith))
+same_take (x ∷ xs) [] (suc k) same = cc (same 0 (omega arith))
+same_take {X} (x ∷ xs) (y ∷ ys) (suc k) same =
+    let head : x ≡ y = same_Some x y (same 0 (omega arith)) in
+    let tail : take k xs ≡ take k ys = same_take xs ys k (λ j below. same (suc j) (omega arith)) in
+    ap (λ (z : X). z ∷ take k xs) head ∙ ap (λ (zs : List X). y ∷ zs) tail
+
+-- what is before a place is not touched there
+front_kept : (a b : List Event) (place k : ℕ) → IsMendedAt a b place → k ≤ place → take k b ≡ take k a
+front_kept a b place k is within = same_take b a k (λ j below. is.others j (λ same. absurd (omega (arith, same))))
+
+-- and so is the tally up to it
+tally_kept : (rules : Rules) (a b : List Event) (place k : ℕ) → IsMendedAt a b place → k ≤ place → tally_at rules b k ≡ tally_at rules a k
+tally_kept rules a b place k is within = same_tally rules a b k is.renumbered (front_kept a b place k is within)
+
+fault_kept : (rules : Rules) (list : List (List ℕ)) (a b : List Event) (place k : ℕ) → IsMendedAt a b place → k < place → fault_at rules list b k ≡ fault_at rules list a k
+unfolding fault_at
+fault_kept rules list a b place k is below =
+    ap (λ s. fault_of_event rules list s (slice_get b k)) (tally_kept rules a b place k is (omega arith))
+    ∙ ap (fault_of_event rules list (tally_at rules a k)) (is.others k (λ same. absurd (omega (arith, same))))
+
+-- the fault of the event at the place, which is told of the state there
+pub fault_mended : (rules own : Rules) (list : List (List ℕ)) (a b : List Event) (place : ℕ) (s : State) (o : Option RuleFault) → IsMendedAt a b place
+    → own ≡ rules → s ≡ tally_at rules a place → o ≡ fault_of_event own list s (slice_get b place) → fault_at rules list b place ≡ o
+unfolding fault_at
+fault_mended rules own list a b place s o is same_rules same_state told =
+    ap (λ t. fault_of_event rules list t (slice_get b place)) (tally_kept rules a b place place is (omega arith) ∙ sym same_state)
+    ∙ ap (λ r. fault_of_event r list s (slice_get b place)) (sym same_rules) ∙ sym told
+
+-- ---- the sheet up to a place
+
+-- The events before a place are corrected, and the others are as they were written.
+pub record IsUpTo (rules : Rules) (list : List (List ℕ)) (written events : List Event) (place : ℕ) : Type 0 where
+  pub renumbered : AreRenumbered written events
+  pub allowed : AreAllowedTo rules list events place
+  pub untouched : (k : ℕ) → place ≤ k → slice_get events k ≡ slice_get written k
+
+pub at_start : (rules : Rules) (list : List (List ℕ)) (events : List Event) → IsUpTo rules list events events 0
+at_start rules list events = record { renumbered = all_themselves events; allowed = λ place below. absurd (omega arith); untouched = λ k from. refl }
+
+before_kept : (rules : Rules) (list : List (List ℕ)) (written a b : List Event) (place : ℕ) → IsUpTo rules list written a place → IsMendedAt a b place → AreAllowedTo rules list b place
+before_kept rules list written a b place up is k below = fault_kept rules list a b place k is below ∙ up.allowed k below
+
+pub one_more : (rules : Rules) (list : List (List ℕ)) (written a b : List Event) (place : ℕ) → IsUpTo rules list written a place → IsMendedAt a b place
+    → fault_at rules list b place ≡ None → IsUpTo rules list written b (place + 1)
+one_more rules list written a b place up is none =
+    record {
+      renumbered = all_through written a b up.renumbered is.renumbered;
+      allowed = allowed_more rules list b place (before_kept rules list written a b place up is) none;
+      untouched = λ k from. is.others k (λ same. absurd (omega (arith, same))) ∙ up.untouched k (omega arith);
+    }
+
+state_of_event : (rules : Rules) (s : State) (events : List Event) (place : ℕ) (e : Event) → slice_get events place ≡ Some e
+    → state_behind rules s events place ≡ after rules s e (withdraws (slice_get events (place + 1)))
+state_of_event rules s events place e is = ap (λ o. after_event rules s o (slice_get events (place + 1))) is
+
+pub state_more : NextTallyIsAfter → (rules own : Rules) (list : List (List ℕ)) (written a b : List Event) (place : ℕ) (s new : State) (e : Event) → IsUpTo rules list written a place
+    → IsMendedAt a b place → slice_get b place ≡ Some e → fault_at rules list b place ≡ None → own ≡ rules → s ≡ tally_at rules a place → new ≡ state_behind own s b place
+    → new ≡ tally_at rules b (place + 1)
+state_more law rules own list written a b place s new e up is stands none same_rules same_state left =
+    left ∙ ap (λ r. state_behind r s b place) same_rules
+    ∙ ap (λ t. state_behind rules t b place) (same_state ∙ sym (tally_kept rules a b place place is (omega arith)))
+    ∙ state_of_event rules (tally_at rules b place) b place e stands
+    ∙ law rules list b place e stands (allowed_more rules list b place (before_kept rules list written a b place up is) none)
+
+-- ---- where it ends
+
+pub whole : (rules : Rules) (list : List (List ℕ)) (written events : List Event) (end : ℕ) → IsUpTo rules list written events end → end ≡ length written → IsCorrection rules list written events
+whole rules list written events end up all =
+    record { renumbered = up.renumbered; allowed = λ k below. up.allowed k (subst (λ n. k < n) (up.renumbered.as_many ∙ sym all) below) }
+
+pub stops : (rules : Rules) (list : List (List ℕ)) (written a b : List Event) (place : ℕ) (e : Event) (why : RuleFault) → IsUpTo rules list written a place → IsMendedAt a b place
+    → slice_get b place ≡ Some e → fault_at rules list b place ≡ Some why → IsLeft why → StopsAt rules list written b e.line why
+stops rules list written a b place e why up is stands fails left =
+    record {
+      place = place;
+      event = e;
+      stands = stands;
+      on_line = refl;
+      fails = fails;
+      left = left;
+      before = record {
+        renumbered = all_through written a b up.renumbered is.renumbered;
+        allowed = before_kept rules list written a b place up is;
+        behind = λ k behind. is.others k (λ same. absurd (omega (arith, same))) ∙ up.untouched k (omega arith);
+      };
+    }
+
+pub none_left : (rules : Rules) (list : List (List ℕ)) (written right : List Event) (line : ℕ) (why : RuleFault) → StopsAt rules list written right line why
+    → (other : List Event) → HavePoints other → IsCorrection rules list written other → ⊥
+none_left rules list written right line why at other points is =
+    no_correction rules list written right other at.place at.event why at.before.renumbered at.before.allowed at.stands at.fails at.left points is
+
+-- the event at a place
+pub record IsThere (events : List Event) (place : ℕ) : Type 0 where
+  pub event : Event
+  pub stands : slice_get events place ≡ Some event
+
+some_event : (events : List Event) (place : ℕ) → place < length events → IsThere events place
+some_event [] place within = absurd (omega arith)
+some_event (e ∷ rest) place within = record { event = get_or (e ∷ rest) place e; stands = slice_get-get_or (e ∷ rest) place e within }
+
+pub event_there : (rules : Rules) (list : List (List ℕ)) (written a b : List Event) (place : ℕ) → IsUpTo rules list written a place → IsMendedAt a b place → place < length written
+    → IsThere b place
+event_there rules list written a b place up is within = some_event b place (subst (λ n. place < n) (sym (is.renumbered.as_many ∙ up.renumbered.as_many)) within)
+
+pub item_there : (rules : Rules) (list : List (List ℕ)) (written a b items : List Event) (place : ℕ) (e : Event) → IsUpTo rules list written a place → IsMendedAt a b place
+    → place < length written → items ≡ b → e ≡ get_or items place e → slice_get b place ≡ Some e
+item_there rules list written a b items place e up is within same read =
+    slice_get_read b (length b) place e refl (subst (λ n. place < n) (sym (is.renumbered.as_many ∙ up.renumbered.as_many)) within) (read ∙ ap (λ es. get_or es place e) same)

@@ -1,0 +1,27 @@
+-- The last total of a player, event by event.
+use Rattle.std.proofs.Common.{◌≡◌, ℕ, ℤ, ◌+◌, ◌<◌, List, [], ◌∷◌, ◌++◌, length, take, get_or, Option, Some, None, refl, sym, ap, ◌∙◌}
+use Rattle.std.proofs.lemmas.List.{take_more}
+use Rattle.gcg_read.specs.declared.events.Event.{Event}
+use Rattle.gcg_read.specs.declared.events.Seat.{Seat}
+use Rattle.game_sheets.specs.LastTotals.{later, last_total}
+
+later_none : (one : Option ℤ) → later one None ≡ one
+later_none None = refl
+later_none (Some total) = refl
+
+later_later : (one two three : Option ℤ) → later one (later two three) ≡ later (later one two) three
+later_later None two three = refl
+later_later (Some total) two three = refl
+
+-- the last total of a list and of one event behind it
+pub total_behind : (player : Seat) (events : List Event) (e : Event) → last_total player (events ++ e ∷ []) ≡ later (last_total player (e ∷ [])) (last_total player events)
+total_behind player [] e = sym (later_none (last_total player (e ∷ [])))
+total_behind player (d ∷ events) e =
+    ap (λ t. later t (last_total player (d ∷ []))) (total_behind player events e) ∙ sym (later_later (last_total player (e ∷ [])) (last_total player events) (last_total player (d ∷ [])))
+
+-- behind one event more
+pub total_more : (player : Seat) (events : List Event) (place : ℕ) (e : Event) (total : Option ℤ) → place < length events → e ≡ get_or events place e
+    → total ≡ last_total player (take place events) → later (last_total player (e ∷ [])) total ≡ last_total player (take (place + 1) events)
+total_more player events place e total within there so_far =
+    let more : take (place + 1) events ≡ take place events ++ e ∷ [] = take_more events place e within ∙ ap (λ x. take place events ++ x ∷ []) (sym there) in
+    ap (later (last_total player (e ∷ []))) so_far ∙ sym (total_behind player (take place events) e) ∙ sym (ap (last_total player) more)

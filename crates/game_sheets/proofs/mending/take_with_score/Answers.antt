@@ -1,0 +1,16 @@
+use Rattle.game_turns.specs.Machines.{rules_of, state_of}
+use Rattle.game_sheets.proofs.Mends.{score_set, mended_through, score_left}
+use Rattle.game_sheets.proofs.mending.take_with_score.Goals as goal
+
+pub returns-clause-mended : goal.returns-clause-mended
+returns-clause-mended c =
+    let scored = score_set (rules_of c.args.machine.now) c.args.list.now (state_of c.args.machine.now) c.args.events.now c.set_score.new.self c.args.place c.args.score c.requires c.set_score.ensures.there in
+    mended_through c.args.events.now c.set_score.new.self c.take_with_total.new.events c.args.place scored.mended c.take_with_total.ensures.mended
+
+pub returns-clause-left : goal.returns-clause-left
+returns-clause-left c =
+    let rules = rules_of c.args.machine.now in
+    let s = state_of c.args.machine.now in
+    let scored = score_set rules c.args.list.now s c.args.events.now c.set_score.new.self c.args.place c.args.score c.requires c.set_score.ensures.there in
+    score_left rules c.args.list.now s c.set_score.new.self c.take_with_total.new.events c.args.place c.take_with_total.result c.take_with_total.ensures.told
+    c.take_with_total.ensures.same scored.told c.take_with_total.ensures.left

@@ -1,0 +1,6 @@
+pub mod Corrections
+pub mod Mending
+pub mod Laws
+pub mod LastTotals
+pub mod WrongNumbers
+pub mod Auditing

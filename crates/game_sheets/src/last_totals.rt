@@ -1,0 +1,27 @@
+//! The last total of a player.
+ghost use Rattle.std.specs.Prelude.{◌≡◌, ◌∷◌, []};
+ghost use Rattle.game_sheets.specs.LastTotals.{last_total, later};
+
+use gcg_read::{Event, Points, Seat, same_seat};
+
+/// The last total of a player behind one event more.
+fn total_behind(event: &Event, player: Seat, total: Option<Points>) -> Option<Points>
+    ensures { result ≡ later (last_total player (event.now ∷ [])) total }
+{
+    if same_seat(event.player, player) {
+        Some(event.total)
+    } else {
+        total
+    }
+}
+
+/// The last total that is written for a player, or none where no event is the player's.
+pub fn last_total(events: &[Event], player: Seat) -> Option<Points>
+    ensures { result ≡ last_total player events.now }
+{
+    let mut total = None;
+    for event in events {
+        total = total_behind(event, player, total);
+    }
+    total
+}
