@@ -30,6 +30,7 @@ exit_of verdict.BadRecord = BadInput
 exit_of verdict.Done = Fine
 exit_of verdict.BadRack = BadInput
 exit_of verdict.BadRules = BadInput
+exit_of verdict.BadLine = BadInput
 
 -- what kept the program from its end, where a call gave up and this file is the one that failed, if one did
 abbrev pub trouble_of : RunFault → Bor (List ℕ) → Trouble

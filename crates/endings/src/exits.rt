@@ -7,17 +7,17 @@ use std::fmt;
 /// How the program ends.
 #[derive(Clone, Copy, Debug, PartialEq, Eq)]
 pub enum Exit {
-    /// The game is legal, or what was asked for is done.
+    /// The game is legal, or what was asked for is done, help too.
     Fine,
     /// The game is illegal.
     Illegal,
     /// Whether the game is legal was not settled.
     Unsettled,
-    /// An input is no word list, no lexicon, no record, no rack or no rules text.
+    /// An input is no word list, no lexicon, no record, no rack, no line of a record or no rules text.
     BadInput,
     /// A device failed, or memory was refused.
     Broken,
-    /// The command line is wrong, or help was asked for.
+    /// The command line is wrong.
     Usage,
 }
 
@@ -104,7 +104,8 @@ impl From<Verdict> for Exit {
             | Verdict::BadFile
             | Verdict::BadRecord
             | Verdict::BadRack
-            | Verdict::BadRules => Exit::BadInput,
+            | Verdict::BadRules
+            | Verdict::BadLine => Exit::BadInput,
         }
     }
 }

@@ -1,5 +1,5 @@
 -- What is found of the game of a record, without a report.
-use Rattle.std.proofs.Common.{◌≡◌, ℕ, ℤ, ◌+◌, ◌<◌, Bool, List, [], ◌∷◌, ◌++◌, length, take, Option, Some, None, refl, sym, subst, ap, ◌∙◌, get_or}
+use Rattle.std.proofs.Common.{◌≡◌, ℕ, ℤ, ◌+◌, ◌<◌, Bool, List, [], ◌∷◌, ◌++◌, length, take, Option, Some, None, refl, sym, subst}
 use Rattle.std.proofs.lemmas.List.{take_more}
 use Rattle.ref_tiles.specs.declared.rulebook.Rules.{Rules}
 use Rattle.gcg_read.specs.declared.events.Event.{Event}
@@ -19,7 +19,7 @@ use Rattle.engine.specs.declared.findings.Finding.TheVariants as finding
 use Rattle.engine.specs.declared.racks.RackFinding.TheVariants as rack
 use Rattle.engine.specs.declared.verdicts.GameFault.{GameFault}
 use Rattle.engine.specs.declared.verdicts.GameFault.TheVariants as game
-use Rattle.engine.specs.Archiving.{past_bound, IsFinding, IsFaulty, FindingsDecide, later, last_total}
+use Rattle.engine.specs.Archiving.{past_bound, IsFinding, IsFaulty, FindingsDecide}
 use Rattle.engine.specs.Racks.{AreFound}
 use Rattle.engine.specs.Verdicts.{IsGame}
 use Rattle.engine.proofs.Deals.{exceeds}
@@ -57,26 +57,3 @@ findings_decide fronts =
       illegal = λ rules words r line fault is there. faulty_no_game fronts rules words r line fault is there;
       settled = λ rules words r is plain. is.exchanged plain;
     }
-
--- ---- totals
-
-later_none : (one : Option ℤ) → later one None ≡ one
-later_none None = refl
-later_none (Some total) = refl
-
-later_later : (one two three : Option ℤ) → later one (later two three) ≡ later (later one two) three
-later_later None two three = refl
-later_later (Some total) two three = refl
-
--- the last total of a list and of one event behind it
-pub total_behind : (player : Seat) (events : List Event) (e : Event) → last_total player (events ++ e ∷ []) ≡ later (last_total player (e ∷ [])) (last_total player events)
-total_behind player [] e = sym (later_none (last_total player (e ∷ [])))
-total_behind player (d ∷ events) e =
-    ap (λ t. later t (last_total player (d ∷ []))) (total_behind player events e) ∙ sym (later_later (last_total player (e ∷ [])) (last_total player events) (last_total player (d ∷ [])))
-
--- behind one event more
-pub total_more : (player : Seat) (events : List Event) (place : ℕ) (e : Event) (total : Option ℤ) → place < length events → e ≡ get_or events place e
-    → total ≡ last_total player (take place events) → later (last_total player (e ∷ [])) total ≡ last_total player (take (place + 1) events)
-total_more player events place e total within there so_far =
-    let more : take (place + 1) events ≡ take place events ++ e ∷ [] = take_more events place e within ∙ ap (λ x. take place events ++ x ∷ []) (sym there) in
-    ap (later (last_total player (e ∷ []))) so_far ∙ sym (total_behind player (take place events) e) ∙ sym (ap (last_total player) more)

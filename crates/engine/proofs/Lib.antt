@@ -12,3 +12,4 @@ pub mod Examples
 pub mod BuiltFiles
 pub mod ConvertedFiles
 pub mod Toppings
+pub mod ShownBoards

@@ -1,12 +1,10 @@
 -- The entry of one game of many, by a word list and a lexicon that were read before.
-use Rattle.std.specs.Prelude.{◌≡◌, ℕ, ℤ, suc, zero, ◌+◌, Bool, not, List, [], ◌∷◌, length, Result, Ok, Err, Option, Some, None, if◌then◌else◌}
+use Rattle.std.specs.Prelude.{◌≡◌, ℕ, suc, zero, ◌+◌, Bool, not, List, [], ◌∷◌, length, Result, Ok, Err, Option, Some, None, if◌then◌else◌}
 use Rattle.std.specs.List.{list_all}
 use Rattle.ref_tiles.specs.declared.rulebook.Rules.{Rules}
 use Rattle.gcg_read.specs.declared.events.Event.{Event}
-use Rattle.gcg_read.specs.declared.events.Seat.{Seat}
 use Rattle.gcg_read.specs.declared.faults.ReadFault.{ReadFault}
 use Rattle.gcg_read.specs.declared.records.Record.{Record}
-use Rattle.gcg_read.specs.Players.{same_seat}
 use Rattle.gcg_read.specs.Records.{record_of}
 use Rattle.lex_list.specs.Words.{is_listed}
 use Rattle.game_turns.specs.LatestEvents.{standing_words}
@@ -58,15 +56,6 @@ unlisted_plays rules list events = unlisted_to rules list events (length events)
 abbrev pub AreUnlisted : Rules → (list : List (List ℕ)) → List Event → Option ℕ → Type 0
 AreUnlisted rules list events (Some plays) = AreAllowed rules list events × (plays ≡ unlisted_plays rules list events)
 AreUnlisted rules list events None = AreAllowed rules list events → ⊥
-
-abbrev pub later : Option ℤ → Option ℤ → Option ℤ
-later (Some total) earlier = Some total
-later None earlier = earlier
-
--- the last total that is written for a player
-abbrev pub last_total : Seat → List Event → Option ℤ
-last_total player [] = None
-last_total player (e ∷ events) = later (last_total player events) (if same_seat e.player player then Some e.total else None)
 
 -- what an entry says of its record
 pub record IsEntry (rules : Rules) (list : List (List ℕ)) (entry : Entry) : Type 0 where

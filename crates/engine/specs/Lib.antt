@@ -10,6 +10,7 @@ pub mod Racks
 pub mod Judging
 pub mod Topping
 pub mod Tidying
+pub mod Boards
 pub mod Checking
 pub mod Building
 pub mod Converting
@@ -17,3 +18,4 @@ pub mod Headlines
 pub mod Settling
 pub mod OwnVerdicts
 pub mod Archiving
+pub mod Auditing

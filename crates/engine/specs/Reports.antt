@@ -87,6 +87,10 @@ bad_file_line fault = codes "bad lexicon: " ++ lexicon_text fault ++ 10 ∷ []
 unfoldable pub bad_rack_line : List ℕ
 bad_rack_line = codes "bad rack\n"
 
+-- the line that no event stands on the line that was asked for, or after it
+unfoldable pub bad_line_line : List ℕ
+bad_line_line = codes "bad line: no event is on it or after it\n"
+
 -- the line that tells the number of the words
 unfoldable pub ok_line : ℕ → List ℕ
 ok_line words = codes "ok " ++ decimal words ++ 10 ∷ []

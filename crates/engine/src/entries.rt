@@ -145,7 +145,7 @@ fn find(
 }
 
 /// The entry of a record.
-fn entry_of(
+pub(crate) fn entry_of(
     alloc: Global,
     rules: &Rules,
     pair: &Checked<'_>,

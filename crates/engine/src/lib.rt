@@ -1,7 +1,7 @@
 //! The engine of the referee: it reads its inputs, judges the game by the rules, and writes the report.
 //!
-//! [`run`], [`run_build`], [`run_check`], [`run_convert`], [`run_top`] and [`run_tidy`] are the calls that the program makes, and
-//! [`run_ruled`] and [`run_top_ruled`] where it is given a rules text; [`run_settled`] and [`run_settled_ruled`] search for a deal. The contract of [`run`] is the theorem of the whole, from the
+//! [`run`], [`run_build`], [`run_check`], [`run_convert`], [`run_top`], [`run_tidy`] and [`run_board`] are the calls that the program makes, and
+//! [`run_ruled`], [`run_top_ruled`] and [`run_board_ruled`] where it is given a rules text; [`run_settled`] and [`run_settled_ruled`] search for a deal. The contract of [`run`] is the theorem of the whole, from the
 //! bytes of the inputs to the bytes of the output.
 //!
 //! They are made of stages, which other calls can be made of too. [`read_list`], [`read_rules`] and [`read_record`] read an input and
@@ -10,7 +10,9 @@
 //! writes what was decided.
 #![tactic(auto)]
 
+mod audits;
 mod best_plays;
+mod boards;
 mod building;
 mod checking;
 mod converting;
@@ -37,7 +39,9 @@ mod unlisted;
 mod verdicts;
 mod words;
 
+pub use audits::{Audit, audit_sheet};
 pub use best_plays::BestPlays;
+pub use boards::{run_board, run_board_ruled};
 pub use building::run_build;
 pub use checking::run_check;
 pub use converting::run_convert;

@@ -1,27 +1,15 @@
 //! The last total of a player.
-ghost use Rattle.std.specs.Prelude.{◌≡◌, ◌∷◌, []};
-ghost use Rattle.engine.specs.Archiving.{last_total, later};
+ghost use Rattle.std.specs.Prelude.{◌≡◌};
+ghost use Rattle.game_sheets.specs.LastTotals as totals;
 
-use gcg_read::{Event, Seat, same_seat};
-
-/// The last total of a player behind one event more.
-fn total_behind(event: &Event, player: Seat, total: Option<i32>) -> Option<i32>
-    ensures { result ≡ later (last_total player (event.now ∷ [])) total }
-{
-    if same_seat(event.player, player) {
-        Some(event.total.value())
-    } else {
-        total
-    }
-}
+use gcg_read::{Event, Seat};
 
 /// The last total that is written for a player, or none where no event is the player's.
 pub fn last_total(events: &[Event], player: Seat) -> Option<i32>
-    ensures { result ≡ last_total player events.now }
+    ensures { result ≡ totals.last_total player events.now }
 {
-    let mut total = None;
-    for event in events {
-        total = total_behind(event, player, total);
+    match game_sheets::last_total(events, player) {
+        Some(total) => Some(total.value()),
+        None => None,
     }
-    total
 }

@@ -44,4 +44,6 @@ pub enum Verdict {
     BadRack,
     /// The rules text has a fault.
     BadRules,
+    /// The record has no event on the line that was asked for, or after it.
+    BadLine,
 }

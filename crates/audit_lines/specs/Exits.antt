@@ -1,0 +1,30 @@
+-- How the program ends after an audit.
+use Rattle.std.specs.Prelude.{ℕ, Bool, true, false, max, List, [], ◌∷◌}
+use Rattle.endings.specs.Exits.{status_of}
+use Rattle.endings.specs.declared.exits.Exit.{Exit}
+use Rattle.endings.specs.declared.exits.Exit.TheVariants as exit
+use Rattle.engine.specs.declared.findings.Finding.{Finding}
+use Rattle.engine.specs.declared.findings.Finding.TheVariants as finding
+
+-- Whether the events of a record with this finding are all allowed, and no deal is ruled out. A record without an event is one.
+abbrev pub stands : Finding → Bool
+stands finding.NoGame = true
+stands (finding.Legal complete) = true
+stands (finding.Illegal line fault) = false
+stands finding.Unsettled = true
+
+-- the exit after a finding alone
+abbrev pub exit_of_finding : Finding → Exit
+exit_of_finding finding.NoGame = exit.Fine
+exit_of_finding (finding.Legal complete) = exit.Fine
+exit_of_finding (finding.Illegal line fault) = exit.Illegal
+exit_of_finding finding.Unsettled = exit.Unsettled
+
+-- the exit after numbers that are wrong, or none
+abbrev pub exit_of_numbers : {A : Type 0} → List A → Exit
+exit_of_numbers [] = exit.Fine
+exit_of_numbers (wrong ∷ more) = exit.Illegal
+
+-- the greater status of both
+abbrev pub audit_status : {A : Type 0} → List A → Finding → ℕ
+audit_status wrong found = max (status_of (exit_of_numbers wrong)) (status_of (exit_of_finding found))

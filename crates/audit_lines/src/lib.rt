@@ -1,0 +1,11 @@
+//! What the audit of a sheet prints, and how the program ends after it.
+//!
+//! [`push_audit`] writes a line for each wrong number and then the verdict line of the corrected record. [`exit_of`] is the exit of the
+//! program, and [`is_corrected`] says whether the corrected record is one to be kept.
+#![tactic(auto)]
+
+mod exits;
+mod lines;
+
+pub use exits::{exit_of, is_corrected};
+pub use lines::push_audit;

@@ -1,0 +1,111 @@
+//! The lines of an audit.
+
+use engine::{Audit, Finding, GameFault, fault_text};
+use game_sheets::WrongNumber;
+use gcg_read::{Players, Seat};
+use itoa::{Buffer, Integer};
+use std::alloc::{AllocError, Global};
+
+/// Appends the lines of an audit: one for each wrong number, and the verdict line of the corrected record.
+pub fn push_audit(alloc: Global, text: &mut Vec<u8>, audit: &Audit) -> Result<(), AllocError> {
+    for wrong in &audit.wrong {
+        push_wrong(text, &audit.entry.record.players, wrong)?;
+    }
+    push_finding(alloc, text, &audit.entry.finding)
+}
+
+/// Appends the line of a wrong number.
+fn push_wrong(
+    text: &mut Vec<u8>,
+    players: &Players,
+    wrong: &WrongNumber,
+) -> Result<(), AllocError> {
+    match wrong {
+        WrongNumber::Score {
+            line,
+            written,
+            right,
+        } => push_on_line(text, *line, b"score ", *written, *right),
+        WrongNumber::Sum {
+            line,
+            written,
+            right,
+        } => push_on_line(text, *line, b"sum ", *written, *right),
+        WrongNumber::Total {
+            player,
+            written,
+            right,
+        } => {
+            text.extend_from_slice(b"total of ")?;
+            text.extend_from_slice(nick_of(players, *player))?;
+            text.extend_from_slice(b": ")?;
+            push_both(text, *written, *right)
+        }
+    }
+}
+
+/// The nickname of a player.
+fn nick_of(players: &Players, player: Seat) -> &[u8] {
+    match player {
+        Seat::First => players.first.nick.as_bytes(),
+        Seat::Second => players.second.nick.as_bytes(),
+    }
+}
+
+/// Appends what is wrong on a line.
+fn push_on_line(
+    text: &mut Vec<u8>,
+    line: u32,
+    what: &[u8],
+    written: i32,
+    right: i32,
+) -> Result<(), AllocError> {
+    text.extend_from_slice(b"line ")?;
+    push_number(text, line)?;
+    text.extend_from_slice(b": ")?;
+    text.extend_from_slice(what)?;
+    push_both(text, written, right)
+}
+
+/// Appends a number that is written and the right one, and ends the line.
+fn push_both(text: &mut Vec<u8>, written: i32, right: i32) -> Result<(), AllocError> {
+    push_number(text, written)?;
+    text.extend_from_slice(b", should be ")?;
+    push_number(text, right)?;
+    text.push(b'\n')?;
+    Ok(())
+}
+
+/// Appends a number.
+fn push_number<I: Integer>(text: &mut Vec<u8>, number: I) -> Result<(), AllocError> {
+    let mut buffer = Buffer::new();
+    text.extend_from_slice(buffer.format(number).as_bytes())
+}
+
+/// Appends the verdict line of a finding.
+fn push_finding(alloc: Global, text: &mut Vec<u8>, finding: &Finding) -> Result<(), AllocError> {
+    match finding {
+        Finding::Legal { complete: true } => text.extend_from_slice(b"legal complete\n"),
+        Finding::NoGame | Finding::Legal { complete: false } => {
+            text.extend_from_slice(b"legal unfinished\n")
+        }
+        Finding::Illegal { line, fault } => push_illegal(alloc, text, *line, fault),
+        Finding::Unsettled => text.extend_from_slice(b"unsettled\n"),
+    }
+}
+
+/// Appends the line of a fault.
+fn push_illegal(
+    alloc: Global,
+    text: &mut Vec<u8>,
+    line: u32,
+    fault: &GameFault,
+) -> Result<(), AllocError> {
+    text.extend_from_slice(b"illegal line ")?;
+    push_number(text, line)?;
+    text.extend_from_slice(b": ")?;
+    let told = fault_text(alloc, fault)?;
+    text.extend_from_slice(told.as_slice())?;
+    text.push(b'\n')?;
+    Ok(())
+}

@@ -1,0 +1,100 @@
+//! The audit of one sheet, by a word list and a lexicon that were read before.
+ghost use Rattle.std.specs.Prelude.{◌≡◌, IfOk};
+ghost use Rattle.devices.specs.Devices.{HasRoom};
+ghost use Rattle.gcg_read.specs.Records.{most_bytes};
+ghost use Rattle.lex_check.specs.Pairs as pairs;
+ghost use Rattle.engine.specs.Auditing.{IsAudit, IsAuditOf};
+ghost use Rattle.engine.specs.Stages.{IsRead};
+
+use crate::decisions::Decision;
+use crate::entries::{Entry, entry_of};
+use crate::faults::RunFault;
+use crate::records::record_from;
+use crate::transfers::read_text;
+use devices::Input;
+use game_sheets::{WrongNumber, audit};
+use gcg_read::{MAX_BYTES, Record};
+use lex_check::Checked;
+use ref_tiles::Rules;
+use std::alloc::{AllocError, Global};
+
+/// What an audit says of a sheet.
+#[derive(Drop)]
+pub struct Audit {
+    /// The numbers that are wrong: scores and sums in the order of the sheet, and last totals.
+    pub wrong: Vec<WrongNumber>,
+    /// The entry of the corrected record, or of a record that is corrected as far as the rules allow its events.
+    pub entry: Entry,
+}
+
+/// The audit of a record that stands twice, once to be corrected.
+fn audit_record(
+    alloc: Global,
+    rules: &Rules,
+    pair: &Checked<'_>,
+    written: &Record,
+    game: Record,
+) -> Result<Audit, AllocError>
+    requires { game ≡ written.now }
+    ensures { IfOk result (IsAudit rules.now (pairs.list_in pair.now) written.now) }
+{
+    let mut right = game;
+    let wrong = audit(
+        alloc,
+        rules,
+        written.events.as_slice(),
+        &mut right.events,
+        pair.list(),
+    )?;
+    let entry = entry_of(alloc, rules, pair, right)?;
+    Ok(Audit { wrong, entry })
+}
+
+/// The audit of the record of a text, or the verdict that it is none.
+fn audit_from(
+    alloc: Global,
+    rules: &Rules,
+    pair: &Checked<'_>,
+    text: &[u8],
+) -> Result<Result<Audit, Decision>, AllocError>
+    ensures { IfOk result (IsAuditOf rules.now (pairs.list_in pair.now) text.now) }
+{
+    let written = match record_from(alloc, text)? {
+        Ok(record) => record,
+        Err(decision) => return Ok(Err(decision)),
+    };
+    let game = match record_from(alloc, text)? {
+        Ok(record) => record,
+        Err(decision) => return Ok(Err(decision)),
+    };
+    let audit = audit_record(alloc, rules, pair, &written, game)?;
+    Ok(Ok(audit))
+}
+
+/// Reads the record of a game, corrects its scores and totals as far as the rules allow its events, and settles what comes of
+/// it: which numbers are wrong, and the entry of the corrected record, as [`archive_entry`](crate::archive_entry) gives it. Or
+/// the verdict that tells the first fault of the record.
+///
+/// The input is read to its end, or to one byte past 1 MiB and no further.
+///
+/// # Errors
+///
+/// `ReadFailed` comes only where the input failed; `NoMemory` where memory was refused.
+pub fn audit_sheet<G: Input>(
+    alloc: Global,
+    rules: &Rules,
+    pair: &Checked<'_>,
+    game: &mut G,
+) -> Result<Result<Audit, Decision>, RunFault>
+    requires { HasRoom (G.device game.old) }
+    ensures { IsRead most_bytes (G.device game.old) (G.device game.new) (IsAuditOf rules.now (pairs.list_in pair.now)) result }
+{
+    let text = match read_text(alloc, game, MAX_BYTES) {
+        Ok(text) => text,
+        Err(fault) => return Err(fault),
+    };
+    match audit_from(alloc, rules, pair, &text) {
+        Ok(read) => Ok(read),
+        Err(_) => Err(RunFault::NoMemory),
+    }
+}

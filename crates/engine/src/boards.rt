@@ -1,0 +1,172 @@
+//! The board of a record as a text, by the bytes of its inputs.
+ghost use Rattle.std.specs.Prelude.{◌≡◌, ◌≤◌, ◌∷◌, [], length, IfOk, IfSome};
+ghost use Rattle.devices.specs.Devices.{HasRoom};
+ghost use Rattle.engine.specs.declared.verdicts.Verdict.TheVariants as verdict;
+ghost use Rattle.engine.specs.Boards.{place_asked, IsShown, IsShownAt, IsBoarded, IsBoardedByText};
+ghost use Rattle.engine.specs.Reports as reports;
+ghost use Rattle.engine.specs.Runs.{Decides, IsRun};
+ghost use Rattle.engine.specs.Sources.{rules_source, game_source};
+ghost use Rattle.engine.specs.Telling.{IsTold};
+
+use crate::decisions::Decision;
+use crate::faults::RunFault;
+use crate::records::read_record;
+use crate::reports::bad_line_line;
+use crate::rules_texts::read_rules;
+use crate::transfers::finish;
+use crate::verdicts::Verdict;
+use devices::{Input, Output};
+use game_board::{board_text, lay_plays, place_of_line};
+use gcg_read::{Event, Record};
+use ref_tiles::Rules;
+use std::alloc::{AllocError, Global};
+
+/// The verdict that no event stands on the line or behind it.
+fn bad_line(alloc: Global) -> Result<Decision, AllocError>
+    ensures { IfOk result (λ d. IsTold verdict.BadLine reports.bad_line_line d.verdict d.report.items) }
+{
+    let report = bad_line_line(alloc)?;
+    Ok(Decision {
+        verdict: Verdict::BadLine,
+        report,
+    })
+}
+
+/// The place that is asked for: that of a line, or behind the last event.
+fn place_asked(events: &[Event], before: Option<u32>) -> Option<usize>
+    ensures place { result ≡ place_asked events.now before }
+    ensures within { IfSome result (λ place. place ≤ length events.now) }
+{
+    match before {
+        None => Some(events.len()),
+        Some(line) => place_of_line(events, line),
+    }
+}
+
+/// The board before a place of a record.
+#[tactic(auto, using(crate::proofs::ShownBoards::shown))]
+fn show_board(
+    alloc: Global,
+    rules: &Rules,
+    game: &Record,
+    place: usize,
+) -> Result<Decision, AllocError>
+    requires { place ≤ length game.now.events }
+    ensures { IfOk result (λ d. IsShown rules.now game.now place d.verdict d.report.items) }
+{
+    let laying = lay_plays(game.events.as_slice(), place);
+    let report = board_text(alloc, rules, game, &laying)?;
+    Ok(Decision {
+        verdict: Verdict::Done,
+        report,
+    })
+}
+
+/// The board before a line of a record, or behind its last event.
+fn tell_board(
+    alloc: Global,
+    rules: &Rules,
+    game: &Record,
+    before: Option<u32>,
+) -> Result<Decision, AllocError>
+    ensures { IfOk result (λ d. IsShownAt rules.now game.now (place_asked game.now.events before) d.verdict d.report.items) }
+{
+    match place_asked(game.events.as_slice(), before) {
+        Some(place) => show_board(alloc, rules, game, place),
+        None => bad_line(alloc),
+    }
+}
+
+/// Reads a record, and gives its board.
+fn decide_board<G: Input>(
+    alloc: Global,
+    rules: &Rules,
+    before: Option<u32>,
+    game: &mut G,
+) -> Result<Decision, RunFault>
+    requires { HasRoom (G.device game.old) }
+    ensures { Decides (game_source (G.device game.old) (G.device game.new) ∷ []) (IsBoarded rules.now before) result }
+{
+    let record = match read_record(alloc, game) {
+        Ok(Ok(record)) => record,
+        Ok(Err(decision)) => return Ok(decision),
+        Err(fault) => return Err(fault),
+    };
+    match tell_board(alloc, rules, &record, before) {
+        Ok(decision) => Ok(decision),
+        Err(_) => Err(RunFault::NoMemory),
+    }
+}
+
+/// The same by the rules of a text, which is read first.
+fn decide_ruled_board<R: Input, G: Input>(
+    alloc: Global,
+    rules_text: &mut R,
+    before: Option<u32>,
+    game: &mut G,
+) -> Result<Decision, RunFault>
+    requires rules_text { HasRoom (R.device rules_text.old) }
+    requires game { HasRoom (G.device game.old) }
+    ensures { Decides (rules_source (R.device rules_text.old) (R.device rules_text.new) ∷ game_source (G.device game.old) (G.device game.new) ∷ [])
+        (IsBoardedByText before) result }
+{
+    match read_rules(alloc, rules_text) {
+        Ok(Ok(rules)) => decide_board(alloc, &rules, before, game),
+        Ok(Err(decision)) => Ok(decision),
+        Err(fault) => Err(fault),
+    }
+}
+
+/// Writes the board of a record before the first event on a line or behind it, or without a line behind the last event, as a
+/// text of lines of 80 bytes at the most.
+///
+/// The record is read to its end, or to one byte past 1 MiB and no further. Its plays are laid one after the other, up to that
+/// event or to the first play whose text or placement has a fault; nothing else is asked of the events. The text tells which
+/// board it is, each square by the tile that it has or by its premium, both players with the last totals that are written for
+/// them, the rack of the line, and the tiles that are not on the board. Where no event stands on the line or behind it, the
+/// verdict is `BadLine`. What is written is made in memory before the first write.
+///
+/// # Errors
+///
+/// `ReadFailed` and `WriteFailed` come only where that device failed, or a write took no byte; `NoMemory` where memory
+/// was refused. After `WriteFailed` a front of the text went out, after the other two nothing.
+pub fn run_board<G: Input, O: Output>(
+    alloc: Global,
+    game: &mut G,
+    before: Option<u32>,
+    out: &mut O,
+    rules: &Rules,
+) -> Result<Verdict, RunFault>
+    requires game { HasRoom (G.device game.old) }
+    requires out { HasRoom (O.device out.old) }
+    ensures { IsRun (game_source (G.device game.old) (G.device game.new) ∷ []) (IsBoarded rules.now before) (O.device out.old) (O.device out.new) result }
+{
+    let decided = decide_board(alloc, rules, before, game);
+    finish(out, decided)
+}
+
+/// Writes the board of a record as [`run_board`] does, by the rules that a text states.
+///
+/// The rules text is read before the record, as [`run_ruled`](crate::run_ruled) reads it; where it gives no rules, that is the
+/// verdict, and the record is not read.
+///
+/// # Errors
+///
+/// `ReadFailed` and `WriteFailed` come only where that device failed, or a write took no byte; `NoMemory` where memory
+/// was refused. After `WriteFailed` a front of the text went out, after the other two nothing.
+pub fn run_board_ruled<R: Input, G: Input, O: Output>(
+    alloc: Global,
+    rules_text: &mut R,
+    game: &mut G,
+    before: Option<u32>,
+    out: &mut O,
+) -> Result<Verdict, RunFault>
+    requires rules_text { HasRoom (R.device rules_text.old) }
+    requires game { HasRoom (G.device game.old) }
+    requires out { HasRoom (O.device out.old) }
+    ensures { IsRun (rules_source (R.device rules_text.old) (R.device rules_text.new) ∷ game_source (G.device game.old) (G.device game.new) ∷ [])
+        (IsBoardedByText before) (O.device out.old) (O.device out.new) result }
+{
+    let decided = decide_ruled_board(alloc, rules_text, before, game);
+    finish(out, decided)
+}
