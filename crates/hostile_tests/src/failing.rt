@@ -31,6 +31,7 @@ fn inputs_of(job: &Job<'_>) -> [bool; 4] {
         Call::Check => [true, true, false, false],
         Call::Convert(_) => [false, true, false, false],
         Call::Tidy => [false, false, true, false],
+        Call::Board(_) => [false, false, true, job.rules.is_some()],
     }
 }
 

@@ -62,17 +62,17 @@ pub enum Mishap {
     TakesNone,
 }
 
-/// An output that takes at most so many bytes a write, and 512 in all. One write meets with a mishap, and no other.
+/// An output that takes at most so many bytes a write, and 1024 in all. One write meets with a mishap, and no other.
 #[derive(Drop)]
 pub struct Sheet {
-    bytes: [u8; 512],
+    bytes: [u8; 1024],
     len: usize,
     piece: usize,
     writes: usize,
     mishap: Mishap,
     failures: u64,
     stalls: u64,
-    ghost within: { len ≤ 512 },
+    ghost within: { len ≤ 1024 },
 }
 
 impl Sheet {
@@ -81,7 +81,7 @@ impl Sheet {
         ensures { result.failures ≡ 0 }
     {
         Sheet {
-            bytes: [0; 512],
+            bytes: [0; 1024],
             len: 0,
             piece,
             writes,
@@ -113,7 +113,7 @@ impl Output for Sheet {
             return Err(DeviceFailed);
         }
         let most = if spoilt { 0 } else { self.piece };
-        let n = most.min(buf.len()).min(512 - self.len);
+        let n = most.min(buf.len()).min(1024 - self.len);
         let end = self.len + n;
         self.bytes[self.len..end].copy_from_slice(&buf[..n]);
         self.len = end;

@@ -1,8 +1,8 @@
 //! Worked rows, asked of the calls of the engine.
 use crate::feeds::{Feed, Mishap, NEVER, Sheet};
 use engine::{
-    GameFault, RunFault, Verdict, run, run_build, run_check, run_convert, run_ruled, run_settled,
-    run_settled_ruled, run_tidy, run_top, run_top_ruled,
+    GameFault, RunFault, Verdict, run, run_board, run_board_ruled, run_build, run_check,
+    run_convert, run_ruled, run_settled, run_settled_ruled, run_tidy, run_top, run_top_ruled,
 };
 use lex_file::Format;
 use ref_tiles::{ENGLISH_TEXT, english_rules};
@@ -91,6 +91,8 @@ pub enum Call {
     /// Into a format.
     Convert(Format),
     Tidy,
+    /// Before a line, or behind the last event.
+    Board(Option<u32>),
 }
 
 /// A call, what its inputs hold, and what is answered and written. An input that it has not is empty.
@@ -277,8 +279,60 @@ pub const TIDIED: Job<'static> = Job {
     wrote: b"#player1 A Ann Lee\n>A: AADEORW 8E WORD +16 16\n",
 };
 
+/// The board of a small record.
+#[rattlefmt::skip]
+const SMALL_BOARD: &[u8] = b"\
+board before line 2\n\
+\x20  A B C D E F G H I J K L M N O\n\
+\x201 = . . ' . . . = . . . ' . . =\n\
+\x202 . - . . . \" . . . \" . . . - .\n\
+\x203 . . - . . . ' . ' . . . - . .\n\
+\x204 ' . . - . . . ' . . . - . . '\n\
+\x205 . . . . - . . . . . - . . . .\n\
+\x206 . \" . . . \" . . . \" . . . \" .\n\
+\x207 . . ' . . . ' . ' . . . ' . .\n\
+\x208 = . . ' W O r D . . . ' . . =\n\
+\x209 . . ' . . . ' . ' . . . ' . .\n\
+10 . \" . . . \" . . . \" . . . \" .\n\
+11 . . . . - . . . . . - . . . .\n\
+12 ' . . - . . . ' . . . - . . '\n\
+13 . . - . . . ' . ' . . . - . .\n\
+14 . - . . . \" . . . \" . . . - .\n\
+15 = . . ' . . . = . . . ' . . =\n\
+= triple word, - double word, \" triple letter, ' double letter\n\
+small letters are blanks\n\
+A 14\n\
+B 0\n\
+rack AEINRST\n\
+tiles not on the board: 96\n\
+\x20 A 9  B 2  C 2  D 3  E 12  F 2  G 3  H 2  I 9\n\
+\x20 J 1  K 1  L 4  M 2  N 6  O 7  P 2  Q 1  R 6\n\
+\x20 S 4  T 6  U 4  V 2  W 1  X 1  Y 2  Z 1  ? 1\n";
+
+/// A record whose board is shown.
+pub const SHOWN: Job<'static> = Job {
+    call: Call::Board(Some(2)),
+    rules: None,
+    words: b"",
+    lexicon: b"",
+    game: b">A: DOW? 8E WOrD +14 14\n>B: NRSTAEI - +0 0\n",
+    verdict: Verdict::Done,
+    wrote: SMALL_BOARD,
+};
+
+/// The same by the text of the English rules.
+pub const RULED_BOARD: Job<'static> = Job {
+    call: Call::Board(Some(2)),
+    rules: Some(ENGLISH_TEXT),
+    words: b"",
+    lexicon: b"",
+    game: b">A: DOW? 8E WOrD +14 14\n>B: NRSTAEI - +0 0\n",
+    verdict: Verdict::Done,
+    wrote: SMALL_BOARD,
+};
+
 /// All of them.
-pub const JOBS: [Job<'static>; 15] = [
+pub const JOBS: [Job<'static>; 17] = [
     ONE_PLAY,
     WITHDRAWN,
     STALE,
@@ -294,6 +348,8 @@ pub const JOBS: [Job<'static>; 15] = [
     CONVERTED,
     CONVERTED_BACK,
     TIDIED,
+    SHOWN,
+    RULED_BOARD,
 ];
 
 /// How the devices of a job behave: how many bytes a read or a write moves at most, and the numbers of the read of each input
@@ -356,6 +412,7 @@ fn attempt_english(alloc: Global, job: &Job<'_>, manner: &Manner) -> Outcome {
         Call::Check => run_check(alloc, &mut words, &mut lexicon, &mut out),
         Call::Convert(format) => run_convert(alloc, &mut lexicon, format, &mut out),
         Call::Tidy => run_tidy(alloc, &mut game, &mut out),
+        Call::Board(before) => run_board(alloc, &mut game, before, &mut out, &rules),
     };
     Outcome {
         answer,
@@ -364,7 +421,7 @@ fn attempt_english(alloc: Global, job: &Job<'_>, manner: &Manner) -> Outcome {
     }
 }
 
-/// Does a job that judges a game, or names the best plays of a rack, by a rules text.
+/// Does a job that judges a game, names the best plays of a rack or shows a board, by a rules text.
 fn attempt_ruled(alloc: Global, job: &Job<'_>, text: &[u8], manner: &Manner) -> Outcome {
     let mut words = Feed::new(job.words, manner.piece, manner.reads[0]);
     let mut lexicon = Feed::new(job.lexicon, manner.piece, manner.reads[1]);
@@ -389,6 +446,7 @@ fn attempt_ruled(alloc: Global, job: &Job<'_>, text: &[u8], manner: &Manner) -> 
             &mut game,
             &mut out,
         ),
+        Call::Board(before) => { run_board_ruled(alloc, &mut rules, &mut game, before, &mut out) }
         _ => run_ruled(
             alloc,
             &mut rules,

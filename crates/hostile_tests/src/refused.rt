@@ -2,8 +2,8 @@
 //! call, and takes little memory besides. Without a refusal the answer is the row's.
 use crate::jobs::{
     AT, AT_BY_NODES, BEST_PLAYS, BUILT, CHECKED, CONVERTED, CONVERTED_BACK, Job, NO_DEAL, ONE_PLAY,
-    RULED, RULED_NO_DEAL, RULED_PLAYS, SETTLED, STALE, TIDIED, UNSETTLED, WITHDRAWN, WORD, attempt,
-    working,
+    RULED, RULED_BOARD, RULED_NO_DEAL, RULED_PLAYS, SETTLED, SHOWN, STALE, TIDIED, UNSETTLED,
+    WITHDRAWN, WORD, attempt, working,
 };
 use engine::RunFault;
 use game_deal::{DealFault, Steps, bounds, complete};
@@ -102,6 +102,16 @@ fn run_convert_back(rt: HostRuntime) {
 #[test]
 fn run_tidy(rt: HostRuntime) {
     assert_spared(&rt, rt.alloc(), &TIDIED);
+}
+
+#[test]
+fn run_board(rt: HostRuntime) {
+    assert_spared(&rt, rt.alloc(), &SHOWN);
+}
+
+#[test]
+fn run_board_ruled(rt: HostRuntime) {
+    assert_spared(&rt, rt.alloc(), &RULED_BOARD);
 }
 
 /// What is written behind a byte is this text, or nothing where memory is refused.

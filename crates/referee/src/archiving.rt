@@ -2,19 +2,21 @@
 
 use crate::command_line::{Archive, ArchiveNames, Progressing};
 use crate::files::open;
+use crate::inputs::{Inputs, lexicon_of, list_of, open_inputs, refuse, rules_of, write};
 use crate::names::{Given, Listed, Names};
 use crate::progress::Progress;
+use crate::sources::{Source, Words, open_source, shown};
 use archive_lines::{Fields, Unread, push_json_line, push_tab_line};
-use devices::{FromRead, FromWrite, write_whole};
+use devices::FromRead;
+use either::Either;
 use endings::{Exit, Trouble};
-use engine::{Decision, RunFault, archive_entry, pair_file, read_lexicon, read_list, read_rules};
+use engine::{RunFault, archive_entry, pair_file};
 use lex_check::Checked;
-use lex_list::WordList;
-use ref_tiles::{Rules, english_rules};
+use ref_tiles::Rules;
 use std::alloc::{AllocError, Global};
 use std::io::{self, BufReader, Read};
 use std::rt::{Files, Runtime};
-use std::{fs, str};
+use std::str;
 
 /// Judges the games of an archive, each by the settled verdict, and writes a line for each to standard output before the next one is
 /// read. `watched` says whether somebody sees standard error.
@@ -23,7 +25,7 @@ pub fn archive<'a, R: Runtime + AllocGlobal>(
     request: &Archive<'a>,
     watched: bool,
 ) -> Result<Exit, Trouble<'a>> {
-    let inputs = open_inputs(rt, request)?;
+    let inputs = open_inputs(rt, request.rules, request.words, request.lexicon)?;
     let progress = Progress::new(match request.progress {
         Progressing::Shown => true,
         Progressing::Quiet => false,
@@ -31,6 +33,7 @@ pub fn archive<'a, R: Runtime + AllocGlobal>(
     });
     let run = Run {
         json: request.json,
+        is_listed: matches!(&request.names, ArchiveNames::Listed(_)),
         progress,
         line: Vec::new(rt.alloc()),
         worst: Exit::Fine,
@@ -39,39 +42,11 @@ pub fn archive<'a, R: Runtime + AllocGlobal>(
         ArchiveNames::Given(names) => {
             archive_by(rt, request, inputs, run, Given::new(names.as_slice()))
         }
-        ArchiveNames::Listed("-") => {
-            let reader = buffered(rt.alloc(), rt.reader())?;
-            archive_by(rt, request, inputs, run, Listed::new(reader))
-        }
         ArchiveNames::Listed(file) => {
-            let reader = buffered(rt.alloc(), open(rt, *file)?)?;
+            let reader = buffered(rt.alloc(), open_source(rt, *file)?)?;
             archive_by(rt, request, inputs, run, Listed::new(reader))
         }
     }
-}
-
-/// The open inputs that are read once.
-#[derive(Drop)]
-struct Inputs<F> {
-    rules: Option<F>,
-    words: F,
-    lexicon: F,
-}
-
-/// Opens the rules text where there is one, the word list and the lexicon, in this order.
-fn open_inputs<'a, R: Files>(
-    rt: &R,
-    request: &Archive<'a>,
-) -> Result<Inputs<R::File>, Trouble<'a>> {
-    let rules = match request.rules {
-        None => None,
-        Some(name) => Some(open(rt, name)?),
-    };
-    Ok(Inputs {
-        rules,
-        words: open(rt, request.words)?,
-        lexicon: open(rt, request.lexicon)?,
-    })
 }
 
 /// A reader with a buffer.
@@ -89,7 +64,7 @@ fn buffered<'a, F: Read + Drop>(
 fn archive_by<'a, R: Runtime + AllocGlobal, N: Names + Drop>(
     rt: &R,
     request: &Archive<'a>,
-    inputs: Inputs<R::File>,
+    inputs: Inputs<Words<R>, R::File>,
     run: Run,
     names: N,
 ) -> Result<Exit, Trouble<'a>> {
@@ -102,7 +77,7 @@ fn archive_by<'a, R: Runtime + AllocGlobal, N: Names + Drop>(
         Ok(rules) => rules,
         Err(decision) => return refuse(rt, &decision),
     };
-    let list = match list_of(rt.alloc(), request.words, words)? {
+    let list = match list_of(rt.alloc(), request.words.name, words)? {
         Ok(list) => list,
         Err(decision) => return refuse(rt, &decision),
     };
@@ -111,63 +86,6 @@ fn archive_by<'a, R: Runtime + AllocGlobal, N: Names + Drop>(
         Ok(Ok(pair)) => go_through(rt, request, &rules, &pair, run, names),
         Ok(Err(decision)) => refuse(rt, &decision),
         Err(_) => Err(Trouble::NoMemory),
-    }
-}
-
-/// The rules of a text, the English ones where there is none, or the decision that the text states none.
-fn rules_of<'a, F: Read + Drop>(
-    alloc: Global,
-    name: Option<&'a str>,
-    text: Option<F>,
-) -> Result<Result<Rules, Decision>, Trouble<'a>> {
-    let Some(text) = text else {
-        return Ok(Ok(english_rules()));
-    };
-    let mut text = FromRead::new(text);
-    match read_rules(alloc, &mut text) {
-        Ok(rules) => Ok(rules),
-        Err(fault) => Err(Trouble::of(fault, name.unwrap_or(""))),
-    }
-}
-
-/// The word list of a file, or the decision that it is none.
-fn list_of<'a, F: Read + Drop>(
-    alloc: Global,
-    name: &'a str,
-    words: F,
-) -> Result<Result<WordList, Decision>, Trouble<'a>> {
-    let mut words = FromRead::new(words);
-    match read_list(alloc, &mut words) {
-        Ok(list) => Ok(list),
-        Err(fault) => Err(Trouble::of(fault, name)),
-    }
-}
-
-/// The bytes of a lexicon file.
-fn lexicon_of<'a, F: Read + Drop>(
-    alloc: Global,
-    name: &'a str,
-    lexicon: F,
-) -> Result<Vec<u8>, Trouble<'a>> {
-    let mut lexicon = FromRead::new(lexicon);
-    match read_lexicon(alloc, &mut lexicon) {
-        Ok(bytes) => Ok(bytes),
-        Err(fault) => Err(Trouble::of(fault, name)),
-    }
-}
-
-/// Tells that an input is bad.
-fn refuse<'a, R: Runtime>(rt: &R, decision: &Decision) -> Result<Exit, Trouble<'a>> {
-    write(rt, decision.report.as_slice())?;
-    Ok(Exit::from(decision.verdict))
-}
-
-/// Writes bytes to standard output.
-fn write<'a, R: Runtime>(rt: &R, bytes: &[u8]) -> Result<(), Trouble<'a>> {
-    let mut out = FromWrite::new(io::writer(rt));
-    match write_whole(&mut out, bytes) {
-        Ok(()) => Ok(()),
-        Err(_) => Err(Trouble::WriteFailed),
     }
 }
 
@@ -191,7 +109,7 @@ fn go_through<'a, R: Runtime + AllocGlobal, N: Names + Drop>(
             Err(error) if error.kind() == io::ErrorKind::OutOfMemory => {
                 return Err(Trouble::NoMemory);
             }
-            Err(_) => return Err(Trouble::CannotRead(request.names.source())),
+            Err(_) => return Err(Trouble::CannotRead(shown(request.names.source()))),
         }
     }
     run.progress.end(rt);
@@ -202,6 +120,8 @@ fn go_through<'a, R: Runtime + AllocGlobal, N: Names + Drop>(
 #[derive(Drop)]
 struct Run {
     json: bool,
+    /// Whether the names of the games stand in a list, and not on the command line.
+    is_listed: bool,
     progress: Progress,
     /// The line of the game that is being judged. The games share its memory.
     line: Vec<u8>,
@@ -219,12 +139,25 @@ impl Run {
         name: &[u8],
     ) -> Result<(), Trouble<'a>> {
         if let Ok(name) = str::from_utf8(name) {
-            let fields = found(rt, rules, pair, name);
+            let fields = match self.open_game(rt, name) {
+                Ok(game) => found(rt.alloc(), rules, pair, name, game),
+                Err(Trouble::NoMemory) => Fields::unread(name, Unread::NoMemory),
+                Err(_) => Fields::unread(name, Unread::CannotOpen),
+            };
             return self.tell(rt, &fields);
         }
         match String::from_utf8_lossy(rt.alloc(), name) {
             Ok(shown) => self.tell(rt, &Fields::unread(shown.as_str(), Unread::CannotOpen)),
             Err(_) => Err(Trouble::NoMemory),
+        }
+    }
+
+    /// Opens a game: a list of names names files alone, the command line standard input too.
+    fn open_game<'n, R: Runtime>(&self, rt: &R, name: &'n str) -> Result<Source<R>, Trouble<'n>> {
+        if self.is_listed {
+            Ok(Either::Left(open(rt, name)?))
+        } else {
+            open_source(rt, name)
         }
     }
 
@@ -259,22 +192,16 @@ impl Run {
     }
 }
 
-/// What is found of the game of this name.
-fn found<'n, R: Runtime + AllocGlobal>(
-    rt: &R,
+/// What is found of the open game of this name.
+fn found<'n, F: Read + Drop>(
+    alloc: Global,
     rules: &Rules,
     pair: &Checked<'_>,
     name: &'n str,
+    game: F,
 ) -> Fields<'n> {
-    let file = match fs::open(rt, name) {
-        Ok(file) => file,
-        Err(error) if error.kind() == io::ErrorKind::OutOfMemory => {
-            return Fields::unread(name, Unread::NoMemory);
-        }
-        Err(_) => return Fields::unread(name, Unread::CannotOpen),
-    };
-    let mut game = FromRead::new(file);
-    let entry = match archive_entry(rt.alloc(), rules, pair, &mut game) {
+    let mut game = FromRead::new(game);
+    let entry = match archive_entry(alloc, rules, pair, &mut game) {
         Ok(Ok(entry)) => entry,
         Ok(Err(fault)) => return Fields::bad_record(name, &fault),
         Err(RunFault::NoMemory) => return Fields::unread(name, Unread::NoMemory),
@@ -282,7 +209,7 @@ fn found<'n, R: Runtime + AllocGlobal>(
             return Fields::unread(name, Unread::ReadFailed);
         }
     };
-    match Fields::of_entry(rt.alloc(), name, &entry) {
+    match Fields::of_entry(alloc, name, &entry) {
         Ok(fields) => fields,
         Err(_) => Fields::unread(name, Unread::NoMemory),
     }

@@ -1,12 +1,28 @@
 //! The command line: the commands that the program knows, and what one asks for.
 
+use crate::commands::{
+    ARCHIVE, AUDIT, BOARD, BUILD, CHECK, CONVERT, JUDGE, SHORT_VERSION, TIDY, TOP, VERSION,
+};
+use crate::sources::STANDARD_INPUT;
 use clap::error::ErrorKind;
-use clap::{Arg, ArgAction, ArgMatches, Command, Error};
+use clap::{Arg, ArgAction, ArgMatches, Command, Error, value_parser};
 use lex_file::Format;
 use std::alloc::{AllocError, Global};
 
+/// The name of the option by which the first field of each line of a word list is read.
+const FIRST_FIELD: &str = "first-field";
+
 /// The names of the formats of a lexicon.
 const FORMATS: [&str; 2] = ["gad1", "gad2"];
+
+/// A word list, and how its lines are read.
+#[derive(Clone, Copy)]
+pub struct WordsFile<'a> {
+    /// Its name.
+    pub name: &'a str,
+    /// Whether the first field of each line is read, and not the whole line.
+    pub first_field: bool,
+}
 
 /// The names of the files of a game.
 #[derive(Clone, Copy)]
@@ -14,7 +30,7 @@ pub struct GameFiles<'a> {
     /// The rules text; without one the rules are the English ones.
     pub rules: Option<&'a str>,
     /// The word list.
-    pub words: &'a str,
+    pub words: WordsFile<'a>,
     /// The lexicon of the words.
     pub lexicon: &'a str,
     /// The record.
@@ -57,7 +73,7 @@ pub struct Archive<'a> {
     /// The rules text; without one the rules are the English ones.
     pub rules: Option<&'a str>,
     /// The word list.
-    pub words: &'a str,
+    pub words: WordsFile<'a>,
     /// The lexicon of the words.
     pub lexicon: &'a str,
     /// The names of the records.
@@ -78,14 +94,19 @@ pub enum Request<'a> {
     },
     /// To judge many games, and to tell each on one line.
     Archive(Archive<'a>),
+    /// To audit the sheet of a record, and to write the corrected record to the file `out` where there is one.
+    Audit {
+        files: GameFiles<'a>,
+        out: Option<&'a str>,
+    },
     /// To write the lexicon of a word list to the file `out`.
     Build {
-        words: &'a str,
+        words: WordsFile<'a>,
         out: &'a str,
     },
     /// To compare a lexicon with a word list.
     Check {
-        words: &'a str,
+        words: WordsFile<'a>,
         lexicon: &'a str,
     },
     /// To write a lexicon in a format to the file `out`.
@@ -103,6 +124,12 @@ pub enum Request<'a> {
     Tidy {
         game: &'a str,
     },
+    /// To write the board of a record, before a line where one is named.
+    Board {
+        rules: Option<&'a str>,
+        before: Option<u32>,
+        game: &'a str,
+    },
 }
 
 /// Parses the arguments of a command line, the program's name first.
@@ -113,6 +140,9 @@ pub enum Request<'a> {
 /// its text.
 pub fn parse_arguments<'a>(alloc: Global, arguments: &'a [String]) -> Result<Request<'a>, Error> {
     let matches = command(alloc)?.try_get_matches_from(arguments)?;
+    if reads_twice(&matches) {
+        return Err(mistake(alloc, "standard input can be read only once"));
+    }
     match request_of(alloc, &matches)? {
         Some(request) => Ok(request),
         None => Err(mistake(alloc, "a command with its names is needed")),
@@ -133,39 +163,42 @@ pub fn mistake(alloc: Global, text: &str) -> Error {
 /// The commands that the program knows.
 fn command<'a>(alloc: Global) -> Result<Command<'a>, AllocError> {
     Command::new(alloc, "referee")
-        .about("Judges a game of Scrabble from its record, and keeps the lexicon of a word list")
+        .about("Judges a game of Scrabble from its GCG record")
+        .version(SHORT_VERSION)
+        .long_version(VERSION)
         .subcommand_required(true)
         .subcommand(judge_command(alloc)?)?
         .subcommand(archive_command(alloc)?)?
+        .subcommand(audit_command(alloc)?)?
         .subcommand(build_command(alloc)?)?
         .subcommand(check_command(alloc)?)?
         .subcommand(convert_command(alloc)?)?
         .subcommand(top_command(alloc)?)?
-        .subcommand(tidy_command(alloc)?)
+        .subcommand(tidy_command(alloc)?)?
+        .subcommand(board_command(alloc)?)
 }
 
-/// `judge [--settle] [--rules FILE] WORDS LEXICON GAME`.
+/// `judge [--first-field] [--settle] [--rules FILE] WORDS LEXICON GAME`.
 fn judge_command<'a>(alloc: Global) -> Result<Command<'a>, AllocError> {
-    Command::new(alloc, "judge")
-        .about(
-            "Says whether the game is legal, with the best play of each turn, or which line is the first that does not stand and why",
-        )
-        .arg(name(alloc, "WORDS", "the word list"))?
+    JUDGE
+        .command(alloc)
+        .arg(name(alloc, "WORDS", "the word list; - is standard input"))?
         .arg(name(alloc, "LEXICON", "the lexicon file of the words"))?
-        .arg(name(alloc, "GAME", "the GCG record"))?
+        .arg(name(alloc, "GAME", "the GCG record; - is standard input"))?
         .arg(flag(
             alloc,
             "settle",
             "search for a deal, or a proof that there is none, where the game would be unsettled",
         ))?
+        .arg(first_field_option(alloc))?
         .arg(rules_option(alloc))
 }
 
-/// `archive [--rules FILE] [--names FILE] [--json] [--progress|--quiet] WORDS LEXICON [GAME...]`.
+/// `archive [--first-field] [--rules FILE] [--names FILE] [--json] [--progress|--quiet] WORDS LEXICON [GAME...]`.
 fn archive_command<'a>(alloc: Global) -> Result<Command<'a>, AllocError> {
-    Command::new(alloc, "archive")
-        .about("Judges many games by one word list and one lexicon, and tells each on one line")
-        .arg(name(alloc, "WORDS", "the word list"))?
+    ARCHIVE
+        .command(alloc)
+        .arg(name(alloc, "WORDS", "the word list; - is standard input"))?
         .arg(name(alloc, "LEXICON", "the lexicon file of the words"))?
         .arg(
             Arg::new(alloc, "GAME")
@@ -173,7 +206,7 @@ fn archive_command<'a>(alloc: Global) -> Result<Command<'a>, AllocError> {
                 .num_args(1..)
                 .required_unless_present("names")?
                 .conflicts_with("names")?
-                .help("the GCG records"),
+                .help("the GCG records; - is standard input"),
         )?
         .arg(
             Arg::new(alloc, "names")
@@ -185,37 +218,57 @@ fn archive_command<'a>(alloc: Global) -> Result<Command<'a>, AllocError> {
         .arg(flag(
             alloc,
             "progress",
-            "tell on standard error how many games are done",
+            "show on standard error how many games are done",
         )
         .conflicts_with("quiet")?)?
-        .arg(flag(alloc, "quiet", "do not tell how many games are done"))?
+        .arg(flag(alloc, "quiet", "do not show how many games are done"))?
+        .arg(first_field_option(alloc))?
         .arg(rules_option(alloc))
 }
 
-/// `build WORDS OUT`.
+/// `audit [--first-field] [--rules FILE] [--corrected OUT] WORDS LEXICON GAME`.
+fn audit_command<'a>(alloc: Global) -> Result<Command<'a>, AllocError> {
+    AUDIT
+        .command(alloc)
+        .arg(name(alloc, "WORDS", "the word list; - is standard input"))?
+        .arg(name(alloc, "LEXICON", "the lexicon file of the words"))?
+        .arg(name(alloc, "GAME", "the GCG record; - is standard input"))?
+        .arg(
+            Arg::new(alloc, "corrected")
+                .long("corrected")
+                .value_name("OUT")
+                .help("write the corrected record to this file, where nothing else is wrong"),
+        )?
+        .arg(first_field_option(alloc))?
+        .arg(rules_option(alloc))
+}
+
+/// `build [--first-field] WORDS OUT`.
 fn build_command<'a>(alloc: Global) -> Result<Command<'a>, AllocError> {
-    Command::new(alloc, "build")
-        .about("Writes the lexicon file of a word list")
-        .arg(name(alloc, "WORDS", "the word list"))?
+    BUILD
+        .command(alloc)
+        .arg(name(alloc, "WORDS", "the word list; - is standard input"))?
         .arg(name(
             alloc,
             "OUT",
             "the lexicon file to be written, or emptied first",
-        ))
+        ))?
+        .arg(first_field_option(alloc))
 }
 
-/// `check WORDS LEXICON`.
+/// `check [--first-field] WORDS LEXICON`.
 fn check_command<'a>(alloc: Global) -> Result<Command<'a>, AllocError> {
-    Command::new(alloc, "check")
-        .about("Says whether a lexicon file is that of a word list, or where it first differs")
-        .arg(name(alloc, "WORDS", "the word list"))?
-        .arg(name(alloc, "LEXICON", "the lexicon file"))
+    CHECK
+        .command(alloc)
+        .arg(name(alloc, "WORDS", "the word list; - is standard input"))?
+        .arg(name(alloc, "LEXICON", "the lexicon file"))?
+        .arg(first_field_option(alloc))
 }
 
 /// `convert FORMAT LEXICON OUT`.
 fn convert_command<'a>(alloc: Global) -> Result<Command<'a>, AllocError> {
-    Command::new(alloc, "convert")
-        .about("Writes a lexicon file in another format, with the same words")
+    CONVERT
+        .command(alloc)
         .arg(name(alloc, "FORMAT", "the format").value_parser(FORMATS.as_slice()))?
         .arg(name(alloc, "LEXICON", "the lexicon file"))?
         .arg(name(
@@ -225,22 +278,39 @@ fn convert_command<'a>(alloc: Global) -> Result<Command<'a>, AllocError> {
         ))
 }
 
-/// `top [--rules FILE] WORDS LEXICON GAME RACK`.
+/// `top [--first-field] [--rules FILE] WORDS LEXICON GAME RACK`.
 fn top_command<'a>(alloc: Global) -> Result<Command<'a>, AllocError> {
-    Command::new(alloc, "top")
-        .about("Tells the ten best plays by a rack on the board after a record")
-        .arg(name(alloc, "WORDS", "the word list"))?
+    TOP.command(alloc)
+        .arg(name(alloc, "WORDS", "the word list; - is standard input"))?
         .arg(name(alloc, "LEXICON", "the lexicon file of the words"))?
-        .arg(name(alloc, "GAME", "the GCG record"))?
+        .arg(name(alloc, "GAME", "the GCG record; - is standard input"))?
         .arg(name(alloc, "RACK", "1 to 7 tiles: A to Z, and ? for a blank"))?
+        .arg(first_field_option(alloc))?
         .arg(rules_option(alloc))
 }
 
 /// `tidy GAME`.
 fn tidy_command<'a>(alloc: Global) -> Result<Command<'a>, AllocError> {
-    Command::new(alloc, "tidy")
-        .about("Writes the normal form of a record, or its first fault")
-        .arg(name(alloc, "GAME", "the GCG record"))
+    TIDY.command(alloc)
+        .arg(name(alloc, "GAME", "the GCG record; - is standard input"))
+}
+
+/// `board [--rules FILE] [--before LINE] GAME`.
+fn board_command<'a>(alloc: Global) -> Result<Command<'a>, AllocError> {
+    BOARD
+        .command(alloc)
+        .arg(name(alloc, "GAME", "the GCG record; - is standard input"))?
+        .arg(before_option(alloc))?
+        .arg(rules_option(alloc))
+}
+
+/// The option that names a line of the record.
+fn before_option<'a>(alloc: Global) -> Arg<'a> {
+    Arg::new(alloc, "before")
+        .long("before")
+        .value_name("LINE")
+        .value_parser(value_parser!(u32))
+        .help("the line of the record before which the board is shown, counted from 1")
 }
 
 /// An argument that the command needs.
@@ -264,6 +334,28 @@ fn rules_option<'a>(alloc: Global) -> Arg<'a> {
         .help("the rules text; without it the rules are the English ones")
 }
 
+/// Whether more than one of the names in a command line is that of standard input.
+fn reads_twice(matches: &ArgMatches<'_>) -> bool {
+    let Some((_, names)) = matches.subcommand() else {
+        return false;
+    };
+    let times = ["WORDS", "GAME", "names"]
+        .iter()
+        .map(|id| times_read(names, id))
+        .fold(0usize, |sum, times| sum.saturating_add(times));
+    times > 1
+}
+
+/// How many of the values of an argument are the name of standard input.
+fn times_read(names: &ArgMatches<'_>, id: &str) -> usize {
+    names
+        .get_strs(id)
+        .unwrap_or(&[])
+        .iter()
+        .filter(|name| **name == STANDARD_INPUT)
+        .count()
+}
+
 /// What the matches of a parse ask for: there is always something, since every argument is required.
 fn request_of<'a>(
     alloc: Global,
@@ -283,7 +375,7 @@ fn archive_of<'a>(
     alloc: Global,
     names: &ArgMatches<'a>,
 ) -> Result<Option<Request<'a>>, AllocError> {
-    let (Some(words), Some(lexicon)) = (names.get_str("WORDS"), names.get_str("LEXICON")) else {
+    let (Some(words), Some(lexicon)) = (words_file(names), names.get_str("LEXICON")) else {
         return Ok(None);
     };
     let games = match names.get_str("names") {
@@ -318,12 +410,16 @@ fn small_request_of<'a>(command: &str, names: &ArgMatches<'a>) -> Option<Request
             settle: names.get_flag("settle"),
             files: game_files(names)?,
         }),
+        "audit" => Some(Request::Audit {
+            files: game_files(names)?,
+            out: names.get_str("corrected"),
+        }),
         "build" => Some(Request::Build {
-            words: names.get_str("WORDS")?,
+            words: words_file(names)?,
             out: names.get_str("OUT")?,
         }),
         "check" => Some(Request::Check {
-            words: names.get_str("WORDS")?,
+            words: words_file(names)?,
             lexicon: names.get_str("LEXICON")?,
         }),
         "convert" => Some(Request::Convert {
@@ -338,18 +434,40 @@ fn small_request_of<'a>(command: &str, names: &ArgMatches<'a>) -> Option<Request
         "tidy" => Some(Request::Tidy {
             game: names.get_str("GAME")?,
         }),
+        "board" => Some(Request::Board {
+            rules: names.get_str("rules"),
+            before: names.get_one::<u32>("before"),
+            game: names.get_str("GAME")?,
+        }),
         _ => None,
     }
+}
+
+/// The word list that a command names.
+fn words_file<'a>(names: &ArgMatches<'a>) -> Option<WordsFile<'a>> {
+    Some(WordsFile {
+        name: names.get_str("WORDS")?,
+        first_field: names.get_flag(FIRST_FIELD),
+    })
 }
 
 /// The files of a game that a command names.
 fn game_files<'a>(names: &ArgMatches<'a>) -> Option<GameFiles<'a>> {
     Some(GameFiles {
         rules: names.get_str("rules"),
-        words: names.get_str("WORDS")?,
+        words: words_file(names)?,
         lexicon: names.get_str("LEXICON")?,
         game: names.get_str("GAME")?,
     })
+}
+
+/// The option by which the first field of each line of a word list is read.
+fn first_field_option<'a>(alloc: Global) -> Arg<'a> {
+    flag(
+        alloc,
+        FIRST_FIELD,
+        "read the first field of each line of WORDS, and ignore lines that begin with #",
+    )
 }
 
 /// The format of this name.

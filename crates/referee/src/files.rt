@@ -1,5 +1,6 @@
-//! The files of a call: how they are opened, and what is told of the one that failed.
+//! The files of a call: how they are opened, and what is said of the one that failed.
 
+use crate::sources::shown;
 use devices::FromRead;
 use endings::Trouble;
 use engine::{RunFault, Verdict};
@@ -26,11 +27,16 @@ fn opened<'a, F>(name: &'a str, file: io::Result<F>) -> Result<F, Trouble<'a>> {
     }
 }
 
-/// An input after a call: the name of its file, and how often a read of it failed.
+/// An input after a call: what messages name it, and how often a read of it failed.
 #[derive(Clone, Copy)]
 pub struct InputFile<'a> {
     name: &'a str,
     failures: u64,
+}
+
+/// The word list or record of this name on the command line.
+pub fn used_source<'a, F: Read + Drop>(name: &'a str, input: &FromRead<F>) -> InputFile<'a> {
+    used(shown(name), input)
 }
 
 /// The input of the file of this name.

@@ -2,32 +2,37 @@
 
 use crate::command_line::GameFiles;
 use crate::counted::Counted;
-use crate::files::{open, told, used};
+use crate::files::{open, told, used, used_source};
+use crate::sources::{Source, Words, open_source, open_words, shown};
 use devices::{FromRead, FromWrite};
 use endings::Trouble;
 use engine::{
-    Verdict, run, run_ruled, run_settled, run_settled_ruled, run_tidy, run_top, run_top_ruled,
+    Verdict, run, run_board, run_board_ruled, run_ruled, run_settled, run_settled_ruled, run_tidy,
+    run_top, run_top_ruled,
 };
 use ref_tiles::english_rules;
 use std::io;
 use std::rt::{Files, Runtime};
 
-/// How long the report of a legal game is of which no event is told.
+/// How long the report of a legal game without events is.
 const WITHOUT_EVENTS: u64 = b"legal unfinished\n".len() as u64;
 
 /// The open files of a game.
-struct OpenGame<F> {
-    words: F,
+struct OpenGame<W, F, S> {
+    words: W,
     lexicon: F,
-    game: F,
+    game: S,
 }
 
 /// Opens the word list, the lexicon and the record of a game, in this order.
-fn open_game<'a, R: Files>(rt: &R, files: GameFiles<'a>) -> Result<OpenGame<R::File>, Trouble<'a>> {
+fn open_game<'a, R: Runtime>(
+    rt: &R,
+    files: GameFiles<'a>,
+) -> Result<OpenGame<Words<R>, R::File, Source<R>>, Trouble<'a>> {
     Ok(OpenGame {
-        words: open(rt, files.words)?,
+        words: open_words(rt, files.words)?,
         lexicon: open(rt, files.lexicon)?,
-        game: open(rt, files.game)?,
+        game: open_source(rt, files.game)?,
     })
 }
 
@@ -62,6 +67,7 @@ fn advise<R: Runtime>(rt: &R, settle: bool, game: &str, judged: Judged) {
             );
         }
         Verdict::Legal { .. } if judged.bytes == WITHOUT_EVENTS => {
+            let game = shown(game);
             let _ = rt.eprintln(format_args!("no event: is {game} a game record?"));
         }
         _ => {}
@@ -91,9 +97,9 @@ fn judge_english<'a, R: Runtime + AllocGlobal>(
         run(alloc, &mut words, &mut lexicon, &mut game, &mut out, &rules)
     };
     let inputs = [
-        used(files.words, &words),
+        used_source(files.words.name, &words),
         used(files.lexicon, &lexicon),
-        used(files.game, &game),
+        used_source(files.game, &game),
     ];
     let verdict = told(outcome, &inputs)?;
     let bytes = out.into_inner().taken();
@@ -139,9 +145,9 @@ fn judge_ruled<'a, R: Runtime + AllocGlobal>(
     };
     let inputs = [
         used(rules, &text),
-        used(files.words, &words),
+        used_source(files.words.name, &words),
         used(files.lexicon, &lexicon),
-        used(files.game, &game),
+        used_source(files.game, &game),
     ];
     let verdict = told(outcome, &inputs)?;
     let bytes = out.into_inner().taken();
@@ -186,9 +192,9 @@ fn top_english<'a, R: Runtime + AllocGlobal>(
         &english_rules(),
     );
     let inputs = [
-        used(files.words, &words),
+        used_source(files.words.name, &words),
         used(files.lexicon, &lexicon),
-        used(files.game, &game),
+        used_source(files.game, &game),
     ];
     told(outcome, &inputs)
 }
@@ -221,17 +227,56 @@ fn top_ruled<'a, R: Runtime + AllocGlobal>(
     );
     let inputs = [
         used(rules, &text),
-        used(files.words, &words),
+        used_source(files.words.name, &words),
         used(files.lexicon, &lexicon),
-        used(files.game, &game),
+        used_source(files.game, &game),
     ];
     told(outcome, &inputs)
 }
 
 /// Writes the normal form of the record of a file to standard output.
 pub fn tidy<'a, R: Runtime + AllocGlobal>(rt: &R, game: &'a str) -> Result<Verdict, Trouble<'a>> {
-    let mut record = FromRead::new(open(rt, game)?);
+    let mut record = FromRead::new(open_source(rt, game)?);
     let mut out = FromWrite::new(io::writer(rt));
     let outcome = run_tidy(rt.alloc(), &mut record, &mut out);
-    told(outcome, &[used(game, &record)])
+    told(outcome, &[used_source(game, &record)])
+}
+
+/// Writes the board of a record to standard output, before a line where one is named, by the English rules or those of a text.
+pub fn board<'a, R: Runtime + AllocGlobal>(
+    rt: &R,
+    rules: Option<&'a str>,
+    before: Option<u32>,
+    game: &'a str,
+) -> Result<Verdict, Trouble<'a>> {
+    match rules {
+        None => board_english(rt, before, game),
+        Some(rules) => board_ruled(rt, rules, before, game),
+    }
+}
+
+/// Writes the board by the English rules.
+fn board_english<'a, R: Runtime + AllocGlobal>(
+    rt: &R,
+    before: Option<u32>,
+    game: &'a str,
+) -> Result<Verdict, Trouble<'a>> {
+    let mut record = FromRead::new(open_source(rt, game)?);
+    let mut out = FromWrite::new(io::writer(rt));
+    let outcome = run_board(rt.alloc(), &mut record, before, &mut out, &english_rules());
+    told(outcome, &[used_source(game, &record)])
+}
+
+/// The same by the rules of a text, whose file is opened first.
+fn board_ruled<'a, R: Runtime + AllocGlobal>(
+    rt: &R,
+    rules: &'a str,
+    before: Option<u32>,
+    game: &'a str,
+) -> Result<Verdict, Trouble<'a>> {
+    let mut text = FromRead::new(open(rt, rules)?);
+    let mut record = FromRead::new(open_source(rt, game)?);
+    let mut out = FromWrite::new(io::writer(rt));
+    let outcome = run_board_ruled(rt.alloc(), &mut text, &mut record, before, &mut out);
+    told(outcome, &[used(rules, &text), used_source(game, &record)])
 }

@@ -1,6 +1,8 @@
 //! The commands that keep the lexicon of a word list.
 
-use crate::files::{create, open, told, used};
+use crate::command_line::WordsFile;
+use crate::files::{create, open, told, used, used_source};
+use crate::sources::open_words;
 use devices::{FromRead, FromWrite};
 use endings::Trouble;
 use engine::{Verdict, run_build, run_check, run_convert};
@@ -11,26 +13,29 @@ use std::rt::Runtime;
 /// Writes the lexicon of a word list, or the line of the list's fault, to the file `out`.
 pub fn build<'a, R: Runtime + AllocGlobal>(
     rt: &R,
-    words: &'a str,
+    words: WordsFile<'a>,
     out: &'a str,
 ) -> Result<Verdict, Trouble<'a>> {
-    let mut list = FromRead::new(open(rt, words)?);
+    let mut list = FromRead::new(open_words(rt, words)?);
     let mut out = FromWrite::new(create(rt, out)?);
     let outcome = run_build(rt.alloc(), &mut list, &mut out);
-    told(outcome, &[used(words, &list)])
+    told(outcome, &[used_source(words.name, &list)])
 }
 
 /// Compares a lexicon with a word list. What was found goes to standard output.
 pub fn check<'a, R: Runtime + AllocGlobal>(
     rt: &R,
-    words: &'a str,
+    words: WordsFile<'a>,
     lexicon: &'a str,
 ) -> Result<Verdict, Trouble<'a>> {
-    let mut list = FromRead::new(open(rt, words)?);
+    let mut list = FromRead::new(open_words(rt, words)?);
     let mut file = FromRead::new(open(rt, lexicon)?);
     let mut out = FromWrite::new(io::writer(rt));
     let outcome = run_check(rt.alloc(), &mut list, &mut file, &mut out);
-    told(outcome, &[used(words, &list), used(lexicon, &file)])
+    told(
+        outcome,
+        &[used_source(words.name, &list), used(lexicon, &file)],
+    )
 }
 
 /// Writes a lexicon in a format, or the line of the lexicon's fault, to the file `out`.

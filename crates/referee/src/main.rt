@@ -1,17 +1,21 @@
 //! The program `referee`: it reads the command line, opens the files, and lets the engine judge.
 //!
-//! Exit statuses: 0 legal or done, 1 illegal, 2 unsettled, 3 bad input, 4 a device or memory, 64 the command line.
+//! Exit statuses: 0 legal, done or help, 1 illegal, 2 unsettled, 3 bad input, 4 a device or memory, 64 the command line.
 #![tactic(auto)]
 
 mod archiving;
+mod auditing;
 mod command_line;
+mod commands;
 mod counted;
 mod files;
 mod games;
+mod inputs;
 mod lexicons;
 mod names;
 mod progress;
 mod running;
+mod sources;
 
 use crate::running::run_program;
 use std::io::IsTerminal;

@@ -1,8 +1,9 @@
-//! What the program does: it takes the command line for a request, has it done, and tells what kept it from its end.
+//! What the program does: it takes the command line for a request, has it done, and says what kept it from its end.
 
 use crate::archiving::archive;
+use crate::auditing::audit;
 use crate::command_line::{Request, mistake, parse_arguments};
-use crate::games::{judge, tidy, top};
+use crate::games::{board, judge, tidy, top};
 use crate::lexicons::{build, check, convert};
 use clap::Error;
 use clap::error::ErrorKind;
@@ -12,7 +13,7 @@ use std::alloc::AllocError;
 use std::rt::Runtime;
 use std::{env, io};
 
-/// Runs the program on the arguments of its command line. What keeps it from its end is told on standard error, which somebody
+/// Runs the program on the arguments of its command line. What keeps it from its end is said on standard error, which somebody
 /// sees where it is `watched`.
 pub fn run_program<R: Runtime + AllocGlobal>(rt: &R, watched: bool) -> Exit {
     let arguments = match arguments_of(rt) {
@@ -34,16 +35,22 @@ fn arguments_of<R: Runtime + AllocGlobal>(rt: &R) -> Result<Vec<String>, Error> 
     }
 }
 
-/// Tells why the command line gave no request: a mistake or help by clap's text, want of memory by its own.
+/// What a command line without a request comes to. Help and the version go to standard output, a mistake to standard error.
 fn refuse<R: Runtime>(rt: &R, error: &Error) -> Exit {
     if error.kind() == ErrorKind::OutOfMemory {
         return give_up(rt, Trouble::NoMemory);
     }
-    let _ = rt.eprint(error);
-    Exit::Usage
+    if error.use_stderr() {
+        let _ = rt.eprint(error);
+        return Exit::Usage;
+    }
+    match rt.print(error) {
+        Ok(()) => Exit::Fine,
+        Err(_) => give_up(rt, Trouble::WriteFailed),
+    }
 }
 
-/// Tells what kept the program from its end.
+/// Says what kept the program from its end.
 fn give_up<R: Runtime>(rt: &R, trouble: Trouble<'_>) -> Exit {
     let _ = rt.eprintln(trouble);
     Exit::Broken
@@ -54,6 +61,7 @@ fn answer<R: Runtime + AllocGlobal>(rt: &R, request: Request<'_>, watched: bool)
     let outcome = match request {
         Request::Archive(games) => archive(rt, &games, watched),
         Request::Judge { settle, files } => ended(judge(rt, settle, files)),
+        Request::Audit { files, out } => audit(rt, files, out),
         Request::Build { words, out } => ended(build(rt, words, out)),
         Request::Check { words, lexicon } => ended(check(rt, words, lexicon)),
         Request::Convert {
@@ -63,6 +71,11 @@ fn answer<R: Runtime + AllocGlobal>(rt: &R, request: Request<'_>, watched: bool)
         } => ended(convert(rt, format, lexicon, out)),
         Request::Top { files, rack } => ended(top(rt, files, rack)),
         Request::Tidy { game } => ended(tidy(rt, game)),
+        Request::Board {
+            rules,
+            before,
+            game,
+        } => ended(board(rt, rules, before, game)),
     };
     match outcome {
         Ok(exit) => exit,

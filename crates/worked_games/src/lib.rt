@@ -1,4 +1,4 @@
-//! The worked games, lexicons and records, judged, built, checked, converted and tidied over memory by the calls of the engine, and
+//! The worked games, lexicons and records, judged, built, checked, converted, tidied and shown over memory by the calls of the engine, and
 //! tests of the devices that they are read from and written to.
 //!
 //! Each table shows one rule. They stand here, and not in the crates that they test, since a crate with tests of its own
@@ -9,6 +9,8 @@
 mod archiving;
 #[cfg(test)]
 mod best_plays;
+#[cfg(test)]
+mod boards;
 #[cfg(test)]
 mod converting;
 #[cfg(test)]

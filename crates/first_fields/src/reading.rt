@@ -1,0 +1,130 @@
+//! A reader that hands out the first fields of the lines of another one.
+ghost use Rattle.std.specs.Prelude.{◌≡◌, ◌<◌, ◌≤◌, length, take, option_map, IfOk, OnErr};
+ghost use Rattle.std.specs.Io.KnownBytes.{Consumes, IsAtEnd, Keeps};
+ghost use Rattle.first_fields.specs.Fields.{first_fields};
+ghost use Rattle.first_fields.specs.Places.{fields_from};
+
+use crate::places::{Place, keep_fields};
+use std::io::{Error, ErrorKind, Read, Result};
+
+/// How many bytes one read asks for at most.
+const CHUNK: usize = 8192;
+
+/// A reader whose text has the first field of each line in place of the line: what stands before its first space or tab. A line that
+/// begins with `#` becomes an empty one, so that lines keep their numbers.
+#[derive(Drop)]
+pub struct FirstFields<R> {
+    inner: R,
+    place: Place,
+}
+
+/// What a read of a chunk came to.
+#[derive(Clone, Copy, Debug)]
+struct Chunk {
+    /// How many bytes were read.
+    read: usize,
+    /// How many of them were kept.
+    kept: usize,
+}
+
+impl<R: Read + Drop> FirstFields<R> {
+    /// The first fields of what the reader has.
+    pub fn new(inner: R) -> FirstFields<R>
+        ensures { ⟦<FirstFields<R> as Read>⟧.remaining result ≡ option_map first_fields (R.remaining inner) }
+    {
+        FirstFields {
+            inner,
+            place: Place::Beginning,
+        }
+    }
+
+    /// Reads a chunk once, and puts what is kept of it into the buffer.
+    fn read_chunk(&mut self, chunk: &mut [u8], buf: &mut [u8]) -> Result<Chunk>
+        requires { length chunk.old ≤ length buf.old }
+        ensures room { length buf.new ≡ length buf.old }
+        ensures same { length chunk.new ≡ length chunk.old }
+        ensures bound { IfOk result (λ c. c.kept ≤ length buf.new) }
+        ensures bytes { IfOk result (λ c. Consumes (option_map (fields_from self.old.place) (R.remaining self.old.inner))
+            (option_map (fields_from self.new.place) (R.remaining self.new.inner)) (take c.kept buf.new)) }
+        ensures end { IfOk result (λ c. c.read ≡ 0 → 0 < length chunk.new
+            → IsAtEnd (option_map (fields_from self.new.place) (R.remaining self.new.inner))) }
+        ensures err { OnErr result (Keeps (option_map (fields_from self.old.place) (R.remaining self.old.inner))
+            (option_map (fields_from self.new.place) (R.remaining self.new.inner))) }
+    {
+        let read = self.inner.read(chunk)?;
+        let kept = keep_fields(self.place, &chunk[..read], buf);
+        self.place = kept.place;
+        Ok(Chunk {
+            read,
+            kept: kept.len,
+        })
+    }
+}
+
+impl<R: Read + Drop> Read for FirstFields<R> {
+    ghost remaining = { λ s. option_map (fields_from s.place) (R.remaining s.inner) };
+
+    fn read(&mut self, buf: &mut [u8]) -> Result<usize> {
+        let mut chunk = [0u8; CHUNK];
+        let most = buf.len().min(CHUNK);
+        for _ in 0..u64::MAX {
+            let Chunk { read, kept } = self.read_chunk(&mut chunk[..most], buf)?;
+            if read == 0 || kept > 0 {
+                return Ok(kept);
+            }
+        }
+        Err(Error::from(ErrorKind::Other))
+    }
+}
+
+#[cfg(test)]
+mod tests {
+    use super::FirstFields;
+    use std::io::{Read, Result};
+    use std::rt::HostRuntime;
+
+    /// A reader that gives a few bytes at a time.
+    #[derive(Drop)]
+    struct Slow<'a> {
+        left: &'a [u8],
+        most: usize,
+    }
+
+    impl Read for Slow<'_> {
+        fn read(&mut self, buf: &mut [u8]) -> Result<usize> {
+            let count = self.left.len().min(self.most).min(buf.len());
+            buf[..count].copy_from_slice(&self.left[..count]);
+            self.left = &self.left[count..];
+            Ok(count)
+        }
+    }
+
+    /// Texts, and what is handed out of them.
+    const ROWS: [(&[u8], &[u8]); 12] = [
+        (b"", b""),
+        (b"AA", b"AA"),
+        (b"AA 4\nAB\t5 a muscle\n", b"AA\nAB\n"),
+        (b"AA 4\r\nAB\r\n", b"AA\nAB\r\n"),
+        (b"# a list\nAA\n#\n", b"\nAA\n\n"),
+        (b" AA\n\tAB\n", b"\n\n"),
+        (b"AA # two\nAB#\n", b"AA\nAB#\n"),
+        (b"\n\n", b"\n\n"),
+        (b"#", b""),
+        (b"AA ", b"AA"),
+        (b"#x\n#y\n#z", b"\n\n"),
+        (b"AA  BB\n", b"AA\n"),
+    ];
+
+    #[test]
+    fn first_fields_of_texts(rt: HostRuntime) {
+        for row in &ROWS {
+            for most in 1..4 {
+                let slow = Slow { left: row.0, most };
+                let mut read = Vec::new(rt.alloc());
+                let count = FirstFields::new(slow).read_to_end(&mut read);
+                assert_eq!(rt; count.ok(), Some(row.1.len()));
+                assert_eq!(rt; read.as_slice(), row.1);
+            }
+        }
+    }
+}

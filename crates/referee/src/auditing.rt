@@ -1,0 +1,96 @@
+//! `audit`: the wrong numbers of one sheet, and its correction.
+
+use crate::command_line::GameFiles;
+use crate::files::create;
+use crate::inputs::{Inputs, lexicon_of, list_of, open_inputs, refuse, rules_of, write};
+use crate::sources::{open_source, shown};
+use audit_lines::{exit_of, is_corrected, push_audit};
+use devices::{FromRead, FromWrite, write_whole};
+use endings::{Exit, Trouble};
+use engine::{Audit, audit_sheet, pair_file};
+use gcg_read::Record;
+use lex_check::Checked;
+use ref_tiles::Rules;
+use std::alloc::{AllocError, Global};
+use std::io::Read;
+use std::rt::{Files, Runtime};
+
+/// Audits the sheet of a record: writes each wrong number and the verdict of the corrected record to standard output, and that record in
+/// its normal form to the file `out`, where one is named and the record stands.
+pub fn audit<'a, R: Runtime + AllocGlobal>(
+    rt: &R,
+    files: GameFiles<'a>,
+    out: Option<&'a str>,
+) -> Result<Exit, Trouble<'a>> {
+    let inputs = open_inputs(rt, files.rules, files.words, files.lexicon)?;
+    let game = open_source(rt, files.game)?;
+    let Inputs {
+        rules,
+        words,
+        lexicon,
+    } = inputs;
+    let rules = match rules_of(rt.alloc(), files.rules, rules)? {
+        Ok(rules) => rules,
+        Err(decision) => return refuse(rt, &decision),
+    };
+    let list = match list_of(rt.alloc(), files.words.name, words)? {
+        Ok(list) => list,
+        Err(decision) => return refuse(rt, &decision),
+    };
+    let bytes = lexicon_of(rt.alloc(), files.lexicon, lexicon)?;
+    match pair_file(rt.alloc(), &list, &bytes) {
+        Ok(Ok(pair)) => audit_by(rt, files, &rules, &pair, game, out),
+        Ok(Err(decision)) => refuse(rt, &decision),
+        Err(_) => Err(Trouble::NoMemory),
+    }
+}
+
+/// Audits the sheet of an open record by rules and a pair that were read.
+fn audit_by<'a, R: Runtime + AllocGlobal, F: Read + Drop>(
+    rt: &R,
+    files: GameFiles<'a>,
+    rules: &Rules,
+    pair: &Checked<'_>,
+    game: F,
+    out: Option<&'a str>,
+) -> Result<Exit, Trouble<'a>> {
+    let mut game = FromRead::new(game);
+    let audit = match audit_sheet(rt.alloc(), rules, pair, &mut game) {
+        Ok(Ok(audit)) => audit,
+        Ok(Err(decision)) => return refuse(rt, &decision),
+        Err(fault) => return Err(Trouble::of(fault, shown(files.game))),
+    };
+    let Ok(told) = lines_of(rt.alloc(), &audit) else {
+        return Err(Trouble::NoMemory);
+    };
+    match out {
+        Some(out) if is_corrected(&audit) => keep(rt, out, &audit.entry.record)?,
+        _ => {}
+    }
+    write(rt, told.as_slice())?;
+    Ok(exit_of(&audit))
+}
+
+/// The lines of an audit.
+fn lines_of(alloc: Global, audit: &Audit) -> Result<Vec<u8>, AllocError> {
+    let mut told = Vec::new(alloc);
+    push_audit(alloc, &mut told, audit)?;
+    Ok(told)
+}
+
+/// Writes the normal form of a record to the file `out`, which is made once its text is.
+fn keep<'a, R: Runtime + AllocGlobal>(
+    rt: &R,
+    out: &'a str,
+    record: &Record,
+) -> Result<(), Trouble<'a>> {
+    let mut text = Vec::new(rt.alloc());
+    if gcg_write::write(record, &mut text).is_err() {
+        return Err(Trouble::NoMemory);
+    }
+    let mut file = FromWrite::new(create(rt, out)?);
+    match write_whole(&mut file, text.as_slice()) {
+        Ok(()) => Ok(()),
+        Err(_) => Err(Trouble::WriteFailed),
+    }
+}

@@ -1,0 +1,44 @@
+//! The word lists and records of a command line: files, or standard input.
+
+use crate::command_line::WordsFile;
+use crate::files::open;
+use either::Either;
+use endings::Trouble;
+use first_fields::FirstFields;
+use std::io::Input;
+use std::rt::{Files, Runtime};
+
+/// The name of standard input on the command line.
+pub const STANDARD_INPUT: &str = "-";
+
+/// A file, or standard input.
+pub type Source<R> = Either<<R as Files>::File, <R as Input>::Reader>;
+
+/// Opens the file of this name to be read, or standard input where it is `-`.
+pub fn open_source<'a, R: Runtime>(rt: &R, name: &'a str) -> Result<Source<R>, Trouble<'a>> {
+    if name == STANDARD_INPUT {
+        return Ok(Either::Right(rt.reader()));
+    }
+    Ok(Either::Left(open(rt, name)?))
+}
+
+/// A word list, or the first fields of its lines.
+pub type Words<R> = Either<Source<R>, FirstFields<Source<R>>>;
+
+/// Opens a word list to be read.
+pub fn open_words<'a, R: Runtime>(rt: &R, words: WordsFile<'a>) -> Result<Words<R>, Trouble<'a>> {
+    let source = open_source(rt, words.name)?;
+    if words.first_field {
+        return Ok(Either::Right(FirstFields::new(source)));
+    }
+    Ok(Either::Left(source))
+}
+
+/// How messages name a file or standard input.
+pub fn shown(name: &str) -> &str {
+    if name == STANDARD_INPUT {
+        "standard input"
+    } else {
+        name
+    }
+}
