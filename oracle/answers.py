@@ -1,6 +1,7 @@
 """What each command of the program is to print or to write, from the bytes of its inputs, and its exit status: by the second judge."""
 import re
 
+import audits
 import rules_texts
 from best import best_plays
 from deals import event_of, judge_deal, settled_ways
@@ -8,10 +9,16 @@ from games import board_after, go_through
 from lexicons import build, check, convert
 from records import Fault, read
 from rules import ENGLISH
+from sheets import sheet
 
 BOM = b"\xef\xbb\xbf"
 SETTLE = b"unsettled: `judge --settle` searches for a deal that yields the racks\n"
 VERDICTS = {"legal": 0, "illegal": 1, "unsettled": 2, "bad": 3}
+
+
+def first_fields(data):
+    """A word list as it is read with `--first-field`."""
+    return b"\n".join(b"" if text[:1] == b"#" else re.match(b"[^ \t]*", text)[0] for text in data.split(b"\n"))
 
 
 def words_of(data):
@@ -31,7 +38,7 @@ def words_of(data):
 
 def told_of(report, game, players):
     """A report of the events on the lines 1, 2 and so on by A and B, with the lines and nicknames of the record."""
-    lines = [k for k, text in enumerate(game.removeprefix(BOM).split(b"\n"), 1) if text.startswith(b">")]
+    lines = lines_of(game)
     if report.startswith("illegal"):
         place, fault = report.removeprefix("illegal line ").split(":", 1)
         return f"illegal line {lines[int(place) - 1]}:{fault}".encode()
@@ -81,6 +88,25 @@ def settled(words, lexicon, game, text=None):
     return answers if isinstance(answers, list) else [answers]
 
 
+def audited(words, lexicon, game, text=None):
+    """What `audit` may print, one of these."""
+
+    def lines(listed, players, events, rules):
+        numbers = [k for k, line in enumerate(game.removeprefix(BOM).split(b"\n"), 1) if line.startswith(b">")]
+        nicks = [player[0].decode("latin-1") if player else "" for player in players]
+        wrong, verdicts = audits.ways(events, listed, rules, numbers, nicks)
+        return ["\n".join([*wrong, verdict, ""]).encode("latin-1") for verdict in verdicts]
+
+    answers = answered(words, lexicon, game, text, lines)
+    return answers if isinstance(answers, list) else [answers]
+
+
+def audit_status(output):
+    """The exit status that goes with the lines of an audit."""
+    *wrong, verdict = output.removesuffix(b"\n").split(b"\n")
+    return max(status_of(verdict), 1 if wrong else 0)
+
+
 def topped(words, lexicon, game, rack, text=None):
     """What `top` is to print."""
 
@@ -91,6 +117,28 @@ def topped(words, lexicon, game, rack, text=None):
         return best_plays(board_after(events, listed, rules), rack, listed, rules)[1].encode()
 
     return answered(words, lexicon, game, text, plays) if re.fullmatch("[A-Z?]{1,7}", rack) else b"bad rack\n"
+
+
+def lines_of(game):
+    """The lines of a record on which its events stand."""
+    return [k for k, text in enumerate(game.removeprefix(BOM).split(b"\n"), 1) if text.startswith(b">")]
+
+
+def boarded(game, before=None, text=None):
+    """What `board` is to print, before a line where one is named."""
+    try:
+        rules = ENGLISH if text is None else rules_texts.read(text)
+    except rules_texts.Fault as fault:
+        return fault.text()
+    try:
+        players, said = read(game)
+    except Fault as fault:
+        return fault.text()
+    lines = lines_of(game)
+    asked = len(lines) if before is None else next((k for k, line in enumerate(lines) if line >= before), None)
+    if asked is None:
+        return b"bad line: no event is on it or after it\n"
+    return sheet(players, [event_of(it) for it in said], lines, asked, rules)
 
 
 def checked(words, lexicon):

@@ -2,7 +2,7 @@
 of it: fuzz.py PROGRAM SECONDS SEED
 
 Each round makes a game that was dealt for real, its list and its lexicon in either format, damages some of them, and runs `judge`,
-`check`, `build`, `convert`, `tidy` and `top` on them; some rounds judge by a rules text, which may be damaged too. Statuses, outputs
+`audit`, `check`, `build`, `convert`, `tidy`, `top` and `board` on them; some rounds judge by a rules text, which may be damaged too. Statuses, outputs
 and the files of `build` and `convert` have to be those of the second judge.
 """
 import random
@@ -13,7 +13,7 @@ import time
 from collections import Counter
 from pathlib import Path
 
-from answers import built, checked, converted, error_of, judged, settled, status_of, topped, words_of
+from answers import audit_status, audited, boarded, built, checked, converted, error_of, first_fields, judged, settled, status_of, topped, words_of
 from dealing import Dealer, likely, line, words_in_reach
 from lexicons import GAD2, build, convert
 from records import tidy
@@ -91,6 +91,7 @@ class Fuzzer:
         self.program, self.seen, self.differences = program, Counter(), 0
         self.words, self.lexicon, self.game, self.out = (Path(folder, it) for it in ("words", "lexicon", "game", "out"))
         self.rules = Path(folder, "rules")
+        self.fielded = []
 
     def compare(self, words, expected, status, wrote=None):
         ran = subprocess.run([self.program, *words], capture_output=True, check=False, timeout=60)
@@ -112,30 +113,62 @@ class Fuzzer:
             self.differences += 1
             print(*words, "status", ran.returncode, ran.stdout, ran.stderr, "for", ways[:2], self.game.read_bytes(), sep="\n  ")
 
+    def audit(self, by, ways):
+        """`audit` has to print one of some answers, and to write a record exactly where the events are allowed."""
+        self.out.unlink(missing_ok=True)
+        words = ["audit", *by, "--corrected", self.out, self.words, self.lexicon, self.game]
+        ran = subprocess.run([self.program, *words], capture_output=True, check=False, timeout=60)
+        self.seen[f"audit {ran.returncode}"] += 1
+        verdict = ran.stdout.split(b"\n")[-2:-1]
+        wrote = self.out.exists() == any(it.startswith((b"legal", b"unsettled")) for it in verdict)
+        if ran.stdout not in ways or ran.returncode != audit_status(ran.stdout) or ran.stderr or not wrote:
+            self.differences += 1
+            print(*words, "status", ran.returncode, ran.stdout, ran.stderr, "for", ways[:2], self.game.read_bytes(), sep="\n  ")
+
     def round(self, words, lexicon, game, text):
         """One run of each command; a text is that of the rules to play by, None for none."""
+        self.fielded = ["--first-field"] if likely(0.3) else []
+        if self.fielded:
+            words = with_more(words)
         for it, data in ((self.words, words), (self.lexicon, lexicon), (self.game, game), (self.rules, text or b"")):
             it.write_bytes(data)
-        by = ["--rules", self.rules] if text is not None else []
+        words = first_fields(words) if self.fielded else words
+        ruled = ["--rules", self.rules] if text is not None else []
+        by = [*self.fielded, *ruled]
         report = judged(words, lexicon, game, text)
         self.compare(["judge", *by, self.words, self.lexicon, self.game], report, status_of(report))
         self.settle(by, settled(words, lexicon, game, text))
+        self.audit(by, audited(words, lexicon, game, text))
         rack = choose(["A", "?E", "AEINRST"])
         plays = topped(words, lexicon, game, rack, text)
         self.compare(["top", *by, self.words, self.lexicon, self.game, rack], plays, status_of(plays))
+        self.board(ruled, game, text)
         self.files(words, lexicon, game)
+
+    def board(self, ruled, game, text):
+        """`board`, after the last event and before a line."""
+        for before in (None, random.randint(0, game.count(b"\n") + 2)):
+            named = [] if before is None else ["--before", str(before)]
+            shown = boarded(game, before, text)
+            self.compare(["board", *ruled, *named, self.game], shown, status_of(shown))
 
     def files(self, words, lexicon, game):
         """The commands that judge no game."""
         line_ = checked(words, lexicon)
-        self.compare(["check", self.words, self.lexicon], line_, status_of(line_))
+        self.compare(["check", *self.fielded, self.words, self.lexicon], line_, status_of(line_))
         file = built(words)
-        self.compare(["build", self.words, self.out], file, status_of(file), wrote=self.out)
+        self.compare(["build", *self.fielded, self.words, self.out], file, status_of(file), wrote=self.out)
         form = choose(["gad1", "gad2"])
         other = converted(lexicon, form)
         self.compare(["convert", form, self.lexicon, self.out], other, status_of(other), wrote=self.out)
         normal = tidy(game)
         self.compare(["tidy", self.game], normal, 3 if normal.startswith(b"bad record") else 0)
+
+
+def with_more(words):
+    """A list with more behind its words, and remarks among them."""
+    more = [b"", b" 4", b"\ta word # of a list", b" \t", b" 4\r", b"\n# a remark", b"\n#", b"\n\t4"]
+    return b"\n".join(text + (choose(more) if likely(0.5) else b"") for text in words.split(b"\n"))
 
 
 def sample(rules):

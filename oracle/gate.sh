@@ -34,6 +34,9 @@ part() {
 
 if [ -x "$program" ]; then
     part oracle/program.py "$program"
+    part oracle/manual.py "$program"
+    part oracle/pages.py "$program"
+    part oracle/releases.py "$program"
     part oracle/compare_records.py "$program" 1000 "$seed"
     part oracle/compare_games.py "$program" 200 "$seed"
     part oracle/compare_deals.py "$program" 40 "$seed"
@@ -42,6 +45,7 @@ if [ -x "$program" ]; then
     part oracle/compare_rules.py "$program" 20 "$seed"
     part oracle/compare_archive.py "$program" 60 "$seed"
     part oracle/archive_scripts.py "$program" 30 "$seed"
+    part oracle/compare_audits.py "$program" 60 "$seed"
     part oracle/fuzz.py "$program" 60 "$seed"
 else
     failed=$((failed + 1))

@@ -118,6 +118,8 @@ TEXTS = {
     "ends": PASSES + LOST_RACKS,
     "too-soon": PASSES[: -len(">B: - +0 0\n")] + ">B: AEINRST (AEINRST) -7 -7\n",
     "unlisted": ON_WORD,
+    "stops": WORD + ">B: 8G XX +9 9\n>A: - +0 16\n",
+    "blank-word": "#player1 Ann Ann Lee\n#player2 Bob\n#note x\n>Ann: DOW? 8E WOrD +14 14\n",
     "withdrawn": ON_WORD + ">B: AT -- -9 0\n>A: AT 9G AT +9 25\n",
     "with-blank": ">A: ABCDEF? - +0 0\n",
     "no-play": ">A: AEIRSUV - +0 0\n>B: AEINRST - +0 0\n",
@@ -151,6 +153,8 @@ TEXTS = {
     "two\nlines": WORD,
     "back\\slash": WORD,
     "caf\u00e9": WORD,
+    "score-and-sum": ">A: DORWAAE 8E WORD +18 19\n",
+    "sum-then-turn": ">A: DORWAAE 8E WORD +16 15\n>B: (time) +0 4\n",
     "untidy": "\ufeff#player1 A  Ann Lee\r\n#note x\n>A:\tDORWAAE  8e WORD 16 16\r\n",
 }
 CHANGED = {  # the lexicon of AT with one change, and the line that tells it
@@ -260,20 +264,21 @@ class Runner:
         self.program, self.folder, self.rows, self.failures, self.patience = program, folder, 0, 0, 60
 
     def row(self, words, status, out="", error="", stdin="", wrote=None, stdout=None, room=None):
-        """One command line; `error` None asks for some text, `wrote` is what the file `out` has then."""
+        """One command line; `out` or `error` None asks for some text, `wrote` is what the file `out` has then."""
         limit = (lambda: resource.setrlimit(resource.RLIMIT_AS, (room, room))) if room else None
         how = {"cwd": self.folder, "input": stdin.encode(), "stderr": subprocess.PIPE, "preexec_fn": limit, "timeout": self.patience}
         with open(stdout or os.devnull, "wb") as sink:
             ran = subprocess.run([self.program, *words], stdout=sink if stdout else subprocess.PIPE, check=False, **how)
         said, told = ran.stderr.decode(), ran.stdout or b""
         wanted = f"{error}\n" if error else ""
-        good = ran.returncode == status and told == out.encode() and (said != "" if error is None else said == wanted)
+        out = None if out is None else out.encode()
+        good = ran.returncode == status and (told != b"" if out is None else told == out) and (said != "" if error is None else said == wanted)
         if wrote is not None:
             good = good and Path(self.folder, "out").read_bytes() == wrote
         self.rows += 1
         if not good:
             self.failures += 1
-            print(f"{words}: status {ran.returncode} for {status}\n  output {told!r}\n  for    {out.encode()!r}\n  error  {said!r}")
+            print(f"{words}: status {ran.returncode} for {status}\n  output {told!r}\n  for    {out!r}\n  error  {said!r}")
             if wrote is not None:
                 print(f"  file   {Path(self.folder, 'out').read_bytes()[:80]!r}\n  for    {wrote[:80]!r}")
 
@@ -559,7 +564,186 @@ def tidied(run):
     run.row(["tidy", "number"], 3, "bad record line 1: Number\n")
     run.row(["tidy", "long-game"], 3, "bad record: TooLong\n")
     run.row(["tidy", "/dev/stdin"], 0, normal, stdin=TEXTS["untidy"])
-    run.row(["tidy", "-"], 4, error="cannot open -", stdin=TEXTS["untidy"])
+
+
+def from_standard_input(run):
+    """`-` is standard input for WORDS and GAME, once in a command line; LEXICON, RULES, OUT and a line of a list of names are files."""
+    run.row(["build", "word", "word.gad"], 0)
+    told = "legal unfinished\n1 A 8E WORD +16 16 best 8E WORD 16\n"
+    line, legal = TEXTS["line"], "\tlegal\tunfinished\t-\t-\t1\tA\t16\t-\t-\t0\n"
+    for more in ([], ["--settle"], ["--rules", "english.rules"], ["--settle", "--rules", "english.rules"]):
+        run.row(["judge", *more, "word", "word.gad", "-"], 0, told, stdin=line)
+        run.row(["judge", *more, "-", "word.gad", "line"], 0, told, stdin="WORD\n")
+        run.row(["judge", *more, "word", "word.gad", "-"], 0, "legal unfinished\n", error=NO_EVENT.format("standard input"))
+    run.row(["judge", "word", "word.gad", "-"], 1, "illegal line 1: WrongScore 16\n", stdin=TEXTS["line-18"])
+    run.row(["judge", "-", "at.gad", "line"], 3, "bad word list line 2: BadLetter\n", stdin=TEXTS["digit"])
+    plays = "8G At 2\n8H At 2\nH7 At 2\nH8 At 2\n"
+    for more in ([], ["--rules", "english.rules"]):
+        run.row(["top", *more, "-", "at.gad", "nothing", "?A"], 0, plays, stdin="AT\n")
+        run.row(["top", *more, "at", "at.gad", "-", "?A"], 0, plays)
+    run.row(["tidy", "-"], 0, "#player1 A Ann Lee\n>A: AADEORW 8E WORD +16 16\n", stdin=TEXTS["untidy"])
+    run.row(["build", "-", "out"], 0, stdin="AT\n", wrote=AT_FILE)
+    run.row(["check", "-", "at.gad"], 0, "ok 1\n", stdin="AT\n")
+    run.row(["archive", "-", "word.gad", "line"], 0, f"line{legal}", stdin="WORD\n")
+    run.row(["archive", "word", "word.gad", "-", "line"], 0, f"-{legal}line{legal}", stdin=line)
+    Path(run.folder, "names").write_text("-\nline\n")
+    unread = "\tunread\t-\t-\tcannot open\t-\t-\t-\t-\t-\t-\n"
+    run.row(["archive", "--names", "names", "word", "word.gad"], 4, f"-{unread}line{legal}", stdin=line)
+    run.row(["archive", "--names", "-", "word", "word.gad"], 4, f"-{unread}line{legal}", stdin="-\nline\n")
+    # Files are opened in their order, standard input among them, and only then read.
+    run.row(["judge", "-", "word.gad", "nowhere"], 4, error="cannot open nowhere", stdin="A1\n")
+    for words in (["judge", "word", "-", "line"], ["check", "word", "-"], ["top", "word", "-", "line", "A"], ["archive", "word", "-", "line"]):
+        run.row(words, 4, error="cannot open -", stdin="AT\n")
+    run.row(["convert", "gad2", "-", "out"], 4, error="cannot open -", stdin="AT\n")
+    run.row(["judge", "--rules", "-", "word", "word.gad", "line"], 4, error="cannot open -", stdin=ENGLISH_RULES)
+    for words in (["judge", "-", "at.gad", "-"], ["top", "-", "at.gad", "-", "A"], ["archive", "-", "at.gad", "-"], ["archive", "at", "at.gad", "-", "-"]):
+        run.row(words, 64, error=None, stdin="AT\n")
+    run.row(["archive", "--names", "-", "-", "at.gad"], 64, error=None, stdin="AT\n")
+    run.row(["judge", "--", "-", "at.gad", "-"], 64, error=None, stdin="AT\n")
+    unreadable(run)
+
+
+# Word lists as people have them, and the lexicon or the fault that they have with --first-field, and without it.
+FIELDED = {
+    "AT 4\n": ("at", AT_FILE, "bad word list line 1: BadLetter\n"),
+    "# two words\nAT\tat, toward\r\n\nit 4 # a pronoun\n": ("it-at", AT_IT_FILE, "bad word list line 1: BadLetter\n"),
+    "AT\nIT": ("it-at", AT_IT_FILE, None),
+    " AT\n#AT\n": ("nothing", EMPTY_FILE, "bad word list line 1: BadLetter\n"),
+    "AT # IT\nA1 IT\n": (None, b"bad word list line 2: BadLetter\n", "bad word list line 1: BadLetter\n"),
+    "AT#\n": (None, b"bad word list line 1: BadLetter\n", "bad word list line 1: BadLetter\n"),
+    "#\nA 1\n": (None, b"bad word list line 2: BadLength\n", "bad word list line 1: BadLetter\n"),
+}
+
+
+def fielded(run):
+    """`--first-field`, of every command that reads WORDS: the lexicon is compared with what was read so."""
+    for text, (listed, data, plain) in FIELDED.items():
+        Path(run.folder, "fields").write_bytes(text.encode())
+        Path(run.folder, "out").write_bytes(bytes(1000))
+        bad = "" if listed else data.decode()
+        run.row(["build", "--first-field", "fields", "out"], 0 if listed else 3, wrote=data)
+        run.row(["build", "fields", "out"], 3 if plain else 0, wrote=plain.encode() if plain else data)
+        name = f"{listed or 'at'}.gad"
+        run.row(["check", "--first-field", "fields", name], 0 if listed else 3, bad or f"ok {data[12]}\n")
+        run.row(["check", "--first-field", "-", name], 0 if listed else 3, bad or f"ok {data[12]}\n", stdin=text)
+        for more in ([], ["--settle"], ["--rules", "english.rules"]):
+            run.row(["judge", "--first-field", *more, "fields", name, "number"], 3, bad or "bad record line 1: Number\n")
+        for more in ([], ["--rules", "english.rules"]):
+            run.row(["top", *more, "fields", name, "number", "A", "--first-field"], 3, bad or "bad record line 1: Number\n")
+        run.row(["archive", "--first-field", "fields", name, "nowhere"], 4 if listed else 3,
+                bad or "nowhere\tunread\t-\t-\tcannot open\t-\t-\t-\t-\t-\t-\n")
+    Path(run.folder, "fields").write_text("AT 4\n")
+    run.row(["check", "--first-field", "fields", "it-at.gad"], 3, "bad lexicon: Extra I\n")
+    run.row(["top", "--first-field", "fields", "at.gad", "nothing", "?A"], 0, "8G At 2\n8H At 2\nH7 At 2\nH8 At 2\n")
+    # The text is longer than a list may be, and its first fields are not.
+    Path(run.folder, "fields").write_text("AT" + " " * 22 + "\n" + "#" * 16_800_000)
+    run.row(["check", "--first-field", "fields", "at.gad"], 0, "ok 1\n")
+    run.row(["check", "fields", "at.gad"], 3, "bad word list: TooLong\n")
+    run.row(["check", "--first-field", "long-list", "at.gad"], 3, "bad word list: TooLong\n")
+    run.row(["check", "--first-field", "folder", "at.gad"], 4, error="cannot read folder")
+    run.row(["check", "--first-field", "nowhere", "at.gad"], 4, error="cannot open nowhere")
+    for words in (["tidy", "--first-field", "line"], ["convert", "--first-field", "gad2", "at.gad", "out"],
+                  ["check", "--first-field", "--first-field", "at", "at.gad"], ["check", "--first-field=1", "at", "at.gad"]):
+        run.row(words, 64, error=None)
+
+
+def unreadable(run):
+    """Standard input that cannot be read is named so."""
+    folder = os.open(run.folder, os.O_RDONLY)
+    for words in (["judge", "-", "at.gad", "line"], ["judge", "at", "at.gad", "-"], ["judge", "--rules", "english.rules", "at", "at.gad", "-"],
+                  ["top", "-", "at.gad", "line", "A"], ["top", "--rules", "english.rules", "at", "at.gad", "-", "A"], ["tidy", "-"],
+                  ["check", "-", "at.gad"], ["build", "-", "out"], ["archive", "-", "at.gad", "line"], ["archive", "--names", "-", "at", "at.gad"]):
+        ran = subprocess.run([run.program, *words], stdin=folder, cwd=run.folder, capture_output=True, check=False)
+        run.expect(f"{words} of a folder", (ran.returncode, ran.stdout, ran.stderr) == (4, b"", b"cannot read standard input\n"))
+    ran = subprocess.run([run.program, "archive", "at", "at.gad", "-"], stdin=folder, cwd=run.folder, capture_output=True, check=False)
+    run.expect("a game that is a folder", (ran.returncode, ran.stdout.split(b"\t")[:5]) == (4, [b"-", b"unread", b"-", b"-", b"read failed"]))
+    os.close(folder)
+
+
+SQUARES = """\
+   A B C D E F G H I J K L M N O
+ 1 = . . ' . . . = . . . ' . . =
+ 2 . - . . . " . . . " . . . - .
+ 3 . . - . . . ' . ' . . . - . .
+ 4 ' . . - . . . ' . . . - . . '
+ 5 . . . . - . . . . . - . . . .
+ 6 . " . . . " . . . " . . . " .
+ 7 . . ' . . . ' . ' . . . ' . .
+ 8 = . . ' . . . - . . . ' . . =
+ 9 . . ' . . . ' . ' . . . ' . .
+10 . " . . . " . . . " . . . " .
+11 . . . . - . . . . . - . . . .
+12 ' . . - . . . ' . . . - . . '
+13 . . - . . . ' . ' . . . - . .
+14 . - . . . " . . . " . . . - .
+15 = . . ' . . . = . . . ' . . =
+= triple word, - double word, " triple letter, ' double letter
+small letters are blanks
+"""
+ROW_OF_WORD = (" 8 = . . ' . . . - . . . ' . . =", " 8 = . . ' W O R D . . . ' . . =")
+ROW_OF_AT = (" 9 . . ' . . . ' . ' . . . ' . .", " 9 . . ' . . . A T ' . . . ' . .")
+EVERY_TILE = """\
+tiles not on the board: 100
+  A 9  B 2  C 2  D 4  E 12  F 2  G 3  H 2  I 9
+  J 1  K 1  L 4  M 2  N 6  O 8  P 2  Q 1  R 6
+  S 4  T 6  U 4  V 2  W 2  X 1  Y 2  Z 1  ? 2
+"""
+
+
+def board_of(first, told, *changes):
+    """The English board with some of its lines changed."""
+    text = f"board {first}\n{SQUARES}{told}{EVERY_TILE}"
+    for old, new in changes:
+        assert text.count(old) == 1, old
+        text = text.replace(old, new)
+    return text
+
+
+WITHOUT_WORD = [("board: 100", "board: 96"), ("D 4", "D 3"), ("O 8", "O 7"), ("R 6", "R 5"), ("W 2", "W 1")]
+WITHOUT_AT = [("board: 100", "board: 94"), *WITHOUT_WORD[1:], ("A 9", "A 8"), ("T 6", "T 5")]
+
+
+def boarded(run):
+    """`board`, by what is laid, the line that is named, and the rules."""
+    run.row(["board", "nothing"], 0, board_of("after the last event", " 0\n 0\n"))
+    run.row(["board", "line"], 0, board_of("after the last event", "A 16\n 0\n", ROW_OF_WORD, *WITHOUT_WORD))
+    before_word = board_of("before line 1", "A 0\n 0\nrack AADEORW\n")
+    for line in ("0", "1"):
+        run.row(["board", "--before", line, "line"], 0, before_word)
+    for line in ("2", "4294967295"):
+        run.row(["board", "line", "--before", line], 3, "bad line: no event is on it or after it\n")
+    run.row(["board", "--before", "1", "nothing"], 3, "bad line: no event is on it or after it\n")
+    # A play is on the board before its withdrawal, and off it behind.
+    tried = board_of("before line 3", "A 16\nB 9\nrack ZZZZZZZ\n", ROW_OF_WORD, ROW_OF_AT, *WITHOUT_AT)
+    run.row(["board", "--before", "3", "withdrawn"], 0, tried.replace("rack ZZZZZZZ", "rack AT"))
+    run.row(["board", "--before", "3", "not-judged"], 0, tried)
+    back = board_of("before line 4", "A 16\nB 0\nrack AT\n", ROW_OF_WORD, *WITHOUT_WORD)
+    run.row(["board", "--before=4", "not-judged"], 0, back)
+    run.row(["board", "not-judged"], 0, board_of("after the last event", "A 25\nB 0\n", ROW_OF_WORD, ROW_OF_AT, *WITHOUT_AT))
+    # Scores, totals and turns do not matter; a play that cannot be laid ends the laying.
+    for game, total in (("line-17", 17), ("line-18", 18)):
+        run.row(["board", game], 0, board_of("after the last event", f"A {total}\n 0\n", ROW_OF_WORD, *WITHOUT_WORD))
+    for named in ([], ["--before", "3"]):
+        stopped = "before line 2, whose play cannot be laid: Mismatch"
+        run.row(["board", *named, "stops"], 0, board_of(stopped, "A 16\nB 0\n", ROW_OF_WORD, *WITHOUT_WORD))
+    run.row(["board", "--before", "1", "line-8d"], 0, board_of("before line 1", "A 0\n 0\nrack AADEORW\n"))
+    run.row(["board", "line-8d"], 0, board_of("before line 1, whose play cannot be laid: MissesCentre", "A 0\n 0\nrack AADEORW\n"))
+    # A blank is small, and a blank of the tiles that are left; lines of players and remarks are none.
+    blank = board_of("after the last event", "Ann 14\nBob 0\n", (ROW_OF_WORD[0], ROW_OF_WORD[1].replace("R", "r")), *WITHOUT_WORD, ("R 5", "R 6"), ("? 2", "? 1"))
+    run.row(["board", "blank-word"], 0, blank)
+    run.row(["board", "--before", "2", "blank-word"], 0, board_of("before line 4", "Ann 0\nBob 0\nrack DOW?\n"))
+    run.row(["board", "number"], 3, "bad record line 1: Number\n")
+    run.row(["board", "--before", "9", "number"], 3, "bad record line 1: Number\n")
+    more = [("board: 100", "board: 200"), ("  A 9  B 2  C 2  D 4  E 12  F 2  G 3  H 2  I 9", "  A 18  B 4  C 4  D 8  E 24  F 4  G 6  H 4  I 18"),
+            ("  J 1  K 1  L 4  M 2  N 6  O 8  P 2  Q 1  R 6", "  J 2  K 2  L 8  M 4  N 12  O 16  P 4  Q 2  R 12"),
+            ("  S 4  T 6  U 4  V 2  W 2  X 1  Y 2  Z 1  ? 2", "  S 8  T 12  U 8  V 4  W 4  X 2  Y 4  Z 2  ? 4")]
+    run.row(["board", "--rules", "two-sets.rules", "nothing"], 0, board_of("after the last event", " 0\n 0\n", *more))
+    run.row(["board", "--rules", "tiles.rules", "folder"], 3, "bad rules line 1: Unknown\n")
+    run.row(["board", "--rules", "nowhere", "elsewhere"], 4, error="cannot open nowhere")
+    run.row(["board", "nowhere"], 4, error="cannot open nowhere")
+    run.row(["board", "folder"], 4, error="cannot read folder")
+    for words in (["--before", "line"], ["--before", "-1", "line"], ["--before", "x", "line"], ["--before", "4294967296", "line"], ["--settle", "line"]):
+        run.row(["board", *words], 64, error=None)
 
 
 def archived(run):
@@ -644,6 +828,46 @@ def archived_lines(run):
         run.expect("the status of all", process.wait(run.patience) == 4)
 
 
+def audited(run):
+    """`audit`, by the wrong numbers of a sheet and the verdict on its correction, and the record that it writes."""
+    run.row(["build", "word", "word.gad"], 0)
+    run.row(["build", "word-at-ra", "word-at-ra.gad"], 0)
+    line = b"#player1 A\n>A: AADEORW 8E WORD +16 16\n"
+    for game, status, out, kept in [
+        ("line", 0, "legal unfinished\n", line),
+        ("line-18", 1, "line 1: score 18, should be 16\ntotal of A: 18, should be 16\nlegal unfinished\n", line),
+        ("line-17", 1, "line 1: sum 17, should be 16\ntotal of A: 17, should be 16\nlegal unfinished\n", line),
+        ("score-and-sum", 1, "line 1: score 18, should be 16\nline 1: sum 19, should be 18\ntotal of A: 19, should be 16\nlegal unfinished\n", line),
+        ("nothing", 0, "legal unfinished\n", b""),
+        ("line-8d", 1, "illegal line 1: MissesCentre\n", None),
+        ("turn", 1, "illegal line 2: NotYourTurn\n", None),
+        ("blanks", 1, "illegal line 2: TilesShort ?\n", None),
+        ("one-q", 1, "illegal line 3: NoDeal\n", None),
+        ("sum-then-turn", 1, "line 1: sum 15, should be 16\nline 2: sum 4, should be 0\nillegal line 2: BadTime\n", None),
+    ]:
+        Path(run.folder, "out").write_bytes(b"as it was")
+        run.row(["audit", "--corrected", "out", "word", "word.gad", game], status, out, wrote=b"as it was" if kept is None else kept)
+        run.row(["audit", "word", "word.gad", game], status, out)
+    run.row(["audit", "word-at-ra", "word-at-ra.gad", "unlisted"], 0, "legal unfinished\n")
+    for words, status, out in [
+        (["digit", "word.gad", "line"], 3, "bad word list line 2: BadLetter\n"),
+        (["at", "extra.gad", "line"], 3, "bad lexicon: Extra A\n"),
+        (["word", "word.gad", "third"], 3, "bad record line 3: ThirdPlayer\n"),
+        (["--rules", "tiles.rules", "word", "word.gad", "line"], 3, "bad rules line 1: Unknown\n"),
+    ]:
+        Path(run.folder, "out").write_bytes(b"as it was")
+        run.row(["audit", "--corrected", "out", *words], status, out, wrote=b"as it was")
+    run.row(["audit", "--rules", "two-sets.rules", "at", "at.gad", "blanks"], 0, "legal unfinished\n")
+    run.row(["audit", "word", "word.gad", "-"], 0, "legal unfinished\n", stdin=WORD)
+    run.row(["audit", "word", "word.gad", "nowhere"], 4, error="cannot open nowhere")
+    run.row(["audit", "word", "folder", "line"], 4, error="cannot read folder")
+    run.row(["audit", "--corrected", "no/where", "word", "word.gad", "line"], 4, error="cannot open no/where")
+    run.row(["audit", "word", "word.gad"], 64, error=None)
+    if os.path.exists("/dev/full"):
+        run.row(["audit", "word", "word.gad", "line"], 4, error="write failed", stdout="/dev/full")
+        run.row(["audit", "--corrected", "/dev/full", "word", "word.gad", "line"], 4, error="write failed")
+
+
 def broken(run):
     """Status 4: files that cannot be opened, read or written, and want of memory."""
     run.row(["judge", "nowhere", "at.gad", "line"], 4, error="cannot open nowhere")
@@ -676,15 +900,29 @@ def broken(run):
     run.row(["judge", "many", "at.gad", "line"], 4, error="no memory", room=1 << 23)
 
 
+def helped(run):
+    """Help and the version, on standard output. The text of help is not fixed, but there is some."""
+    run.row(["--version"], 0, "referee 1.0.0\nrecords: GCG\nword lists: one word a line\nlexicons: GAD1, GAD2\n")
+    run.row(["-V"], 0, "referee 1.0.0\n")
+    for words in (["help"], ["--help"], ["-h"], ["judge", "--help"], ["judge", "-h"], ["help", "help"]):
+        run.row(words, 0, None)
+    for command in ("judge", "archive", "audit", "board", "build", "check", "convert", "top", "tidy"):
+        run.row(["help", command], 0, None)
+        run.row([command, "--help"], 0, None)
+    if os.path.exists("/dev/full"):
+        for words in (["--version"], ["help"], ["help", "judge"]):
+            run.row(words, 4, error="write failed", stdout="/dev/full")
+
+
 def misused(run):
-    """Status 64: no request, and help. The text is not fixed, but there is some, and nothing on standard output."""
-    for words in ([], ["help"], ["--help"], ["-h"], ["judge", "--help"], ["--version"], ["top"], ["Judge", "at", "at.gad", "line"]):
+    """Status 64: no request. The text is not fixed, but there is some, and nothing on standard output."""
+    for words in ([], ["top"], ["Judge", "at", "at.gad", "line"], ["help", "version"], ["version"], ["judge", "--version"], ["-v"]):
         run.row(words, 64, error=None)
     for words in ([], ["--names"], ["--names", "names", "line"], ["--progress", "--quiet", "line"], ["--loud", "line"], ["--json", "--json", "line"]):
         run.row(["archive", "word", "word.gad", *words], 64, error=None)
     run.row(["archive", "word"], 64, error=None)
     run.row(["archive", "--settle", "word", "word.gad", "line"], 64, error=None)
-    for command, count in [("judge", 3), ("build", 2), ("check", 2), ("convert", 3), ("top", 4), ("tidy", 1)]:
+    for command, count in [("judge", 3), ("build", 2), ("check", 2), ("convert", 3), ("top", 4), ("tidy", 1), ("board", 1), ("audit", 3)]:
         for names in range(count):
             run.row([command, *["at"] * names], 64, error=None)
         run.row([command, *["at"] * (count + 1)], 64, error=None)
@@ -696,7 +934,7 @@ def main():
     with tempfile.TemporaryDirectory() as folder:
         files(folder)
         run = Runner(os.path.abspath(sys.argv[1]), folder)
-        for part in (judged, settled, built_and_checked, converted, topped, ruled, tidied, archived, broken, misused):
+        for part in (judged, settled, built_and_checked, converted, topped, ruled, tidied, boarded, from_standard_input, fielded, archived, audited, broken, helped, misused):
             part(run)
         if sys.argv[2:] == ["large"]:
             converted_large(run)

@@ -1,0 +1,32 @@
+# Completions of referee for bash: source this file, or put it into the folder of bash-completion under the name `referee`.
+_referee() {
+    local word=${COMP_WORDS[COMP_CWORD]} command="" options="" values="" i
+    for ((i = 1; i < COMP_CWORD; i++)); do
+        if [[ ${COMP_WORDS[i]} != -* ]]; then
+            command=${COMP_WORDS[i]}
+            break
+        fi
+    done
+    case $command in
+        "") options="-h --help -V --version" values="judge archive audit build check convert top tidy board help" ;;
+        judge) options="--first-field --settle --rules -h --help" ;;
+        archive) options="--first-field --names --json --progress --quiet --rules -h --help" ;;
+        audit) options="--first-field --corrected --rules -h --help" ;;
+        build) options="--first-field -h --help" ;;
+        check) options="--first-field -h --help" ;;
+        convert) options="-h --help" ;;
+        top) options="--first-field --rules -h --help" ;;
+        tidy) options="-h --help" ;;
+        board) options="--before --rules -h --help" ;;
+        help) values="judge archive audit build check convert top tidy board help" ;;
+    esac
+    [[ $command != convert || ${COMP_WORDS[COMP_CWORD - 1]} != convert ]] || values="gad1 gad2"
+    if [[ $word == -* ]]; then
+        mapfile -t COMPREPLY < <(compgen -W "$options" -- "$word")
+    elif [[ -n $values ]]; then
+        mapfile -t COMPREPLY < <(compgen -W "$values" -- "$word")
+    else
+        mapfile -t COMPREPLY < <(compgen -f -- "$word")
+    fi
+}
+complete -o filenames -F _referee referee

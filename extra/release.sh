@@ -1,0 +1,36 @@
+#!/usr/bin/env bash
+# Packs a release: extra/release.sh FOLDER [PROGRAM]
+#
+# Writes FOLDER/referee-VERSION.tar.gz, with the program, its manual page, the completions for bash, README and what it links to, and
+# SHA256SUMS, which has the sums of all of them; and beside it the sum of the archive. Without PROGRAM the program is proved and built first,
+# which takes no time where nothing has changed since. PROGRAM is a program that was proved already, as the gate leaves it in crates/referee/out/referee.
+set -eu
+if [ $# != 1 ] && [ $# != 2 ]; then
+    echo "usage: extra/release.sh FOLDER [PROGRAM]" >&2
+    exit 64
+fi
+root=$(cd "$(dirname "$0")/.." && pwd)
+mkdir -p "$1"
+folder=$(realpath "$1")
+if [ $# = 2 ]; then
+    program=$(realpath "$2")
+else
+    (cd "$root/crates/referee" && rt run -- --version > /dev/null)
+    program=$root/crates/referee/out/referee
+fi
+version=$("$program" -V | cut -d ' ' -f 2)
+if ! grep -q "^## $version\$" "$root/CHANGELOG.md"; then
+    echo "CHANGELOG.md does not have the version $version" >&2
+    exit 1
+fi
+room=$(mktemp -d)
+trap 'rm -rf "$room"' EXIT
+name=referee-$version
+mkdir "$room/$name"
+cp "$program" "$room/$name/referee"
+cp -r "$root/README.md" "$root/CHANGELOG.md" "$root/docs" "$root/examples" "$root/extra/referee.1" "$root/extra/referee.bash" "$room/$name"
+(cd "$room/$name" && find . -type f ! -name SHA256SUMS -printf '%P\n' | LC_ALL=C sort | xargs sha256sum > SHA256SUMS)
+# The same files make the same archive.
+tar -C "$room" --sort=name --mtime=@0 --owner=0 --group=0 --numeric-owner --mode=u=rwX,go=rX -cf - "$name" | gzip -n > "$folder/$name.tar.gz"
+(cd "$folder" && sha256sum "$name.tar.gz" > "$name.tar.gz.sha256")
+echo "$folder/$name.tar.gz"

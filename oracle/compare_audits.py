@@ -1,0 +1,155 @@
+"""Compares `referee audit` with sheets whose mistakes are known, and with the second judge: compare_audits.py PROGRAM CASES SEED
+
+Each game is dealt for real. Of every five cases two have one wrong score that is carried on in the totals, two one sum that is wrong,
+and one both: the program has to tell exactly these, and the corrected record has to be the true one in its normal form. Then as many
+games that nobody dealt have some numbers changed at random, and the second judge says what is to be told of them.
+"""
+import random
+import subprocess
+import sys
+import tempfile
+from collections import Counter
+from dataclasses import replace
+from pathlib import Path
+
+from audits import MOST, status, ways
+from compare_games import Maker
+from dealing import Dealer, likely, line
+from lexicons import GAD2, build, convert
+from rules import ENGLISH
+from rules_texts import text_of
+from ruling import random_rules
+
+choose = random.choice
+RULED = ("play", "pass", "exchange", "unknown", "rack")
+
+
+def shifted(events, place, by):
+    """The events with the totals of a player changed from a place on."""
+    player = events[place].player
+    return [replace(it, total=it.total + by) if k >= place and it.player == player else it for k, it in enumerate(events)]
+
+
+def with_wrong_score(events):
+    """One score that the rules do not give, carried on in the totals; and what is to be told of it."""
+    places = [k for k, it in enumerate(events) if it.kind in RULED and (k + 1 == len(events) or events[k + 1].kind != "withdraw")]
+    place, by = choose(places), choose([-50, -10, -5, -1, 1, 2, 5, 9, 10, 50])
+    event = events[place]
+    changed = shifted(events, place, by)
+    changed[place] = replace(changed[place], score=event.score + by)
+    return changed, [(place, 0, f"line {place + 1}: score {event.score + by}, should be {event.score}")], {event.player: by}
+
+
+def with_wrong_sum(events, but=None):
+    """One total that is not the sum, carried on; and what is to be told of it."""
+    place, by = choose([k for k in range(len(events)) if k != but]), choose([-100, -10, -1, 1, 9, 10, 100])
+    event = events[place]
+    return shifted(events, place, by), [(place, 1, f"line {place + 1}: sum {event.total + by}, should be {event.total}")], {event.player: by}
+
+
+def spoil(events, kind):
+    """A sheet with known mistakes, and the lines that tell them."""
+    if kind == "score":
+        changed, told, shift = with_wrong_score(events)
+    elif kind == "sum":
+        changed, told, shift = with_wrong_sum(events)
+    else:
+        first, told, shift = with_wrong_score(events)
+        changed, more, other = with_wrong_sum(first, told[0][0])
+        told = told + more
+        shift = {player: shift.get(player, 0) + other.get(player, 0) for player in (0, 1)}
+    lines = [text for _, _, text in sorted(told)]
+    first = events[0].player
+    for player in (first, 1 - first):
+        totals = [it.total for it in events if it.player == player]
+        if shift.get(player):
+            lines.append(f"total of {'AB'[player]}: {totals[-1] + shift[player]}, should be {totals[-1]}")
+    return changed, lines
+
+
+class Sheets:
+    """A program, a folder for its inputs, and what was told so far."""
+
+    def __init__(self, program, folder):
+        self.program, self.folder, self.differences, self.seen = program, Path(folder), 0, Counter()
+
+    def put(self, events, listed, rules):
+        (self.folder / "words").write_text("\n".join(sorted(listed)))
+        (self.folder / "lexicon").write_bytes(choose([build(listed), convert(build(listed), GAD2)]))
+        (self.folder / "rules").write_bytes(text_of(rules))
+        (self.folder / "game").write_text("".join(map(line, events)))
+        (self.folder / "out").unlink(missing_ok=True)
+        return ["--rules", "rules"] if rules != ENGLISH or likely(0.2) else []
+
+    def run(self, *words):
+        return subprocess.run([self.program, *words], cwd=self.folder, capture_output=True, check=False, timeout=600)
+
+    def tidied(self, events):
+        """The normal form of a record of these events."""
+        (self.folder / "true").write_text("".join(map(line, events)))
+        return self.run("tidy", "true").stdout
+
+    def known(self, kind):
+        """A game that was dealt for real, with mistakes that are known."""
+        rules = ENGLISH if likely(0.75) else random_rules()
+        dealer = Dealer(rules, choose([6, 25, 40]), choose([(), ("known", "unknown")]), choose(["whole", "mixed", "none"]), 4)
+        events, _, listed = dealer.game()
+        if len(events) < 2 or not any(it.kind in RULED for it in events):
+            return
+        listed = set(listed) - dealer.phonies
+        changed, told = spoil(events, kind)
+        if any(abs(it.total) > MOST for it in [*events, *changed]):
+            return
+        by = self.put(changed, listed, rules)
+        ran = self.run("audit", *by, "--corrected", "out", "words", "lexicon", "game")
+        lines = ran.stdout.decode().split("\n")
+        verdict = lines[-2] if len(lines) > 1 else ""
+        self.seen[f"{kind} {verdict}"] += 1
+        self.expect(lines[:-2] == told and verdict.startswith(("legal", "unsettled")), kind, lines, told)
+        self.expect(ran.returncode == status(told, verdict or "legal") and not ran.stderr, kind, ran.returncode, ran.stderr)
+        out = self.folder / "out"
+        self.expect(out.exists() and out.read_bytes() == self.tidied(events), kind, "corrected", changed)
+
+    def unknown(self):
+        """A game that nobody dealt, with numbers changed at random."""
+        rules = ENGLISH if likely(0.75) else random_rules()
+        maker = Maker(choose([2, 6, 40]), rules)
+        events = maker.game()
+        if not events or events[0].player:
+            return
+        for _ in range(choose([0, 1, 2, 5])):
+            place = random.randrange(len(events))
+            what = choose(["score", "total"])
+            events[place] = replace(events[place], **{what: choose([0, 5, -5, 999_999, -999_999, getattr(events[place], what) + choose([-10, 1])])})
+        if any(abs(number) > MOST for it in events for number in (it.score, it.total)):
+            return
+        listed = {word for word in maker.listed if 2 <= len(word) <= 15}
+        by = self.put(events, listed, rules)
+        told, verdicts = ways(events, listed, rules)
+        ran = self.run("audit", *by, "--corrected", "out", "words", "lexicon", "game")
+        lines = ran.stdout.decode().split("\n")
+        verdict = lines[-2] if len(lines) > 1 else ""
+        self.seen["made " + verdict.split(" ")[0]] += 1
+        self.expect(lines[:-2] == told and verdict in verdicts, lines, told, verdicts[:3])
+        self.expect(verdict not in verdicts or ran.returncode == status(told, verdict), "status", ran.returncode, lines)
+        self.expect((self.folder / "out").exists() != verdict.startswith("illegal"), "corrected", verdict)
+
+    def expect(self, good, *what):
+        if not good:
+            self.differences += 1
+            print(*what, sep="\n  ")
+
+
+def main():
+    program, cases = str(Path(sys.argv[1]).resolve()), int(sys.argv[2])
+    random.seed(int(sys.argv[3]))
+    with tempfile.TemporaryDirectory() as folder:
+        sheets = Sheets(program, folder)
+        for case in range(cases):
+            sheets.known(["score", "sum", "score", "sum", "both"][case % 5])
+            sheets.unknown()
+    print(f"{cases} cases, {sheets.differences} differences", dict(sorted(sheets.seen.items())))
+    sys.exit(sheets.differences > 0)
+
+
+main()
