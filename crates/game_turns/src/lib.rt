@@ -24,5 +24,5 @@ pub use laws::law_of_tallies;
 pub use listing::all_listed;
 pub use machine::Machine;
 pub use passed::Passed;
-pub use playing::{Refusal, play_through};
+pub use playing::{Refusal, board_before, play_through};
 pub use turns::Turn;
