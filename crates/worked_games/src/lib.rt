@@ -32,6 +32,8 @@ mod ruled;
 #[cfg(test)]
 mod tidying;
 #[cfg(test)]
+mod top_before;
+#[cfg(test)]
 mod topping;
 #[cfg(test)]
 mod turns;
