@@ -580,7 +580,6 @@ def topped_before(run):
     by_at(["--before", "1", "number A"], 3, "bad record line 1: Number\n")
     by_at(["--rules", "english.rules", "--before", "1", "shown-rack"], 0, four)
     by_at(["--rules", "english.rules", "--before", "2", "wrong-score"], 1, "illegal line 1: WrongScore 4\n")
-    run.row(["top", "--first-field", "--before", "1", "fields", "at.gad", "shown-rack"], 0, four)
     run.row(["top", "--before", "1", "at", "at.gad", "-"], 0, four, stdin=">A: AT 8H AT +4 4\n")
     for number in ("0", "101", "-1", "ten", ""):
         run.row(["top", "--number", number, "at", "at.gad", "nothing", "A"], 64, error=None)
@@ -667,6 +666,7 @@ def fielded(run):
     Path(run.folder, "fields").write_text("AT 4\n")
     run.row(["check", "--first-field", "fields", "it-at.gad"], 3, "bad lexicon: Extra I\n")
     run.row(["top", "--first-field", "fields", "at.gad", "nothing", "?A"], 0, "8G At 2\n8H At 2\nH7 At 2\nH8 At 2\n")
+    run.row(["top", "--first-field", "--before", "1", "fields", "at.gad", "shown-rack"], 0, "8G AT 4\n8H AT 4\nH7 AT 4\nH8 AT 4\n")
     # The text is longer than a list may be, and its first fields are not.
     Path(run.folder, "fields").write_text("AT" + " " * 22 + "\n" + "#" * 16_800_000)
     run.row(["check", "--first-field", "fields", "at.gad"], 0, "ok 1\n")
