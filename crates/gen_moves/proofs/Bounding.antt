@@ -28,13 +28,13 @@ use Rattle.gen_moves.specs.BoardLines.{IsLineOf}
 use Rattle.gen_moves.specs.LineTiles.{tile_of_entry}
 use Rattle.gen_moves.specs.Laws.{TellsWords, AreLong}
 use Rattle.gen_moves.specs.declared.places.Place.{Place}
-use Rattle.gen_moves.specs.Bounds.{total, times, IsPlaceOf, one_if, free_count, rack_points, stretch_bound}
+use Rattle.gen_moves.specs.Bounds.{total, times, IsPlaceOf, one_if, free_count, rack_points, rack_ones, least, stretch_bound}
 use Rattle.gen_moves.proofs.Entering.{put_from, put_there, on_top}
 use Rattle.gen_moves.proofs.MovePlaces.{at_place, put_by, put_at, there_then, move_sound}
 use Rattle.gen_moves.proofs.Moving.{move_candidate}
 use Rattle.gen_moves.proofs.Sums as sums
-use Rattle.gen_moves.proofs.Sums.{total-first, total-mono, total-scaled, total-both, sum_put, count_put, product_put, put_within}
-use Rattle.gen_moves.proofs.Worths.{worth, worth_within}
+use Rattle.gen_moves.proofs.Sums.{total-first, total-mono, total-scaled, total-both, least-both, sum_put, count_put, product_put, put_within}
+use Rattle.gen_moves.proofs.Worths.{worth, worth_within, one, ones_within}
 
 -- a sum over a range, at another place
 range_sum : (g h : ℕ → ℕ) (b a n : ℕ) → ((k : ℕ) → k < n → g (b + k) ≤ h (a + k)) → sum_by g (range_with_len b n) ≤ total h a n
@@ -61,6 +61,11 @@ range_sum g h b a (suc n) le =
 one_above : (c p : ℕ) → c * p ≤ c + c * (p - 1)
 one_above zero p = omega arith
 one_above (suc c) p = let rest = one_above c p in omega arith
+
+-- a point, one on each place for each time more, and what is above it
+one_first : (c p : ℕ) → c * p ≤ ((c - 1) + (p - (p - 1))) + c * (p - 1)
+one_first zero p = omega arith
+one_first (suc c) p = let rest = one_above c p in omega arith
 
 some_is : {A : Type 0} (o : Option A) → IsSome o → o ≡ None → ⊥
 some_is None h e = false≢true h
@@ -120,9 +125,12 @@ module _ (rules : Rules) (words : List (List ℕ)) (d : Dir) (board : List (Opti
   abbrev weight : ℕ → ℕ
   weight i = sums.at_place (worth rules) d line i (entry i)
 
+  abbrev single : ℕ → ℕ
+  single i = sums.at_place (one rules) d line i (entry i)
+
   -- what the square of a place adds to the word of the stretch
   point_le : (i letter : ℕ) → i < 15 → ((places i).free ≡ true → (places i).letter ≤ letter) → (o : Option Tile) → entry i ≡ o
-      → square_points rules (with_tiles board (put_by d line y)) (put_by d line y) (square_at d line i) ≤ ((places i).old + (places i).letter) + letter * sums.at_place (worth rules) d line i o
+      → square_points rules (with_tiles board (put_by d line y)) (put_by d line y) (square_at d line i) ≤ ((places i).old + (((places i).letter - 1) + sums.at_place (one rules) d line i o)) + letter * sums.at_place (worth rules) d line i o
   point_le i letter below most None e =
       let square = square_at d line i in
       let there : tile_at (with_tiles board (put_by d line y)) square ≡ tile_at board square = there_then d board line y i size low below ∙ ap (λ (o : Option Tile). on_top o (tile_at board square)) e in
@@ -152,24 +160,25 @@ module _ (rules : Rules) (words : List (List ℕ)) (d : Dir) (board : List (Opti
       ap (λ (o : Option Tile). points_on rules o * factor_on rules (put_by d line y) square) there
       ∙ ap (λ (b : Bool). points * (if b then letter_factor (premium_at rules square) else 1)) cover in
       let swap = mul_comm points (letter_factor (premium_at rules square)) in
-      let one = one_above (letter_factor (premium_at rules square)) points in
+      let single = one_first (letter_factor (premium_at rules square)) points in
       let more : letter_factor (premium_at rules square) * (points - 1) ≤ letter * (points - 1) = mul-le-mul le (omega arith) in
       omega arith
 
   letters_le : (letter : ℕ) → ((i : ℕ) → first ≤ i → i < first + len → (places i).free ≡ true → (places i).letter ≤ letter)
-      → letters_score rules (with_tiles board (put_by d line y)) (put_by d line y) (run_of d line (first, len)) ≤ total (λ i. (places i).old) first len + total (λ i. (places i).letter) first len + letter * total weight first len
+      → letters_score rules (with_tiles board (put_by d line y)) (put_by d line y) (run_of d line (first, len)) ≤ total (λ i. (places i).old) first len + (total (λ i. (places i).letter - 1) first len + total single first len) + letter * total weight first len
   unfolding letters_score
   letters_le letter most =
       let inside = move.whole.inside in
       let each =
-      range_sum (λ k. square_points rules (with_tiles board (put_by d line y)) (put_by d line y) (along d (square_at d line first) k)) (λ i. ((places i).old + (places i).letter) + letter * weight i) 0 first len
+      range_sum (λ k. square_points rules (with_tiles board (put_by d line y)) (put_by d line y) (along d (square_at d line first) k)) (λ i. ((places i).old + (((places i).letter - 1) + single i)) + letter * weight i) 0 first len
       (λ k less.
       let zero_k : 0 + k ≡ k = omega arith in
       let at : along d (square_at d line first) (0 + k) ≡ square_at d line (first + k) = ap (along d (square_at d line first)) zero_k ∙ along_at d line first k in
       let le = point_le (first + k) letter (omega arith) (most (first + k) (omega arith) (omega arith)) (entry (first + k)) refl in
-      subst (λ s. square_points rules (with_tiles board (put_by d line y)) (put_by d line y) s ≤ ((places (first + k)).old + (places (first + k)).letter) + letter * weight (first + k)) (sym at) le) in
-      let split = total-scaled (λ i. (places i).old + (places i).letter) weight letter first len in
-      let both = total-both (λ i. (places i).old) (λ i. (places i).letter) first len in
+      subst (λ s. square_points rules (with_tiles board (put_by d line y)) (put_by d line y) s ≤ ((places (first + k)).old + (((places (first + k)).letter - 1) + single (first + k))) + letter * weight (first + k)) (sym at) le) in
+      let split = total-scaled (λ i. (places i).old + (((places i).letter - 1) + single i)) weight letter first len in
+      let both = total-both (λ i. (places i).old) (λ i. ((places i).letter - 1) + single i) first len in
+      let parts = total-both (λ i. (places i).letter - 1) single first len in
       omega arith
 
   factor_le : (run : Run) → words_factor rules (put_by d line y) run ≤ times (λ i. (places i).word) first len
@@ -208,12 +217,22 @@ module _ (rules : Rules) (words : List (List ℕ)) (d : Dir) (board : List (Opti
           let more : (places i).cross * (points_of rules t.kind - 1) ≤ cross * (points_of rules t.kind - 1) = mul-le-mul (top free) (omega arith) in
           omega arith
 
+  -- one on each free place at the most
+  singles_free : total single first len ≤ free_count places first len
+  singles_free =
+      let inside = move.whole.inside in
+      total-mono single (λ i. one_if (places i).free) first len (λ i from upto. by i (omega arith) (entry i) refl)
+    where
+      by : (i : ℕ) → i < 15 → (o : Option Tile) → entry i ≡ o → sums.at_place (one rules) d line i o ≤ one_if (places i).free
+      by i below None e = omega arith
+      by i below (Some t) e = let free = ap one_if (new_free i below t e) in omega arith
+
   -- the bound
-  pub score_le : (points letter cross : ℕ) → rack_points rules rack 27 ≤ points
+  pub score_le : (points ones letter cross : ℕ) → rack_points rules rack 27 ≤ points → rack_ones rules rack 27 ≤ ones
       → ((i : ℕ) → first ≤ i → i < first + len → (places i).free ≡ true → (places i).letter ≤ letter)
       → ((i : ℕ) → first ≤ i → i < first + len → (places i).free ≡ true → (places i).cross ≤ cross)
-      → score_of rules board (put_by d line y) ≤ stretch_bound rules.bonus places first len points letter cross
-  score_le points letter cross rack_is letters crosses =
+      → score_of rules board (put_by d line y) ≤ stretch_bound rules.bonus places first len points ones letter cross
+  score_le points ones letter cross rack_is ones_is letters crosses =
       let on = move_candidate words d board line cells is listed rack y first len tells long_words size low move few in
       let ps = put_by d line y in
       let run = run_of d line (first, len) in
@@ -227,9 +246,13 @@ module _ (rules : Rules) (words : List (List ℕ)) (d : Dir) (board : List (Opti
       let w = sym (ap (sum_by (worth rules)) tiles_are ∙ sum_put (worth rules) d line entry first len) in
       let within = worth_within rules rack ps on.0.candidate.from in
       omega arith in
+      let singles : total single first len ≤ least ones (free_count places first len) =
+      let w = sym (ap (sum_by (one rules)) tiles_are ∙ sum_put (one rules) d line entry first len) in
+      let within = ones_within rules rack ps on.0.candidate.from in
+      least-both ones (free_count places first len) (total single first len) (omega arith) singles_free in
       let letters_here = letters_le letter letters in
       let letters_more : letter * total weight first len ≤ letter * points = mul-le-mul (omega arith) weights in
-      let line_le : letters_score rules (with_tiles board ps) ps run ≤ total (λ i. (places i).old) first len + total (λ i. (places i).letter) first len + letter * points = omega arith in
+      let line_le : letters_score rules (with_tiles board ps) ps run ≤ total (λ i. (places i).old) first len + (total (λ i. (places i).letter - 1) first len + least ones (free_count places first len)) + letter * points = omega arith in
       let run_le = mul-le-mul line_le (factor_le run) in
       let cross_here = crosses_le cross crosses in
       let cross_more : cross * total weight first len ≤ cross * points = mul-le-mul (omega arith) weights in

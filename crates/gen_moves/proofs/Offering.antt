@@ -26,7 +26,7 @@ use Rattle.gen_moves.specs.declared.places.Place.{Place}
 use Rattle.gen_moves.specs.LineTiles.{tiles_of}
 use Rattle.gen_moves.specs.Findings.{told}
 use Rattle.gen_moves.specs.Laws.{Setting}
-use Rattle.gen_moves.specs.Bounds.{rack_points, ArePlaces, HasScores, TellsUnder, IsOffer, AreOffers}
+use Rattle.gen_moves.specs.Bounds.{rack_points, rack_ones, ArePlaces, HasScores, TellsUnder, IsOffer, AreOffers}
 use Rattle.gen_moves.proofs.MovePlaces.{put_by}
 use Rattle.gen_moves.proofs.Gathering.{tiles_is, line_labelled, wanted_few}
 use Rattle.gen_moves.proofs.Bounding.{count_is, score_le}
@@ -48,7 +48,7 @@ told_under rules board d line y bound le = by (is_wanted board d (tiles_of d lin
 
 offer : (rules : Rules) (words : List (List ℕ)) (board : List (Option Tile)) (g listed : List ℕ → Bool) (cells : Dir → ℕ → List Cell) → Setting words board g listed cells
     → (rack : List ℕ) (d : Dir) (line : ℕ) → line < 15 → (places : ℕ → Place) → ArePlaces rules d board line places → (h : ℕ) → h < 15 → (y : List ℕ)
-    → owes g (cells d line) rack h y ≡ true → IsOffer rules (rack_points rules rack 27) board d line (cells d line) places h y
+    → owes g (cells d line) rack h y ≡ true → IsOffer rules (rack_points rules rack 27) (rack_ones rules rack 27) board d line (cells d line) places h y
 offer rules words board g listed cells s rack d line low places are h below y e bound holds =
     let found = anchor_reach g listed s.splits (cells d line) rack y h (line_labelled words d board line (cells d line) (s.lines d line low)) below e in
     let first = found.0 in
@@ -62,13 +62,13 @@ offer rules words board g listed cells s rack d line low places are h below y e 
     let w = holds first reach.low reach.first_anchor len move.whole.inside (omega arith) in
     let within = w.within in
     let score = score_le rules words d board line (cells d line) (s.lines d line low) listed rack y first len s.told s.long s.size low move few places are
-    (rack_points rules rack 27) w.letter w.cross (omega arith) w.letters w.crosses in
+    (rack_points rules rack 27) (rack_ones rules rack 27) w.letter w.cross (omega arith) (omega arith) w.letters w.crosses in
     subst (λ (qs : List Placed). score_of rules board qs ≤ bound) (sym (tiles_is d line y)) (omega arith))
 
 pub all_offers : (rules : Rules) (words : List (List ℕ)) (board : List (Option Tile)) (g listed : List ℕ → Bool) (cells : Dir → ℕ → List Cell) → Setting words board g listed cells
-    → (rack : List ℕ) (d : Dir) (line : ℕ) → line < 15 → AreOffers rules (rack_points rules rack 27) board g (cells d line) rack d line
+    → (rack : List ℕ) (d : Dir) (line : ℕ) → line < 15 → AreOffers rules (rack_points rules rack 27) (rack_ones rules rack 27) board g (cells d line) rack d line
 all_offers rules words board g listed cells s rack d line low places are h below =
-    every-more (λ y. owes g (cells d line) rack h y ≡ true) (IsOffer rules (rack_points rules rack 27) board d line (cells d line) places h) (anchor_moves g (cells d line) rack h)
+    every-more (λ y. owes g (cells d line) rack h y ≡ true) (IsOffer rules (rack_points rules rack 27) (rack_ones rules rack 27) board d line (cells d line) places h) (anchor_moves g (cells d line) rack h)
     (λ y e. offer rules words board g listed cells s rack d line low places are h below y e)
     (anchor_owes g (cells d line) rack h (s.lines d line low).size below)
 

@@ -10,7 +10,7 @@ ghost use Rattle.gen_moves.specs.Laws.{AreLong};
 ghost use Rattle.gen_moves.specs.Telling.{both_cells};
 ghost use Rattle.gen_moves.specs.Starts.{IsGood, given_from};
 
-use crate::anchors::{all_bounds, points_of_rack};
+use crate::anchors::{all_bounds, points_of_rack, tiles_with_points};
 use crate::fronts::narrowed;
 use crate::lines::all_cells;
 use crate::spots::Spot;
@@ -146,9 +146,10 @@ pub fn generate<L: PathLex, S: Sink>(
     let down = all_cells(board, cross, Dir::Down);
     let numbers = rack.numbers();
     let points = points_of_rack(rules, &numbers);
+    let ones = tiles_with_points(rules, &numbers);
     let starts = best_first(all_starts(
-        &all_bounds(rules, board, cross, Dir::Across, &across, points),
-        &all_bounds(rules, board, cross, Dir::Down, &down, points),
+        &all_bounds(rules, board, cross, Dir::Across, &across, points, ones),
+        &all_bounds(rules, board, cross, Dir::Down, &down, points, ones),
     ));
     from_starts(rules, board, &across, &down, &numbers, lex, &starts, sink)
 }
