@@ -83,11 +83,17 @@ right_scores rules words board cross size right d square t on free =
     none_or true n = omega arith
     none_or false n = omega arith
 
+pub every-both : {X : Type 0} (P Q : X → Type 0) (xs : List X) → Every P xs → Every Q xs → Every (λ x. P x × Q x) xs
+every-both P Q [] all also = tt
+every-both P Q (x ∷ xs) all also = ((all.0, also.0), every-both P Q xs all.1 also.1)
+
 -- a move whose play passes no number changes nothing of a sink that needs no such play
-pub passed_over : (rules : Rules) (board : List (Option Tile)) (d : Dir) (line : ℕ) (y : List ℕ) (bound : ℕ) (add : List Given → Given → List Given) (items : List Given)
-    → ((given : Given) → given.score ≤ℤ pos bound → add items given ≡ items) → TellsUnder rules board d line y bound → add_all add items (told rules board d line y) ≡ items
-passed_over rules board d line y bound add items still under =
-    sym (all-still add items (λ (given : Given). given.score ≤ℤ pos bound) (told rules board d line y) still under)
+pub passed_over : (rules : Rules) (board : List (Option Tile)) (d : Dir) (line : ℕ) (y : List ℕ) (bound : ℕ) (W : Given → Type 0) (add : List Given → Given → List Given) (items : List Given)
+    → ((given : Given) → W given → given.score ≤ℤ pos bound → add items given ≡ items) → Every W (told rules board d line y) → TellsUnder rules board d line y bound
+    → add_all add items (told rules board d line y) ≡ items
+passed_over rules board d line y bound W add items still along under =
+    sym (all-still add items (λ (given : Given). W given × (given.score ≤ℤ pos bound)) (told rules board d line y) (λ given known. still given known.0 known.1)
+    (every-both W (λ (given : Given). given.score ≤ℤ pos bound) (told rules board d line y) along under))
 
 -- a place that is no anchor has no moves
 pub no_offers : (P : List ℕ → Type 0) (g : List ℕ → Bool) (cells : List Cell) (rack : List ℕ) (h : ℕ) → is_anchor_cell (cell_at cells h) ≡ false → Every P (anchor_moves g cells rack h)
