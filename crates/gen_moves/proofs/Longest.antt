@@ -3,7 +3,7 @@ use Rattle.std.proofs.Common.{◌≡◌, ℕ, zero, suc, ◌+◌, ◌-◌, ◌*�
 use Rattle.std.proofs.lemmas.Bool.{cases_eq, cases_Bool, cases_lt, le-leb, leb-true}
 use Rattle.std.proofs.Math.Nat.{mul-le-mul, pow-le-pow_right}
 use Rattle.ref_play.proofs.ScoreLemmas.{factor_limit}
-use Rattle.gen_moves.proofs.Sums.{least-first, least-second, least-both}
+use Rattle.gen_moves.proofs.Sums.{total-first, least-first, least-second, least-both}
 use Rattle.gen_moves.specs.declared.places.Place.{Place}
 use Rattle.gen_moves.specs.declared.stretches.Sum.{Sum}
 use Rattle.gen_moves.specs.Bounds.{total, times, one_if, free_count, IsBoundFrom, IsSum, IsSmall, IsSmallSum, least}
@@ -58,7 +58,7 @@ sum_more places first n at s more is sum old word side free letters crosses lett
 
 -- the bound of a sum bounds each shorter stretch
 pub sum_bound : (bonus points ones : ℕ) (places : ℕ → Place) (first n : ℕ) (s : Sum) (bound : ℕ) → first + n ≤ 15 → IsSum places first n s → ((i : ℕ) → i < 15 → IsSmall (places i))
-    → bound ≡ (s.old + (s.letters + least ones s.free) + s.letter * points) * s.word + (s.side + s.crosses + s.cross * points) + (if nat_le 7 s.free then bonus else 0)
+    → bound ≡ (s.old + (least s.letters ((s.letter - 1) * ones) + least ones s.free) + s.letter * points) * s.word + (s.side + least s.crosses (s.cross * ones) + s.cross * points) + (if nat_le 7 s.free then bonus else 0)
     → ((len : ℕ) → first + len ≤ 15 → free_count places first len ≤ 7 → len ≤ n) → IsBoundFrom bonus points ones places first bound
 sum_bound bonus points ones places first n s bound inside sum small is reach len in' few =
     let le = reach len in' few in
@@ -75,7 +75,16 @@ sum_bound bonus points ones places first n s bound inside sum small is reach len
     let free_is = sum.free in
     let word_is = sum.word in
     let few_up = least-both ones s.free (least ones (free_count places first len)) (least-first ones (free_count places first len)) (let le = least-second ones (free_count places first len) in omega arith) in
-    let main : (total (λ i. (places i).old) first len + (total (λ i. (places i).letter - 1) first len + least ones (free_count places first len)) + s.letter * points) * times (λ i. (places i).word) first len ≤ (s.old + (s.letters + least ones s.free) + s.letter * points) * s.word = mul-le-mul (omega arith) (omega arith) in
+    let more_up =
+    least-both s.letters ((s.letter - 1) * ones) (least (total (λ i. (places i).letter - 1) first len) ((s.letter - 1) * ones))
+    (let le = least-first (total (λ i. (places i).letter - 1) first len) ((s.letter - 1) * ones) in omega arith)
+    (least-second (total (λ i. (places i).letter - 1) first len) ((s.letter - 1) * ones)) in
+    let cross_up =
+    least-both s.crosses (s.cross * ones) (least (total (λ i. (places i).cross) first len) (s.cross * ones))
+    (let le = least-first (total (λ i. (places i).cross) first len) (s.cross * ones) in omega arith)
+    (least-second (total (λ i. (places i).cross) first len) (s.cross * ones)) in
+    let main : (total (λ i. (places i).old) first len + (least (total (λ i. (places i).letter - 1) first len) ((s.letter - 1) * ones) + least ones (free_count places first len)) + s.letter * points) * times (λ i. (places i).word) first len
+    ≤ (s.old + (least s.letters ((s.letter - 1) * ones) + least ones s.free) + s.letter * points) * s.word = mul-le-mul (omega arith) (omega arith) in
     let top = bonus_up (free_count places first len) s.free (omega arith) in
     record {
       letter = s.letter;
@@ -91,6 +100,43 @@ sum_bound bonus points ones places first n s bound inside sum small is reach len
         (λ (many : nat_le 7 a ≡ true). let seven = leb-true 7 a many in let also = le-leb 7 b (omega arith) in rw (many, also) (omega arith))
         (λ (few : nat_le 7 a ≡ false). rw few (omega arith))
         (cases_Bool (nat_le 7 a))
+
+-- how many places of a stretch are free, from its end on
+pub count_one : (places : ℕ → Place) (at : ℕ) → free_count places at 1 ≡ one_if (places at).free
+unfolding total
+count_one places at = let e : at + 0 ≡ at = omega arith in let here = ap (λ k. one_if (places k).free) e in omega arith
+
+pub count_more : (places : ℕ → Place) (at next n : ℕ) → next ≡ at + 1 → free_count places at (n + 1) ≡ free_count places next n + one_if (places at).free
+count_more places at next n is =
+    let more : n + 1 ≡ suc n = omega arith in
+    let whole = ap (free_count places at) more in
+    let split = total-first (λ i. one_if (places i).free) at n in
+    let rest = ap (λ a. free_count places a n) is in
+    omega arith
+
+pub one_or_none : (b : Bool) → one_if b ≤ 1
+one_or_none true = omega arith
+one_or_none false = omega arith
+
+-- a part of a stretch has no more
+total-inside : (f : ℕ → ℕ) (first k n len : ℕ) → k + n ≤ len → total f (first + k) n ≤ total f first len
+total-inside f first zero n len le = let e : first + 0 ≡ first = omega arith in let up = total-up f first n len (omega arith) in rw e up
+total-inside f first (suc k) n len le =
+    let e : first + suc k ≡ first + 1 + k = omega arith in
+    let one_less : suc (len - 1) ≡ len = omega arith in
+    let inner = total-inside f (first + 1) k n (len - 1) (omega arith) in
+    let split = total-first f first (len - 1) in
+    let whole = ap (total f first) one_less in
+    let here = ap (λ a. total f a n) e in
+    omega arith
+
+-- a stretch that has so many free places and one more has too many
+pub no_reach : (places : ℕ → Place) (first at h len : ℕ) → first ≤ at → at ≤ h → h < first + len → 7 < free_count places at (h - at + 1) → free_count places first len ≤ 7 → ⊥
+no_reach places first at h len low high inside many few =
+    let e : first + (at - first) ≡ at = omega arith in
+    let part = total-inside (λ i. one_if (places i).free) first (at - first) (h - at + 1) len (omega arith) in
+    let here = ap (λ a. free_count places a (h - at + 1)) e in
+    omega arith
 
 -- where the next place would be an eighth free one
 pub reach_stop : (places : ℕ → Place) (first n at : ℕ) (s : Sum) → at ≡ first + n → IsSum places first n s → s.free ≡ 7 → (places at).free ≡ true → (len : ℕ) → first + len ≤ 15 → free_count places first len ≤ 7 → len ≤ n
@@ -121,16 +167,12 @@ small_more n s more p small one old word side free letters crosses letter cross 
     let c = small.side in
     let d = one.side in
     let e = small.free in
-    let f = at_most_one p.free in
+    let f = one_or_none p.free in
     let h = small.letters in
     let i = one.letter in
     let j = small.crosses in
     let k = one.cross in
     record { old = omega arith; word = omega arith; side = omega arith; free = omega arith; letters = omega arith; crosses = omega arith; letter = letter; cross = cross }
-  where
-    at_most_one : (b : Bool) → one_if b ≤ 1
-    at_most_one true = omega arith
-    at_most_one false = omega arith
 
 -- ---- a greater number bounds as well
 pub bound_up : (bonus points ones : ℕ) (places : ℕ → Place) (first low high : ℕ) → low ≤ high → IsBoundFrom bonus points ones places first low → IsBoundFrom bonus points ones places first high

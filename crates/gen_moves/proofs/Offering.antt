@@ -59,7 +59,7 @@ offer rules words board g listed cells s rack d line low places are h below y e 
     let few_tiles = (wanted_few board d (tiles_of d line y) wanted).1 in
     let few : length (put_by d line y) ≤ 7 = subst (λ (qs : List Placed). length qs ≤ 7) (tiles_is d line y) few_tiles in
     let count = count_is rules words d board line (cells d line) (s.lines d line low) listed rack y first len s.told s.long s.size low move few places are in
-    let w = holds first reach.low reach.first_anchor len move.whole.inside (omega arith) in
+    let w = holds first reach.low reach.first_anchor len reach.high move.whole.inside (omega arith) in
     let within = w.within in
     let score = score_le rules words d board line (cells d line) (s.lines d line low) listed rack y first len s.told s.long s.size low move few places are
     (rack_points rules rack 27) (rack_ones rules rack 27) w.letter w.cross (omega arith) (omega arith) w.letters w.crosses in

@@ -46,18 +46,28 @@ total-same f g a (suc n) h =
     let last = h (a + n) (omega arith) (omega arith) in
     omega arith
 
+distribute : (c x y : ℕ) → c * (x + y) ≡ c * x + c * y
+distribute zero x y = omega arith
+distribute (suc c) x y = let rest = distribute c x y in omega arith
+
+-- a sum of products, of which one factor passes no number
+pub total-times : (f g : ℕ → ℕ) (c a n : ℕ) → ((i : ℕ) → a ≤ i → i < a + n → f i * g i ≤ c * g i) → total (λ i. f i * g i) a n ≤ c * total g a n
+unfolding total
+total-times f g c a zero h = omega arith
+total-times f g c a (suc n) h =
+    let fewer = total-times f g c a n (λ i low high. h i low (omega arith)) in
+    let last = h (a + n) (omega arith) (omega arith) in
+    let spread = distribute c (total g a n) (g (a + n)) in
+    omega arith
+
 -- a sum of sums, one of them multiplied
 pub total-scaled : (f g : ℕ → ℕ) (c a n : ℕ) → total (λ i. f i + c * g i) a n ≡ total f a n + c * total g a n
 unfolding total
 total-scaled f g c a zero = omega arith
 total-scaled f g c a (suc n) =
     let fewer = total-scaled f g c a n in
-    let spread : c * (total g a n + g (a + n)) ≡ c * total g a n + c * g (a + n) = distribute c (total g a n) (g (a + n)) in
+    let spread = distribute c (total g a n) (g (a + n)) in
     omega arith
-  where
-    distribute : (c x y : ℕ) → c * (x + y) ≡ c * x + c * y
-    distribute zero x y = omega arith
-    distribute (suc c) x y = let rest = distribute c x y in omega arith
 
 pub total-both : (f g : ℕ → ℕ) (a n : ℕ) → total (λ i. f i + g i) a n ≡ total f a n + total g a n
 unfolding total

@@ -70,13 +70,14 @@ rack_ones rules rack n = total (λ k. slice_index rack k * kind_one rules k) 0 n
 abbrev pub least : ℕ → ℕ → ℕ
 least a b = if nat_le a b then a else b
 
--- The bound of the plays of a stretch: one point for each of its new tiles that can have points, and one on each place once more for
--- each time above one that the letter premium counts it, and for each time that the cross word does; and what the tiles of the rack
--- have above one point by a letter premium and a factor of cross words that no free place of the stretch passes.
+-- The bound of the plays of a stretch, by a letter premium and a factor of cross words that no free place of the stretch passes: one
+-- point for each of its new tiles that can have points, once more for each time above one that a letter premium counts it, and
+-- for each time that a cross word does, these by the places or by the tiles; and what the tiles of the rack have above one point.
 abbrev pub stretch_bound : ℕ → (ℕ → Place) → ℕ → ℕ → ℕ → ℕ → ℕ → ℕ → ℕ
 stretch_bound bonus places first len points ones letter cross =
-    (total (λ i. (places i).old) first len + (total (λ i. (places i).letter - 1) first len + least ones (free_count places first len)) + letter * points) * times (λ i. (places i).word) first len
-    + (total (λ i. (places i).side) first len + total (λ i. (places i).cross) first len + cross * points)
+    (total (λ i. (places i).old) first len + (least (total (λ i. (places i).letter - 1) first len) ((letter - 1) * ones) + least ones (free_count places first len)) + letter * points)
+    * times (λ i. (places i).word) first len
+    + (total (λ i. (places i).side) first len + least (total (λ i. (places i).cross) first len) (cross * ones) + cross * points)
     + (if nat_le 7 (free_count places first len) then bonus else 0)
 
 -- a number that no play of a stretch passes, by some such letter premium and some such factor
@@ -91,10 +92,11 @@ pub record IsWithin (bonus points ones : ℕ) (places : ℕ → Place) (first le
 abbrev pub IsBoundFrom : ℕ → ℕ → ℕ → (ℕ → Place) → ℕ → ℕ → Type 0
 IsBoundFrom bonus points ones places first bound = (len : ℕ) → first + len ≤ 15 → free_count places first len ≤ 7 → IsWithin bonus points ones places first len bound
 
--- a number that no play of an anchor passes: the anchor is the first one in its stretch
+-- a number that no play of an anchor passes: its stretch has the anchor, and none before it
 abbrev pub IsAnchorBound : ℕ → ℕ → ℕ → List Cell → (ℕ → Place) → ℕ → ℕ → Type 0
 IsAnchorBound bonus points ones cells places h bound =
-    (first : ℕ) → first ≤ h → ((i : ℕ) → first ≤ i → i < h → is_anchor_cell (cell_at cells i) ≡ false) → IsBoundFrom bonus points ones places first bound
+    (first : ℕ) → first ≤ h → ((i : ℕ) → first ≤ i → i < h → is_anchor_cell (cell_at cells i) ≡ false)
+    → (len : ℕ) → h < first + len → first + len ≤ 15 → free_count places first len ≤ 7 → IsWithin bonus points ones places first len bound
 
 -- the sums and products of a stretch
 pub record IsSum (places : ℕ → Place) (first len : ℕ) (sum : Sum) : Type 0 where

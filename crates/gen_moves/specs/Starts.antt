@@ -1,5 +1,5 @@
 -- The places of a board from which plays are looked for, and what each gives.
-use Rattle.std.specs.Prelude.{◌≡◌, ℕ, ◌/◌, ◌%◌, ◌<◌, nat_lt, Bool, List, [], length, slice_index, slice_index_or, Option, if◌then◌else◌}
+use Rattle.std.specs.Prelude.{◌≡◌, ℕ, ◌/◌, ◌%◌, ◌<◌, nat_lt, Bool, List, [], slice_index, slice_index_or, Option, if◌then◌else◌}
 use Rattle.std.specs.List.{flat_map}
 use Rattle.ref_tiles.specs.declared.tiles.Tile.{Tile}
 use Rattle.ref_tiles.specs.declared.rulebook.Rules.{Rules}

@@ -38,8 +38,13 @@ fn anchor_bound(
     ensures { IsAnchorBound bonus points ones cells.now (place_in places.now) anchor result }
 {
     let mut bound = longest(places, anchor, points, ones, bonus);
+    let mut free = u64::from(places[anchor].free);
     for back in 0..anchor {
         let first = anchor - 1 - back;
+        free += u64::from(places[first].free);
+        if free > 7 {
+            return bound;
+        }
         if is_anchor(&cells[first]) {
             return bound;
         }

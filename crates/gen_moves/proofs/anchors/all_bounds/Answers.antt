@@ -1,4 +1,4 @@
-use Rattle.std.proofs.Common.{rules, ◌<◌, ◌≤◌, ℕ, Bool, List, [], get_or, arith}
+use Rattle.std.proofs.Common.{rules, ◌<◌, ℕ, Bool, List, [], get_or, arith}
 use Rattle.std.specs.Prelude.{slice_index}
 use Rattle.gen_cross.proofs.Filling.{values_more}
 use Rattle.gen_moves.specs.Bounds.{AreOffers}
