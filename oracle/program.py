@@ -778,6 +778,17 @@ def boarded(run):
         run.row(["board", *words], 64, error=None)
 
 
+def widest(run):
+    """No line of a board is longer than 80 bytes, however long the nicknames and the numbers are."""
+    nicks = "N" * 200, "\u00e9" * 200
+    passes = "".join(f">{nicks[k % 2]}: AEINRST - -999999 -999999\n" for k in range(998))
+    Path(run.folder, "wide").write_text(passes + f">{nicks[0]}: AEINRST 1H ABCDEFGHI -999999 -999999\n")
+    for named in ([], ["--before", "1"], ["--before", "999"]):
+        ran = subprocess.run([run.program, "board", *named, "wide"], cwd=run.folder, capture_output=True, check=False)
+        lines = ran.stdout.split(b"\n")
+        run.expect("lines of 80 bytes", ran.returncode == 0 and len(lines) > 20 and max(map(len, lines)) <= 80)
+
+
 def archived(run):
     """`archive`, by what it says of each game alone and of all together, in both forms."""
     for words, rows in ARCHIVED.items():
@@ -966,7 +977,7 @@ def main():
     with tempfile.TemporaryDirectory() as folder:
         files(folder)
         run = Runner(os.path.abspath(sys.argv[1]), folder)
-        for part in (judged, settled, built_and_checked, converted, topped, topped_before, ruled, tidied, boarded, from_standard_input, fielded, archived, audited, broken, helped, misused):
+        for part in (judged, settled, built_and_checked, converted, topped, topped_before, ruled, tidied, boarded, widest, from_standard_input, fielded, archived, audited, broken, helped, misused):
             part(run)
         if sys.argv[2:] == ["large"]:
             converted_large(run)
