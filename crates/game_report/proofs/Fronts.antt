@@ -1,6 +1,5 @@
 -- The first so many of the best plays.
-use Rattle.std.proofs.Common.{◌≡◌, ℕ, ℤ, zero, suc, ◌≤◌, ◌<◌, ◌⊎◌, inl, inr, ⊎_elim, Bool, true, List, [], ◌∷◌, length, get_or, take, map, Contains, refl, sym, ap, subst, ◌∙◌, arith, Option}
-use Rattle.std.specs.List.{take-map}
+use Rattle.std.proofs.Common.{◌≡◌, ℕ, ℤ, zero, suc, ◌≤◌, ◌⊎◌, inl, inr, ⊎_elim, Bool, true, List, [], ◌∷◌, length, get_or, take, map, Contains, refl, ap, subst, ◌∙◌, arith, Option}
 use Rattle.std.proofs.lemmas.List.{length-take-le, length-map, get_or-map}
 use Rattle.std.proofs.lemmas.List.Elements.{All-contains}
 use Rattle.ref_play.proofs.RangeLaws.{Contains-cases, Contains-here, Contains-there}
@@ -86,7 +85,6 @@ legal_plays n rules list board rack kept plays are same place scored below =
     subst (λ (ks : List Given). Contains ks (seen_pair (get_or plays place scored))) same (place, (let many = length-map plays seen_pair in omega arith), get_or-map seen_pair plays place scored (seen_pair (get_or plays place scored)) below) in
     (All-contains (λ (given : Given). IsCandidate list board rack given.tiles × (given ≡ given_of rules board given.tiles)) are.all (seen_pair (get_or plays place scored)) are.are_all.sound
     (are.first.some (seen_pair (get_or plays place scored)) there)).0.legal
-
 
 -- the lines of the first so many of the plays that were kept tell the first so many of all
 pub front_told : (many n : ℕ) (rules : Rules) (list : List (List ℕ)) (board : List (Option Tile)) (rack : List ℕ) (kept seen : List Given) (text : List ℕ) → n ≤ many

@@ -1,4 +1,6 @@
 //! The best plays before a line of a record.
+ghost use Rattle.std.specs.Prelude.{◌≤◌};
+
 use crate::games::lexicon_of;
 use crate::pieces::{Pieces, assert_same};
 use devices::FromWrite;
