@@ -37,7 +37,7 @@ impl Refusal {
 
 /// The event behind a place of a record, where there is one.
 #[tactic(auto, using(crate::proofs::PlaceLaws::copied_get))]
-pub(crate) fn event_behind(events: &[Event], place: usize) -> Option<&Event>
+pub fn event_behind(events: &[Event], place: usize) -> Option<&Event>
     requires { place < length events.now }
     ensures { option_copied result ≡ slice_get events.now (place + 1) }
 {
