@@ -19,3 +19,4 @@ pub mod Settling
 pub mod OwnVerdicts
 pub mod Archiving
 pub mod Auditing
+pub mod Explaining
