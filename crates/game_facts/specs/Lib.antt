@@ -1,0 +1,7 @@
+pub mod Words
+pub mod Laws
+pub mod Texts
+pub mod Spots
+pub mod Totals
+pub mod Replays
+pub mod Lines
