@@ -187,7 +187,7 @@ fn push_not_laid(text: &mut Vec<u8>, events: &[Event], laying: &Laying) -> Resul
     say(
         text,
         &[
-            Part::Say("The board before it is not known: the play of line "),
+            Part::Say("The board before this line is not known, since the play on line "),
             Part::Line(event.line),
             Part::Say(" cannot be laid.\n"),
         ],

@@ -57,13 +57,13 @@ pub fn push_valid(text: &mut Vec<u8>, scene: &Scene<'_, '_>) -> Result<(), Alloc
     say(
         text,
         &[
-            Part::Say("Each word of the play on line "),
+            Part::Say("The play on line "),
             Part::Line(line_before(scene)),
-            Part::Say(" is in the word list, so the play stands: "),
+            Part::Say(" stands, since each of its words is in the word list: "),
         ],
     )?;
     push_words(text, &last_words(scene.past))?;
-    text.extend_from_slice(b".\nOften the game was played by another word list.\n")
+    text.extend_from_slice(b".\nPerhaps the game was played by another word list.\n")
 }
 
 /// Appends that no word of the challenged play is in the list.
@@ -71,13 +71,13 @@ pub fn push_phony(text: &mut Vec<u8>, scene: &Scene<'_, '_>) -> Result<(), Alloc
     say(
         text,
         &[
-            Part::Say("No word of the challenged play on line "),
+            Part::Say("The challenge of line "),
             Part::Line(line_before(scene)),
-            Part::Say(" is in the word list, so the challenge succeeds: "),
+            Part::Say(" succeeds, since none of its words is in the word list: "),
         ],
     )?;
     push_words(text, &last_words(scene.past))?;
-    text.extend_from_slice(b".\nOften the game was played by another word list.\n")
+    text.extend_from_slice(b".\nPerhaps the game was played by another word list.\n")
 }
 
 /// Appends which bonus a challenge gives, or that there is no play to be challenged.
@@ -89,15 +89,18 @@ pub fn push_wrong_bonus(text: &mut Vec<u8>, scene: &Scene<'_, '_>) -> Result<(),
             &[
                 Part::Say("The play on line "),
                 Part::Line(play.line),
-                Part::Say(" is one of "),
+                Part::Say(" is "),
                 Part::Raw(scene.other_nick()),
-                Part::Say(", so its bonus cannot go to "),
+                Part::Say("'s, so its bonus cannot go to "),
                 Part::Raw(scene.nick()),
                 Part::Say(".\n"),
             ],
         ),
+        None if scene.past.is_empty() => {
+            text.extend_from_slice(b"This is the first event, so there is nothing to challenge.\n")
+        }
         None => text.extend_from_slice(
-            b"The event before this one is no play that stands, so there is no challenge and no bonus.\n",
+            b"The event before this one is no play, so there is nothing to challenge.\n",
         ),
     }
 }
@@ -113,20 +116,22 @@ fn push_bonus(text: &mut Vec<u8>, scene: &Scene<'_, '_>) -> Result<(), AllocErro
     say(
         text,
         &[
-            Part::Say("The bonus is "),
+            Part::Say("A bonus is "),
             Part::Many(unit),
-            Part::Say(" points for each challenged word that is in the word list, and "),
+            Part::Say(" points for each challenged word that is in the word list. "),
             Part::Many(listed),
-            Part::Say(" of the words of the play "),
-            Part::Say(if listed == 1 { "is" } else { "are" }),
-            Part::Say(": "),
+            Part::Say(if listed == 1 {
+                " word of the play is, so the bonus can be "
+            } else {
+                " words of the play are, so the bonus can be "
+            }),
         ],
     )?;
     push_amounts(text, unit, listed)?;
     say(
         text,
         &[
-            Part::Say(" can be right, and "),
+            Part::Say(", and "),
             Part::Points(scene.event.score.value()),
             Part::Say(" is written.\n"),
         ],

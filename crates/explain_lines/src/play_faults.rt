@@ -1,6 +1,6 @@
 //! What is wrong with the text or the placement of a play.
 
-use crate::parts::{Part, plural, say};
+use crate::parts::{Part, say};
 use game_facts::{first_misfit, new_tiles};
 use ref_board::{Board, Dir, SIDE, Square, follows_tile, precedes_tile};
 use ref_play::{PlayFault, along};
@@ -30,7 +30,7 @@ pub fn push_play_fault(
         PlayFault::Mismatch => push_mismatch(text, board, play),
         PlayFault::NoNewTile => {
             text.extend_from_slice(
-                b"Each square of the play has a tile already, so it puts none down.\n",
+                b"Every square of the play has a tile already: no tile is new.\n",
             )
         }
         PlayFault::TooManyTiles => push_too_many(text, board, play),
@@ -60,37 +60,24 @@ fn line_name(dir: Dir) -> &'static str {
 /// Appends that a text leaves the board.
 fn push_off_board(text: &mut Vec<u8>, play: &Written<'_>) -> Result<(), AllocError> {
     let room = SIDE - play.at.place(play.dir);
-    let letters = play.word.len();
     say(
         text,
         &[
-            Part::Say("The play leaves the board: it has "),
-            Part::Many(letters),
-            Part::Say(" letter"),
-            plural(letters),
-            Part::Say(", and from "),
+            Part::Say("The play leaves the board: it covers "),
+            Part::Many(play.word.len()),
+            Part::Say(" squares, and from "),
             Part::At(play.at),
             Part::Say(" to the end of the "),
             Part::Say(line_name(play.dir)),
-            Part::Say(" there "),
             Part::Say(if room == 1 {
-                "is 1 square"
+                " there is only "
             } else {
-                "are only "
+                " there are only "
             }),
-            room_left(room),
+            Part::Many(room),
             Part::Say(".\n"),
         ],
     )
-}
-
-/// How many squares are left, where it is more than one.
-fn room_left(room: usize) -> Part<'static> {
-    if room == 1 {
-        Part::Say("")
-    } else {
-        Part::Many(room)
-    }
 }
 
 /// Appends the first square on which a text does not agree with the board.
@@ -111,7 +98,7 @@ fn push_mismatch(text: &mut Vec<u8>, board: &Board, play: &Written<'_>) -> Resul
             &[
                 Part::Say("The play has a dot on "),
                 Part::At(square),
-                Part::Say(", which stands for a tile on the board, but that square is empty.\n"),
+                Part::Say(", as if a tile were there, but the square is empty.\n"),
             ],
         ),
         Some(tile) => say(
@@ -121,7 +108,7 @@ fn push_mismatch(text: &mut Vec<u8>, board: &Board, play: &Written<'_>) -> Resul
                 Part::Letter(symbol.byte()),
                 Part::Say(" on "),
                 Part::At(square),
-                Part::Say(", but the tile on the board there shows "),
+                Part::Say(", but the tile there shows "),
                 Part::Letter(tile.shown.capital()),
                 Part::Say(".\n"),
             ],
@@ -137,9 +124,9 @@ fn push_too_many(text: &mut Vec<u8>, board: &Board, play: &Written<'_>) -> Resul
     say(
         text,
         &[
-            Part::Say("The play puts "),
+            Part::Say("The play puts down "),
             Part::Many(tiles),
-            Part::Say(" tiles down, and a rack has 7 at the most.\n"),
+            Part::Say(" tiles, and a rack has 7 at the most.\n"),
         ],
     )
 }

@@ -79,7 +79,7 @@ fn push_too_big(
             Part::Many(size),
             Part::Say(" tile"),
             plural(size),
-            Part::Say(" here, but by the lines up to this one the rack must have "),
+            Part::Say(" here, but by what the lines show the rack must have "),
             Part::Many(must.total()),
             Part::Say(": "),
         ],
@@ -89,10 +89,14 @@ fn push_too_big(
     push_shown(text, front, holder)
 }
 
-/// Where a player's tiles begin to be known: behind the last exchange of unknown tiles.
+/// Where a player's tiles begin to be known at the last of some steps: behind the last exchange of unknown tiles before it.
 fn epoch_of(steps: &[Step], player: Seat) -> usize {
+    let before = match steps.split_last() {
+        None => steps,
+        Some((_, before)) => before,
+    };
     let mut first = 0;
-    for (k, step) in steps.iter().enumerate() {
+    for (k, step) in before.iter().enumerate() {
         if is_unknown(step, player) {
             first = k + 1;
         }
@@ -145,8 +149,8 @@ fn push_step(text: &mut Vec<u8>, step: &Step, player: Seat) -> Result<(), AllocE
 /// Appends which tiles leave the rack.
 fn push_motion(text: &mut Vec<u8>, motion: &Motion) -> Result<(), AllocError> {
     match motion {
-        Motion::Lays { used, .. } => say(text, &[Part::Say(", and plays "), Part::Tiles(used)]),
-        Motion::Throws(tiles) => say(text, &[Part::Say(", and exchanges "), Part::Tiles(tiles)]),
+        Motion::Lays { used, .. } => say(text, &[Part::Say(" and plays "), Part::Tiles(used)]),
+        Motion::Throws(tiles) => say(text, &[Part::Say(" and exchanges "), Part::Tiles(tiles)]),
         Motion::Keeps | Motion::Tries(_) | Motion::ThrowsUnknown(_) => Ok(()),
     }
 }
@@ -159,58 +163,79 @@ fn push_short(
     kind: Kind,
     known: &Known,
 ) -> Result<(), AllocError> {
-    let has = sheet.rules.counts.count(kind) as usize;
+    let laid = known.laid.count(kind) as usize;
+    let first = known.first.count(kind) as usize;
+    let second = known.second.count(kind) as usize;
     say(
         text,
         &[
-            Part::Say("The game has "),
-            Part::Many(has),
-            Part::Say(" tile"),
-            plural(has),
-            Part::Say(" "),
+            Part::Say("Of the tile "),
             Part::Kind(kind),
-            Part::Say(". By this line "),
-            Part::Many(known.laid.count(kind) as usize),
-            Part::Say(" must be on the board, "),
-            Part::Many(known.first.count(kind) as usize),
-            Part::Say(" on the rack of "),
+            Part::Say(" the game has "),
+            Part::Many(sheet.rules.counts.count(kind) as usize),
+            Part::Say(", but by what the lines show there must be "),
+            Part::Many(laid + first + second),
+            Part::Say(": "),
+            Part::Many(laid),
+            Part::Say(" on the board, "),
+            Part::Many(first),
+            Part::Say(" on "),
             Part::Raw(sheet.nick(Seat::First)),
-            Part::Say(" and "),
-            Part::Many(known.second.count(kind) as usize),
-            Part::Say(" on the rack of "),
+            Part::Say("'s rack and "),
+            Part::Many(second),
+            Part::Say(" on "),
             Part::Raw(sheet.nick(Seat::Second)),
-            Part::Say(".\n"),
+            Part::Say("'s.\n"),
         ],
     )?;
     push_kind_lines(text, sheet, front, kind)
 }
 
-/// Appends the lines that show a kind of tile.
+/// Appends the lines that show a kind of tile, as far as they count at the last of some steps.
 fn push_kind_lines(
     text: &mut Vec<u8>,
     sheet: &Sheet<'_>,
     steps: &[Step],
     kind: Kind,
 ) -> Result<(), AllocError> {
-    for step in steps {
-        push_kind_line(text, sheet, step, kind)?;
+    let first = epoch_of(steps, Seat::First);
+    let second = epoch_of(steps, Seat::Second);
+    for (k, step) in steps.iter().enumerate() {
+        let from = match holder_of(step) {
+            Seat::First => first,
+            Seat::Second => second,
+        };
+        push_kind_line(text, sheet, step, kind, k >= from)?;
     }
     Ok(())
 }
 
-/// Appends how many tiles of a kind a line shows, where it shows one.
+/// How many tiles of a kind a step puts on the board for good.
+fn played_of(step: &Step, kind: Kind) -> usize {
+    match &step.act {
+        Act::Turns {
+            motion: Motion::Lays { used, .. },
+            ..
+        } => used.count(kind) as usize,
+        _ => 0,
+    }
+}
+
+/// Appends how many tiles of a kind a line shows and plays, where it shows one that counts.
 fn push_kind_line(
     text: &mut Vec<u8>,
     sheet: &Sheet<'_>,
     step: &Step,
     kind: Kind,
+    counts: bool,
 ) -> Result<(), AllocError> {
     let holder = holder_of(step);
-    let many = match tiles_of(step, holder) {
+    let shown = match tiles_of(step, holder) {
         None => 0,
         Some(tiles) => tiles.count(kind) as usize,
     };
-    if many == 0 {
+    let played = played_of(step, kind);
+    if shown == 0 || (!counts && played == 0) {
         return Ok(());
     }
     say(
@@ -219,18 +244,22 @@ fn push_kind_line(
             Part::Say("  line "),
             Part::Line(step.line),
             Part::Say(" shows "),
-            Part::Many(many),
-            Part::Say(" of "),
+            Part::Many(shown),
+            Part::Say(" on "),
             Part::Raw(sheet.nick(holder)),
-            Part::Say("\n"),
+            Part::Say("'s rack"),
         ],
-    )
+    )?;
+    if played > 0 {
+        say(text, &[Part::Say(" and plays "), Part::Many(played)])?;
+    }
+    text.extend_from_slice(b"\n")
 }
 
 /// Appends that no deal yields the racks, and where tiles were exchanged.
 fn push_no_deal(text: &mut Vec<u8>, sheet: &Sheet<'_>, front: &[Step]) -> Result<(), AllocError> {
     text.extend_from_slice(
-        b"No deal of the tiles gives the players the racks that the lines up to this one show, though no line alone shows too much.\nCompare the racks with the exchanges before it:\n",
+        b"No deal of the tiles gives the players the racks that the lines up to this one show, though no line alone shows too much.\nCompare the racks with the exchanges:\n",
     )?;
     for step in front {
         push_exchange(text, sheet, step)?;
@@ -258,7 +287,7 @@ fn push_exchange(text: &mut Vec<u8>, sheet: &Sheet<'_>, step: &Step) -> Result<(
             Part::Line(step.line),
             Part::Say(": "),
             Part::Raw(sheet.nick(step.player)),
-            Part::Say(" exchanged "),
+            Part::Say(" exchanges "),
             Part::Many(many),
             Part::Say(" tile"),
             plural(many),

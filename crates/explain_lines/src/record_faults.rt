@@ -21,7 +21,7 @@ pub fn push_record_fault(
             b"The file has more than 1,048,576 bytes, and no game record is as long. Was another file named?\n",
         ),
         Why::TooManyEvents => text.extend_from_slice(
-            b"This is the event after the 1,000th, and a record has 1,000 at the most.\n",
+            b"This is event 1,001, and a record has 1,000 at the most.\n",
         ),
         Why::NoColon => push_no_colon(text, written),
         Why::ThirdPlayer => push_third(alloc, text, front_of(bytes, line), written),

@@ -1,7 +1,7 @@
 //! What is wrong with an event by the rules.
 
 use crate::challenges::{push_phony, push_valid, push_wrong_bonus};
-use crate::parts::{Part, plural, say};
+use crate::parts::{Part, say};
 use crate::play_faults::{Written, push_play_fault};
 use crate::scenes::Scene;
 use crate::scores::{push_other_spots, push_wrong_score};
@@ -66,9 +66,9 @@ fn push_not_your_turn(text: &mut Vec<u8>, scene: &Scene<'_, '_>) -> Result<(), A
             text,
             &[
                 Part::Raw(scene.other_nick()),
-                Part::Say(" is out, so the last rack of "),
+                Part::Say(" is out, so "),
                 Part::Raw(scene.nick()),
-                Part::Say(" has to be on a line of "),
+                Part::Say("'s last rack has to be on a line of "),
                 Part::Raw(scene.other_nick()),
                 Part::Say(", who gets the points.\n"),
             ],
@@ -77,11 +77,11 @@ fn push_not_your_turn(text: &mut Vec<u8>, scene: &Scene<'_, '_>) -> Result<(), A
     say(
         text,
         &[
-            Part::Say("It is the turn of "),
+            Part::Say("It is "),
             Part::Raw(scene.other_nick()),
-            Part::Say(", and not of "),
+            Part::Say("'s turn, and not "),
             Part::Raw(scene.nick()),
-            Part::Say(".\n"),
+            Part::Say("'s.\n"),
         ],
     )
 }
@@ -94,13 +94,16 @@ fn push_nothing_to_withdraw(text: &mut Vec<u8>, scene: &Scene<'_, '_>) -> Result
             &[
                 Part::Say("The play on line "),
                 Part::Line(play.line),
-                Part::Say(" is one of "),
+                Part::Say(" is "),
                 Part::Raw(scene.other_nick()),
-                Part::Say(", so "),
+                Part::Say("'s, so "),
                 Part::Raw(scene.nick()),
                 Part::Say(" cannot take it back.\n"),
             ],
         ),
+        _ if scene.past.is_empty() => {
+            text.extend_from_slice(b"This is the first event, so there is nothing to take back.\n")
+        }
         _ => text.extend_from_slice(
             b"The event before this one is no play, so there is nothing to take back.\n",
         ),
@@ -117,9 +120,9 @@ fn push_game_over(text: &mut Vec<u8>, scene: &Scene<'_, '_>) -> Result<(), Alloc
             text,
             &[
                 Part::Raw(scene.sheet.nick(out)),
-                Part::Say(" is out, so there are no more turns. The last rack of "),
+                Part::Say(" is out, so there are no more turns. What is missing is "),
                 Part::Raw(scene.sheet.nick(out.other())),
-                Part::Say(" is missing: it has to come on a line of "),
+                Part::Say("'s last rack, on a line of "),
                 Part::Raw(scene.sheet.nick(out)),
                 Part::Say(".\n"),
             ],
@@ -140,10 +143,10 @@ fn push_racks_lost(text: &mut Vec<u8>, scene: &Scene<'_, '_>) -> Result<(), Allo
         &[
             Part::Raw(scene.sheet.nick(ended)),
             Part::Say(
-                " has lost the points of a rack, so there are no more turns. The last rack of ",
+                " has lost the points of a rack, so there are no more turns. What is missing is ",
             ),
             Part::Raw(scene.sheet.nick(ended.other())),
-            Part::Say(" is missing.\n"),
+            Part::Say("'s last rack.\n"),
         ],
     )
 }
@@ -154,13 +157,12 @@ fn push_not_over(text: &mut Vec<u8>, scene: &Scene<'_, '_>) -> Result<(), AllocE
     say(
         text,
         &[
-            Part::Say("No last rack is due: no player is out, and the last "),
-            Part::Many(turns),
-            Part::Say(" turn"),
-            plural(turns),
-            Part::Say(" put no play on the board. It takes "),
+            Part::Say("No last rack is due. No player is out, and a game ends after "),
             Part::Many(scene.sheet.rules.zero_limit as usize),
-            Part::Say(" such turns to end a game.\n"),
+            Part::Say(" turns in a row without a play that stands; before this line there "),
+            Part::Say(if turns == 1 { "was " } else { "were " }),
+            Part::Many(turns),
+            Part::Say(".\n"),
         ],
     )
 }

@@ -3,7 +3,7 @@
 use crate::parts::{Part, push_tiles, say};
 use crate::scenes::Scene;
 use game_facts::{Spot, scoring_spots};
-use gcg_read::{EventKind, same_seat};
+use gcg_read::EventKind;
 use ref_tiles::{Counts, Symbol};
 use std::alloc::{AllocError, Global};
 
@@ -29,7 +29,7 @@ pub fn push_wrong_score(
         EventKind::Withdraw => push_score(
             text,
             scene,
-            "The play that is taken back gave its points, so this line scores ",
+            "A withdrawal takes the points of the play off again: it scores ",
             right,
         ),
         EventKind::LastRack(tiles) => push_last_rack(text, scene, tiles, right),
@@ -70,7 +70,7 @@ fn push_last_rack(
     };
     say(text, &[Part::Raw(scene.nick()), Part::Say(what)])?;
     push_tiles(text, tiles)?;
-    push_score(text, scene, ", which is ", right)
+    push_score(text, scene, ": the score is ", right)
 }
 
 /// Appends where the text of a play has the written score, where it has it anywhere.

@@ -26,11 +26,16 @@ impl<'a> Sheet<'a> {
         self.record.events.as_slice()
     }
 
-    /// The nickname of a player.
+    /// The nickname of a player, or words for a player who has none.
     pub fn nick(&self, player: Seat) -> &'a [u8] {
-        match player {
+        let nick = match player {
             Seat::First => self.record.players.first.nick.as_bytes(),
             Seat::Second => self.record.players.second.nick.as_bytes(),
+        };
+        if nick.is_empty() {
+            b"the other player"
+        } else {
+            nick
         }
     }
 }

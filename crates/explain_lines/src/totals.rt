@@ -19,9 +19,9 @@ pub fn push_wrong_total(
             Part::Raw(scene.nick()),
             Part::Say(" had "),
             Part::Points(scene.machine.total(scene.event.player)),
-            Part::Say(", and with "),
+            Part::Say(" and scores "),
             Part::Points(scene.event.score.value()),
-            Part::Say(" for this line has "),
+            Part::Say(" on this line, which makes "),
             Part::Points(right),
             Part::Say("; "),
             Part::Points(written),
@@ -38,7 +38,7 @@ pub fn push_wrong_total(
 fn push_left_out(text: &mut Vec<u8>, scene: &Scene<'_, '_>, short: i32) -> Result<(), AllocError> {
     if scene.event.score.value() == short {
         return text.extend_from_slice(
-            b"The written total is the one before: the score of this line was not added.\n",
+            b"The written total leaves out the score of this line.\n",
         );
     }
     match latest_with(scene.past, scene.event.player, short) {
@@ -46,7 +46,7 @@ fn push_left_out(text: &mut Vec<u8>, scene: &Scene<'_, '_>, short: i32) -> Resul
         Some(line) => say(
             text,
             &[
-                Part::Say("The written total would be right without line "),
+                Part::Say("The written total leaves out line "),
                 Part::Line(line),
                 Part::Say(", which scores "),
                 Part::Points(short),
