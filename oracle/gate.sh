@@ -46,6 +46,7 @@ if [ -x "$program" ]; then
     part oracle/compare_archive.py "$program" 60 "$seed"
     part oracle/archive_scripts.py "$program" 30 "$seed"
     part oracle/compare_audits.py "$program" 60 "$seed"
+    part oracle/compare_explains.py "$program" 60 "$seed"
     part oracle/fuzz.py "$program" 60 "$seed"
 else
     failed=$((failed + 1))
