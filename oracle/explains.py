@@ -113,20 +113,24 @@ def in_words(items, last="and"):
 
 
 def spots_text(scene):
-    """Where the text of a play has the written score, three places at the most."""
-    event, found = scene.event, []
+    """Where the text of a play has the written score: the places at which each word is in the list, where there is one, and else all;
+    three are named at the most."""
+    event, found, listed = scene.event, [], []
     for direction in (ACROSS, ACROSS[::-1]):
         for at in [(row, column) for row in range(SIDE) for column in range(SIDE)]:
             try:
                 new, after = place(scene.game.board, at, direction, event.word)
             except Refused:
                 continue
-            words = runs(after, new, direction) + runs(after, new, direction[::-1])
-            if score_of(after, new, words, scene.game.rules) == event.score:
+            formed = runs(after, new, direction) + runs(after, new, direction[::-1])
+            if score_of(after, new, formed, scene.game.rules) == event.score:
                 found.append(spot_name(at, direction))
+                words = ["".join(after[square] for square in run).upper() for run in formed]
+                listed += found[-1:] if all(word in scene.listed for word in words) else []
     if not found:
         return ""
-    where = in_words(found) if len(found) <= 3 else f"{', '.join(found[:3])} and in {len(found) - 3} more places"
+    found = listed or found
+    where = in_words(found) if len(found) <= 3 else f"{', '.join(found[:3])} and in {count(len(found) - 3, 'more place')}"
     return f"The same letters score {event.score} at {where}.\n"
 
 

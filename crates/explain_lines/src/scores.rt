@@ -1,9 +1,11 @@
 //! A score that is not the right one, and where it would be right.
 
-use crate::parts::{Part, push_tiles, say};
+use crate::parts::{Part, plural, push_tiles, say};
 use crate::scenes::Scene;
 use game_facts::{Spot, scoring_spots};
+use game_turns::{all_listed, legal_play};
 use gcg_read::EventKind;
+use ref_play::words;
 use ref_tiles::{Counts, Symbol};
 use std::alloc::{AllocError, Global};
 
@@ -73,7 +75,8 @@ fn push_last_rack(
     push_score(text, scene, ": the score is ", right)
 }
 
-/// Appends where the text of a play has the written score, where it has it anywhere.
+/// Appends where the text of a play has the written score, where it has it anywhere: the spots at which each word is in the word list,
+/// where there is one, and else all.
 pub fn push_other_spots(
     alloc: Global,
     text: &mut Vec<u8>,
@@ -90,6 +93,7 @@ pub fn push_other_spots(
     if spots.is_empty() {
         return Ok(());
     }
+    let listed = listed_spots(alloc, scene, word, spots.as_slice())?;
     say(
         text,
         &[
@@ -98,7 +102,35 @@ pub fn push_other_spots(
             Part::Say(" at "),
         ],
     )?;
-    push_spots(text, spots.as_slice())
+    if listed.is_empty() {
+        push_spots(text, spots.as_slice())
+    } else {
+        push_spots(text, listed.as_slice())
+    }
+}
+
+/// Whether each word that a text forms at a spot is in the word list.
+fn has_listed_words(scene: &Scene<'_, '_>, word: &[Symbol], spot: &Spot) -> bool {
+    match legal_play(scene.machine.board(), spot.at, spot.dir, word) {
+        Ok(play) => all_listed(scene.sheet.list, &words(scene.machine.board(), &play)),
+        Err(_) => false,
+    }
+}
+
+/// The spots at which each word that a text forms is in the word list.
+fn listed_spots(
+    alloc: Global,
+    scene: &Scene<'_, '_>,
+    word: &[Symbol],
+    spots: &[Spot],
+) -> Result<Vec<Spot>, AllocError> {
+    let mut listed = Vec::new(alloc);
+    for spot in spots {
+        if has_listed_words(scene, word, spot) {
+            listed.push(*spot)?;
+        }
+    }
+    Ok(listed)
 }
 
 /// Appends spots, of which three are named at the most.
@@ -113,7 +145,8 @@ fn push_spots(text: &mut Vec<u8>, spots: &[Spot]) -> Result<(), AllocError> {
             &[
                 Part::Say(" and in "),
                 Part::Many(spots.len() - NAMED),
-                Part::Say(" more places"),
+                Part::Say(" more place"),
+                plural(spots.len() - NAMED),
             ],
         )?;
     }
