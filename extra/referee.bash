@@ -16,7 +16,7 @@ _referee() {
         build) options="--first-field -h --help" ;;
         check) options="--first-field -h --help" ;;
         convert) options="-h --help" ;;
-        top) options="--first-field --rules -h --help" ;;
+        top) options="--before --first-field --number --rules -h --help" ;;
         tidy) options="-h --help" ;;
         board) options="--before --rules -h --help" ;;
         help) values="judge archive audit explain build check convert top tidy board help" ;;

@@ -4,7 +4,7 @@ import re
 import audits
 import explains
 import rules_texts
-from best import best_plays
+from best import MANY, best_plays
 from deals import event_of, judge_deal, settled_verdicts, settled_ways
 from games import board_after, go_through
 from lexicons import build, check, convert
@@ -14,6 +14,8 @@ from sheets import sheet
 
 BOM = b"\xef\xbb\xbf"
 SETTLE = b"unsettled: `judge --settle` searches for a deal that yields the racks\n"
+BAD_LINE = b"bad line: no event is on it or after it\n"
+BAD_RACK = b"bad rack\n"
 VERDICTS = {"legal": 0, "illegal": 1, "unsettled": 2, "bad": 3}
 
 
@@ -119,16 +121,27 @@ def audit_status(output):
     return max(status_of(verdict), 1 if wrong else 0)
 
 
-def topped(words, lexicon, game, rack, text=None):
-    """What `top` is to print."""
+def place_before(lines, before):
+    """The place of the first event on a line or behind it, on whose lines events stand; without a line, behind the last event."""
+    return len(lines) if before is None else next((k for k, line in enumerate(lines) if line >= before), None)
+
+
+def topped(words, lexicon, game, rack=None, text=None, number=MANY, before=None):
+    """What `top` is to print: so many plays, before a line where one is named; without a rack, with that of the line."""
 
     def plays(listed, players, events, rules):
-        verdict = go_through(events, listed, rules=rules)[0]
+        place = place_before(lines_of(game), before)
+        if place is None:
+            return BAD_LINE
+        shown = rack or (events[place].rack if place < len(events) else None)
+        if not shown:
+            return BAD_RACK
+        verdict = go_through(events[:place], listed, rules=rules)[0]
         if verdict.startswith("illegal"):
             return told_of(verdict, game, players)
-        return best_plays(board_after(events, listed, rules), rack, listed, rules)[1].encode()
+        return best_plays(board_after(events[:place], listed, rules), shown, listed, rules, number)[1].encode()
 
-    return answered(words, lexicon, game, text, plays) if re.fullmatch("[A-Z?]{1,7}", rack) else b"bad rack\n"
+    return answered(words, lexicon, game, text, plays) if rack is None or re.fullmatch("[A-Z?]{1,7}", rack) else BAD_RACK
 
 
 def lines_of(game):
@@ -147,9 +160,9 @@ def boarded(game, before=None, text=None):
     except Fault as fault:
         return fault.text()
     lines = lines_of(game)
-    asked = len(lines) if before is None else next((k for k, line in enumerate(lines) if line >= before), None)
+    asked = place_before(lines, before)
     if asked is None:
-        return b"bad line: no event is on it or after it\n"
+        return BAD_LINE
     return sheet(players, [event_of(it) for it in said], lines, asked, rules)
 
 

@@ -129,10 +129,10 @@ class Search:
         return f" best {self.best(board, rack) or 'none'}"
 
 
-def best_plays(board, rack, listed, rules=ENGLISH):
-    """All plays of a rack on a board, the best first, and what `referee top` is to print of them."""
+def best_plays(board, rack, listed, rules=ENGLISH, number=MANY):
+    """All plays of a rack on a board, the best first, and what `referee top` is to print of so many of them."""
     plays = sorted(Search(listed, rules).plays(board, rack), key=Found.rank)
-    return plays, "".join(f"{play}\n" for play in plays[:MANY]) or "none\n"
+    return plays, "".join(f"{play}\n" for play in plays[:number]) or "none\n"
 
 
 def kinds_told(report):

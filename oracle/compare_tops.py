@@ -1,8 +1,8 @@
 """Compares `referee top` with the second judge's search, on the boards of random games that were dealt for real:
 compare_tops.py PROGRAM CASES SEED
 
-The search finds all plays that a rack allows on the board after the record; the program has to print the first ten of them, by the
-greater score and then as they are written, one a line, or `none`.
+The search finds all plays that a rack allows on the board after the record; the program has to print the first ten of them, or
+as many as it is asked for, by the greater score and then as they are written, one a line, or `none`.
 """
 import random
 import subprocess
@@ -45,12 +45,14 @@ class Tops:
         self.words.write_text("\n".join(sorted(listed)))
         self.lexicon.write_bytes(build(listed))
         self.game.write_text(text)
-        words = [self.program, "top", self.words, self.lexicon, self.game, rack]
+        number = random.choice([MANY, 1, 9, 11, 40, 100])
+        asked = [] if number == MANY else ["--number", str(number)]
+        words = [self.program, "top", *asked, self.words, self.lexicon, self.game, rack]
         told = subprocess.run(words, capture_output=True, check=False).stdout.decode()
-        plays, expected = best_plays(board, rack, listed)
-        self.kinds["none" if not plays else "fewer than ten" if len(plays) < MANY else "ten" if len(plays) == MANY else "more"] += 1
+        plays, expected = best_plays(board, rack, listed, number=number)
+        self.kinds["none" if not plays else "fewer" if len(plays) < number else "as many" if len(plays) == number else "more"] += 1
         self.kinds["with a blank"] += "?" in rack
-        self.kinds["a tie at the end"] += len(plays) > MANY and plays[MANY - 1].score == plays[MANY].score
+        self.kinds["a tie at the end"] += len(plays) > number and plays[number - 1].score == plays[number].score
         if told != expected:
             self.differences += 1
             print(text, rack, "listed", *sorted(listed), "program", told, "second judge", expected, sep="\n")

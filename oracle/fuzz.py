@@ -93,10 +93,10 @@ class Fuzzer:
         self.rules = Path(folder, "rules")
         self.fielded = []
 
-    def compare(self, words, expected, status, wrote=None):
+    def compare(self, words, expected, status, wrote=None, name=None):
         ran = subprocess.run([self.program, *words], capture_output=True, check=False, timeout=60)
         told = ran.stdout if wrote is None else wrote.read_bytes()
-        self.seen[f"{words[0]} {status}"] += 1
+        self.seen[f"{name or words[0]} {status}"] += 1
         if told != expected or ran.returncode != status or ran.stderr != error_of(words[0], expected, self.game):
             self.differences += 1
             print(*words, "status", ran.returncode, "for", status, ran.stderr)
@@ -152,8 +152,17 @@ class Fuzzer:
         rack = choose(["A", "?E", "AEINRST"])
         plays = topped(words, lexicon, game, rack, text)
         self.compare(["top", *by, self.words, self.lexicon, self.game, rack], plays, status_of(plays))
+        self.top_before(by, words, lexicon, game, text)
         self.board(ruled, game, text)
         self.files(words, lexicon, game)
+
+    def top_before(self, by, words, lexicon, game, text):
+        """`top` before a line, with the rack of the line or another one."""
+        before, number = random.randint(0, game.count(b"\n") + 2), choose([1, 10, 12, 100])
+        rack = choose([None, None, "?E", "AEINRST"])
+        plays = topped(words, lexicon, game, rack, text, number, before)
+        named = ["--before", str(before), "--number", str(number)]
+        self.compare(["top", *by, *named, self.words, self.lexicon, self.game, *([rack] if rack else [])], plays, status_of(plays), name="top --before")
 
     def board(self, ruled, game, text):
         """`board`, after the last event and before a line."""

@@ -9,7 +9,7 @@ Blocks of a page are run from its top to its end in one copy of examples/, which
 - Commands within the text have to end with status 0, where they name files and none in capitals; else they have to be known.
 
 A block whose first line begins with `# not run:` is left out, and so is one that needs a program that is not installed. The toolchain's `rt run`
-is taken for the program itself. A page has no command of the program in a block of another kind, except its usage, with names in capitals.
+is taken for the program itself. The picture of README.md is drawn again (`picture.py`). A page has no command of the program in a block of another kind, except its usage, with names in capitals.
 """
 import os
 import re
@@ -18,6 +18,8 @@ import subprocess
 import sys
 import tempfile
 from pathlib import Path
+
+from picture import PICTURE, picture_of
 
 ROOT = Path(__file__).resolve().parent.parent
 PAGES = [ROOT / "README.md", *sorted((ROOT / "docs").glob("*.md"))]
@@ -168,6 +170,8 @@ def main():
     for page in PAGES:
         with tempfile.TemporaryDirectory() as folder:
             pages.take_page(page, folder)
+    if picture_of(pages.program) != PICTURE.read_text():
+        pages.faults.append(f"{PICTURE.name} is not the board of the example game: picture.py PROGRAM write")
     for fault in pages.faults:
         print(fault)
     counted = ", ".join(f"{count} {what}" for what, count in pages.counts.items())

@@ -123,6 +123,8 @@ TEXTS = {
     "withdrawn": ON_WORD + ">B: AT -- -9 0\n>A: AT 9G AT +9 25\n",
     "with-blank": ">A: ABCDEF? - +0 0\n",
     "no-play": ">A: AEIRSUV - +0 0\n>B: AEINRST - +0 0\n",
+    "shown-rack": ">A: AT 8H AT +4 4\n>B: - +0 0\n",
+    "wrong-score": ">A: AT 8H AT +5 5\n>B: AT - +0 0\n",
     "third": ">A: - +0 0\n>B: - +0 0\n>C: - +0 0\n",
     "number": ">A: 8E WORD +x 16\n",
     "long-game": "\n" * 1_048_577,
@@ -556,6 +558,35 @@ def topped(run):
     run.row(["top", "at", "at.gad", "folder", "A"], 4, error="cannot read folder")
 
 
+def topped_before(run):
+    """`top` with a number and before a line; the rack is that of the line where none is given."""
+    four = "8G AT 4\n8H AT 4\nH7 AT 4\nH8 AT 4\n"
+    by_at = lambda words, status, out: run.row(["top", *words[:-1], "at", "at.gad", *words[-1].split()], status, out)
+    by_at(["--number", "3", "nothing AT?"], 0, "8G AT 4\n8H AT 4\nH7 AT 4\n")
+    twelve = four + "8G At 2\n8G aT 2\n8H At 2\n8H aT 2\nH7 At 2\nH7 aT 2\nH8 At 2\nH8 aT 2\n"
+    for number in ("12", "13", "100"):
+        by_at(["--number", number, "nothing AT?"], 0, twelve)
+    by_at(["--number", "10", "nothing ?A"], 0, "8G At 2\n8H At 2\nH7 At 2\nH8 At 2\n")
+    by_at(["--before", "1", "shown-rack"], 0, four)
+    by_at(["--before", "1", "--number", "2", "shown-rack"], 0, "8G AT 4\n8H AT 4\n")
+    by_at(["--before", "1", "shown-rack Q"], 0, "none\n")
+    by_at(["--before", "0", "shown-rack"], 0, four)
+    # The event on the line is not judged, those before it are.
+    by_at(["--before", "1", "wrong-score"], 0, four)
+    by_at(["--before", "2", "wrong-score"], 1, "illegal line 1: WrongScore 4\n")
+    by_at(["--before", "2", "shown-rack"], 3, "bad rack\n")
+    by_at(["--before", "3", "shown-rack"], 3, "bad line: no event is on it or after it\n")
+    by_at(["--before", "3", "shown-rack A1"], 3, "bad rack\n")
+    by_at(["--before", "1", "number A"], 3, "bad record line 1: Number\n")
+    by_at(["--rules", "english.rules", "--before", "1", "shown-rack"], 0, four)
+    by_at(["--rules", "english.rules", "--before", "2", "wrong-score"], 1, "illegal line 1: WrongScore 4\n")
+    run.row(["top", "--before", "1", "at", "at.gad", "-"], 0, four, stdin=">A: AT 8H AT +4 4\n")
+    for number in ("0", "101", "-1", "ten", ""):
+        run.row(["top", "--number", number, "at", "at.gad", "nothing", "A"], 64, error=None)
+    run.row(["top", "--number", "3", "at", "at.gad", "nothing"], 64, error=None)
+    run.row(["top", "--before", "at", "at.gad", "nothing", "A"], 64, error=None)
+
+
 def tidied(run):
     """`tidy`, and names of files."""
     normal = "#player1 A Ann Lee\n>A: AADEORW 8E WORD +16 16\n"
@@ -635,6 +666,7 @@ def fielded(run):
     Path(run.folder, "fields").write_text("AT 4\n")
     run.row(["check", "--first-field", "fields", "it-at.gad"], 3, "bad lexicon: Extra I\n")
     run.row(["top", "--first-field", "fields", "at.gad", "nothing", "?A"], 0, "8G At 2\n8H At 2\nH7 At 2\nH8 At 2\n")
+    run.row(["top", "--first-field", "--before", "1", "fields", "at.gad", "shown-rack"], 0, "8G AT 4\n8H AT 4\nH7 AT 4\nH8 AT 4\n")
     # The text is longer than a list may be, and its first fields are not.
     Path(run.folder, "fields").write_text("AT" + " " * 22 + "\n" + "#" * 16_800_000)
     run.row(["check", "--first-field", "fields", "at.gad"], 0, "ok 1\n")
@@ -744,6 +776,17 @@ def boarded(run):
     run.row(["board", "folder"], 4, error="cannot read folder")
     for words in (["--before", "line"], ["--before", "-1", "line"], ["--before", "x", "line"], ["--before", "4294967296", "line"], ["--settle", "line"]):
         run.row(["board", *words], 64, error=None)
+
+
+def widest(run):
+    """No line of a board is longer than 80 bytes, however long the nicknames and the numbers are."""
+    nicks = "N" * 200, "\u00e9" * 200
+    passes = "".join(f">{nicks[k % 2]}: AEINRST - -999999 -999999\n" for k in range(998))
+    Path(run.folder, "wide").write_text(passes + f">{nicks[0]}: AEINRST 1H ABCDEFGHI -999999 -999999\n")
+    for named in ([], ["--before", "1"], ["--before", "999"]):
+        ran = subprocess.run([run.program, "board", *named, "wide"], cwd=run.folder, capture_output=True, check=False)
+        lines = ran.stdout.split(b"\n")
+        run.expect("lines of 80 bytes", ran.returncode == 0 and len(lines) > 20 and max(map(len, lines)) <= 80)
 
 
 def archived(run):
@@ -1027,7 +1070,7 @@ def main():
     with tempfile.TemporaryDirectory() as folder:
         files(folder)
         run = Runner(os.path.abspath(sys.argv[1]), folder)
-        for part in (judged, settled, built_and_checked, converted, topped, ruled, tidied, boarded, from_standard_input, fielded, archived, audited, explained, broken, helped, misused):
+        for part in (judged, settled, built_and_checked, converted, topped, topped_before, ruled, tidied, boarded, widest, from_standard_input, fielded, archived, audited, explained, broken, helped, misused):
             part(run)
         if sys.argv[2:] == ["large"]:
             converted_large(run)

@@ -1,9 +1,6 @@
 -- What is found of the game of a record, without a report.
-use Rattle.std.proofs.Common.{◌≡◌, ℕ, ℤ, ◌+◌, ◌<◌, Bool, List, [], ◌∷◌, ◌++◌, length, take, Option, Some, None, refl, sym, subst}
-use Rattle.std.proofs.lemmas.List.{take_more}
+use Rattle.std.proofs.Common.{◌≡◌, ℕ, ◌+◌, Bool, List, sym, subst}
 use Rattle.ref_tiles.specs.declared.rulebook.Rules.{Rules}
-use Rattle.gcg_read.specs.declared.events.Event.{Event}
-use Rattle.gcg_read.specs.declared.events.Seat.{Seat}
 use Rattle.gcg_read.specs.declared.records.Record.{Record}
 use Rattle.game_turns.specs.declared.passed.Passed.{Passed}
 use Rattle.game_turns.specs.declared.faults.RuleFault.{RuleFault}

@@ -30,20 +30,20 @@ topped_refused rules words rack r line why v report first told = inr (record { l
 
 -- ---- a rack that is none
 
-pub no_rack : (meant given : Option (List ℕ)) → given ≡ meant → ((rack : List ℕ) → given ≡ Some rack → ⊥) → meant ≡ None
+pub no_rack : {A : Type 0} (meant given : Option A) → given ≡ meant → ((rack : A) → given ≡ Some rack → ⊥) → meant ≡ None
 no_rack meant None same none = sym same
 no_rack meant (Some rack) same none = absurd (none rack refl)
 
 -- it is told, and no input is touched
-none_decided : (sources : List Source) (IsAnswer : List ℕ → List (List ℕ) → Verdict → List ℕ → Type 0) (rack : Option (List ℕ)) (decided : Result Decision RunFault)
+none_decided : {A : Type 0} (sources : List Source) (IsAnswer : A → List (List ℕ) → Verdict → List ℕ → Type 0) (rack : Option A) (decided : Result Decision RunFault)
     → rack ≡ None → AreUntouched sources → IfOk decided (λ d. IsTold verdict.BadRack bad_rack_line d.verdict d.report.items) → IfErr decided (λ fault. fault ≡ run.NoMemory)
     → Decides sources (ByRack IsAnswer rack) decided
-none_decided sources IsAnswer rack (Ok d) none still told memory =
-    decided_unread sources (ByRack IsAnswer rack) d still (λ texts. subst (λ (o : Option (List ℕ)). ByRack IsAnswer o texts d.verdict d.report.items) (sym none) told)
-none_decided sources IsAnswer rack (Err fault) none still told memory =
+none_decided {A = A} sources IsAnswer rack (Ok d) none still told memory =
+    decided_unread sources (ByRack IsAnswer rack) d still (λ texts. subst (λ (o : Option A). ByRack IsAnswer o texts d.verdict d.report.items) (sym none) told)
+none_decided {A = A} sources IsAnswer rack (Err fault) none still told memory =
     subst (λ (f : RunFault). Decides sources (ByRack IsAnswer rack) (Err f)) (sym memory) (stopped_unread sources (ByRack IsAnswer rack) still)
 
-pub runs_without : (sources : List Source) (IsAnswer : List ℕ → List (List ℕ) → Verdict → List ℕ → Type 0) (rack : Option (List ℕ)) (old new : Device) (decided : Result Decision RunFault)
+pub runs_without : {A : Type 0} (sources : List Source) (IsAnswer : A → List (List ℕ) → Verdict → List ℕ → Type 0) (rack : Option A) (old new : Device) (decided : Result Decision RunFault)
     (result : Result Verdict RunFault) → rack ≡ None → AreUntouched sources
     → IfOk decided (λ d. IsTold verdict.BadRack bad_rack_line d.verdict d.report.items) → IfErr decided (λ fault. fault ≡ run.NoMemory)
     → IsSent decided old new result → IsRun sources (ByRack IsAnswer rack) old new result
@@ -52,8 +52,16 @@ runs_without sources IsAnswer rack old new decided result none still told memory
 
 -- ---- one that is some
 
-pub runs_by_rack : (sources : List Source) (IsAnswer : List ℕ → List (List ℕ) → Verdict → List ℕ → Type 0) (rack : Option (List ℕ)) (tiles : List ℕ) (old new : Device) (decided : Result Decision RunFault)
+pub runs_by_rack : {A : Type 0} (sources : List Source) (IsAnswer : A → List (List ℕ) → Verdict → List ℕ → Type 0) (rack : Option A) (tiles : A) (old new : Device) (decided : Result Decision RunFault)
     (result : Result Verdict RunFault) → rack ≡ Some tiles → Decides sources (IsAnswer tiles) decided → IsSent decided old new result → IsRun sources (ByRack IsAnswer rack) old new result
-runs_by_rack sources IsAnswer rack tiles old new decided result some decides sent =
-    subst (λ (o : Option (List ℕ)). IsRun sources (ByRack IsAnswer o) old new result) (sym some)
+runs_by_rack {A = A} sources IsAnswer rack tiles old new decided result some decides sent =
+    subst (λ (o : Option A). IsRun sources (ByRack IsAnswer o) old new result) (sym some)
     (runs sources (IsAnswer tiles) old new decided result decides sent)
+
+-- the same by a question that was made of a number and a line
+pub runs_as_asked : {A : Type 0} (sources : List Source) (IsAnswer : ℕ → Option ℕ → A → List (List ℕ) → Verdict → List ℕ → Type 0) (number own_number : ℕ) (before own_before : Option ℕ) (rack : Option A) (tiles : A)
+    (old new : Device) (decided : Result Decision RunFault) (result : Result Verdict RunFault) → own_number ≡ number → own_before ≡ before → rack ≡ Some tiles
+    → Decides sources (IsAnswer own_number own_before tiles) decided → IsSent decided old new result → IsRun sources (ByRack (IsAnswer number before) rack) old new result
+runs_as_asked sources IsAnswer number own_number before own_before rack tiles old new decided result same_number same_before some decides sent =
+    runs_by_rack sources (IsAnswer number before) rack tiles old new decided result some
+    (subst (λ (b : Option ℕ). Decides sources (IsAnswer number b tiles) decided) same_before (subst (λ (n : ℕ). Decides sources (IsAnswer n own_before tiles) decided) same_number decides)) sent

@@ -11,6 +11,7 @@ pub mod Judging
 pub mod Topping
 pub mod Tidying
 pub mod Boards
+pub mod TopBefore
 pub mod Checking
 pub mod Building
 pub mod Converting

@@ -1,5 +1,5 @@
 -- The answers on a record are not that an input is bad.
-use Rattle.std.proofs.Common.{◌≡◌, ◌⊎◌, ℕ, Bool, List, sym, subst, ⊎_elim}
+use Rattle.std.proofs.Common.{◌≡◌, ◌⊎◌, ℕ, Bool, List, Option, Some, None, slice_get, sym, subst, ⊎_elim}
 use Rattle.ref_tiles.specs.declared.rulebook.Rules.{Rules}
 use Rattle.gcg_read.specs.declared.records.Record.{Record}
 use Rattle.game_turns.specs.Places.{is_finished}
@@ -12,6 +12,8 @@ use Rattle.engine.specs.declared.verdicts.Verdict.TheVariants as verdict
 use Rattle.engine.specs.Judging.{IsLegal, IsRefused, IsPastBound, IsLeftOpen, IsToldBound, IsJudged}
 use Rattle.engine.specs.Settling.{IsSettledLegal, IsUndealt, IsStillOpen, IsSettled}
 use Rattle.engine.specs.Telling.{IsOwn}
+use Rattle.engine.specs.Boards.{place_asked}
+use Rattle.engine.specs.TopBefore.{rack_asked, AreToldBefore, IsToldRefusal, ByRackAsked, ByPlaceAsked, IsToppedBefore}
 use Rattle.engine.specs.Topping.{AreTold, IsToppedOn}
 
 pub own_as : (v what : Verdict) → v ≡ what → IsOwn what → IsOwn v
@@ -57,6 +59,27 @@ topped_own rules words rack r v report is =
     (λ (done : AreTold rules words rack r v report). own_as v verdict.Done done.verdict_is done_own)
     (λ (refused : IsRefused rules words r v report). refused_own rules words r v report refused)
     is
+
+none_own : IsOwn verdict.BadRack
+none_own = record { rules = λ bad. cc; words = λ bad. cc; lexicon = λ bad. cc; game = λ bad. cc }
+
+nowhere_own : IsOwn verdict.BadLine
+nowhere_own = record { rules = λ bad. cc; words = λ bad. cc; lexicon = λ bad. cc; game = λ bad. cc }
+
+by_rack_own : (number : ℕ) (rules : Rules) (words : List (List ℕ)) (r : Record) (place : ℕ) (rack : Option (List ℕ)) (v : Verdict) (report : List ℕ) → ByRackAsked number rules words r place rack v report → IsOwn v
+by_rack_own number rules words r place None v report is = own_as v verdict.BadRack is.verdict_is none_own
+by_rack_own number rules words r place (Some rack) v report is =
+    ⊎_elim
+    (λ (done : AreToldBefore number rules words rack r place v report). own_as v verdict.Done done.verdict_is done_own)
+    (λ (refused : IsToldRefusal rules words r place v report). own_as v (verdict.Illegal refused.line (game.Rule refused.why)) refused.told.verdict_is (illegal_own refused.line (game.Rule refused.why)))
+    is
+
+by_place_own : (number : ℕ) (rules : Rules) (words : List (List ℕ)) (r : Record) (given : Option (List ℕ)) (place : Option ℕ) (v : Verdict) (report : List ℕ) → ByPlaceAsked number rules words r given place v report → IsOwn v
+by_place_own number rules words r given None v report is = own_as v verdict.BadLine is.verdict_is nowhere_own
+by_place_own number rules words r given (Some place) v report is = by_rack_own number rules words r place (rack_asked given (slice_get r.events place)) v report is
+
+pub topped_before_own : (number : ℕ) (before : Option ℕ) (rules : Rules) (words : List (List ℕ)) (given : Option (List ℕ)) (r : Record) (v : Verdict) (report : List ℕ) → IsToppedBefore number before rules words given r v report → IsOwn v
+topped_before_own number before rules words given r v report is = by_place_own number rules words r given (place_asked r.events before) v report is
 
 pub settled_own : (rules : Rules) (words : List (List ℕ)) (r : Record) (v : Verdict) (report : List ℕ) → IsSettled rules words r v report → IsOwn v
 settled_own rules words r v report is =

@@ -28,7 +28,7 @@ abbrev pub IsToppedBy : Rules → (rack : List ℕ) → (texts : List (List ℕ)
 IsToppedBy rules rack = ReadsList (λ words. ReadsLexicon words (ReadsRecord (λ r. ReadsNoMore (IsToppedOn rules words rack r))))
 
 -- what is answered by a rack, where there is one; else that there is none
-abbrev pub ByRack : ((rack : List ℕ) → (texts : List (List ℕ)) → Verdict → List ℕ → Type 0) → (rack : Option (List ℕ)) → (texts : List (List ℕ)) → Verdict → List ℕ → Type 0
+abbrev pub ByRack : {A : Type 0} → ((rack : A) → (texts : List (List ℕ)) → Verdict → List ℕ → Type 0) → (rack : Option A) → (texts : List (List ℕ)) → Verdict → List ℕ → Type 0
 ByRack IsAnswer None texts v report = IsTold verdict.BadRack bad_rack_line v report
 ByRack IsAnswer (Some rack) texts v report = IsAnswer rack texts v report
 

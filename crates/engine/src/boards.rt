@@ -22,7 +22,7 @@ use ref_tiles::Rules;
 use std::alloc::{AllocError, Global};
 
 /// The verdict that no event stands on the line or behind it.
-fn bad_line(alloc: Global) -> Result<Decision, AllocError>
+pub(crate) fn bad_line(alloc: Global) -> Result<Decision, AllocError>
     ensures { IfOk result (λ d. IsTold verdict.BadLine reports.bad_line_line d.verdict d.report.items) }
 {
     let report = bad_line_line(alloc)?;
@@ -33,7 +33,7 @@ fn bad_line(alloc: Global) -> Result<Decision, AllocError>
 }
 
 /// The place that is asked for: that of a line, or behind the last event.
-fn place_asked(events: &[Event], before: Option<u32>) -> Option<usize>
+pub(crate) fn place_asked(events: &[Event], before: Option<u32>) -> Option<usize>
     ensures place { result ≡ place_asked events.now before }
     ensures within { IfSome result (λ place. place ≤ length events.now) }
 {

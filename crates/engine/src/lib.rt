@@ -1,7 +1,7 @@
 //! The engine of the referee: it reads its inputs, judges the game by the rules, and writes the report.
 //!
-//! [`run`], [`run_build`], [`run_check`], [`run_convert`], [`run_top`], [`run_tidy`] and [`run_board`] are the calls that the program makes, and
-//! [`run_ruled`], [`run_top_ruled`] and [`run_board_ruled`] where it is given a rules text; [`run_settled`] and [`run_settled_ruled`] search for a deal. The contract of [`run`] is the theorem of the whole, from the
+//! [`run`], [`run_build`], [`run_check`], [`run_convert`], [`run_top`], [`run_top_before`], [`run_tidy`] and [`run_board`] are the calls that the
+//! program makes, and [`run_ruled`], [`run_top_ruled`], [`run_top_before_ruled`] and [`run_board_ruled`] where it is given a rules text; [`run_settled`] and [`run_settled_ruled`] search for a deal. The contract of [`run`] is the theorem of the whole, from the
 //! bytes of the inputs to the bytes of the output.
 //!
 //! They are made of stages, which other calls can be made of too. [`read_list`], [`read_rules`] and [`read_record`] read an input and
@@ -33,9 +33,11 @@ mod rules_texts;
 mod running;
 mod settling;
 mod tidying;
+mod top_before;
 mod topping;
 mod totals;
 mod transfers;
+mod turn_plays;
 mod unlisted;
 mod verdicts;
 mod words;
@@ -66,8 +68,10 @@ pub use rules_texts::{read_rules, rules_from};
 pub use running::{run, run_ruled};
 pub use settling::{Settling, run_settled, run_settled_ruled};
 pub use tidying::run_tidy;
+pub use top_before::{run_top_before, run_top_before_ruled};
 pub use topping::{run_top, run_top_ruled};
 pub use totals::last_total;
 pub use transfers::finish;
+pub use turn_plays::TurnPlays;
 pub use verdicts::{GameFault, Verdict};
 pub use words::{list_from, read_list};

@@ -23,7 +23,7 @@ use ref_tiles::Rules;
 use std::alloc::{AllocError, Global};
 
 /// The verdict that a rack is none.
-fn bad_rack(alloc: Global) -> Result<Decision, AllocError>
+pub(crate) fn bad_rack(alloc: Global) -> Result<Decision, AllocError>
     ensures { IfOk result (λ d. IsTold verdict.BadRack reports.bad_rack_line d.verdict d.report.items) }
 {
     let report = bad_rack_line(alloc)?;
@@ -34,7 +34,7 @@ fn bad_rack(alloc: Global) -> Result<Decision, AllocError>
 }
 
 /// The same as what is decided of a call.
-fn decide_bad_rack(alloc: Global) -> Result<Decision, RunFault>
+pub(crate) fn decide_bad_rack(alloc: Global) -> Result<Decision, RunFault>
     ensures told { IfOk result (λ d. IsTold verdict.BadRack reports.bad_rack_line d.verdict d.report.items) }
     ensures memory { IfErr result (λ fault. fault ≡ NoMemory) }
 {

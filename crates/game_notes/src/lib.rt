@@ -11,4 +11,4 @@ pub use annotating::annotate;
 pub use crossing::cross_sets;
 pub use following::Follow;
 pub use searching::best_plays;
-pub use tops::{MANY, top};
+pub use tops::{MANY, top, top_many};

@@ -1,5 +1,6 @@
 pub mod ReportLines
 pub mod Examples
 pub mod TopLines
+pub mod Fronts
 pub mod BoardSteps
 pub mod BesideLaws

@@ -10,6 +10,7 @@ use Rattle.ref_play.specs.Notations.{notation_of}
 use Rattle.ref_play.specs.Best.{Given}
 use Rattle.gcg_read.specs.declared.events.Event.{Event}
 use Rattle.game_turns.specs.Tallies.{tally_at}
+use Rattle.game_notes.specs.Keeping.{AreFirstPlays}
 use Rattle.game_notes.specs.Tops.{AreTop}
 use Rattle.game_report.specs.BestPlays.{notation_text}
 
@@ -29,6 +30,10 @@ AreLegal board plays = All (λ (scored : Play × ℤ). IsLegal board scored.0.ti
 -- the board after the last event of a record; a play there stands
 abbrev pub board_after : Rules → List Event → List (Option Tile)
 board_after rules events = (tally_at rules events (length events)).board
+
+-- the text tells the best so many candidates by a rack on a board
+abbrev pub TellsFirst : ℕ → Rules → (list : List (List ℕ)) → (board : List (Option Tile)) → (rack : List ℕ) → (text : List ℕ) → Type 0
+TellsFirst number rules list board rack text = (plays : List Given) × AreFirstPlays number rules list board rack plays × (text ≡ top_text board plays)
 
 -- the text tells the ten best candidates by a rack on a board
 abbrev pub TellsTop : Rules → (list : List (List ℕ)) → (board : List (Option Tile)) → (rack : List ℕ) → (text : List ℕ) → Type 0

@@ -8,4 +8,4 @@ mod replaying;
 mod top_plays;
 
 pub use event_lines::push_event_lines;
-pub use top_plays::top_report;
+pub use top_plays::{MOST, best_lines, top_report};

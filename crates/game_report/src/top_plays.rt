@@ -1,20 +1,21 @@
 //! The lines of the best plays on the board after a record.
-ghost use Rattle.std.specs.Prelude.{◌≡◌, ◌++◌, IfOk, OnOk, map};
+ghost use Rattle.std.specs.Prelude.{◌≡◌, ◌≤◌, ◌++◌, IfOk, OnOk, map, take};
 ghost use Rattle.ref_play.specs.Legality.{IsLegal};
 ghost use Rattle.gen_sinks.specs.Sinks.{seen, seen_pair};
 ghost use Rattle.game_turns.specs.Passing.{rules_in, record_in};
 ghost use Rattle.game_notes.specs.Following.{board_of, Follows};
-ghost use Rattle.game_report.specs.TopPlays.{play_line, top_text, AreLegal, board_after, TellsTop};
+ghost use Rattle.game_report.specs.TopPlays.{play_line, top_text, AreLegal, board_after, TellsFirst, TellsTop};
 ghost use Rattle.lex_check.specs.Pairs.{list_in};
 
 use crate::best_plays::push_scored;
 use crate::replaying::follow_event;
-use game_notes::Follow;
+use game_notes::{Follow, top_many};
 use game_turns::{Machine, Passed};
+use gen_sinks::Top;
 use lex_check::Checked;
 use ref_board::Board;
 use ref_play::Play;
-use ref_tiles::Counts;
+use ref_tiles::{Counts, Rules};
 use std::alloc::{AllocError, Global};
 
 /// The board after the last event of a record that passed, with its cross-sets. A play that is the last event stands.
@@ -80,4 +81,57 @@ pub fn top_report(
     let follow = follow_all(passed, pair);
     let plays = follow.top(passed.rules(), pair, rack);
     top_lines(alloc, follow.board(), plays.items())
+}
+
+/// How many plays [`best_lines`] gives at the most.
+pub const MOST: usize = 100;
+
+/// Up to so many plays are found with room for no more, since a search that keeps few plays leaves out more.
+const FEW: usize = 10;
+
+/// The first so many of some plays.
+fn first_of(plays: &[(Play, i32)], number: usize) -> &[(Play, i32)]
+    ensures { result.now ≡ take number plays.now }
+{
+    if plays.len() > number {
+        &plays[..number]
+    } else {
+        plays
+    }
+}
+
+/// The lines of the first so many of some plays.
+fn front_lines(
+    alloc: Global,
+    board: &Board,
+    plays: &[(Play, i32)],
+    number: usize,
+) -> Result<Vec<u8>, AllocError>
+    requires { AreLegal board.now plays.now }
+    ensures { IfOk result (λ text. text.items ≡ top_text board.now (take number (map seen_pair plays.now))) }
+{
+    top_lines(alloc, board, first_of(plays, number))
+}
+
+/// The best so many plays by a rack on a board, by some rules and by the words of a pair, one line `NOTATION SCORE` for each, as
+/// [`top_report`] has ten of them.
+///
+/// It fails only where memory was refused.
+pub fn best_lines(
+    alloc: Global,
+    rules: &Rules,
+    pair: &Checked<'_>,
+    board: &Board,
+    rack: &Counts,
+    number: usize,
+) -> Result<Vec<u8>, AllocError>
+    requires { number ≤ 100 }
+    ensures { IfOk result (λ text. TellsFirst number rules.now (list_in pair.now) board.now rack.now text.items) }
+{
+    if number <= FEW {
+        let few: Top<FEW> = top_many(rules, pair, board, rack);
+        return front_lines(alloc, board, few.items(), number);
+    }
+    let many: Top<MOST> = top_many(rules, pair, board, rack);
+    front_lines(alloc, board, many.items(), number)
 }

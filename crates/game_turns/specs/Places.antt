@@ -32,6 +32,11 @@ pub record IsFirstRefusal (rules : Rules) (list : List (List ℕ)) (events : Lis
   pub fails : fault_at rules list events place ≡ Some why
   pub earlier : AreAllowedTo rules list events place
 
+-- the first event that is not allowed, where it stands before a place
+pub record IsRefusedBefore (rules : Rules) (list : List (List ℕ)) (events : List Event) (end : ℕ) (line : ℕ) (why : RuleFault) : Type 0 where
+  pub first : IsFirstRefusal rules list events line why
+  pub before : first.place < end
+
 -- whether the game is complete behind the last event
 abbrev pub is_finished : Rules → List Event → Bool
 is_finished rules events = (tally_at rules events (length events)).complete

@@ -1,8 +1,8 @@
 //! Going through the events of a record, to its end or to the first refusal.
-ghost use Rattle.std.specs.Prelude.{◌≡◌, ◌↔◌, ◌+◌, ◌<◌, length, slice_get, IsOk, IfOk, OnOk, IfErr};
+ghost use Rattle.std.specs.Prelude.{◌≡◌, ◌↔◌, ◌+◌, ◌<◌, ◌≤◌, length, slice_get, IsOk, IfOk, OnOk, IfErr};
 ghost use Rattle.std.specs.Option.{option_copied};
 ghost use Rattle.game_turns.specs.Tallies.{tally_at};
-ghost use Rattle.game_turns.specs.Places.{AreAllowed, IsFirstRefusal};
+ghost use Rattle.game_turns.specs.Places.{AreAllowed, AreAllowedTo, IsFirstRefusal, IsRefusedBefore};
 ghost use Rattle.game_turns.specs.Machines.{state_of};
 ghost use Rattle.game_turns.specs.Passing.{rules_in, record_in, list_in};
 
@@ -12,6 +12,7 @@ use crate::machine::Machine;
 use crate::passed::Passed;
 use gcg_read::{Event, Record};
 use lex_list::WordList;
+use ref_board::Board;
 use ref_tiles::Rules;
 
 /// The first event that the rules do not allow.
@@ -44,21 +45,49 @@ pub fn event_behind(events: &[Event], place: usize) -> Option<&Event>
     events.get(place + 1)
 }
 
-/// The machine behind all of the events, or the first event that the rules do not allow.
-fn play_events(rules: &Rules, events: &[Event], list: &WordList) -> Result<Machine, Refusal>
-    ensures state { IfOk result (λ machine.
-        state_of machine ≡ tally_at rules.now events.now (length events.now)) }
-    ensures allowed { OnOk result (AreAllowed rules.now list.now events.now) }
-    ensures refused { IfErr result (λ r. IsFirstRefusal rules.now list.now events.now r.line r.fault) }
+/// The machine behind the events before a place, or the first of them that the rules do not allow.
+fn play_events(
+    rules: &Rules,
+    events: &[Event],
+    list: &WordList,
+    end: usize,
+) -> Result<Machine, Refusal>
+    requires { end ≤ length events.now }
+    ensures state { IfOk result (λ machine. state_of machine ≡ tally_at rules.now events.now end) }
+    ensures allowed { OnOk result (AreAllowedTo rules.now list.now events.now end) }
+    ensures refused { IfErr result (λ r. IsRefusedBefore rules.now list.now events.now end r.line r.fault) }
 {
     law_of_tallies();
     let mut machine = Machine::new(rules);
-    for (place, event) in events.iter().enumerate() {
+    for place in 0..end {
+        let event = &events[place];
         if let Err(fault) = machine.step(event, event_behind(events, place), list) {
             return Err(Refusal::of(event, fault));
         }
     }
     Ok(machine)
+}
+
+/// The board before a place of a record, counted from 0, or behind its last event: the tiles of the plays that stand, and of
+/// the play before the place where it awaits its withdrawal.
+///
+/// # Errors
+///
+/// The first event before the place that the rules do not allow, and the first check that fails there. Nothing is asked of
+/// the events at the place and behind it.
+pub fn board_before(
+    rules: &Rules,
+    events: &[Event],
+    list: &WordList,
+    place: usize,
+) -> Result<Board, Refusal>
+    requires { place ≤ length events.now }
+    ensures board { IfOk result (λ board. board ≡ (tally_at rules.now events.now place).board) }
+    ensures allowed { OnOk result (AreAllowedTo rules.now list.now events.now place) }
+    ensures refused { IfErr result (λ r. IsRefusedBefore rules.now list.now events.now place r.line r.fault) }
+{
+    let machine = play_events(rules, events, list, place)?;
+    Ok(*machine.board())
 }
 
 /// Judges the events of a record in their order, by rules and a word list.
@@ -76,7 +105,8 @@ pub fn play_through<'a>(
     ensures list { IfOk result (λ passed. list_in passed ≡ list.now) }
     ensures refused { IfErr result (λ r. IsFirstRefusal rules.now list.now record.now.events r.line r.fault) }
 {
-    let machine = play_events(rules, record.events.as_slice(), list)?;
+    let events = record.events.as_slice();
+    let machine = play_events(rules, events, list, events.len())?;
     Ok(Passed {
         rules,
         record,

@@ -1,5 +1,5 @@
 -- A tile with none beside it along a line makes no run there, and scores nothing.
-use Rattle.std.proofs.Common.{◌≡◌, ℕ, ◌+◌, ◌-◌, ◌*◌, ◌<◌, Bool, true, false, ◌&&◌, nat_lt, List, length, sum_by, refl, sym, ap, ◌∙◌, arith, Option, Some}
+use Rattle.std.proofs.Common.{◌≡◌, ℕ, ◌+◌, ◌-◌, ◌*◌, ◌<◌, Bool, true, false, ◌&&◌, nat_lt, List, length, sum_by, refl, ap, arith, Option, Some}
 use Rattle.std.proofs.lemmas.Bool.{lt-ltb}
 use Rattle.ref_tiles.specs.declared.tiles.Tile.{Tile}
 use Rattle.ref_tiles.specs.declared.rulebook.Rules.{Rules}
@@ -10,7 +10,7 @@ use Rattle.ref_board.specs.Cells.{with_tile, occupied_on}
 use Rattle.ref_board.specs.Runs.{IsFirstBack, IsEndOn}
 use Rattle.ref_board.specs.Anchors.{follows_tile, precedes_tile}
 use Rattle.ref_play.specs.declared.runs.Run.{Run}
-use Rattle.ref_play.specs.Crosses.{cross_runs, cross_score, old_points}
+use Rattle.ref_play.specs.Crosses.{cross_score, old_points}
 use Rattle.ref_play.proofs.LineLaws.{place_below}
 use Rattle.ref_play.proofs.FormedRuns.{no_run_through}
 use Rattle.gen_cross.proofs.RunsWith.{run_with_is}

@@ -28,13 +28,13 @@ use Rattle.gen_moves.specs.BoardLines.{IsLineOf}
 use Rattle.gen_moves.specs.LineTiles.{tile_of_entry}
 use Rattle.gen_moves.specs.Laws.{TellsWords, AreLong}
 use Rattle.gen_moves.specs.declared.places.Place.{Place}
-use Rattle.gen_moves.specs.Bounds.{total, times, IsPlaceOf, one_if, free_count, rack_points, stretch_bound}
+use Rattle.gen_moves.specs.Bounds.{total, times, IsPlaceOf, one_if, free_count, rack_points, rack_ones, least, stretch_bound}
 use Rattle.gen_moves.proofs.Entering.{put_from, put_there, on_top}
 use Rattle.gen_moves.proofs.MovePlaces.{at_place, put_by, put_at, there_then, move_sound}
 use Rattle.gen_moves.proofs.Moving.{move_candidate}
 use Rattle.gen_moves.proofs.Sums as sums
-use Rattle.gen_moves.proofs.Sums.{total-first, total-mono, total-scaled, total-both, sum_put, count_put, product_put, put_within}
-use Rattle.gen_moves.proofs.Worths.{worth, worth_within}
+use Rattle.gen_moves.proofs.Sums.{total-first, total-mono, total-times, total-scaled, total-both, least-first, least-both, sum_put, count_put, product_put, put_within}
+use Rattle.gen_moves.proofs.Worths.{worth, worth_within, one, ones_within}
 
 -- a sum over a range, at another place
 range_sum : (g h : ℕ → ℕ) (b a n : ℕ) → ((k : ℕ) → k < n → g (b + k) ≤ h (a + k)) → sum_by g (range_with_len b n) ≤ total h a n
@@ -57,10 +57,19 @@ range_sum g h b a (suc n) le =
     let all = total-first h a n in
     omega arith
 
--- a point on each place, and what is above it
-one_above : (c p : ℕ) → c * p ≤ c + c * (p - 1)
+-- the points of a tile so many times: one point, where it has some, and what is above it
+one_above : (c p : ℕ) → c * p ≤ c * (p - (p - 1)) + c * (p - 1)
 one_above zero p = omega arith
 one_above (suc c) p = let rest = one_above c p in omega arith
+
+-- the same, one of these times apart
+one_first : (c p : ℕ) → c * p ≤ ((c - 1) * (p - (p - 1)) + (p - (p - 1))) + c * (p - 1)
+one_first zero p = omega arith
+one_first (suc c) p =
+    let rest = one_above c p in
+    let e : suc c - 1 ≡ c = omega arith in
+    let times = ap (λ m. m * (p - (p - 1))) e in
+    omega arith
 
 some_is : {A : Type 0} (o : Option A) → IsSome o → o ≡ None → ⊥
 some_is None h e = false≢true h
@@ -120,9 +129,12 @@ module _ (rules : Rules) (words : List (List ℕ)) (d : Dir) (board : List (Opti
   abbrev weight : ℕ → ℕ
   weight i = sums.at_place (worth rules) d line i (entry i)
 
+  abbrev single : ℕ → ℕ
+  single i = sums.at_place (one rules) d line i (entry i)
+
   -- what the square of a place adds to the word of the stretch
   point_le : (i letter : ℕ) → i < 15 → ((places i).free ≡ true → (places i).letter ≤ letter) → (o : Option Tile) → entry i ≡ o
-      → square_points rules (with_tiles board (put_by d line y)) (put_by d line y) (square_at d line i) ≤ ((places i).old + (places i).letter) + letter * sums.at_place (worth rules) d line i o
+      → square_points rules (with_tiles board (put_by d line y)) (put_by d line y) (square_at d line i) ≤ ((places i).old + (((places i).letter - 1) * sums.at_place (one rules) d line i o + sums.at_place (one rules) d line i o)) + letter * sums.at_place (worth rules) d line i o
   point_le i letter below most None e =
       let square = square_at d line i in
       let there : tile_at (with_tiles board (put_by d line y)) square ≡ tile_at board square = there_then d board line y i size low below ∙ ap (λ (o : Option Tile). on_top o (tile_at board square)) e in
@@ -152,24 +164,26 @@ module _ (rules : Rules) (words : List (List ℕ)) (d : Dir) (board : List (Opti
       ap (λ (o : Option Tile). points_on rules o * factor_on rules (put_by d line y) square) there
       ∙ ap (λ (b : Bool). points * (if b then letter_factor (premium_at rules square) else 1)) cover in
       let swap = mul_comm points (letter_factor (premium_at rules square)) in
-      let one = one_above (letter_factor (premium_at rules square)) points in
+      let single = one_first (letter_factor (premium_at rules square)) points in
+      let extra : (letter_factor (premium_at rules square) - 1) * (points - (points - 1)) ≤ ((places i).letter - 1) * (points - (points - 1)) = mul-le-mul (omega arith) (omega arith) in
       let more : letter_factor (premium_at rules square) * (points - 1) ≤ letter * (points - 1) = mul-le-mul le (omega arith) in
       omega arith
 
   letters_le : (letter : ℕ) → ((i : ℕ) → first ≤ i → i < first + len → (places i).free ≡ true → (places i).letter ≤ letter)
-      → letters_score rules (with_tiles board (put_by d line y)) (put_by d line y) (run_of d line (first, len)) ≤ total (λ i. (places i).old) first len + total (λ i. (places i).letter) first len + letter * total weight first len
+      → letters_score rules (with_tiles board (put_by d line y)) (put_by d line y) (run_of d line (first, len)) ≤ total (λ i. (places i).old) first len + (total (λ i. ((places i).letter - 1) * single i) first len + total single first len) + letter * total weight first len
   unfolding letters_score
   letters_le letter most =
       let inside = move.whole.inside in
       let each =
-      range_sum (λ k. square_points rules (with_tiles board (put_by d line y)) (put_by d line y) (along d (square_at d line first) k)) (λ i. ((places i).old + (places i).letter) + letter * weight i) 0 first len
+      range_sum (λ k. square_points rules (with_tiles board (put_by d line y)) (put_by d line y) (along d (square_at d line first) k)) (λ i. ((places i).old + (((places i).letter - 1) * single i + single i)) + letter * weight i) 0 first len
       (λ k less.
       let zero_k : 0 + k ≡ k = omega arith in
       let at : along d (square_at d line first) (0 + k) ≡ square_at d line (first + k) = ap (along d (square_at d line first)) zero_k ∙ along_at d line first k in
       let le = point_le (first + k) letter (omega arith) (most (first + k) (omega arith) (omega arith)) (entry (first + k)) refl in
-      subst (λ s. square_points rules (with_tiles board (put_by d line y)) (put_by d line y) s ≤ ((places (first + k)).old + (places (first + k)).letter) + letter * weight (first + k)) (sym at) le) in
-      let split = total-scaled (λ i. (places i).old + (places i).letter) weight letter first len in
-      let both = total-both (λ i. (places i).old) (λ i. (places i).letter) first len in
+      subst (λ s. square_points rules (with_tiles board (put_by d line y)) (put_by d line y) s ≤ ((places (first + k)).old + (((places (first + k)).letter - 1) * single (first + k) + single (first + k))) + letter * weight (first + k)) (sym at) le) in
+      let split = total-scaled (λ i. (places i).old + (((places i).letter - 1) * single i + single i)) weight letter first len in
+      let both = total-both (λ i. (places i).old) (λ i. ((places i).letter - 1) * single i + single i) first len in
+      let parts = total-both (λ i. ((places i).letter - 1) * single i) single first len in
       omega arith
 
   factor_le : (run : Run) → words_factor rules (put_by d line y) run ≤ times (λ i. (places i).word) first len
@@ -186,34 +200,64 @@ module _ (rules : Rules) (words : List (List ℕ)) (d : Dir) (board : List (Opti
       by i false one le = one
 
   crosses_le : (cross : ℕ) → ((i : ℕ) → first ≤ i → i < first + len → (places i).free ≡ true → (places i).cross ≤ cross)
-      → sum_by (λ (p : Placed). cross_score rules (other_dir d) board p.square p.tile) (put_by d line y) ≤ total (λ i. (places i).side) first len + total (λ i. (places i).cross) first len + cross * total weight first len
+      → sum_by (λ (p : Placed). cross_score rules (other_dir d) board p.square p.tile) (put_by d line y) ≤ total (λ i. (places i).side) first len + total (λ i. (places i).cross * single i) first len + cross * total weight first len
   crosses_le cross most =
       let inside = move.whole.inside in
       let score : Placed → ℕ = λ p. cross_score rules (other_dir d) board p.square p.tile in
       let is = ap (sum_by score) tiles_are ∙ sum_put score d line entry first len in
       let each =
-      total-mono (λ i. sums.at_place score d line i (entry i)) (λ i. ((places i).side + (places i).cross) + cross * weight i) first len
+      total-mono (λ i. sums.at_place score d line i (entry i)) (λ i. ((places i).side + (places i).cross * single i) + cross * weight i) first len
       (λ i from upto. by i (omega arith) (most i from upto) (entry i) refl) in
-      let split = total-scaled (λ i. (places i).side + (places i).cross) weight cross first len in
-      let both = total-both (λ i. (places i).side) (λ i. (places i).cross) first len in
+      let split = total-scaled (λ i. (places i).side + (places i).cross * single i) weight cross first len in
+      let both = total-both (λ i. (places i).side) (λ i. (places i).cross * single i) first len in
       omega arith
     where
       by : (i : ℕ) → i < 15 → ((places i).free ≡ true → (places i).cross ≤ cross) → (o : Option Tile) → entry i ≡ o
-          → sums.at_place (λ (p : Placed). cross_score rules (other_dir d) board p.square p.tile) d line i o ≤ ((places i).side + (places i).cross) + cross * sums.at_place (worth rules) d line i o
+          → sums.at_place (λ (p : Placed). cross_score rules (other_dir d) board p.square p.tile) d line i o ≤ ((places i).side + (places i).cross * sums.at_place (one rules) d line i o) + cross * sums.at_place (worth rules) d line i o
       by i below top None e = omega arith
       by i below top (Some t) e =
           let free = new_free i below t e in
           let le = (known i below).cross free t in
-          let one = one_above (places i).cross (points_of rules t.kind) in
+          let above = one_above (places i).cross (points_of rules t.kind) in
           let more : (places i).cross * (points_of rules t.kind - 1) ≤ cross * (points_of rules t.kind - 1) = mul-le-mul (top free) (omega arith) in
           omega arith
 
+  -- one on each free place at the most
+  singles_free : total single first len ≤ free_count places first len
+  singles_free =
+      let inside = move.whole.inside in
+      total-mono single (λ i. one_if (places i).free) first len (λ i from upto. by i (omega arith) (entry i) refl)
+    where
+      by : (i : ℕ) → i < 15 → (o : Option Tile) → entry i ≡ o → sums.at_place (one rules) d line i o ≤ one_if (places i).free
+      by i below None e = omega arith
+      by i below (Some t) e = let free = ap one_if (new_free i below t e) in omega arith
+
+  -- a factor of each place, counted where a tile with points lies: by the places, and by the tiles
+  spare_le : (f : ℕ → ℕ) (most ones : ℕ) → ((i : ℕ) → first ≤ i → i < first + len → (places i).free ≡ true → f i ≤ most) → total single first len ≤ ones
+      → total (λ i. f i * single i) first len ≤ least (total f first len) (most * ones)
+  spare_le f most ones below few_ones =
+      let inside = move.whole.inside in
+      let places_le = total-mono (λ i. f i * single i) f first len (λ i from upto. by_place i (entry i)) in
+      let tiles_le = total-times f single most first len (λ i from upto. by_tile i (omega arith) (below i from upto) (entry i) refl) in
+      let more : most * total single first len ≤ most * ones = mul-le-mul (omega arith) few_ones in
+      least-both (total f first len) (most * ones) (total (λ i. f i * single i) first len) places_le (omega arith)
+    where
+      by_place : (i : ℕ) (o : Option Tile) → f i * sums.at_place (one rules) d line i o ≤ f i
+      by_place i None = omega arith
+      by_place i (Some t) =
+          let one_le : f i * (points_of rules t.kind - (points_of rules t.kind - 1)) ≤ f i * 1 = mul-le-mul (omega arith) (omega arith) in
+          omega arith
+
+      by_tile : (i : ℕ) → i < 15 → ((places i).free ≡ true → f i ≤ most) → (o : Option Tile) → entry i ≡ o → f i * sums.at_place (one rules) d line i o ≤ most * sums.at_place (one rules) d line i o
+      by_tile i low top None e = omega arith
+      by_tile i low top (Some t) e = mul-le-mul (top (new_free i low t e)) (omega arith)
+
   -- the bound
-  pub score_le : (points letter cross : ℕ) → rack_points rules rack 27 ≤ points
+  pub score_le : (points ones letter cross : ℕ) → rack_points rules rack 27 ≤ points → rack_ones rules rack 27 ≤ ones
       → ((i : ℕ) → first ≤ i → i < first + len → (places i).free ≡ true → (places i).letter ≤ letter)
       → ((i : ℕ) → first ≤ i → i < first + len → (places i).free ≡ true → (places i).cross ≤ cross)
-      → score_of rules board (put_by d line y) ≤ stretch_bound rules.bonus places first len points letter cross
-  score_le points letter cross rack_is letters crosses =
+      → score_of rules board (put_by d line y) ≤ stretch_bound rules.bonus places first len points ones letter cross
+  score_le points ones letter cross rack_is ones_is letters crosses =
       let on = move_candidate words d board line cells is listed rack y first len tells long_words size low move few in
       let ps = put_by d line y in
       let run = run_of d line (first, len) in
@@ -227,9 +271,17 @@ module _ (rules : Rules) (words : List (List ℕ)) (d : Dir) (board : List (Opti
       let w = sym (ap (sum_by (worth rules)) tiles_are ∙ sum_put (worth rules) d line entry first len) in
       let within = worth_within rules rack ps on.0.candidate.from in
       omega arith in
+      let singles : total single first len ≤ least ones (free_count places first len) =
+      let w = sym (ap (sum_by (one rules)) tiles_are ∙ sum_put (one rules) d line entry first len) in
+      let within = ones_within rules rack ps on.0.candidate.from in
+      least-both ones (free_count places first len) (total single first len) (omega arith) singles_free in
+      let ones_here : total single first len ≤ ones = let le = least-first ones (free_count places first len) in omega arith in
+      let spare_letters = spare_le (λ i. (places i).letter - 1) (letter - 1) ones (λ i from upto free. let le = letters i from upto free in omega arith) ones_here in
+      let spare_crosses = spare_le (λ i. (places i).cross) cross ones crosses ones_here in
       let letters_here = letters_le letter letters in
       let letters_more : letter * total weight first len ≤ letter * points = mul-le-mul (omega arith) weights in
-      let line_le : letters_score rules (with_tiles board ps) ps run ≤ total (λ i. (places i).old) first len + total (λ i. (places i).letter) first len + letter * points = omega arith in
+      let line_le : letters_score rules (with_tiles board ps) ps run
+      ≤ total (λ i. (places i).old) first len + (least (total (λ i. (places i).letter - 1) first len) ((letter - 1) * ones) + least ones (free_count places first len)) + letter * points = omega arith in
       let run_le = mul-le-mul line_le (factor_le run) in
       let cross_here = crosses_le cross crosses in
       let cross_more : cross * total weight first len ≤ cross * points = mul-le-mul (omega arith) weights in

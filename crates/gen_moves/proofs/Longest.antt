@@ -1,11 +1,12 @@
 -- The bound of the longest stretch from a place bounds the plays of each shorter one.
-use Rattle.std.proofs.Common.{◌≡◌, ℕ, zero, suc, ◌+◌, ◌*◌, ◌^◌, ◌<◌, ◌≤◌, Bool, true, false, nat_le, sym, ap, ◌∙◌, arith, ⊎_elim, if◌then◌else◌}
+use Rattle.std.proofs.Common.{◌≡◌, ℕ, zero, suc, ◌+◌, ◌-◌, ◌*◌, ◌^◌, ◌<◌, ◌≤◌, Bool, true, false, nat_le, sym, ap, ◌∙◌, arith, ⊎_elim, if◌then◌else◌}
 use Rattle.std.proofs.lemmas.Bool.{cases_eq, cases_Bool, cases_lt, le-leb, leb-true}
 use Rattle.std.proofs.Math.Nat.{mul-le-mul, pow-le-pow_right}
 use Rattle.ref_play.proofs.ScoreLemmas.{factor_limit}
+use Rattle.gen_moves.proofs.Sums.{total-first, least-first, least-second, least-both}
 use Rattle.gen_moves.specs.declared.places.Place.{Place}
 use Rattle.gen_moves.specs.declared.stretches.Sum.{Sum}
-use Rattle.gen_moves.specs.Bounds.{total, times, one_if, free_count, IsBoundFrom, IsSum, IsSmall, IsSmallSum}
+use Rattle.gen_moves.specs.Bounds.{total, times, one_if, free_count, IsBoundFrom, IsSum, IsSmall, IsSmallSum, least}
 
 total-up : (f : ℕ → ℕ) (a m n : ℕ) → m ≤ n → total f a m ≤ total f a n
 unfolding total
@@ -32,7 +33,7 @@ times-up f a m (suc n) le some =
 -- one place more
 pub sum_more : (places : ℕ → Place) (first n at : ℕ) (s more : Sum) → at ≡ first + n → IsSum places first n s
     → more.old ≡ s.old + (places at).old → more.word ≡ s.word * (places at).word → more.side ≡ s.side + (places at).side → more.free ≡ s.free + one_if (places at).free
-    → more.letters ≡ s.letters + (places at).letter → more.crosses ≡ s.crosses + (places at).cross
+    → more.letters ≡ s.letters + ((places at).letter - 1) → more.crosses ≡ s.crosses + (places at).cross
     → s.letter ≤ more.letter → (places at).letter ≤ more.letter → s.cross ≤ more.cross → (places at).cross ≤ more.cross → IsSum places first (suc n) more
 unfolding total times
 sum_more places first n at s more is sum old word side free letters crosses letter_before letter cross_before cross =
@@ -41,7 +42,7 @@ sum_more places first n at s more is sum old word side free letters crosses lett
       word = word ∙ ap (λ m. m * (places at).word) sum.word ∙ ap (λ k. times (λ i. (places i).word) first n * (places k).word) is;
       side = side ∙ ap (λ m. m + (places at).side) sum.side ∙ ap (λ k. total (λ i. (places i).side) first n + (places k).side) is;
       free = free ∙ ap (λ m. m + one_if (places at).free) sum.free ∙ ap (λ k. free_count places first n + one_if (places k).free) is;
-      letters = letters ∙ ap (λ m. m + (places at).letter) sum.letters ∙ ap (λ k. total (λ i. (places i).letter) first n + (places k).letter) is;
+      letters = letters ∙ ap (λ m. m + ((places at).letter - 1)) sum.letters ∙ ap (λ k. total (λ i. (places i).letter - 1) first n + ((places k).letter - 1)) is;
       crosses = crosses ∙ ap (λ m. m + (places at).cross) sum.crosses ∙ ap (λ k. total (λ i. (places i).cross) first n + (places k).cross) is;
       letter = λ i low high open'.
           ⊎_elim
@@ -56,15 +57,15 @@ sum_more places first n at s more is sum old word side free letters crosses lett
     }
 
 -- the bound of a sum bounds each shorter stretch
-pub sum_bound : (bonus points : ℕ) (places : ℕ → Place) (first n : ℕ) (s : Sum) (bound : ℕ) → first + n ≤ 15 → IsSum places first n s → ((i : ℕ) → i < 15 → IsSmall (places i))
-    → bound ≡ (s.old + s.letters + s.letter * points) * s.word + (s.side + s.crosses + s.cross * points) + (if nat_le 7 s.free then bonus else 0)
-    → ((len : ℕ) → first + len ≤ 15 → free_count places first len ≤ 7 → len ≤ n) → IsBoundFrom bonus points places first bound
-sum_bound bonus points places first n s bound inside sum small is reach len in' few =
+pub sum_bound : (bonus points ones : ℕ) (places : ℕ → Place) (first n : ℕ) (s : Sum) (bound : ℕ) → first + n ≤ 15 → IsSum places first n s → ((i : ℕ) → i < 15 → IsSmall (places i))
+    → bound ≡ (s.old + (least s.letters ((s.letter - 1) * ones) + least ones s.free) + s.letter * points) * s.word + (s.side + least s.crosses (s.cross * ones) + s.cross * points) + (if nat_le 7 s.free then bonus else 0)
+    → ((len : ℕ) → first + len ≤ 15 → free_count places first len ≤ 7 → len ≤ n) → IsBoundFrom bonus points ones places first bound
+sum_bound bonus points ones places first n s bound inside sum small is reach len in' few =
     let le = reach len in' few in
     let old = total-up (λ i. (places i).old) first len n le in
     let side = total-up (λ i. (places i).side) first len n le in
     let free = total-up (λ i. one_if (places i).free) first len n le in
-    let letters = total-up (λ i. (places i).letter) first len n le in
+    let letters = total-up (λ i. (places i).letter - 1) first len n le in
     let crosses = total-up (λ i. (places i).cross) first len n le in
     let letters_is = sum.letters in
     let crosses_is = sum.crosses in
@@ -73,7 +74,17 @@ sum_bound bonus points places first n s bound inside sum small is reach len in' 
     let side_is = sum.side in
     let free_is = sum.free in
     let word_is = sum.word in
-    let main : (total (λ i. (places i).old) first len + total (λ i. (places i).letter) first len + s.letter * points) * times (λ i. (places i).word) first len ≤ (s.old + s.letters + s.letter * points) * s.word = mul-le-mul (omega arith) (omega arith) in
+    let few_up = least-both ones s.free (least ones (free_count places first len)) (least-first ones (free_count places first len)) (let le = least-second ones (free_count places first len) in omega arith) in
+    let more_up =
+    least-both s.letters ((s.letter - 1) * ones) (least (total (λ i. (places i).letter - 1) first len) ((s.letter - 1) * ones))
+    (let le = least-first (total (λ i. (places i).letter - 1) first len) ((s.letter - 1) * ones) in omega arith)
+    (least-second (total (λ i. (places i).letter - 1) first len) ((s.letter - 1) * ones)) in
+    let cross_up =
+    least-both s.crosses (s.cross * ones) (least (total (λ i. (places i).cross) first len) (s.cross * ones))
+    (let le = least-first (total (λ i. (places i).cross) first len) (s.cross * ones) in omega arith)
+    (least-second (total (λ i. (places i).cross) first len) (s.cross * ones)) in
+    let main : (total (λ i. (places i).old) first len + (least (total (λ i. (places i).letter - 1) first len) ((s.letter - 1) * ones) + least ones (free_count places first len)) + s.letter * points) * times (λ i. (places i).word) first len
+    ≤ (s.old + (least s.letters ((s.letter - 1) * ones) + least ones s.free) + s.letter * points) * s.word = mul-le-mul (omega arith) (omega arith) in
     let top = bonus_up (free_count places first len) s.free (omega arith) in
     record {
       letter = s.letter;
@@ -89,6 +100,43 @@ sum_bound bonus points places first n s bound inside sum small is reach len in' 
         (λ (many : nat_le 7 a ≡ true). let seven = leb-true 7 a many in let also = le-leb 7 b (omega arith) in rw (many, also) (omega arith))
         (λ (few : nat_le 7 a ≡ false). rw few (omega arith))
         (cases_Bool (nat_le 7 a))
+
+-- how many places of a stretch are free, from its end on
+pub count_one : (places : ℕ → Place) (at : ℕ) → free_count places at 1 ≡ one_if (places at).free
+unfolding total
+count_one places at = let e : at + 0 ≡ at = omega arith in let here = ap (λ k. one_if (places k).free) e in omega arith
+
+pub count_more : (places : ℕ → Place) (at next n : ℕ) → next ≡ at + 1 → free_count places at (n + 1) ≡ free_count places next n + one_if (places at).free
+count_more places at next n is =
+    let more : n + 1 ≡ suc n = omega arith in
+    let whole = ap (free_count places at) more in
+    let split = total-first (λ i. one_if (places i).free) at n in
+    let rest = ap (λ a. free_count places a n) is in
+    omega arith
+
+pub one_or_none : (b : Bool) → one_if b ≤ 1
+one_or_none true = omega arith
+one_or_none false = omega arith
+
+-- a part of a stretch has no more
+total-inside : (f : ℕ → ℕ) (first k n len : ℕ) → k + n ≤ len → total f (first + k) n ≤ total f first len
+total-inside f first zero n len le = let e : first + 0 ≡ first = omega arith in let up = total-up f first n len (omega arith) in rw e up
+total-inside f first (suc k) n len le =
+    let e : first + suc k ≡ first + 1 + k = omega arith in
+    let one_less : suc (len - 1) ≡ len = omega arith in
+    let inner = total-inside f (first + 1) k n (len - 1) (omega arith) in
+    let split = total-first f first (len - 1) in
+    let whole = ap (total f first) one_less in
+    let here = ap (λ a. total f a n) e in
+    omega arith
+
+-- a stretch that has so many free places and one more has too many
+pub no_reach : (places : ℕ → Place) (first at h len : ℕ) → first ≤ at → at ≤ h → h < first + len → 7 < free_count places at (h - at + 1) → free_count places first len ≤ 7 → ⊥
+no_reach places first at h len low high inside many few =
+    let e : first + (at - first) ≡ at = omega arith in
+    let part = total-inside (λ i. one_if (places i).free) first (at - first) (h - at + 1) len (omega arith) in
+    let here = ap (λ a. free_count places a (h - at + 1)) e in
+    omega arith
 
 -- where the next place would be an eighth free one
 pub reach_stop : (places : ℕ → Place) (first n at : ℕ) (s : Sum) → at ≡ first + n → IsSum places first n s → s.free ≡ 7 → (places at).free ≡ true → (len : ℕ) → first + len ≤ 15 → free_count places first len ≤ 7 → len ≤ n
@@ -111,7 +159,7 @@ pub word_most : (n word : ℕ) → n ≤ 15 → word ≤ 3 ^ n → word ≤ 1434
 word_most n word few le = let most : 3 ^ n ≤ 14348907 = pow-le-pow_right {n = 3} (omega arith) {i = n} {j = 15} few in omega arith
 
 pub small_more : (n : ℕ) (s more : Sum) (p : Place) → IsSmallSum n s → IsSmall p → more.old ≡ s.old + p.old → more.word ≡ s.word * p.word → more.side ≡ s.side + p.side
-    → more.free ≡ s.free + one_if p.free → more.letters ≡ s.letters + p.letter → more.crosses ≡ s.crosses + p.cross → more.letter ≤ 3 → more.cross ≤ 9 → IsSmallSum (n + 1) more
+    → more.free ≡ s.free + one_if p.free → more.letters ≡ s.letters + (p.letter - 1) → more.crosses ≡ s.crosses + p.cross → more.letter ≤ 3 → more.cross ≤ 9 → IsSmallSum (n + 1) more
 small_more n s more p small one old word side free letters crosses letter cross =
     let word_le = factor_limit n s.word p.word small.word one.word in
     let a = small.old in
@@ -119,20 +167,16 @@ small_more n s more p small one old word side free letters crosses letter cross 
     let c = small.side in
     let d = one.side in
     let e = small.free in
-    let f = at_most_one p.free in
+    let f = one_or_none p.free in
     let h = small.letters in
     let i = one.letter in
     let j = small.crosses in
     let k = one.cross in
     record { old = omega arith; word = omega arith; side = omega arith; free = omega arith; letters = omega arith; crosses = omega arith; letter = letter; cross = cross }
-  where
-    at_most_one : (b : Bool) → one_if b ≤ 1
-    at_most_one true = omega arith
-    at_most_one false = omega arith
 
 -- ---- a greater number bounds as well
-pub bound_up : (bonus points : ℕ) (places : ℕ → Place) (first low high : ℕ) → low ≤ high → IsBoundFrom bonus points places first low → IsBoundFrom bonus points places first high
-bound_up bonus points places first low high le h len inside few =
+pub bound_up : (bonus points ones : ℕ) (places : ℕ → Place) (first low high : ℕ) → low ≤ high → IsBoundFrom bonus points ones places first low → IsBoundFrom bonus points ones places first high
+bound_up bonus points ones places first low high le h len inside few =
     let w = h len inside few in
     let within = w.within in
     record { letter = w.letter; cross = w.cross; letters = w.letters; crosses = w.crosses; within = omega arith }

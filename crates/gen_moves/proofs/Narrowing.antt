@@ -1,6 +1,5 @@
 -- A letter that no word has right before the old tiles behind an anchor begins no move of the anchor.
-use Rattle.std.proofs.Common.{◌≡◌, ℕ, zero, suc, ◌+◌, ◌-◌, ◌<◌, ◌≤◌, Bool, true, false, ◌&&◌, nat_lt, List, [], ◌∷◌, ◌++◌, map, length, drop, get_or, slice_set, refl, sym, ap, ◌∙◌, subst, arith, append_assoc, ◌⊎◌, ⊎_elim, All, if◌then◌else◌, Option, Some, replicate}
-use Rattle.std.proofs.lemmas.Bool.{cases_Bool}
+use Rattle.std.proofs.Common.{◌≡◌, ℕ, zero, suc, ◌+◌, ◌<◌, ◌≤◌, Bool, true, false, ◌&&◌, nat_lt, List, [], ◌∷◌, ◌++◌, map, length, drop, get_or, slice_set, refl, sym, ap, ◌∙◌, subst, arith, ⊎_elim, All, if◌then◌else◌, Some, replicate}
 use Rattle.std.proofs.lemmas.List.{get_or-set_same, get_or-set_other}
 use Rattle.lex_file.specs.declared.lexicons.Step.{Step}
 use Rattle.lex_file.specs.Walking.{strings, next_strings}
@@ -9,8 +8,8 @@ use Rattle.gen_line.specs.declared.cells.Cell.TheVariants.{Old, Free}
 use Rattle.gen_line.specs.declared.cells.Open.{Open}
 use Rattle.gen_line.specs.Cells.{cell_at}
 use Rattle.gen_line.specs.Entries.{letter_of, label_of, kind_of}
-use Rattle.gen_line.specs.Model.{after, longer, may, less, one_try, tries, leaf, right, turn, left, left_of, join_range, zeros, starts_free}
-use Rattle.gen_line.specs.Moves.{Labelled, AreSplits, back, marked}
+use Rattle.gen_line.specs.Model.{after, longer, may, less, one_try, right, turn, left, left_of, zeros}
+use Rattle.gen_line.specs.Moves.{AreSplits, back, marked}
 use Rattle.gen_line.specs.Walk.{gives_one_left, gives_tries_left, gives_cell, gives_anchor, anchor_moves, one_left_of, finish_left}
 use Rattle.gen_line.proofs.Walks.{right-never, tries-none, join-same}
 use Rattle.gen_moves.specs.Narrowing.{olds, IsSpelt, IsNarrower}

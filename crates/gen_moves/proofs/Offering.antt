@@ -26,7 +26,7 @@ use Rattle.gen_moves.specs.declared.places.Place.{Place}
 use Rattle.gen_moves.specs.LineTiles.{tiles_of}
 use Rattle.gen_moves.specs.Findings.{told}
 use Rattle.gen_moves.specs.Laws.{Setting}
-use Rattle.gen_moves.specs.Bounds.{rack_points, ArePlaces, HasScores, TellsUnder, IsOffer, AreOffers}
+use Rattle.gen_moves.specs.Bounds.{rack_points, rack_ones, ArePlaces, HasScores, TellsUnder, IsOffer, AreOffers}
 use Rattle.gen_moves.proofs.MovePlaces.{put_by}
 use Rattle.gen_moves.proofs.Gathering.{tiles_is, line_labelled, wanted_few}
 use Rattle.gen_moves.proofs.Bounding.{count_is, score_le}
@@ -48,7 +48,7 @@ told_under rules board d line y bound le = by (is_wanted board d (tiles_of d lin
 
 offer : (rules : Rules) (words : List (List ℕ)) (board : List (Option Tile)) (g listed : List ℕ → Bool) (cells : Dir → ℕ → List Cell) → Setting words board g listed cells
     → (rack : List ℕ) (d : Dir) (line : ℕ) → line < 15 → (places : ℕ → Place) → ArePlaces rules d board line places → (h : ℕ) → h < 15 → (y : List ℕ)
-    → owes g (cells d line) rack h y ≡ true → IsOffer rules (rack_points rules rack 27) board d line (cells d line) places h y
+    → owes g (cells d line) rack h y ≡ true → IsOffer rules (rack_points rules rack 27) (rack_ones rules rack 27) board d line (cells d line) places h y
 offer rules words board g listed cells s rack d line low places are h below y e bound holds =
     let found = anchor_reach g listed s.splits (cells d line) rack y h (line_labelled words d board line (cells d line) (s.lines d line low)) below e in
     let first = found.0 in
@@ -59,16 +59,16 @@ offer rules words board g listed cells s rack d line low places are h below y e 
     let few_tiles = (wanted_few board d (tiles_of d line y) wanted).1 in
     let few : length (put_by d line y) ≤ 7 = subst (λ (qs : List Placed). length qs ≤ 7) (tiles_is d line y) few_tiles in
     let count = count_is rules words d board line (cells d line) (s.lines d line low) listed rack y first len s.told s.long s.size low move few places are in
-    let w = holds first reach.low reach.first_anchor len move.whole.inside (omega arith) in
+    let w = holds first reach.low reach.first_anchor len reach.high move.whole.inside (omega arith) in
     let within = w.within in
     let score = score_le rules words d board line (cells d line) (s.lines d line low) listed rack y first len s.told s.long s.size low move few places are
-    (rack_points rules rack 27) w.letter w.cross (omega arith) w.letters w.crosses in
+    (rack_points rules rack 27) (rack_ones rules rack 27) w.letter w.cross (omega arith) (omega arith) w.letters w.crosses in
     subst (λ (qs : List Placed). score_of rules board qs ≤ bound) (sym (tiles_is d line y)) (omega arith))
 
 pub all_offers : (rules : Rules) (words : List (List ℕ)) (board : List (Option Tile)) (g listed : List ℕ → Bool) (cells : Dir → ℕ → List Cell) → Setting words board g listed cells
-    → (rack : List ℕ) (d : Dir) (line : ℕ) → line < 15 → AreOffers rules (rack_points rules rack 27) board g (cells d line) rack d line
+    → (rack : List ℕ) (d : Dir) (line : ℕ) → line < 15 → AreOffers rules (rack_points rules rack 27) (rack_ones rules rack 27) board g (cells d line) rack d line
 all_offers rules words board g listed cells s rack d line low places are h below =
-    every-more (λ y. owes g (cells d line) rack h y ≡ true) (IsOffer rules (rack_points rules rack 27) board d line (cells d line) places h) (anchor_moves g (cells d line) rack h)
+    every-more (λ y. owes g (cells d line) rack h y ≡ true) (IsOffer rules (rack_points rules rack 27) (rack_ones rules rack 27) board d line (cells d line) places h) (anchor_moves g (cells d line) rack h)
     (λ y e. offer rules words board g listed cells s rack d line low places are h below y e)
     (anchor_owes g (cells d line) rack h (s.lines d line low).size below)
 
@@ -83,11 +83,17 @@ right_scores rules words board cross size right d square t on free =
     none_or true n = omega arith
     none_or false n = omega arith
 
+pub every-both : {X : Type 0} (P Q : X → Type 0) (xs : List X) → Every P xs → Every Q xs → Every (λ x. P x × Q x) xs
+every-both P Q [] all also = tt
+every-both P Q (x ∷ xs) all also = ((all.0, also.0), every-both P Q xs all.1 also.1)
+
 -- a move whose play passes no number changes nothing of a sink that needs no such play
-pub passed_over : (rules : Rules) (board : List (Option Tile)) (d : Dir) (line : ℕ) (y : List ℕ) (bound : ℕ) (add : List Given → Given → List Given) (items : List Given)
-    → ((given : Given) → given.score ≤ℤ pos bound → add items given ≡ items) → TellsUnder rules board d line y bound → add_all add items (told rules board d line y) ≡ items
-passed_over rules board d line y bound add items still under =
-    sym (all-still add items (λ (given : Given). given.score ≤ℤ pos bound) (told rules board d line y) still under)
+pub passed_over : (rules : Rules) (board : List (Option Tile)) (d : Dir) (line : ℕ) (y : List ℕ) (bound : ℕ) (W : Given → Type 0) (add : List Given → Given → List Given) (items : List Given)
+    → ((given : Given) → W given → given.score ≤ℤ pos bound → add items given ≡ items) → Every W (told rules board d line y) → TellsUnder rules board d line y bound
+    → add_all add items (told rules board d line y) ≡ items
+passed_over rules board d line y bound W add items still along under =
+    sym (all-still add items (λ (given : Given). W given × (given.score ≤ℤ pos bound)) (told rules board d line y) (λ given known. still given known.0 known.1)
+    (every-both W (λ (given : Given). given.score ≤ℤ pos bound) (told rules board d line y) along under))
 
 -- a place that is no anchor has no moves
 pub no_offers : (P : List ℕ → Type 0) (g : List ℕ → Bool) (cells : List Cell) (rack : List ℕ) (h : ℕ) → is_anchor_cell (cell_at cells h) ≡ false → Every P (anchor_moves g cells rack h)

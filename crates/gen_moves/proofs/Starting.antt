@@ -1,5 +1,5 @@
 -- What the places of a board give, and what is known of them.
-use Rattle.std.proofs.Common.{◌≡◌, ℕ, zero, suc, ◌+◌, ◌-◌, ◌*◌, ◌/◌, ◌%◌, ◌<◌, ◌≤◌, ◌≤ℤ◌, pos, Bool, true, false, List, [], ◌∷◌, ◌++◌, length, get_or, refl, sym, ap, ◌∙◌, subst, append_assoc, arith, take, drop, Option}
+use Rattle.std.proofs.Common.{◌≡◌, ℕ, zero, suc, ◌+◌, ◌*◌, ◌/◌, ◌%◌, ◌<◌, ◌≤◌, ◌≤ℤ◌, pos, Bool, true, false, List, [], ◌∷◌, ◌++◌, length, get_or, refl, sym, ap, ◌∙◌, subst, append_assoc, arith, take, drop, Option, Some, None, ℤ}
 use Rattle.std.specs.Prelude.{All, nat_lt, if◌then◌else◌}
 use Rattle.std.specs.List.{flat_map, range_with_len}
 use Rattle.std.proofs.lemmas.Bool.{lt-ltb, ltb-true}
@@ -10,6 +10,14 @@ use Rattle.ref_tiles.specs.declared.rulebook.Rules.{Rules}
 use Rattle.ref_board.specs.declared.directions.Dir.{Dir}
 use Rattle.ref_board.specs.declared.directions.Dir.TheVariants.{Across, Down}
 use Rattle.ref_play.specs.Best.{Given}
+use Rattle.ref_play.specs.Scores.{score_of}
+use Rattle.ref_play.specs.Directions.{is_wanted, direction_of}
+use Rattle.ref_play.specs.Notations.{notation_of, written_on}
+use Rattle.ref_play.specs.Placements.{with_tiles}
+use Rattle.ref_play.specs.Formed.{runs_along}
+use Rattle.ref_play.specs.declared.runs.Run.{Run}
+use Rattle.gen_sinks.specs.Sinks.{IsFor}
+use Rattle.gen_moves.specs.LineTiles.{tiles_of}
 use Rattle.gen_line.specs.declared.cells.Cell.{Cell}
 use Rattle.gen_line.specs.Model.{join_range, line_moves}
 use Rattle.gen_line.specs.Walk.{Every, Front, add_all, anchor_moves}
@@ -20,18 +28,43 @@ use Rattle.gen_moves.specs.Findings.{told, given_on, given_along, given_by}
 use Rattle.gen_moves.specs.Laws.{Setting}
 use Rattle.gen_moves.specs.Telling.{IsFit, spot_of}
 use Rattle.gen_moves.specs.Bounds.{TellsUnder}
-use Rattle.gen_moves.specs.Starts.{IsStartOf, AreStarts, IsGood, AreUnder, dir_of, bound_in, given_at, given_from}
+use Rattle.gen_moves.specs.Starts.{IsStartOf, AreStarts, IsGood, GoesAlong, AreUnder, dir_of, bound_in, given_at, given_from}
 use Rattle.gen_moves.proofs.Fitting.{moves_fit, add_all-flat_map, join_flat}
-use Rattle.gen_moves.proofs.Offering.{passed_over}
-use Rattle.gen_moves.proofs.Gathering.{line_labelled}
+use Rattle.gen_moves.proofs.Offering.{passed_over, every-both}
+use Rattle.gen_moves.proofs.Gathering.{line_labelled, wanted_few}
 
 -- ---- a start that is left out
-pub left_out : (rules : Rules) (board : List (Option Tile)) (d : Dir) (line bound : ℕ) (ys : List (List ℕ)) (add : List Given → Given → List Given) (items : List Given)
-    → ((given : Given) → given.score ≤ℤ pos bound → add items given ≡ items) → Every (λ y. TellsUnder rules board d line y bound) ys
-    → items ≡ add_all add items (flat_map (told rules board d line) ys)
-left_out rules board d line bound ys add items still under =
-    all-still (λ items y. add_all add items (told rules board d line y)) items (λ y. TellsUnder rules board d line y bound) ys
-    (λ y low. passed_over rules board d line y bound add items still low) under
+-- what a move tells is written along its line
+goes_along : (for : Option (List (Option Tile))) (board : List (Option Tile)) (d : Dir) (line : ℕ) (y : List ℕ) (score : ℤ) → IsFor for board → IsFit (spot_of board d line) y
+    → is_wanted board d (tiles_of d line y) ≡ true → GoesAlong for d (record { dir = d; tiles = tiles_of d line y; score = score })
+unfolding notation_of
+goes_along for board Across line y score is fit wanted = tt
+goes_along None board Down line y score is fit wanted = tt
+goes_along (Some own) board Down line y score is fit wanted =
+    let ps = tiles_of Down line y in
+    let few = wanted_few board Down ps wanted in
+    let runs = (fit.1.1 few.1).1.runs in
+    ap (λ (b : List (Option Tile)). (written_on ps (runs_along (direction_of b ps) (with_tiles b ps) ps)).dir) is
+    ∙ ap (λ (d : Dir). (written_on ps (runs_along d (with_tiles board ps) ps)).dir) few.0
+    ∙ ap (λ (rs : List Run). (written_on ps rs).dir) runs
+
+told_along : (for : Option (List (Option Tile))) (rules : Rules) (board : List (Option Tile)) (d : Dir) (line : ℕ) (y : List ℕ) → IsFor for board → IsFit (spot_of board d line) y
+    → Every (GoesAlong for d) (told rules board d line y)
+unfolding told
+told_along for rules board d line y is fit = by (is_wanted board d (tiles_of d line y)) refl
+  where
+    by : (b : Bool) → is_wanted board d (tiles_of d line y) ≡ b
+        → Every (GoesAlong for d) (if b then record { dir = d; tiles = tiles_of d line y; score = pos (score_of rules board (tiles_of d line y)) } ∷ [] else [])
+    by true wanted = (goes_along for board d line y (pos (score_of rules board (tiles_of d line y))) is fit wanted, tt)
+    by false wanted = tt
+
+pub left_out : (for : Option (List (Option Tile))) (rules : Rules) (board : List (Option Tile)) (d : Dir) (line bound : ℕ) (ys : List (List ℕ)) (add : List Given → Given → List Given) (items : List Given)
+    → ((given : Given) → GoesAlong for d given → given.score ≤ℤ pos bound → add items given ≡ items) → IsFor for board → Every (IsFit (spot_of board d line)) ys
+    → Every (λ y. TellsUnder rules board d line y bound) ys → items ≡ add_all add items (flat_map (told rules board d line) ys)
+left_out for rules board d line bound ys add items still is fits under =
+    all-still (λ items y. add_all add items (told rules board d line y)) items (λ y. IsFit (spot_of board d line) y × TellsUnder rules board d line y bound) ys
+    (λ y known. passed_over rules board d line y bound (GoesAlong for d) add items still (told_along for rules board d line y is known.0) known.1)
+    (every-both (IsFit (spot_of board d line)) (λ y. TellsUnder rules board d line y bound) ys fits under)
     ∙ add_all-flat_map add (told rules board d line) items ys
 
 -- ---- a sink that was refused memory in the middle of the starts

@@ -1,5 +1,5 @@
 -- Sums and products over successive numbers.
-use Rattle.std.proofs.Common.{◌≡◌, ℕ, zero, suc, ◌+◌, ◌-◌, ◌*◌, ◌<◌, ◌≤◌, List, [], ◌++◌, map, length, sum_by, refl, sym, ap, ◌∙◌, append-nil, append_assoc, arith, Option, Some, None}
+use Rattle.std.proofs.Common.{◌≡◌, ℕ, zero, suc, ◌+◌, ◌-◌, ◌*◌, ◌<◌, ◌≤◌, Bool, true, false, nat_le, if◌then◌else◌, List, [], ◌++◌, map, length, sum_by, refl, sym, ap, ◌∙◌, append-nil, append_assoc, arith, Option, Some, None}
 use Rattle.std.proofs.lemmas.List.Sums.{sum_by-cons}
 use Rattle.std.proofs.Math.Nat.{mul_assoc, mul-le-mul}
 use Rattle.ref_tiles.specs.declared.tiles.Tile.{Tile}
@@ -8,7 +8,8 @@ use Rattle.ref_board.specs.Lines.{square_at}
 use Rattle.ref_play.specs.declared.placed.Placed.{Placed}
 use Rattle.ref_play.specs.Scores.{product}
 use Rattle.ref_play.specs.Texts.{placed_on}
-use Rattle.gen_moves.specs.Bounds.{total, times}
+use Rattle.std.proofs.lemmas.Bool.{leb-true, leb-false}
+use Rattle.gen_moves.specs.Bounds.{total, times, least}
 use Rattle.gen_moves.proofs.Entering.{put_from}
 
 pub total-first : (f : ℕ → ℕ) (a n : ℕ) → total f a (suc n) ≡ f a + total f (a + 1) n
@@ -45,23 +46,55 @@ total-same f g a (suc n) h =
     let last = h (a + n) (omega arith) (omega arith) in
     omega arith
 
+distribute : (c x y : ℕ) → c * (x + y) ≡ c * x + c * y
+distribute zero x y = omega arith
+distribute (suc c) x y = let rest = distribute c x y in omega arith
+
+-- a sum of products, of which one factor passes no number
+pub total-times : (f g : ℕ → ℕ) (c a n : ℕ) → ((i : ℕ) → a ≤ i → i < a + n → f i * g i ≤ c * g i) → total (λ i. f i * g i) a n ≤ c * total g a n
+unfolding total
+total-times f g c a zero h = omega arith
+total-times f g c a (suc n) h =
+    let fewer = total-times f g c a n (λ i low high. h i low (omega arith)) in
+    let last = h (a + n) (omega arith) (omega arith) in
+    let spread = distribute c (total g a n) (g (a + n)) in
+    omega arith
+
 -- a sum of sums, one of them multiplied
 pub total-scaled : (f g : ℕ → ℕ) (c a n : ℕ) → total (λ i. f i + c * g i) a n ≡ total f a n + c * total g a n
 unfolding total
 total-scaled f g c a zero = omega arith
 total-scaled f g c a (suc n) =
     let fewer = total-scaled f g c a n in
-    let spread : c * (total g a n + g (a + n)) ≡ c * total g a n + c * g (a + n) = distribute c (total g a n) (g (a + n)) in
+    let spread = distribute c (total g a n) (g (a + n)) in
     omega arith
-  where
-    distribute : (c x y : ℕ) → c * (x + y) ≡ c * x + c * y
-    distribute zero x y = omega arith
-    distribute (suc c) x y = let rest = distribute c x y in omega arith
 
 pub total-both : (f g : ℕ → ℕ) (a n : ℕ) → total (λ i. f i + g i) a n ≡ total f a n + total g a n
 unfolding total
 total-both f g a zero = refl
 total-both f g a (suc n) = let fewer = total-both f g a n in omega arith
+
+-- ---- the lesser of two numbers
+pub least-first : (a b : ℕ) → least a b ≤ a
+least-first a b = by (nat_le a b) refl
+  where
+    by : (t : Bool) → nat_le a b ≡ t → (if t then a else b) ≤ a
+    by true e = omega arith
+    by false e = let more = leb-false a b e in omega arith
+
+pub least-second : (a b : ℕ) → least a b ≤ b
+least-second a b = by (nat_le a b) refl
+  where
+    by : (t : Bool) → nat_le a b ≡ t → (if t then a else b) ≤ b
+    by true e = leb-true a b e
+    by false e = omega arith
+
+pub least-both : (a b n : ℕ) → n ≤ a → n ≤ b → n ≤ least a b
+least-both a b n one other = by (nat_le a b)
+  where
+    by : (t : Bool) → n ≤ (if t then a else b)
+    by true = one
+    by false = other
 
 pub times-some : (f : ℕ → ℕ) (a n : ℕ) → ((i : ℕ) → 1 ≤ f i) → 1 ≤ times f a n
 unfolding times

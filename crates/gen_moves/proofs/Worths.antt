@@ -11,7 +11,7 @@ use Rattle.ref_tiles.specs.Kinds.{number_of}
 use Rattle.ref_tiles.specs.Rulebook.{points_of}
 use Rattle.ref_play.specs.declared.placed.Placed.{Placed}
 use Rattle.ref_play.specs.Candidates.{used}
-use Rattle.gen_moves.specs.Bounds.{total, kind_points, rack_points}
+use Rattle.gen_moves.specs.Bounds.{total, kind_points, rack_points, kind_one, rack_ones}
 use Rattle.gen_moves.proofs.Sums.{total-mono, total-same}
 
 -- what the points of a tile of a placement are above one
@@ -73,6 +73,55 @@ worth_within rules rack ps from =
     let e = worth_by_kinds rules ps in
     let le = total-mono (λ k. used ps k * kind_points rules k) (λ k. slice_index rack k * kind_points rules k) 0 27 (λ k low high. mul-le-mul (from k) (omega arith)) in
     omega arith
+
+-- ---- one for each tile that has points
+abbrev pub one : Rules → Placed → ℕ
+one rules p = points_of rules p.tile.kind - (points_of rules p.tile.kind - 1)
+
+one_by_number : (rules : Rules) (k : Kind) → points_of rules k - (points_of rules k - 1) ≡ kind_one rules (number_of k)
+one_by_number rules (kind.Letter l) =
+    let low = l.in_range in
+    let other = ne_eqb l.index 26 (omega arith) in
+    sym (ap (λ (b : Bool). (if b then 0 else slice_index rules.points l.index) - ((if b then 0 else slice_index rules.points l.index) - 1)) other)
+one_by_number rules kind.Blank = refl
+
+ones_by_kinds : (rules : Rules) (ps : List Placed) → sum_by (one rules) ps ≡ total (λ k. used ps k * kind_one rules k) 0 27
+ones_by_kinds rules [] = sym (none_used (kind_one rules) 27)
+ones_by_kinds rules (p ∷ ps) =
+    sum_by-cons (one rules) p ps
+    ∙ ap (λ m. one rules p + m) (ones_by_kinds rules ps)
+    ∙ ap (λ m. m + total (λ k. used ps k * kind_one rules k) 0 27) (one_by_number rules p.tile.kind)
+    ∙ sym ((one_more (used ps) (kind_one rules) (number_of p.tile.kind) 27).0 (number_low p.tile.kind))
+    ∙ sym (total-same (λ k. used (p ∷ ps) k * kind_one rules k) (λ k. ((if number_of p.tile.kind == k then 1 else 0) + used ps k) * kind_one rules k) 0 27
+    (λ k low high. ap (λ m. m * kind_one rules k) (sum_by-cons (λ (q : Placed). if number_of q.tile.kind == k then 1 else 0) p ps)))
+
+-- no more of them are laid than the rack has
+pub ones_within : (rules : Rules) (rack : List ℕ) (ps : List Placed) → ((k : ℕ) → used ps k ≤ slice_index rack k) → sum_by (one rules) ps ≤ rack_ones rules rack 27
+unfolding rack_ones
+ones_within rules rack ps from =
+    let e = ones_by_kinds rules ps in
+    let le = total-mono (λ k. used ps k * kind_one rules k) (λ k. slice_index rack k * kind_one rules k) 0 27 (λ k low high. mul-le-mul (from k) (omega arith)) in
+    omega arith
+
+pub ones_none : (rules : Rules) (rack : List ℕ) → rack_ones rules rack 0 ≡ 0
+unfolding rack_ones total
+ones_none rules rack = refl
+
+pub ones_more : (rules : Rules) (rack : List ℕ) (k : ℕ) → k < 26
+    → rack_ones rules rack (k + 1) ≡ rack_ones rules rack k + get_or rack k 0 * (get_or rules.points k 0 - (get_or rules.points k 0 - 1))
+unfolding rack_ones total
+ones_more rules rack k few =
+    let next : k + 1 ≡ suc k = omega arith in
+    let at : 0 + k ≡ k = omega arith in
+    let letter : kind_one rules k ≡ get_or rules.points k 0 - (get_or rules.points k 0 - 1) =
+    ap (λ (b : Bool). (if b then 0 else get_or rules.points k 0) - ((if b then 0 else get_or rules.points k 0) - 1)) (ne_eqb k 26 (omega arith)) in
+    ap (λ n. total (λ j. get_or rack j 0 * kind_one rules j) 0 n) next
+    ∙ ap (λ j. total (λ j. get_or rack j 0 * kind_one rules j) 0 k + get_or rack j 0 * kind_one rules j) at
+    ∙ ap (λ w. total (λ j. get_or rack j 0 * kind_one rules j) 0 k + get_or rack k 0 * w) letter
+
+pub ones_all : (rules : Rules) (rack : List ℕ) → rack_ones rules rack 26 ≡ rack_ones rules rack 27
+unfolding rack_ones total
+ones_all rules rack = let none : get_or rack 26 0 * 0 ≡ 0 = omega arith in omega arith
 
 -- ---- kind by kind
 pub rack_none : (rules : Rules) (rack : List ℕ) → rack_points rules rack 0 ≡ 0

@@ -59,30 +59,44 @@ kind_points rules k = (if k == 26 then 0 else slice_index rules.points k) - 1
 unfoldable pub rack_points : Rules → List ℕ → ℕ → ℕ
 rack_points rules rack n = total (λ k. slice_index rack k * kind_points rules k) 0 n
 
--- The bound of the plays of a stretch: one point on each of its places, and what the tiles of the rack have above one point by a
--- letter premium and a factor of cross words that no free place of the stretch passes.
-abbrev pub stretch_bound : ℕ → (ℕ → Place) → ℕ → ℕ → ℕ → ℕ → ℕ → ℕ
-stretch_bound bonus places first len points letter cross =
-    (total (λ i. (places i).old) first len + total (λ i. (places i).letter) first len + letter * points) * times (λ i. (places i).word) first len
-    + (total (λ i. (places i).side) first len + total (λ i. (places i).cross) first len + cross * points)
+-- one where a tile has points, and how many tiles of the rack of the first so many kinds have some
+abbrev pub kind_one : Rules → ℕ → ℕ
+kind_one rules k = (if k == 26 then 0 else slice_index rules.points k) - kind_points rules k
+
+unfoldable pub rack_ones : Rules → List ℕ → ℕ → ℕ
+rack_ones rules rack n = total (λ k. slice_index rack k * kind_one rules k) 0 n
+
+-- the lesser of two numbers
+abbrev pub least : ℕ → ℕ → ℕ
+least a b = if nat_le a b then a else b
+
+-- The bound of the plays of a stretch, by a letter premium and a factor of cross words that no free place of the stretch passes: one
+-- point for each of its new tiles that can have points, once more for each time above one that a letter premium counts it, and
+-- for each time that a cross word does, these by the places or by the tiles; and what the tiles of the rack have above one point.
+abbrev pub stretch_bound : ℕ → (ℕ → Place) → ℕ → ℕ → ℕ → ℕ → ℕ → ℕ → ℕ
+stretch_bound bonus places first len points ones letter cross =
+    (total (λ i. (places i).old) first len + (least (total (λ i. (places i).letter - 1) first len) ((letter - 1) * ones) + least ones (free_count places first len)) + letter * points)
+    * times (λ i. (places i).word) first len
+    + (total (λ i. (places i).side) first len + least (total (λ i. (places i).cross) first len) (cross * ones) + cross * points)
     + (if nat_le 7 (free_count places first len) then bonus else 0)
 
 -- a number that no play of a stretch passes, by some such letter premium and some such factor
-pub record IsWithin (bonus points : ℕ) (places : ℕ → Place) (first len bound : ℕ) : Type 0 where
+pub record IsWithin (bonus points ones : ℕ) (places : ℕ → Place) (first len bound : ℕ) : Type 0 where
   pub letter : ℕ
   pub cross : ℕ
   pub letters : (i : ℕ) → first ≤ i → i < first + len → (places i).free ≡ true → (places i).letter ≤ letter
   pub crosses : (i : ℕ) → first ≤ i → i < first + len → (places i).free ≡ true → (places i).cross ≤ cross
-  pub within : stretch_bound bonus places first len points letter cross ≤ bound
+  pub within : stretch_bound bonus places first len points ones letter cross ≤ bound
 
 -- a number that no play passes whose stretch begins at a place
-abbrev pub IsBoundFrom : ℕ → ℕ → (ℕ → Place) → ℕ → ℕ → Type 0
-IsBoundFrom bonus points places first bound = (len : ℕ) → first + len ≤ 15 → free_count places first len ≤ 7 → IsWithin bonus points places first len bound
+abbrev pub IsBoundFrom : ℕ → ℕ → ℕ → (ℕ → Place) → ℕ → ℕ → Type 0
+IsBoundFrom bonus points ones places first bound = (len : ℕ) → first + len ≤ 15 → free_count places first len ≤ 7 → IsWithin bonus points ones places first len bound
 
--- a number that no play of an anchor passes: the anchor is the first one in its stretch
-abbrev pub IsAnchorBound : ℕ → ℕ → List Cell → (ℕ → Place) → ℕ → ℕ → Type 0
-IsAnchorBound bonus points cells places h bound =
-    (first : ℕ) → first ≤ h → ((i : ℕ) → first ≤ i → i < h → is_anchor_cell (cell_at cells i) ≡ false) → IsBoundFrom bonus points places first bound
+-- a number that no play of an anchor passes: its stretch has the anchor, and none before it
+abbrev pub IsAnchorBound : ℕ → ℕ → ℕ → List Cell → (ℕ → Place) → ℕ → ℕ → Type 0
+IsAnchorBound bonus points ones cells places h bound =
+    (first : ℕ) → first ≤ h → ((i : ℕ) → first ≤ i → i < h → is_anchor_cell (cell_at cells i) ≡ false)
+    → (len : ℕ) → h < first + len → first + len ≤ 15 → free_count places first len ≤ 7 → IsWithin bonus points ones places first len bound
 
 -- the sums and products of a stretch
 pub record IsSum (places : ℕ → Place) (first len : ℕ) (sum : Sum) : Type 0 where
@@ -90,7 +104,7 @@ pub record IsSum (places : ℕ → Place) (first len : ℕ) (sum : Sum) : Type 0
   pub word : sum.word ≡ times (λ i. (places i).word) first len
   pub side : sum.side ≡ total (λ i. (places i).side) first len
   pub free : sum.free ≡ free_count places first len
-  pub letters : sum.letters ≡ total (λ i. (places i).letter) first len
+  pub letters : sum.letters ≡ total (λ i. (places i).letter - 1) first len
   pub crosses : sum.crosses ≡ total (λ i. (places i).cross) first len
   pub letter : (i : ℕ) → first ≤ i → i < first + len → (places i).free ≡ true → (places i).letter ≤ sum.letter
   pub cross : (i : ℕ) → first ≤ i → i < first + len → (places i).free ≡ true → (places i).cross ≤ sum.cross
@@ -129,10 +143,10 @@ abbrev pub TellsUnder : Rules → List (Option Tile) → Dir → ℕ → List �
 TellsUnder rules board d line y bound = Every (λ (given : Given). given.score ≤ℤ pos bound) (told rules board d line y)
 
 -- what is known of a move of an anchor: its play passes no bound of the anchor
-abbrev pub IsOffer : Rules → ℕ → List (Option Tile) → Dir → ℕ → List Cell → (ℕ → Place) → ℕ → List ℕ → Type 0
-IsOffer rules points board d line cells places h y = (bound : ℕ) → IsAnchorBound rules.bonus points cells places h bound → TellsUnder rules board d line y bound
+abbrev pub IsOffer : Rules → ℕ → ℕ → List (Option Tile) → Dir → ℕ → List Cell → (ℕ → Place) → ℕ → List ℕ → Type 0
+IsOffer rules points ones board d line cells places h y = (bound : ℕ) → IsAnchorBound rules.bonus points ones cells places h bound → TellsUnder rules board d line y bound
 
 -- which holds of all moves of a line
-abbrev pub AreOffers : Rules → ℕ → List (Option Tile) → (List ℕ → Bool) → List Cell → List ℕ → Dir → ℕ → Type 0
-AreOffers rules points board g cells rack d line =
-    (places : ℕ → Place) → ArePlaces rules d board line places → (h : ℕ) → h < 15 → Every (IsOffer rules points board d line cells places h) (anchor_moves g cells rack h)
+abbrev pub AreOffers : Rules → ℕ → ℕ → List (Option Tile) → (List ℕ → Bool) → List Cell → List ℕ → Dir → ℕ → Type 0
+AreOffers rules points ones board g cells rack d line =
+    (places : ℕ → Place) → ArePlaces rules d board line places → (h : ℕ) → h < 15 → Every (IsOffer rules points ones board d line cells places h) (anchor_moves g cells rack h)

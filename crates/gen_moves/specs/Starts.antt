@@ -1,5 +1,5 @@
 -- The places of a board from which plays are looked for, and what each gives.
-use Rattle.std.specs.Prelude.{◌≡◌, ℕ, ◌/◌, ◌%◌, ◌<◌, nat_lt, Bool, List, [], length, slice_index, slice_index_or, Option, if◌then◌else◌}
+use Rattle.std.specs.Prelude.{◌≡◌, ℕ, ◌/◌, ◌%◌, ◌<◌, nat_lt, Bool, List, [], slice_index, slice_index_or, Option, if◌then◌else◌}
 use Rattle.std.specs.List.{flat_map}
 use Rattle.ref_tiles.specs.declared.tiles.Tile.{Tile}
 use Rattle.ref_tiles.specs.declared.rulebook.Rules.{Rules}
@@ -11,6 +11,7 @@ use Rattle.gen_line.specs.Walk.{Every, anchor_moves}
 use Rattle.gen_moves.specs.declared.starts.Start.{Start}
 use Rattle.gen_moves.specs.Findings.{told}
 use Rattle.gen_moves.specs.Telling.{IsFit, spot_of}
+use Rattle.gen_sinks.specs.Skips.{GoesDown}
 use Rattle.gen_moves.specs.Bounds.{TellsUnder}
 use Rattle.gen_moves.specs.Narrowing.{IsSpelt}
 
@@ -42,6 +43,11 @@ given_from rules board g cells rack s = given_at rules board g cells rack s.dir 
 -- none of these plays passes a bound
 abbrev pub AreUnder : Rules → List (Option Tile) → (List ℕ → Bool) → List Cell → List ℕ → Dir → ℕ → ℕ → ℕ → Type 0
 AreUnder rules board g cells rack d line h bound = Every (λ y. TellsUnder rules board d line y bound) (anchor_moves g cells rack h)
+
+-- a play is written in a direction, as far as a sink looks at directions
+abbrev pub GoesAlong : Option (List (Option Tile)) → Dir → Given → Type 0
+GoesAlong board Across given = Unit {0}
+GoesAlong board Down given = GoesDown board given
 
 -- what is known of a start: its place is on the board, its moves are plays, none of them passes its bound, and the lexicon has the
 -- paths of words

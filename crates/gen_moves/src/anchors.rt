@@ -1,7 +1,7 @@
 //! Upper bounds of the plays of each anchor of a line.
 ghost use Rattle.std.specs.Prelude.{◌≡◌, ◌-◌, ◌*◌, ◌<◌, ◌≤◌, ℕ, Bool, true, List, [], slice_index, slice_index_or};
 ghost use Rattle.gen_line.specs.Cells.{cell_at, is_anchor_cell};
-ghost use Rattle.gen_moves.specs.Bounds.{IsSmall, IsAnchorBound, HasScores, AreOffers, place_in, rack_points};
+ghost use Rattle.gen_moves.specs.Bounds.{IsSmall, IsAnchorBound, HasScores, AreOffers, place_in, rack_points, rack_ones};
 ghost use Rattle.gen_moves.specs.Starts.{AreUnder, bound_in};
 
 use crate::places::{Place, line_places};
@@ -27,21 +27,28 @@ fn anchor_bound(
     places: &[Place; SIDE],
     anchor: usize,
     points: u64,
+    ones: u64,
     bonus: u64,
 ) -> u64
     requires anchor { anchor < 15 }
     requires small { (i : ℕ) → i < 15 → IsSmall (place_in places.now i) }
     requires points { points ≤ 2000000 }
+    requires ones { ones ≤ 2000000 }
     requires bonus { bonus ≤ 65535 }
-    ensures { IsAnchorBound bonus points cells.now (place_in places.now) anchor result }
+    ensures { IsAnchorBound bonus points ones cells.now (place_in places.now) anchor result }
 {
-    let mut bound = longest(places, anchor, points, bonus);
+    let mut bound = longest(places, anchor, points, ones, bonus);
+    let mut free = u64::from(places[anchor].free);
     for back in 0..anchor {
         let first = anchor - 1 - back;
+        free += u64::from(places[first].free);
+        if free > 7 {
+            return bound;
+        }
         if is_anchor(&cells[first]) {
             return bound;
         }
-        let further = longest(places, first, points, bonus);
+        let further = longest(places, first, points, ones, bonus);
         if further > bound {
             bound = further;
         }
@@ -54,17 +61,19 @@ fn anchor_bounds(
     cells: &[Cell; SIDE],
     places: &[Place; SIDE],
     points: u64,
+    ones: u64,
     bonus: u64,
 ) -> [u64; SIDE]
     requires small { (i : ℕ) → i < 15 → IsSmall (place_in places.now i) }
     requires points { points ≤ 2000000 }
+    requires ones { ones ≤ 2000000 }
     requires bonus { bonus ≤ 65535 }
-    ensures { (h : ℕ) → h < 15 → is_anchor_cell (cell_at cells.now h) ≡ true → IsAnchorBound bonus points cells.now (place_in places.now) h (slice_index result h) }
+    ensures { (h : ℕ) → h < 15 → is_anchor_cell (cell_at cells.now h) ≡ true → IsAnchorBound bonus points ones cells.now (place_in places.now) h (slice_index result h) }
 {
     let mut bounds = [0; SIDE];
     for anchor in 0..SIDE {
         if is_anchor(&cells[anchor]) {
-            bounds[anchor] = anchor_bound(cells, places, anchor, points, bonus);
+            bounds[anchor] = anchor_bound(cells, places, anchor, points, ones, bonus);
         }
     }
     bounds
@@ -79,15 +88,17 @@ fn line_bounds(
     line: usize,
     cells: &[Cell; SIDE],
     points: u64,
+    ones: u64,
 ) -> [u64; SIDE]
     requires line { line < 15 }
     requires points { points ≤ 2000000 }
+    requires ones { ones ≤ 2000000 }
     requires scores { HasScores rules.now board.now cross.now }
-    ensures { (g : List ℕ → Bool) (rack : List ℕ) → AreOffers rules.now points board.now g cells.now rack dir line
+    ensures { (g : List ℕ → Bool) (rack : List ℕ) → AreOffers rules.now points ones board.now g cells.now rack dir line
         → (h : ℕ) → h < 15 → AreUnder rules.now board.now g cells.now rack dir line h (slice_index result h) }
 {
     let places = line_places(rules, board, cross, dir, line);
-    anchor_bounds(cells, &places, points, rules.bonus as u64)
+    anchor_bounds(cells, &places, points, ones, rules.bonus as u64)
 }
 
 /// Such numbers for all lines of a direction.
@@ -98,15 +109,17 @@ pub fn all_bounds(
     dir: Dir,
     lines: &[[Cell; SIDE]; SIDE],
     points: u64,
+    ones: u64,
 ) -> [[u64; SIDE]; SIDE]
     requires points { points ≤ 2000000 }
+    requires ones { ones ≤ 2000000 }
     requires scores { HasScores rules.now board.now cross.now }
-    ensures { (line : ℕ) → line < 15 → (g : List ℕ → Bool) (rack : List ℕ) → AreOffers rules.now points board.now g (slice_index_or lines.now line []) rack dir line
+    ensures { (line : ℕ) → line < 15 → (g : List ℕ → Bool) (rack : List ℕ) → AreOffers rules.now points ones board.now g (slice_index_or lines.now line []) rack dir line
         → (h : ℕ) → h < 15 → AreUnder rules.now board.now g (slice_index_or lines.now line []) rack dir line h (bound_in result line h) }
 {
     let mut bounds = [[0; SIDE]; SIDE];
     for line in 0..SIDE {
-        bounds[line] = line_bounds(rules, board, cross, dir, line, &lines[line], points);
+        bounds[line] = line_bounds(rules, board, cross, dir, line, &lines[line], points, ones);
     }
     bounds
 }
@@ -136,4 +149,23 @@ pub fn points_of_rack(rules: &Rules, rack: &[u8; KINDS]) -> u64
         points += points_of_tiles(rack[kind], above_one(rules.points[kind]));
     }
     points
+}
+
+/// One where a tile has points.
+fn one_for(points: u8) -> u8
+    ensures { result ≡ points - (points - 1) }
+{
+    u8::from(points > 0)
+}
+
+/// How many tiles of a rack have points.
+pub fn tiles_with_points(rules: &Rules, rack: &[u8; KINDS]) -> u64
+    ensures ones { result ≡ rack_ones rules.now rack.now 27 }
+    ensures limit { result ≤ 2000000 }
+{
+    let mut ones = 0;
+    for kind in 0..rules.points.len() {
+        ones += points_of_tiles(rack[kind], one_for(rules.points[kind]));
+    }
+    ones
 }

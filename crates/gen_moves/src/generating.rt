@@ -8,9 +8,9 @@ ghost use Rattle.gen_line.specs.Walk.{Took};
 ghost use Rattle.gen_sinks.specs.Sinks.{IsFor};
 ghost use Rattle.gen_moves.specs.Laws.{AreLong};
 ghost use Rattle.gen_moves.specs.Telling.{both_cells};
-ghost use Rattle.gen_moves.specs.Starts.{IsGood, given_from};
+ghost use Rattle.gen_moves.specs.Starts.{IsGood, GoesAlong, given_from};
 
-use crate::anchors::{all_bounds, points_of_rack};
+use crate::anchors::{all_bounds, points_of_rack, tiles_with_points};
 use crate::fronts::narrowed;
 use crate::lines::all_cells;
 use crate::spots::Spot;
@@ -42,14 +42,17 @@ fn cells_of<'a>(
     }
 }
 
-/// Whether no play that scores so much at the most would change what a sink has.
-fn passes<S: Sink>(sink: &S, bound: u64) -> bool
-    ensures { IsTrue result → (given : Given) → given.score ≤ℤ pos bound → S.add (S.made_for sink.now) (S.items sink.now) given ≡ S.items sink.now }
+/// Whether no play that is written in a direction and scores so much at the most would change what a sink has.
+fn passes<S: Sink>(sink: &S, dir: Dir, bound: u64) -> bool
+    ensures { IsTrue result → (given : Given) → GoesAlong (S.made_for sink.now) dir given → given.score ≤ℤ pos bound → S.add (S.made_for sink.now) (S.items sink.now) given ≡ S.items sink.now }
 {
     if bound > MOST {
         return false;
     }
-    sink.skips(bound as i32)
+    match dir {
+        Dir::Across => sink.skips(bound as i32),
+        Dir::Down => sink.skips_down(bound as i32),
+    }
 }
 
 /// Gives a sink the plays of one start. They are not looked for where none of them would change what it has.
@@ -76,7 +79,7 @@ fn from_start<L: PathLex, S: Sink>(
         place,
         bound,
     } = *start;
-    if passes(sink, bound) {
+    if passes(sink, dir, bound) {
         return Ok(());
     }
     let cells = narrowed(lex, cells_of(across, down, dir, line), place);
@@ -146,9 +149,10 @@ pub fn generate<L: PathLex, S: Sink>(
     let down = all_cells(board, cross, Dir::Down);
     let numbers = rack.numbers();
     let points = points_of_rack(rules, &numbers);
+    let ones = tiles_with_points(rules, &numbers);
     let starts = best_first(all_starts(
-        &all_bounds(rules, board, cross, Dir::Across, &across, points),
-        &all_bounds(rules, board, cross, Dir::Down, &down, points),
+        &all_bounds(rules, board, cross, Dir::Across, &across, points, ones),
+        &all_bounds(rules, board, cross, Dir::Down, &down, points, ones),
     ));
     from_starts(rules, board, &across, &down, &numbers, lex, &starts, sink)
 }

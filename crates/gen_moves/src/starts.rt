@@ -60,11 +60,20 @@ pub fn all_starts(across: &[[u64; SIDE]; SIDE], down: &[[u64; SIDE]; SIDE]) -> [
     starts
 }
 
+/// The greatest bound that the order of starts tells from others.
+const MOST_TOLD: u64 = 1 << 40;
+
+/// A number for the order of starts: less for a greater bound, and of equal bounds less for one along a row, since of plays that
+/// score as much those across come first.
+fn order_of(start: &Start) -> u64 {
+    2 * MOST_TOLD.saturating_sub(start.bound) + u64::from(matches!(start.dir, Dir::Down))
+}
+
 /// The same places, those first whose plays can score most.
 pub fn best_first(starts: [Start; STARTS]) -> [Start; STARTS]
     ensures { IsPermutation starts result }
 {
     let mut sorted = starts;
-    sorted.sort_unstable_by_key(|start| u64::MAX - start.bound);
+    sorted.sort_unstable_by_key(|start| order_of(start));
     sorted
 }

@@ -1,6 +1,6 @@
 //! Sums over stretches of places, and the bounds that they give.
-ghost use Rattle.std.specs.Prelude.{◌≡◌, ◌<◌, ◌≤◌, ◌+◌, ◌*◌, ℕ, nat_le, if◌then◌else◌};
-ghost use Rattle.gen_moves.specs.Bounds.{IsSmall, IsSmallSum, IsSum, IsBoundFrom, place_in, one_if};
+ghost use Rattle.std.specs.Prelude.{◌≡◌, ◌<◌, ◌≤◌, ◌+◌, ◌-◌, ◌*◌, ℕ, nat_le, if◌then◌else◌};
+ghost use Rattle.gen_moves.specs.Bounds.{IsSmall, IsSmallSum, IsSum, IsBoundFrom, place_in, one_if, least};
 
 use crate::places::Place;
 use ref_board::SIDE;
@@ -20,10 +20,18 @@ pub struct Sum {
     pub cross: u64,
     /// The number of free places.
     pub free: u64,
-    /// The sum of the letter premiums.
+    /// The sum of what the letter premiums are above one.
     pub letters: u64,
     /// The sum of the factors of cross words.
     pub crosses: u64,
+}
+
+/// The lesser of two numbers.
+fn lesser(one: u64, other: u64) -> u64
+    ensures least { result ≡ least one other }
+    ensures limit { result ≤ one }
+{
+    if one <= other { one } else { other }
 }
 
 /// The greater of two numbers.
@@ -68,7 +76,7 @@ impl Sum {
         ensures word { result.word ≡ self.now.word * place.now.word }
         ensures side { result.side ≡ self.now.side + place.now.side }
         ensures free { result.free ≡ self.now.free + one_if place.now.free }
-        ensures letters { result.letters ≡ self.now.letters + place.now.letter }
+        ensures letters { result.letters ≡ self.now.letters + (place.now.letter - 1) }
         ensures crosses { result.crosses ≡ self.now.crosses + place.now.cross }
         ensures letter_before { self.now.letter ≤ result.letter }
         ensures letter { place.now.letter ≤ result.letter }
@@ -84,13 +92,13 @@ impl Sum {
             letter: greater(self.letter, place.letter),
             cross: greater(self.cross, place.cross),
             free: self.free + u64::from(place.free),
-            letters: self.letters + place.letter,
+            letters: self.letters + place.letter.saturating_sub(1),
             crosses: self.crosses + place.cross,
         }
     }
 
     /// The bound of the plays of a stretch with this sum.
-    fn bound(&self, points: u64, bonus: u64) -> u64
+    fn bound(&self, points: u64, ones: u64, bonus: u64) -> u64
         requires old { self.now.old ≤ 1485 }
         requires word { self.now.word ≤ 14348907 }
         requires side { self.now.side ≤ 2949075 }
@@ -99,30 +107,33 @@ impl Sum {
         requires letters { self.now.letters ≤ 45 }
         requires crosses { self.now.crosses ≤ 135 }
         requires points { points ≤ 2000000 }
+        requires ones { ones ≤ 2000000 }
         requires bonus { bonus ≤ 65535 }
-        ensures { result ≡ (self.now.old + self.now.letters + self.now.letter * points) * self.now.word + (self.now.side + self.now.crosses + self.now.cross * points) + (if nat_le 7 self.now.free then bonus else 0) }
+        ensures { result ≡ (self.now.old + (least self.now.letters ((self.now.letter - 1) * ones) + least ones self.now.free) + self.now.letter * points) * self.now.word + (self.now.side + least self.now.crosses (self.now.cross * ones) + self.now.cross * points) + (if nat_le 7 self.now.free then bonus else 0) }
     {
-        let letters = self.old + self.letters + self.letter * points;
-        let crosses = self.side + self.crosses + self.cross * points;
+        let more = lesser(self.letters, self.letter.saturating_sub(1) * ones);
+        let letters = self.old + (more + lesser(ones, self.free)) + self.letter * points;
+        let crosses = self.side + lesser(self.crosses, self.cross * ones) + self.cross * points;
         let on_top = if self.free >= 7 { bonus } else { 0 };
         letters * self.word + crosses + on_top
     }
 }
 
 /// A number that no play passes whose stretch begins at a place: the bound of the longest stretch with seven free places.
-pub fn longest(places: &[Place; SIDE], first: usize, points: u64, bonus: u64) -> u64
+pub fn longest(places: &[Place; SIDE], first: usize, points: u64, ones: u64, bonus: u64) -> u64
     requires first { first < 15 }
     requires small { (i : ℕ) → i < 15 → IsSmall (place_in places.now i) }
     requires points { points ≤ 2000000 }
+    requires ones { ones ≤ 2000000 }
     requires bonus { bonus ≤ 65535 }
-    ensures { IsBoundFrom bonus points (place_in places.now) first result }
+    ensures { IsBoundFrom bonus points ones (place_in places.now) first result }
 {
     let mut sum = Sum::none();
     for place in first..SIDE {
         if sum.free == 7 && places[place].free {
-            return sum.bound(points, bonus);
+            return sum.bound(points, ones, bonus);
         }
         sum = sum.with(&places[place]);
     }
-    sum.bound(points, bonus)
+    sum.bound(points, ones, bonus)
 }

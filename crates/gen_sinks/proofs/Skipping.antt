@@ -1,18 +1,20 @@
 -- A play that scores less than all of a full list changes nothing of it.
-use Rattle.std.proofs.Common.{◌≡◌, ℕ, ℤ, ◌<ℤ◌, ◌≤ℤ◌, false, List, map, length, get_or, take, insert, refl, sym, ap, ◌∙◌, arith, Option}
+use Rattle.std.proofs.Common.{◌≡◌, ℕ, ℤ, ◌<ℤ◌, ◌≤ℤ◌, false, List, map, length, get_or, take, insert, refl, sym, ap, ◌∙◌, arith, ⊎_elim, Option, Some}
 use Rattle.std.specs.declared.cmp.Ordering.{Ordering}
 use Rattle.std.specs.declared.cmp.Ordering.TheVariants.{Less, Equal, Greater}
-use Rattle.std.specs.Ordering.{int_cmp, ordering_then, is_lt}
+use Rattle.ref_board.specs.declared.directions.Dir.{Dir}
+use Rattle.ref_board.specs.declared.directions.Dir.TheVariants.{Across, Down}
+use Rattle.std.specs.Ordering.{int_cmp, nat_cmp, ordering_then, is_lt}
 use Rattle.std.proofs.lemmas.Cmp.{int_ranked}
 use Rattle.std.proofs.lemmas.Int.{ints}
 use Rattle.std.proofs.lemmas.List.{length-map}
 use Rattle.ref_tiles.specs.declared.tiles.Tile.{Tile}
 use Rattle.ref_play.specs.declared.plays.Play.{Play}
-use Rattle.ref_play.specs.Notations.{notation_of, written_cmp}
+use Rattle.ref_play.specs.Notations.{Written, notation_of, written_cmp, dir_number}
 use Rattle.ref_play.specs.Best.{Given}
 use Rattle.gen_sinks.specs.Sinks.{seen_pair}
 use Rattle.gen_sinks.specs.Ranks.{ranks_before, add_top}
-use Rattle.gen_sinks.specs.Skips.{AllAbove}
+use Rattle.gen_sinks.specs.Skips.{AllAbove, IsBeforeDown, AllBeforeDown, GoesDown}
 use Rattle.gen_sinks.proofs.Keeping.{put_there, insert_behind}
 
 -- less than another does not rank before it
@@ -31,6 +33,38 @@ still_kept n board kept bound given full above low =
     ap (take n)
     (put_there (ranks_before board) seen_pair given kept (length kept) (omega arith)
     (λ k d lt. not_before board given (seen_pair (get_or kept k d)) (let more = above k d lt in omega (arith, ints)))
+    (λ d lt. absurd (omega arith)))
+    ∙ ap (λ m. take n (insert (map seen_pair kept) m given)) full
+    ∙ sym (insert_behind n (map seen_pair kept) given size)
+
+-- ---- plays that are written down
+-- less than another, or as much and behind it
+no_higher : (x y : ℤ) (o p : Ordering) → int_cmp y x ≡ o → x ≤ℤ y → is_lt p ≡ false → is_lt (ordering_then o p) ≡ false
+no_higher x y Less p e le behind = absurd (let more : y <ℤ x = int_ranked y x Less (sym e) in omega (arith, ints))
+no_higher x y Equal p e le behind = behind
+no_higher x y Greater p e le behind = refl
+
+down_behind : (a b : Written) → a.dir ≡ Down → b.dir ≡ Across → is_lt (written_cmp a b) ≡ false
+down_behind a b down across = rw (down, across) refl
+
+not_before_down : (board : List (Option Tile)) (bound : ℤ) (given : Given) (kept : Play × ℤ) → GoesDown (Some board) given → given.score ≤ℤ bound → IsBeforeDown board bound kept
+    → ranks_before board given (seen_pair kept) ≡ false
+not_before_down board bound given kept down low before =
+    ⊎_elim
+    (λ (above : bound <ℤ kept.1). not_before board given (seen_pair kept) (omega (arith, ints)))
+    (λ as_much.
+    let same : kept.1 ≡ bound = as_much.0 in
+    no_higher given.score kept.1 (int_cmp kept.1 given.score) (written_cmp (notation_of board given.tiles) (notation_of board kept.0.tiles.items)) refl (omega (arith, ints))
+    (down_behind (notation_of board given.tiles) (notation_of board kept.0.tiles.items) down as_much.1))
+    before
+
+pub still_kept_down : (n : ℕ) (board : List (Option Tile)) (kept : List (Play × ℤ)) (bound : ℤ) (given : Given) → length kept ≡ n → AllBeforeDown board bound kept → GoesDown (Some board) given
+    → given.score ≤ℤ bound → add_top n (ranks_before board) (map seen_pair kept) given ≡ map seen_pair kept
+still_kept_down n board kept bound given full before down low =
+    let size : length (map seen_pair kept) ≡ n = length-map kept seen_pair ∙ full in
+    ap (take n)
+    (put_there (ranks_before board) seen_pair given kept (length kept) (omega arith)
+    (λ k d lt. not_before_down board bound given (get_or kept k d) down low (before k d lt))
     (λ d lt. absurd (omega arith)))
     ∙ ap (λ m. take n (insert (map seen_pair kept) m given)) full
     ∙ sym (insert_behind n (map seen_pair kept) given size)

@@ -46,6 +46,10 @@ impl Sink for All {
         false
     }
 
+    fn skips_down(&self, _bound: i32) -> bool {
+        false
+    }
+
     fn take(&mut self, play: &Play, score: i32) -> Result<(), NoMemory> {
         self.kept.push((play.copy(), score))?;
         Ok(())

@@ -3,12 +3,12 @@ ghost use Rattle.std.specs.Prelude.{◌≡◌, ◌≤◌, ◌<ℤ◌, IsTrue, le
 ghost use Rattle.ref_play.specs.Legality.{IsLegal};
 ghost use Rattle.gen_sinks.specs.Sinks.{seen, seen_pair};
 ghost use Rattle.gen_sinks.specs.Ranks.{ranks_before, put_in};
-ghost use Rattle.gen_sinks.specs.Skips.{AllAbove};
+ghost use Rattle.gen_sinks.specs.Skips.{AllAbove, IsBeforeDown, AllBeforeDown};
 ghost use Rattle.gen_sinks.specs.Legals.{are_legal};
 
 use arrayvec::ArrayVec;
-use ref_board::Board;
-use ref_play::{Play, before};
+use ref_board::{Board, Dir};
+use ref_play::{Play, before, notation};
 
 /// Whether a play ranks before another: it scores more, or as much and its notation comes first.
 fn ranks_before(board: &Board, play: &Play, score: i32, other: &(Play, i32)) -> bool
@@ -51,6 +51,32 @@ pub fn all_above(kept: &[(Play, i32)], bound: i32) -> bool
 {
     for place in 0..kept.len() {
         if !is_above(&kept[place], bound) {
+            return false;
+        }
+    }
+    true
+}
+
+/// Whether a play scores more than a bound, or as much and is written across.
+fn is_before_down(board: &Board, scored: &(Play, i32), bound: i32) -> bool
+    requires legal { IsLegal board.now scored.now.0.tiles.items }
+    ensures { IsTrue result → IsBeforeDown board.now bound scored.now }
+{
+    let (play, score) = scored;
+    if *score > bound {
+        return true;
+    }
+    *score == bound && matches!(notation(board, play).dir, Dir::Across)
+}
+
+/// Whether each of some plays does.
+pub fn all_before_down(board: &Board, kept: &[(Play, i32)], bound: i32) -> bool
+    requires kept { IsTrue (are_legal board.now kept.now) }
+    ensures { IsTrue result → AllBeforeDown board.now bound kept.now }
+{
+    let _size = board.len();
+    for place in 0..kept.len() {
+        if !is_before_down(board, &kept[place], bound) {
             return false;
         }
     }

@@ -3,6 +3,7 @@ ghost use Rattle.std.specs.Prelude.{◌≡◌, ◌≤ℤ◌, List, Option, Bool,
 ghost use Rattle.ref_tiles.specs.declared.tiles.Tile.{Tile};
 ghost use Rattle.ref_play.specs.Best.{Given};
 ghost use Rattle.gen_sinks.specs.Sinks.{seen, CanTake};
+ghost use Rattle.gen_sinks.specs.Skips.{GoesDown};
 
 use ref_play::Play;
 
@@ -26,6 +27,10 @@ pub trait Sink {
     /// Whether no play that scores so much at the most would change what the sink has.
     fn skips(&self, bound: i32) -> bool
         ensures { IsTrue result → (given : Given) → given.score ≤ℤ bound → add (made_for self.now) (items self.now) given ≡ items self.now };
+
+    /// Whether no play that is written down and scores so much at the most would change what the sink has.
+    fn skips_down(&self, bound: i32) -> bool
+        ensures { IsTrue result → (given : Given) → GoesDown (made_for self.now) given → given.score ≤ℤ bound → add (made_for self.now) (items self.now) given ≡ items self.now };
 
     /// Takes a play with its score. A sink that was made for a board asks that the play is legal on that board.
     ///

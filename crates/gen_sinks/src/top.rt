@@ -2,7 +2,7 @@
 ghost use Rattle.std.specs.Prelude.{◌≡◌, IsTrue};
 ghost use Rattle.gen_sinks.specs.Legals.{are_legal};
 
-use crate::placing::{all_above, place_of, put_at};
+use crate::placing::{all_above, all_before_down, place_of, put_at};
 use crate::sinks::{NoMemory, Sink};
 use arrayvec::ArrayVec;
 use ref_board::Board;
@@ -59,6 +59,11 @@ impl<const N: usize> Sink for Top<N> {
 
     fn skips(&self, bound: i32) -> bool {
         self.kept.is_full() && all_above(&self.kept, bound)
+    }
+
+    fn skips_down(&self, bound: i32) -> bool {
+        let _size = self.board.len();
+        self.kept.is_full() && all_before_down(&self.board, &self.kept, bound)
     }
 
     fn take(&mut self, play: &Play, score: i32) -> Result<(), NoMemory> {

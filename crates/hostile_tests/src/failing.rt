@@ -26,7 +26,9 @@ fn few_bytes_at_once(rt: HostRuntime) {
 /// Whether a job reads the words, the lexicon, the record and the rules text.
 fn inputs_of(job: &Job<'_>) -> [bool; 4] {
     match job.call {
-        Call::Judge | Call::Settle | Call::Top(_) => [true, true, true, job.rules.is_some()],
+        Call::Judge | Call::Settle | Call::Top(_) | Call::TopBefore(_) => {
+            [true, true, true, job.rules.is_some()]
+        }
         Call::Build => [true, false, false, false],
         Call::Check => [true, true, false, false],
         Call::Convert(_) => [false, true, false, false],

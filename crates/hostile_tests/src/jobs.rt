@@ -2,7 +2,8 @@
 use crate::feeds::{Feed, Mishap, NEVER, Sheet};
 use engine::{
     GameFault, RunFault, Verdict, run, run_board, run_board_ruled, run_build, run_check,
-    run_convert, run_ruled, run_settled, run_settled_ruled, run_tidy, run_top, run_top_ruled,
+    run_convert, run_ruled, run_settled, run_settled_ruled, run_tidy, run_top, run_top_before,
+    run_top_before_ruled, run_top_ruled,
 };
 use lex_file::Format;
 use ref_tiles::{ENGLISH_TEXT, english_rules};
@@ -86,6 +87,8 @@ pub enum Call {
     Settle,
     /// With a rack.
     Top(&'static str),
+    /// With the rack of a line.
+    TopBefore(u32),
     Build,
     Check,
     /// Into a format.
@@ -224,6 +227,28 @@ pub const RULED_PLAYS: Job<'static> = Job {
     wrote: b"8G At 2\n8H At 2\nH7 At 2\nH8 At 2\n",
 };
 
+/// The best plays before a line with the rack that it shows.
+pub const PLAYS_BEFORE: Job<'static> = Job {
+    call: Call::TopBefore(1),
+    rules: None,
+    words: b"AT",
+    lexicon: &AT,
+    game: b">A: ?A 8H At +2 2\n",
+    verdict: Verdict::Done,
+    wrote: b"8G At 2\n8H At 2\nH7 At 2\nH8 At 2\n",
+};
+
+/// The same by the text of the English rules.
+pub const RULED_PLAYS_BEFORE: Job<'static> = Job {
+    call: Call::TopBefore(1),
+    rules: Some(ENGLISH_TEXT),
+    words: b"AT",
+    lexicon: &AT,
+    game: b">A: ?A 8H At +2 2\n",
+    verdict: Verdict::Done,
+    wrote: b"8G At 2\n8H At 2\nH7 At 2\nH8 At 2\n",
+};
+
 /// A lexicon of one word.
 pub const BUILT: Job<'static> = Job {
     call: Call::Build,
@@ -332,7 +357,7 @@ pub const RULED_BOARD: Job<'static> = Job {
 };
 
 /// All of them.
-pub const JOBS: [Job<'static>; 17] = [
+pub const JOBS: [Job<'static>; 19] = [
     ONE_PLAY,
     WITHDRAWN,
     STALE,
@@ -343,6 +368,8 @@ pub const JOBS: [Job<'static>; 17] = [
     BEST_PLAYS,
     RULED,
     RULED_PLAYS,
+    PLAYS_BEFORE,
+    RULED_PLAYS_BEFORE,
     BUILT,
     CHECKED,
     CONVERTED,
@@ -408,6 +435,17 @@ fn attempt_english(alloc: Global, job: &Job<'_>, manner: &Manner) -> Outcome {
             &mut out,
             &rules,
         ),
+        Call::TopBefore(line) => run_top_before(
+            alloc,
+            &mut words,
+            &mut lexicon,
+            &mut game,
+            None,
+            10,
+            Some(line),
+            &mut out,
+            &rules,
+        ),
         Call::Build => run_build(alloc, &mut words, &mut out),
         Call::Check => run_check(alloc, &mut words, &mut lexicon, &mut out),
         Call::Convert(format) => run_convert(alloc, &mut lexicon, format, &mut out),
@@ -436,6 +474,17 @@ fn attempt_ruled(alloc: Global, job: &Job<'_>, text: &[u8], manner: &Manner) -> 
             &mut lexicon,
             &mut game,
             rack.as_bytes(),
+            &mut out,
+        ),
+        Call::TopBefore(line) => run_top_before_ruled(
+            alloc,
+            &mut rules,
+            &mut words,
+            &mut lexicon,
+            &mut game,
+            None,
+            10,
+            Some(line),
             &mut out,
         ),
         Call::Settle => run_settled_ruled(

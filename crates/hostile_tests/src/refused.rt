@@ -2,8 +2,8 @@
 //! call, and takes little memory besides. Without a refusal the answer is the row's.
 use crate::jobs::{
     AT, AT_BY_NODES, BEST_PLAYS, BUILT, CHECKED, CONVERTED, CONVERTED_BACK, Job, NO_DEAL, ONE_PLAY,
-    RULED, RULED_BOARD, RULED_NO_DEAL, RULED_PLAYS, SETTLED, SHOWN, STALE, TIDIED, UNSETTLED,
-    WITHDRAWN, WORD, attempt, working,
+    PLAYS_BEFORE, RULED, RULED_BOARD, RULED_NO_DEAL, RULED_PLAYS, RULED_PLAYS_BEFORE, SETTLED,
+    SHOWN, STALE, TIDIED, UNSETTLED, WITHDRAWN, WORD, attempt, working,
 };
 use engine::RunFault;
 use game_deal::{DealFault, Steps, bounds, complete};
@@ -67,6 +67,16 @@ fn run_settled_ruled(rt: HostRuntime) {
 #[test]
 fn run_top(rt: HostRuntime) {
     assert_spared(&rt, rt.alloc(), &BEST_PLAYS);
+}
+
+#[test]
+fn run_top_before(rt: HostRuntime) {
+    assert_spared(&rt, rt.alloc(), &PLAYS_BEFORE);
+}
+
+#[test]
+fn run_top_before_ruled(rt: HostRuntime) {
+    assert_spared(&rt, rt.alloc(), &RULED_PLAYS_BEFORE);
 }
 
 #[test]

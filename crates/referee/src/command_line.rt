@@ -4,6 +4,7 @@ use crate::commands::{
     ARCHIVE, AUDIT, BOARD, BUILD, CHECK, CONVERT, EXPLAIN, JUDGE, SHORT_VERSION, TIDY, TOP, VERSION,
 };
 use crate::sources::STANDARD_INPUT;
+use clap::builder::ValueParser;
 use clap::error::ErrorKind;
 use clap::{Arg, ArgAction, ArgMatches, Command, Error, value_parser};
 use lex_file::Format;
@@ -35,6 +36,17 @@ pub struct GameFiles<'a> {
     pub lexicon: &'a str,
     /// The record.
     pub game: &'a str,
+}
+
+/// Which best plays are asked for.
+#[derive(Clone, Copy)]
+pub struct PlaysAsked<'a> {
+    /// The tiles of the rack; without them the rack is the one that the line shows.
+    pub rack: Option<&'a str>,
+    /// How many plays are printed at the most, where that is said.
+    pub number: Option<u32>,
+    /// The line before which the board is; without one it is the board after the last event.
+    pub before: Option<u32>,
 }
 
 /// Where the names of the games of an archive stand.
@@ -120,10 +132,10 @@ pub enum Request<'a> {
         lexicon: &'a str,
         out: &'a str,
     },
-    /// To write the best plays by a rack on the board after a record.
+    /// To write the best plays by a rack on a board of a record.
     Top {
         files: GameFiles<'a>,
-        rack: &'a str,
+        plays: PlaysAsked<'a>,
     },
     /// To write the normal form of a record.
     Tidy {
@@ -302,13 +314,25 @@ fn convert_command<'a>(alloc: Global) -> Result<Command<'a>, AllocError> {
         ))
 }
 
-/// `top [--first-field] [--rules FILE] WORDS LEXICON GAME RACK`.
+/// `top [--first-field] [--rules FILE] [--number N] [--before LINE] WORDS LEXICON GAME [RACK]`.
 fn top_command<'a>(alloc: Global) -> Result<Command<'a>, AllocError> {
     TOP.command(alloc)
         .arg(name(alloc, "WORDS", "the word list; - is standard input"))?
         .arg(name(alloc, "LEXICON", "the lexicon file of the words"))?
         .arg(name(alloc, "GAME", "the GCG record; - is standard input"))?
-        .arg(name(alloc, "RACK", "1 to 7 tiles: A to Z, and ? for a blank"))?
+        .arg(
+            Arg::new(alloc, "RACK")
+                .required_unless_present("before")?
+                .help("1 to 7 tiles: A to Z, and ? for a blank; without it, the rack of LINE"),
+        )?
+        .arg(
+            Arg::new(alloc, "number")
+                .long("number")
+                .value_name("N")
+                .value_parser(ValueParser::Unsigned(1, 100))
+                .help("how many plays are printed at the most, 1 to 100; 10 without it"),
+        )?
+        .arg(before_option(alloc))?
         .arg(first_field_option(alloc))?
         .arg(rules_option(alloc))
 }
@@ -334,7 +358,7 @@ fn before_option<'a>(alloc: Global) -> Arg<'a> {
         .long("before")
         .value_name("LINE")
         .value_parser(value_parser!(u32))
-        .help("the line of the record before which the board is shown, counted from 1")
+        .help("the line of the record before which the board is taken, counted from 1")
 }
 
 /// An argument that the command needs.
@@ -457,7 +481,11 @@ fn small_request_of<'a>(command: &str, names: &ArgMatches<'a>) -> Option<Request
         }),
         "top" => Some(Request::Top {
             files: game_files(names)?,
-            rack: names.get_str("RACK")?,
+            plays: PlaysAsked {
+                rack: names.get_str("RACK"),
+                number: names.get_one::<u32>("number"),
+                before: names.get_one::<u32>("before"),
+            },
         }),
         "tidy" => Some(Request::Tidy {
             game: names.get_str("GAME")?,

@@ -153,14 +153,14 @@ Exit status:
 /// `top`.
 pub const TOP: CommandText = CommandText {
     name: "top",
-    about: "Prints the ten best plays with RACK after the last event of a record",
+    about: "Prints the best plays with RACK after the last event of a record, or before one of its lines",
     behind: "Example:
-  referee top words.txt words.gad game.gcg AEINRST
+  referee top --number 3 --before 12 words.txt words.gad game.gcg
 
 Exit status:
   0   the plays are printed, or none
   1   illegal: the report names the first line that does not stand, and why
-  3   the rack, the rules text, the word list, the lexicon or the record is bad
+  3   the rack, the line, the rules text, the word list, the lexicon or the record is bad
   4   a file could not be read or written, or there was no memory
   64  the command line is wrong",
 };

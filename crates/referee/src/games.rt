@@ -1,6 +1,6 @@
 //! The commands that are about one game.
 
-use crate::command_line::GameFiles;
+use crate::command_line::{GameFiles, PlaysAsked};
 use crate::counted::Counted;
 use crate::files::{open, told, used, used_source};
 use crate::sources::{Source, Words, open_source, open_words, shown};
@@ -8,7 +8,7 @@ use devices::{FromRead, FromWrite};
 use endings::Trouble;
 use engine::{
     Verdict, run, run_board, run_board_ruled, run_ruled, run_settled, run_settled_ruled, run_tidy,
-    run_top, run_top_ruled,
+    run_top, run_top_before, run_top_before_ruled, run_top_ruled,
 };
 use ref_tiles::english_rules;
 use std::io;
@@ -154,16 +154,47 @@ fn judge_ruled<'a, R: Runtime + AllocGlobal>(
     Ok(Judged { verdict, bytes })
 }
 
-/// Writes the best plays by a rack on the board after a record, by the English rules or those of a text, to standard output.
+/// How many plays are printed at the most.
+const MOST_PLAYS: usize = 100;
+
+/// How many plays are printed where no number is asked for.
+const USUAL_PLAYS: u32 = 10;
+
+/// What `top` asks of the engine.
+#[derive(Clone, Copy)]
+enum TopAsked<'a> {
+    /// The ten best plays after the last event.
+    AtTheEnd(&'a [u8]),
+    /// So many of the best plays before a line.
+    Before {
+        rack: Option<&'a [u8]>,
+        number: usize,
+        line: Option<u32>,
+    },
+}
+
+/// The same of what the command line asks for.
+fn top_asked<'a>(plays: PlaysAsked<'a>) -> TopAsked<'a> {
+    match (plays.rack, plays.number, plays.before) {
+        (Some(rack), None, None) => TopAsked::AtTheEnd(rack.as_bytes()),
+        (rack, number, line) => TopAsked::Before {
+            rack: rack.map(|rack| rack.as_bytes()),
+            number: number.unwrap_or(USUAL_PLAYS) as usize,
+            line,
+        },
+    }
+}
+
+/// Writes the best plays by a rack on a board of a record, by the English rules or those of a text, to standard output.
 /// The files are opened before the rack is looked at.
 pub fn top<'a, R: Runtime + AllocGlobal>(
     rt: &R,
     files: GameFiles<'a>,
-    rack: &str,
+    plays: PlaysAsked<'a>,
 ) -> Result<Verdict, Trouble<'a>> {
     match files.rules {
-        None => top_english(rt, files, rack.as_bytes()),
-        Some(rules) => top_ruled(rt, rules, files, rack.as_bytes()),
+        None => top_english(rt, files, top_asked(plays)),
+        Some(rules) => top_ruled(rt, rules, files, top_asked(plays)),
     }
 }
 
@@ -171,7 +202,7 @@ pub fn top<'a, R: Runtime + AllocGlobal>(
 fn top_english<'a, R: Runtime + AllocGlobal>(
     rt: &R,
     files: GameFiles<'a>,
-    rack: &[u8],
+    asked: TopAsked<'a>,
 ) -> Result<Verdict, Trouble<'a>> {
     let OpenGame {
         words,
@@ -182,15 +213,30 @@ fn top_english<'a, R: Runtime + AllocGlobal>(
     let mut lexicon = FromRead::new(lexicon);
     let mut game = FromRead::new(game);
     let mut out = FromWrite::new(io::writer(rt));
-    let outcome = run_top(
-        rt.alloc(),
-        &mut words,
-        &mut lexicon,
-        &mut game,
-        rack,
-        &mut out,
-        &english_rules(),
-    );
+    let alloc = rt.alloc();
+    let rules = english_rules();
+    let outcome = match asked {
+        TopAsked::AtTheEnd(rack) => run_top(
+            alloc,
+            &mut words,
+            &mut lexicon,
+            &mut game,
+            rack,
+            &mut out,
+            &rules,
+        ),
+        TopAsked::Before { rack, number, line } => run_top_before(
+            alloc,
+            &mut words,
+            &mut lexicon,
+            &mut game,
+            rack,
+            number.min(MOST_PLAYS),
+            line,
+            &mut out,
+            &rules,
+        ),
+    };
     let inputs = [
         used_source(files.words.name, &words),
         used(files.lexicon, &lexicon),
@@ -204,7 +250,7 @@ fn top_ruled<'a, R: Runtime + AllocGlobal>(
     rt: &R,
     rules: &'a str,
     files: GameFiles<'a>,
-    rack: &[u8],
+    asked: TopAsked<'a>,
 ) -> Result<Verdict, Trouble<'a>> {
     let mut text = FromRead::new(open(rt, rules)?);
     let OpenGame {
@@ -216,15 +262,29 @@ fn top_ruled<'a, R: Runtime + AllocGlobal>(
     let mut lexicon = FromRead::new(lexicon);
     let mut game = FromRead::new(game);
     let mut out = FromWrite::new(io::writer(rt));
-    let outcome = run_top_ruled(
-        rt.alloc(),
-        &mut text,
-        &mut words,
-        &mut lexicon,
-        &mut game,
-        rack,
-        &mut out,
-    );
+    let alloc = rt.alloc();
+    let outcome = match asked {
+        TopAsked::AtTheEnd(rack) => run_top_ruled(
+            alloc,
+            &mut text,
+            &mut words,
+            &mut lexicon,
+            &mut game,
+            rack,
+            &mut out,
+        ),
+        TopAsked::Before { rack, number, line } => run_top_before_ruled(
+            alloc,
+            &mut text,
+            &mut words,
+            &mut lexicon,
+            &mut game,
+            rack,
+            number.min(MOST_PLAYS),
+            line,
+            &mut out,
+        ),
+    };
     let inputs = [
         used(rules, &text),
         used_source(files.words.name, &words),

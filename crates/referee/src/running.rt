@@ -70,7 +70,7 @@ fn answer<R: Runtime + AllocGlobal>(rt: &R, request: Request<'_>, watched: bool)
             lexicon,
             out,
         } => ended(convert(rt, format, lexicon, out)),
-        Request::Top { files, rack } => ended(top(rt, files, rack)),
+        Request::Top { files, plays } => ended(top(rt, files, plays)),
         Request::Tidy { game } => ended(tidy(rt, game)),
         Request::Board {
             rules,

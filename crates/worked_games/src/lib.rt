@@ -34,6 +34,8 @@ mod ruled;
 #[cfg(test)]
 mod tidying;
 #[cfg(test)]
+mod top_before;
+#[cfg(test)]
 mod topping;
 #[cfg(test)]
 mod turns;

@@ -22,15 +22,18 @@ returns-in-Err-clause-refused c =
     let within : place < length events = omega arith in
     let is = slice_get_read events (length events) place event refl within c.index-events-place.is in
     record {
-      place = place;
-      event = event;
-      stands = is;
-      on_line = sym (ap (λ (r : Refusal). r.line) c.of.ensures);
-      fails =
-          fault_told rules list events place event (rules_of machine) (state_of machine) (Some c.in-Err.fault) is c.loop-place.invariant.rules c.loop-place.invariant.state
-          c.in-Err.ensures.told
-          ∙ sym (ap (λ (r : Refusal). Some r.fault) c.of.ensures);
-      earlier = c.loop-place.invariant.allowed;
+      first = record {
+        place = place;
+        event = event;
+        stands = is;
+        on_line = sym (ap (λ (r : Refusal). r.line) c.of.ensures);
+        fails =
+            fault_told rules list events place event (rules_of machine) (state_of machine) (Some c.in-Err.fault) is c.loop-place.invariant.rules c.loop-place.invariant.state
+            c.in-Err.ensures.told
+            ∙ sym (ap (λ (r : Refusal). Some r.fault) c.of.ensures);
+        earlier = c.loop-place.invariant.allowed;
+      };
+      before = c.loop-place-test.true;
     }
 
 pub loop-place-preserved : goal.loop-place-preserved

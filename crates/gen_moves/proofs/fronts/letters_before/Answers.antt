@@ -1,4 +1,4 @@
-use Rattle.std.proofs.Common.{◌≡◌, ℕ, ◌+◌, List, ◌∷◌, Bool, false, drop, refl, sym, ◌∙◌, inr, Some}
+use Rattle.std.proofs.Common.{◌+◌, ◌∷◌, false, drop, refl, sym, ◌∙◌, inr, Some}
 use Rattle.gen_line.specs.Moves.{back}
 use Rattle.gen_moves.specs.Narrowing.{olds}
 use Rattle.gen_moves.proofs.Narrowing.{whole_strings, no_letter}

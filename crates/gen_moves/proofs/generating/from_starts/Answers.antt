@@ -1,4 +1,4 @@
-use Rattle.std.proofs.Common.{ℕ, ◌<◌, length, arith}
+use Rattle.std.proofs.Common.{◌<◌, length, arith}
 use Rattle.ref_board.specs.declared.directions.Dir.TheVariants.{Across}
 use Rattle.gen_line.proofs.Sinks.{took-refused, front-for}
 use Rattle.gen_moves.specs.declared.starts.Start.{Start}

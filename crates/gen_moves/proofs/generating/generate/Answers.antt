@@ -6,7 +6,7 @@ use Rattle.ref_board.specs.declared.directions.Dir.TheVariants.{Across, Down}
 use Rattle.ref_play.specs.Best.{Given, AreAll}
 use Rattle.gen_moves.specs.declared.starts.Start.{Start}
 use Rattle.gen_moves.specs.Telling.{both_cells}
-use Rattle.gen_moves.specs.Bounds.{AreOffers}
+use Rattle.gen_moves.specs.Bounds.{AreOffers, rack_points}
 use Rattle.gen_moves.specs.Starts.{IsGood, given_from}
 use Rattle.gen_moves.proofs.Offering.{all_offers, right_scores}
 use Rattle.gen_moves.proofs.Gathering.{given_all}
@@ -30,10 +30,11 @@ from_starts-requires-clause-good g c =
     let b = c.all_cells-down.result in
     let rack = c.numbers-numbers.result in
     let s = setting_of rules g.words board c.args.cross.now path a b c.len-size.ensures.size c.requires.1.1.1.1.0 c.requires.1.1.1.1.1.0 c.requires.1.1.1.1.1.1.0 (c.all_cells-across.ensures g.words) (c.all_cells-down.ensures g.words) in
-    let offers : (d : Dir) (line : ℕ) → line < 15 → AreOffers rules c.points_of_rack-points.result board path (both_cells a b d line) rack d line =
+    let offers : (d : Dir) (line : ℕ) → line < 15 → AreOffers rules c.points_of_rack-points.result c.tiles_with_points-ones.result board path (both_cells a b d line) rack d line =
     λ d line low.
-    subst (λ n. AreOffers rules n board path (both_cells a b d line) rack d line) (sym c.points_of_rack-points.ensures.points)
-    (all_offers rules g.words board path (lists g.words) (both_cells a b) s rack d line low) in
+    subst (λ n. AreOffers rules n c.tiles_with_points-ones.result board path (both_cells a b d line) rack d line) (sym c.points_of_rack-points.ensures.points)
+    (subst (λ n. AreOffers rules (rack_points rules rack 27) n board path (both_cells a b d line) rack d line) (sym c.tiles_with_points-ones.ensures.ones)
+    (all_offers rules g.words board path (lists g.words) (both_cells a b) s rack d line low)) in
     let size : length c.all_starts.result ≡ 450 = omega arith in
     All-permutation (IsGood rules board path (both_cells a b) rack) c.all_starts.result c.best_first-starts.result c.best_first-starts.ensures
     (all_good rules g.words board path (lists g.words) (both_cells a b) s rack c.all_bounds.result c.all_bounds-2.result c.all_starts.result size c.all_starts.ensures

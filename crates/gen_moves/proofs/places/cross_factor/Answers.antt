@@ -1,10 +1,7 @@
-use Rattle.std.proofs.Common.{◌≡◌, ℕ, ◌<◌, false, inr, sym, ap, subst, ◌∙◌, arith}
-use Rattle.ref_tiles.specs.declared.tiles.Tile.{Tile}
-use Rattle.ref_tiles.specs.declared.rulebook.Rules.{Rules}
+use Rattle.std.proofs.Common.{◌≡◌, ◌<◌, false, inr, sym, ap, ◌∙◌, arith}
 use Rattle.ref_board.specs.declared.directions.Dir.{Dir}
 use Rattle.ref_board.specs.Anchors.{follows_tile, precedes_tile}
 use Rattle.ref_board.specs.Lines.{other_dir}
-use Rattle.ref_play.specs.Crosses.{cross_score}
 use Rattle.gen_moves.proofs.Alone.{alone_scores_none}
 use Rattle.gen_moves.proofs.places.cross_factor.Goals as goal
 

@@ -1,4 +1,4 @@
-use Rattle.std.proofs.Common.{rules, ◌<◌, ℕ, arith}
+use Rattle.std.proofs.Common.{rules, arith}
 use Rattle.gen_cross.proofs.Filling.{values_more}
 use Rattle.gen_moves.specs.Starts.{IsStartOf}
 use Rattle.gen_moves.proofs.starts.all_starts.Goals as goal

@@ -11,7 +11,7 @@ returns-then-places-place c =
     let places = place_in c.args.places.now in
     let n = c.loop-place.place - c.args.first in
     let at : c.loop-place.place ≡ c.args.first + n = omega arith in
-    sum_bound c.args.bonus c.args.points places c.args.first n c.loop-place.sum c.bound.result (omega arith) c.loop-place.invariant.sum c.requires.small c.bound.ensures
+    sum_bound c.args.bonus c.args.points c.args.ones places c.args.first n c.loop-place.sum c.bound.result (omega arith) c.loop-place.invariant.sum c.requires.small c.bound.ensures
     (reach_stop places c.args.first n c.loop-place.place c.loop-place.sum at c.loop-place.invariant.sum c.if-sum-eq7.true c.if-places-place.true)
 
 pub with-sum-requires-clause-word : goal.with-sum-requires-clause-word
@@ -42,5 +42,5 @@ pub returns : goal.returns
 returns c =
     let places = place_in c.args.places.now in
     let n = c.loop-place.place - c.args.first in
-    sum_bound c.args.bonus c.args.points places c.args.first n c.loop-place.sum c.bound-2.result (omega arith) c.loop-place.invariant.sum c.requires.small c.bound-2.ensures
+    sum_bound c.args.bonus c.args.points c.args.ones places c.args.first n c.loop-place.sum c.bound-2.result (omega arith) c.loop-place.invariant.sum c.requires.small c.bound-2.ensures
     (λ len inside few. omega arith)

@@ -1,0 +1,107 @@
+//! The best plays before a line of a record, by the bytes of its inputs.
+ghost use Rattle.std.specs.Prelude.{◌≡◌, ◌≤◌, ◌∷◌, [], None};
+ghost use Rattle.std.specs.Option.{option_copied};
+ghost use Rattle.devices.specs.Devices.{HasRoom};
+ghost use Rattle.engine.specs.Runs.{IsRun};
+ghost use Rattle.engine.specs.Sources.{rules_source, words_source, lexicon_source, game_source, AreUntouched};
+ghost use Rattle.engine.specs.TopBefore.{given_rack, AreTopped, AreToppedByText};
+
+use crate::faults::RunFault;
+use crate::games::{decide_by_rules, decide_game};
+use crate::topping::decide_bad_rack;
+use crate::transfers::finish;
+use crate::turn_plays::turn_plays;
+use crate::verdicts::Verdict;
+use devices::{Input, Output};
+use ref_tiles::Rules;
+use std::alloc::Global;
+
+/// Writes the first `number` of the best plays by a rack on the board before a line of a record, by the words of a list and their
+/// lexicon; without a line, on the board after its last event.
+///
+/// Without the bytes of a rack, it is the one that the event on the line shows, or the first event behind it. Bytes that are not 1 to 7
+/// of A to Z and `?` are `BadRack`, and no input is read. Else the inputs are read as [`run`](crate::run) reads them. Where no event
+/// stands on the line or behind it, the verdict is `BadLine`, and where no rack is given or shown, `BadRack`. The events before the
+/// line are judged as `run` judges them; nothing is asked of the event on it and of those behind it. What is written is as
+/// [`run_top`](crate::run_top) writes it, with up to `number` plays in place of ten.
+///
+/// # Errors
+///
+/// `ReadFailed` and `WriteFailed` come only where that device failed, or a write took no byte; `NoMemory` where memory
+/// was refused. After `WriteFailed` a front of the text went out, after the other two nothing.
+pub fn run_top_before<W: Input, L: Input, G: Input, O: Output>(
+    alloc: Global,
+    words: &mut W,
+    lexicon: &mut L,
+    game: &mut G,
+    rack: Option<&[u8]>,
+    number: usize,
+    before: Option<u32>,
+    out: &mut O,
+    rules: &Rules,
+) -> Result<Verdict, RunFault>
+    requires number { number ≤ 100 }
+    requires words { HasRoom (W.device words.old) }
+    requires lexicon { HasRoom (L.device lexicon.old) }
+    requires game { HasRoom (G.device game.old) }
+    requires out { HasRoom (O.device out.old) }
+
+    ensures run { IsRun (words_source (W.device words.old) (W.device words.new)
+        ∷ lexicon_source (L.device lexicon.old) (L.device lexicon.new) ∷ game_source (G.device game.old) (G.device game.new) ∷ [])
+        (AreTopped number before rules.now (option_copied rack.entry)) (O.device out.old) (O.device out.new) result }
+
+    // No input is read behind bytes that are no rack.
+    ensures bad_rack { given_rack (option_copied rack.entry) ≡ None → AreUntouched (words_source (W.device words.old) (W.device words.new)
+        ∷ lexicon_source (L.device lexicon.old) (L.device lexicon.new) ∷ game_source (G.device game.old) (G.device game.new) ∷ []) }
+{
+    let Some(question) = turn_plays(rack, number, before) else {
+        let refused = decide_bad_rack(alloc);
+        return finish(out, refused);
+    };
+    let decided = decide_game(alloc, &question, rules, words, lexicon, game);
+    finish(out, decided)
+}
+
+/// Writes the best plays before a line as [`run_top_before`] does, by the rules that a text states.
+///
+/// Where the bytes are no rack, that is the verdict, and no input is read. Else the rules text is read before all other inputs,
+/// as [`run_ruled`](crate::run_ruled) reads it; where it gives no rules, that is the verdict, and no other input is read.
+///
+/// # Errors
+///
+/// `ReadFailed` and `WriteFailed` come only where that device failed, or a write took no byte; `NoMemory` where memory
+/// was refused. After `WriteFailed` a front of the text went out, after the other two nothing.
+pub fn run_top_before_ruled<R: Input, W: Input, L: Input, G: Input, O: Output>(
+    alloc: Global,
+    rules_text: &mut R,
+    words: &mut W,
+    lexicon: &mut L,
+    game: &mut G,
+    rack: Option<&[u8]>,
+    number: usize,
+    before: Option<u32>,
+    out: &mut O,
+) -> Result<Verdict, RunFault>
+    requires number { number ≤ 100 }
+    requires rules_text { HasRoom (R.device rules_text.old) }
+    requires words { HasRoom (W.device words.old) }
+    requires lexicon { HasRoom (L.device lexicon.old) }
+    requires game { HasRoom (G.device game.old) }
+    requires out { HasRoom (O.device out.old) }
+
+    ensures run { IsRun (rules_source (R.device rules_text.old) (R.device rules_text.new) ∷ words_source (W.device words.old) (W.device words.new)
+        ∷ lexicon_source (L.device lexicon.old) (L.device lexicon.new) ∷ game_source (G.device game.old) (G.device game.new) ∷ [])
+        (AreToppedByText number before (option_copied rack.entry)) (O.device out.old) (O.device out.new) result }
+
+    // No input is read behind bytes that are no rack.
+    ensures bad_rack { given_rack (option_copied rack.entry) ≡ None → AreUntouched (rules_source (R.device rules_text.old) (R.device rules_text.new)
+        ∷ words_source (W.device words.old) (W.device words.new)
+        ∷ lexicon_source (L.device lexicon.old) (L.device lexicon.new) ∷ game_source (G.device game.old) (G.device game.new) ∷ []) }
+{
+    let Some(question) = turn_plays(rack, number, before) else {
+        let refused = decide_bad_rack(alloc);
+        return finish(out, refused);
+    };
+    let decided = decide_by_rules(alloc, &question, rules_text, words, lexicon, game);
+    finish(out, decided)
+}

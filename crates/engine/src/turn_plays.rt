@@ -1,0 +1,168 @@
+//! The best plays before a line of a record.
+ghost use Rattle.std.specs.Prelude.{◌≡◌, ◌≤◌, Some, None, length, IfOk, IfSome};
+ghost use Rattle.std.specs.Option.{option_copied};
+ghost use Rattle.game_report.specs.TopPlays.{TellsFirst};
+ghost use Rattle.lex_check.specs.Pairs.{list_in};
+ghost use Rattle.engine.specs.declared.verdicts.Verdict.TheVariants as verdict;
+ghost use Rattle.engine.specs.TopBefore.{rack_asked, shown_rack, given_rack, ByRackAsked, ByPlaceAsked, IsToppedBefore};
+
+use crate::boards::{bad_line, place_asked};
+use crate::decisions::Decision;
+use crate::judging::illegal;
+use crate::questions::Question;
+use crate::topping::bad_rack;
+use crate::verdicts::{GameFault, Verdict};
+use game_report::best_lines;
+use game_turns::board_before;
+use gcg_read::{Event, Record, read_rack};
+use lex_check::Checked;
+use ref_board::Board;
+use ref_tiles::{Counts, Rules};
+use std::alloc::{AllocError, Global};
+
+/// The best plays by a rack on the board before a line of the record.
+#[derive(Clone, Copy, Debug)]
+pub struct TurnPlays {
+    /// The tiles of the rack; without them the rack is the one that the line shows.
+    pub rack: Option<Counts>,
+    /// How many plays are given at the most.
+    pub number: usize,
+    /// The line; without one the board is that after the last event.
+    pub before: Option<u32>,
+    ghost few: { number ≤ 100 },
+}
+
+/// The question by the bytes of a rack, or by none; none where the bytes are no rack.
+pub(crate) fn turn_plays(
+    rack: Option<&[u8]>,
+    number: usize,
+    before: Option<u32>,
+) -> Option<TurnPlays>
+    requires { number ≤ 100 }
+    ensures rack { IfSome result (λ question. given_rack (option_copied rack.entry) ≡ Some question.rack) }
+    ensures number { IfSome result (λ question. question.number ≡ number) }
+    ensures before { IfSome result (λ question. question.before ≡ before) }
+    ensures none { result ≡ None → given_rack (option_copied rack.entry) ≡ None }
+{
+    let rack = match rack {
+        None => None,
+        Some(bytes) => Some(read_rack(bytes)?),
+    };
+    Some(TurnPlays {
+        rack,
+        number,
+        before,
+    })
+}
+
+/// The rack of an event, where it shows one.
+fn shown_rack(event: Option<&Event>) -> Option<Counts>
+    ensures { result ≡ shown_rack (option_copied event.entry) }
+{
+    match event {
+        Some(event) => event.rack,
+        None => None,
+    }
+}
+
+/// The rack that is asked about.
+fn rack_asked(given: Option<Counts>, event: Option<&Event>) -> Option<Counts>
+    ensures { result ≡ rack_asked given (option_copied event.entry) }
+{
+    match given {
+        Some(rack) => Some(rack),
+        None => shown_rack(event),
+    }
+}
+
+/// The best plays by a rack on a board.
+fn tell_first(
+    alloc: Global,
+    rules: &Rules,
+    pair: &Checked<'_>,
+    board: &Board,
+    rack: &Counts,
+    number: usize,
+) -> Result<Decision, AllocError>
+    requires { number ≤ 100 }
+    ensures { IfOk result (λ d. (d.verdict ≡ verdict.Done) × TellsFirst number rules.now (list_in pair.now) board.now rack.now d.report.items) }
+{
+    let report = best_lines(alloc, rules, pair, board, rack, number)?;
+    Ok(Decision {
+        verdict: Verdict::Done,
+        report,
+    })
+}
+
+/// The best plays by a rack on the board before a place, or the verdict that an event before it is not allowed.
+fn tell_before(
+    alloc: Global,
+    rules: &Rules,
+    pair: &Checked<'_>,
+    game: &Record,
+    place: usize,
+    rack: &Counts,
+    number: usize,
+) -> Result<Decision, AllocError>
+    requires number { number ≤ 100 }
+    requires place { place ≤ length game.now.events }
+    ensures { IfOk result (λ d. ByRackAsked number rules.now (list_in pair.now) game.now place (Some rack.now) d.verdict d.report.items) }
+{
+    match board_before(rules, game.events.as_slice(), pair.list(), place) {
+        Ok(board) => tell_first(alloc, rules, pair, &board, rack, number),
+        Err(refusal) => illegal(alloc, refusal.line, GameFault::Rule(refusal.fault)),
+    }
+}
+
+/// The same by the rack that is asked about; where there is none, that is the verdict.
+fn tell_by_rack(
+    alloc: Global,
+    rules: &Rules,
+    pair: &Checked<'_>,
+    game: &Record,
+    place: usize,
+    question: &TurnPlays,
+) -> Result<Decision, AllocError>
+    requires { place ≤ length game.now.events }
+    ensures { IfOk result (λ d. ByPlaceAsked question.now.number rules.now (list_in pair.now) game.now question.now.rack (Some place) d.verdict d.report.items) }
+{
+    match rack_asked(question.rack, game.events.as_slice().get(place)) {
+        Some(rack) => tell_before(alloc, rules, pair, game, place, &rack, question.number),
+        None => bad_rack(alloc),
+    }
+}
+
+/// The same before the line that is asked about; where there is none, that is the verdict.
+fn tell_by_line(
+    alloc: Global,
+    rules: &Rules,
+    pair: &Checked<'_>,
+    game: &Record,
+    question: &TurnPlays,
+) -> Result<Decision, AllocError>
+    ensures { IfOk result (λ d. IsToppedBefore question.now.number question.now.before rules.now (list_in pair.now) question.now.rack game.now d.verdict d.report.items) }
+{
+    match place_asked(game.events.as_slice(), question.before) {
+        Some(place) => tell_by_rack(alloc, rules, pair, game, place, question),
+        None => bad_line(alloc),
+    }
+}
+
+impl Question for TurnPlays {
+    ghost use Rattle.engine.specs.TopBefore.{IsToppedBefore};
+    ghost use Rattle.engine.specs.OwnVerdicts.{topped_before_own};
+
+    ghost is_answer = { λ question rules words game v report. IsToppedBefore question.number question.before rules words question.rack game v report };
+
+    fn answer(
+        &self,
+        alloc: Global,
+        rules: &Rules,
+        pair: &Checked<'_>,
+        game: &Record,
+    ) -> Result<Decision, AllocError> {
+        tell_by_line(alloc, rules, pair, game, self)
+    }
+
+    ghost own = { λ question rules words game v report is. topped_before_own question.number question.before rules words question.rack game v report is };
+}
