@@ -11,7 +11,7 @@ use crate::sheets::Sheet;
 use crate::words::push_words;
 use engine::{Case, Finding, GameFault, case_line};
 use game_board::{Laying, lay_plays, place_of_line};
-use game_facts::replay;
+use game_turns::play_events;
 use gcg_read::{Event, EventKind, ReadFault};
 use lex_list::WordList;
 use ref_tiles::Rules;
@@ -143,10 +143,10 @@ fn push_judged<'a>(
     place: usize,
 ) -> Result<(), AllocError> {
     let events = sheet.events();
-    let reached = replay(sheet.rules, events, sheet.list, place);
-    if reached.place < place {
-        return push_not_judged(text, events.get(reached.place));
-    }
+    let machine = match play_events(sheet.rules, events, sheet.list, place.min(events.len())) {
+        Ok(machine) => machine,
+        Err(refusal) => return push_not_judged(text, refusal.line),
+    };
     match sheet.finding {
         Finding::Illegal { line, fault } if *line == event.line => match fault {
             GameFault::Rule(rule) => {
@@ -154,7 +154,7 @@ fn push_judged<'a>(
                     sheet: *sheet,
                     past: events.get(..place).unwrap_or(&[]),
                     event,
-                    machine: &reached.machine,
+                    machine: &machine,
                 };
                 push_rule_fault(alloc, text, &scene, rule)
             }
@@ -165,15 +165,12 @@ fn push_judged<'a>(
 }
 
 /// Appends that an event was not judged, since one before it is not allowed.
-fn push_not_judged(text: &mut Vec<u8>, refused: Option<&Event>) -> Result<(), AllocError> {
-    let Some(event) = refused else {
-        return Ok(());
-    };
+fn push_not_judged(text: &mut Vec<u8>, refused: u32) -> Result<(), AllocError> {
     say(
         text,
         &[
             Part::Say("The rules do not allow line "),
-            Part::Line(event.line),
+            Part::Line(refused),
             Part::Say(", so this line was not judged.\n"),
         ],
     )

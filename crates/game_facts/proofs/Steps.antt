@@ -1,25 +1,15 @@
--- One event, one symbol and one spot more.
-use Rattle.std.proofs.Common.{◌≡◌, ℕ, ℤ, ◌+◌, Bool, true, false, List, [], ◌∷◌, ◌++◌, Option, Some, refl, sym, ap, ◌∙◌}
+-- One spot more.
+use Rattle.std.proofs.Common.{◌≡◌, ℕ, ℤ, ◌+◌, Bool, true, false, List, [], ◌∷◌, ◌++◌, Option, refl, sym, ap, ◌∙◌}
 use Rattle.std.proofs.lemmas.List.{append-nil, append_assoc}
 use Rattle.std.proofs.lemmas.List.Elements.{filter-append}
-use Rattle.std.specs.Prelude.{IsSome, filter, if◌then◌else◌}
+use Rattle.std.specs.Prelude.{filter, if◌then◌else◌}
 use Rattle.ref_tiles.specs.declared.tiles.Tile.{Tile}
 use Rattle.ref_tiles.specs.declared.symbols.Symbol.{Symbol}
 use Rattle.ref_tiles.specs.declared.rulebook.Rules.{Rules}
 use Rattle.ref_board.specs.declared.directions.Dir.{Dir}
 use Rattle.ref_play.proofs.Ranges.{map_range_more}
-use Rattle.gcg_read.specs.declared.events.Event.{Event}
-use Rattle.game_turns.specs.declared.faults.RuleFault.{RuleFault}
-use Rattle.game_turns.specs.Places.{fault_at}
 use Rattle.game_facts.specs.declared.spots.Spot.{Spot}
 use Rattle.game_facts.specs.Spots.{scores_at, spots_along, scoring_along}
-
--- ---- refusals
-
-pub refused_there : (rules : Rules) (list : List (List ℕ)) (events : List Event) (place : ℕ) (why : RuleFault) → fault_at rules list events place ≡ Some why → IsSome (fault_at rules list events place)
-refused_there rules list events place why is = rw is refl
-
--- ---- spots
 
 filter_one : (f : Spot → Bool) (s : Spot) (b : Bool) → f s ≡ b → filter f (s ∷ []) ≡ (if b then s ∷ [] else [])
 filter_one f s true is = rw is refl

@@ -3,5 +3,4 @@ pub mod Laws
 pub mod Texts
 pub mod Spots
 pub mod Totals
-pub mod Replays
 pub mod Lines

@@ -1,10 +1,9 @@
-//! Facts about one line of a record, as values: the words of a play with what each of their squares adds, where a text does not
-//! agree with the board, where the same text has a score, which turn a total leaves out, and the game as it stands before a line.
+//! Facts about one line of a record, as values: the line as it stands in its text, the words of a play with what each of their squares
+//! adds, where a text does not agree with the board, where the same text has a score, and which turn a total leaves out.
 #![tactic(auto)]
 
 mod laws;
 mod lines;
-mod replays;
 mod spots;
 mod texts;
 mod totals;
@@ -12,7 +11,6 @@ mod words;
 
 pub use laws::law_of_sums;
 pub use lines::line_of;
-pub use replays::{Reached, replay};
 pub use spots::{Spot, scoring_spots};
 pub use texts::{first_misfit, new_tiles};
 pub use totals::latest_with;
