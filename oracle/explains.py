@@ -157,7 +157,7 @@ def mismatch(scene):
 def not_whole(scene):
     event, board, told = scene.event, scene.game.board, ""
     first, last, (down, right) = event.at, squares_of(event)[-1], event.direction
-    for square, side in (((first[0] - down, first[1] - right), "before"), ((last[0] + down, last[1] + right), "behind")):
+    for square, side in (((first[0] - down, first[1] - right), "before"), ((last[0] + down, last[1] + right), "after")):
         if square in board:
             told += f"The tile {board[square].upper()} on {square_name(square)} is directly {side} the play.\n"
     return told + "The line has to name the whole word.\n"
@@ -380,7 +380,7 @@ def field_text(written, why):
     fields = [it for it in re.split(b"[ \t]+", written.partition(b":")[2].strip(BLANKS)) if it]
     if why == "Fields":
         many = f"is {len(fields)} field" if len(fields) == 1 else "are more than 5 fields" if len(fields) > 5 else f"are {len(fields)} fields"
-        return f"There {many} behind the colon, and an event has 3 to 5.\n".encode()
+        return f"There {many} after the colon, and an event has 3 to 5.\n".encode()
     if why == "Rack":
         return fields[0] + b" is no rack: that is 1 to 7 tiles, each A to Z or ?.\n"
     if why == "Position":
@@ -458,7 +458,7 @@ def whole_text(verdict, events):
 
 
 def explained(verdict, game, players, events, lines, listed, rules=ENGLISH, asked=None):
-    """What is to be printed of a record with this settled verdict line, or of the event on a line or behind it."""
+    """What is to be printed of a record with this settled verdict line, or of the event on a line or after it."""
     illegal = re.match("illegal line ([0-9]+):", verdict)
     wanted = asked if asked is not None else int(illegal[1]) if illegal else None
     if wanted is None:

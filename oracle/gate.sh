@@ -36,6 +36,7 @@ if [ -x "$program" ]; then
     part oracle/program.py "$program"
     part oracle/manual.py "$program"
     part oracle/pages.py "$program"
+    part oracle/sentences.py "$program"
     part oracle/releases.py "$program"
     part oracle/compare_records.py "$program" 1000 "$seed"
     part oracle/compare_games.py "$program" 200 "$seed"

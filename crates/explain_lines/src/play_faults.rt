@@ -142,7 +142,7 @@ fn push_not_whole(text: &mut Vec<u8>, board: &Board, play: &Written<'_>) -> Resu
     }
     if end < SIDE && precedes_tile(board, play.dir, play.at, play.word.len().min(SIDE)) {
         let square = Square::on_line(play.dir, line, end);
-        push_beside(text, board, square, "behind")?;
+        push_beside(text, board, square, "after")?;
     }
     text.extend_from_slice(b"The line has to name the whole word.\n")
 }

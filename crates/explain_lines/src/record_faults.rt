@@ -145,7 +145,7 @@ fn push_fields(text: &mut Vec<u8>, written: &[u8]) -> Result<(), AllocError> {
     let many = many_fields(after_colon(written));
     if many > 5 {
         return text.extend_from_slice(
-            b"There are more than 5 fields behind the colon, and an event has 3 to 5.\n",
+            b"There are more than 5 fields after the colon, and an event has 3 to 5.\n",
         );
     }
     say(
@@ -155,7 +155,7 @@ fn push_fields(text: &mut Vec<u8>, written: &[u8]) -> Result<(), AllocError> {
             Part::Many(many),
             Part::Say(" field"),
             plural(many),
-            Part::Say(" behind the colon, and an event has 3 to 5.\n"),
+            Part::Say(" after the colon, and an event has 3 to 5.\n"),
         ],
     )
 }

@@ -111,7 +111,7 @@ const PLAYS: [Row; 11] = [
         words: "WORD",
         game: ">A: DORWAAE 8E WORD +16 16\n>B: 8D S +0 0\n",
         line: None,
-        head: "illegal line 2: NotWhole\nline 2: >B: 8D S +0 0\nThe tile W on 8E is directly behind the play.\nThe line has to name the whole word.\n",
+        head: "illegal line 2: NotWhole\nline 2: >B: 8D S +0 0\nThe tile W on 8E is directly after the play.\nThe line has to name the whole word.\n",
     },
     Row {
         words: "WORD",
@@ -453,19 +453,19 @@ const RECORDS: [Row; 18] = [
         words: "AT",
         game: ">A: 8E\n",
         line: None,
-        head: "bad record line 1: Fields\nline 1: >A: 8E\nThere is 1 field behind the colon, and an event has 3 to 5.\n",
+        head: "bad record line 1: Fields\nline 1: >A: 8E\nThere is 1 field after the colon, and an event has 3 to 5.\n",
     },
     Row {
         words: "AT",
         game: ">A: 8E WORD\n",
         line: None,
-        head: "bad record line 1: Fields\nline 1: >A: 8E WORD\nThere are 2 fields behind the colon, and an event has 3 to 5.\n",
+        head: "bad record line 1: Fields\nline 1: >A: 8E WORD\nThere are 2 fields after the colon, and an event has 3 to 5.\n",
     },
     Row {
         words: "AT",
         game: ">A: A 8E WORD +1 1 1\n",
         line: None,
-        head: "bad record line 1: Fields\nline 1: >A: A 8E WORD +1 1 1\nThere are more than 5 fields behind the colon, and an event has 3 to 5.\n",
+        head: "bad record line 1: Fields\nline 1: >A: A 8E WORD +1 1 1\nThere are more than 5 fields after the colon, and an event has 3 to 5.\n",
     },
     Row {
         words: "AT",
@@ -525,7 +525,7 @@ const RECORDS: [Row; 18] = [
         words: "AT",
         game: "#note\n>Ann: - +0\n",
         line: None,
-        head: "bad record line 2: Fields\nline 2: >Ann: - +0\nThere are 2 fields behind the colon, and an event has 3 to 5.\n",
+        head: "bad record line 2: Fields\nline 2: >Ann: - +0\nThere are 2 fields after the colon, and an event has 3 to 5.\n",
     },
 ];
 
@@ -696,7 +696,7 @@ const ASKED: [(Exit, Row); 10] = [
             words: "AT",
             game: ">A: - +0\n",
             line: Some(7),
-            head: "bad record line 1: Fields\nline 1: >A: - +0\nThere are 2 fields behind the colon, and an event has 3 to 5.\n",
+            head: "bad record line 1: Fields\nline 1: >A: - +0\nThere are 2 fields after the colon, and an event has 3 to 5.\n",
         },
     ),
 ];
