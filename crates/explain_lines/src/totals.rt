@@ -37,9 +37,7 @@ pub fn push_wrong_total(
 /// Appends the turn that a total leaves out, where it is right but for that one.
 fn push_left_out(text: &mut Vec<u8>, scene: &Scene<'_, '_>, short: i32) -> Result<(), AllocError> {
     if scene.event.score.value() == short {
-        return text.extend_from_slice(
-            b"The written total leaves out the score of this line.\n",
-        );
+        return text.extend_from_slice(b"The written total leaves out the score of this line.\n");
     }
     match latest_with(scene.past, scene.event.player, short) {
         None => Ok(()),

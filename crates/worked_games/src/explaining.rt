@@ -21,7 +21,13 @@ struct Row {
 
 /// What explains a record or one of its lines, and how the program ends after it. Read one by one, the bytes come to the same.
 fn explained(rt: &impl Abort, alloc: Global, rules: &Rules, row: &Row) -> (Exit, Vec<u8>) {
-    let told = explained_by(rt, alloc, rules, row, Pieces::new(row.game.as_bytes(), usize::MAX));
+    let told = explained_by(
+        rt,
+        alloc,
+        rules,
+        row,
+        Pieces::new(row.game.as_bytes(), usize::MAX),
+    );
     let again = explained_by(rt, alloc, rules, row, Pieces::new(row.game.as_bytes(), 1));
     assert_eq!(rt; again.0, told.0);
     assert_eq!(rt; again.1.as_slice(), told.1.as_slice());
@@ -58,7 +64,11 @@ fn explain(rt: &impl Abort, alloc: Global, rules: &Rules, exit: Exit, row: &Row)
     let front = text.as_slice().get(..want.len()).unwrap_or(b"");
     assert_eq!(rt; front, want, "{}", row.head);
     let behind = text.as_slice().get(want.len()..).unwrap_or(b"");
-    assert!(rt; behind.is_empty() || behind.starts_with(b"board before line "), "{}", row.head);
+    assert!(rt;
+        behind.is_empty() || behind.starts_with(b"board before line "),
+        "{}",
+        row.head
+    );
     assert_eq!(rt; ended, exit, "{}", row.head);
 }
 
@@ -375,7 +385,13 @@ const CHALLENGES: [Row; 10] = [
 
 #[test]
 fn challenges(rt: HostRuntime) {
-    explain_all(&rt, rt.alloc(), &english_rules(), Exit::Illegal, &CHALLENGES);
+    explain_all(
+        &rt,
+        rt.alloc(),
+        &english_rules(),
+        Exit::Illegal,
+        &CHALLENGES,
+    );
 }
 
 /// Racks that cannot be dealt.
@@ -523,7 +539,7 @@ const RECORDS: [Row; 18] = [
     },
     Row {
         words: "AT",
-        game: "#note\n>Ann: - +0\n",
+        game: "#note\r\n>Ann: - +0\r\n",
         line: None,
         head: "bad record line 2: Fields\nline 2: >Ann: - +0\nThere are 2 fields after the colon, and an event has 3 to 5.\n",
     },
@@ -592,14 +608,12 @@ fn last_racks(rt: HostRuntime) {
 /// Three more tiles.
 const SPARE: &[u8] = b"AADEEINOOOORRSTTW";
 
-const EXCHANGES: [Row; 1] = [
-    Row {
-        words: "AT",
-        game: ">A: -5 +0 0\n",
-        line: None,
-        head: "illegal line 1: ExchangeSize\nline 1: >A: -5 +0 0\n5 tiles cannot be exchanged: A has 7, and the bag has 3.\n",
-    },
-];
+const EXCHANGES: [Row; 1] = [Row {
+    words: "AT",
+    game: ">A: -5 +0 0\n",
+    line: None,
+    head: "illegal line 1: ExchangeSize\nline 1: >A: -5 +0 0\n5 tiles cannot be exchanged: A has 7, and the bag has 3.\n",
+}];
 
 #[test]
 fn exchanges(rt: HostRuntime) {
@@ -763,8 +777,16 @@ fn repeated(rt: &impl Abort, alloc: Global, line: &[u8], times: usize) -> Vec<u8
 
 /// Records with too many bytes and too many events, by the line that is repeated and how often.
 const TOO_LONG: [(&str, usize, &str); 2] = [
-    ("\n", 1_048_577, "bad record: TooLong\nThe file has more than 1,048,576 bytes, and no game record is as long. Was another file named?\n"),
-    (">A: (time) -5 0\n", 1_001, "bad record line 1001: TooManyEvents\nline 1001: >A: (time) -5 0\nThis is event 1,001, and a record has 1,000 at the most.\n"),
+    (
+        "\n",
+        1_048_577,
+        "bad record: TooLong\nThe file has more than 1,048,576 bytes, and no game record is as long. Was another file named?\n",
+    ),
+    (
+        ">A: (time) -5 0\n",
+        1_001,
+        "bad record line 1001: TooManyEvents\nline 1001: >A: (time) -5 0\nThis is event 1,001, and a record has 1,000 at the most.\n",
+    ),
 ];
 
 #[test]
