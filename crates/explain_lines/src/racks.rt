@@ -91,9 +91,8 @@ fn push_too_big(
 
 /// Where a player's tiles begin to be known at the last of some steps: behind the last exchange of unknown tiles before it.
 fn epoch_of(steps: &[Step], player: Seat) -> usize {
-    let before = match steps.split_last() {
-        None => steps,
-        Some((_, before)) => before,
+    let Some((_, before)) = steps.split_last() else {
+        return 0;
     };
     let mut first = 0;
     for (k, step) in before.iter().enumerate() {
@@ -201,23 +200,33 @@ fn push_kind_lines(
     let first = epoch_of(steps, Seat::First);
     let second = epoch_of(steps, Seat::Second);
     for (k, step) in steps.iter().enumerate() {
-        let from = match holder_of(step) {
-            Seat::First => first,
-            Seat::Second => second,
-        };
+        let from = start_of(holder_of(step), first, second);
         push_kind_line(text, sheet, step, kind, k >= from)?;
     }
     Ok(())
 }
 
+/// Where a player's tiles begin to be known, of the places of both.
+fn start_of(player: Seat, first: usize, second: usize) -> usize {
+    match player {
+        Seat::First => first,
+        Seat::Second => second,
+    }
+}
+
+/// How many tiles of a kind a turn puts on the board for good.
+fn laid_by(motion: &Motion, kind: Kind) -> usize {
+    match motion {
+        Motion::Lays { used, .. } => used.count(kind) as usize,
+        Motion::Keeps | Motion::Tries(_) | Motion::Throws(_) | Motion::ThrowsUnknown(_) => 0,
+    }
+}
+
 /// How many tiles of a kind a step puts on the board for good.
 fn played_of(step: &Step, kind: Kind) -> usize {
     match &step.act {
-        Act::Turns {
-            motion: Motion::Lays { used, .. },
-            ..
-        } => used.count(kind) as usize,
-        _ => 0,
+        Act::Turns { motion, .. } => laid_by(motion, kind),
+        Act::TakesBack(_) | Act::Ends { .. } | Act::Rests => 0,
     }
 }
 

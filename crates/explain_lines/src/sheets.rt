@@ -32,10 +32,9 @@ impl<'a> Sheet<'a> {
             Seat::First => self.record.players.first.nick.as_bytes(),
             Seat::Second => self.record.players.second.nick.as_bytes(),
         };
-        if nick.is_empty() {
-            b"the other player"
-        } else {
-            nick
+        if !nick.is_empty() {
+            return nick;
         }
+        b"the other player"
     }
 }
