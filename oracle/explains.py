@@ -13,7 +13,7 @@ PREMIUMS = {"DL": ", double letter", "TL": ", triple letter", "DW": ", double wo
 FACTORS = {"DL": 2, "TL": 3, "DW": 2, "TW": 3}
 COLUMNS = "ABCDEFGHIJKLMNO"
 LEGEND = "= triple word, - double word, \" triple letter, ' double letter\nsmall letters are blanks\n"
-OTHER_LIST = "Perhaps the game was played by another word list.\n"
+OTHER_LIST = "Perhaps the game was played with another word list.\n"
 
 
 def count(many, noun):
@@ -130,7 +130,7 @@ def spots_text(scene):
     if not found:
         return ""
     found = listed or found
-    where = in_words(found) if len(found) <= 3 else f"{', '.join(found[:3])} and in {count(len(found) - 3, 'more place')}"
+    where = in_words(found) if len(found) <= 3 else f"{', '.join(found[:3])} and {count(len(found) - 3, 'other place')}"
     return f"The same letters score {event.score} at {where}.\n"
 
 
@@ -170,17 +170,17 @@ def new_tiles(scene):
 PLAY_FAULTS = {
     "OffBoard": off_board,
     "Mismatch": mismatch,
-    "NoNewTile": lambda scene: "Every square of the play has a tile already: no tile is new.\n",
-    "TooManyTiles": lambda scene: f"The play puts down {new_tiles(scene)} tiles, and a rack has 7 at the most.\n",
+    "NoNewTile": lambda scene: "Every square of the play already has a tile, so no tile is new.\n",
+    "TooManyTiles": lambda scene: f"The play puts down {new_tiles(scene)} tiles, and a rack has 7 at most.\n",
     "NotWhole": not_whole,
     "MissesCentre": lambda scene: "The first play of a game has to cover 8H, and this one does not.\n",
     "TooShort": lambda scene: "The play makes no word of two letters or more.\n",
-    "Apart": lambda scene: "No tile of the play touches a tile that is on the board already.\n",
+    "Apart": lambda scene: "No tile of the play touches a tile that is already on the board.\n",
 }
 
 
 def wrong_score(scene, right):
-    event, written = scene.event, f"{right}, and {scene.event.score} is written.\n"
+    event, written = scene.event, f"{right}, but {scene.event.score} is written.\n"
     if event.kind == "play":
         return f"The play scores {written}{spots_text(scene)}"
     if event.kind == "rack":
@@ -192,7 +192,7 @@ def wrong_score(scene, right):
 
 def wrong_total(scene, right):
     event = scene.event
-    told = f"{scene.nick} had {scene.game.totals[event.player]} and scores {event.score} on this line, which makes {right}; {event.total} is written.\n"
+    told = f"{scene.nick} had {scene.game.totals[event.player]} and scores {event.score} on this line, which makes {right}, but {event.total} is written.\n"
     short = right - event.total
     if event.score == short:
         return told + "The written total leaves out the score of this line.\n"
@@ -206,14 +206,14 @@ def nothing_to_withdraw(scene):
     play = scene.play_before()
     if play and play.player != scene.event.player:
         return f"The play on line {scene.lines[len(scene.past) - 1]} is {scene.other}'s, so {scene.nick} cannot take it back.\n"
-    what = "The event before this one is no play" if scene.past else "This is the first event"
+    what = "The event before this one is not a play" if scene.past else "This is the first event"
     return f"{what}, so there is nothing to take back.\n"
 
 
 def bad_bonus(scene):
     play, rules = scene.play_before(), scene.game.rules
     if not play:
-        what = "The event before this one is no play" if scene.past else "This is the first event"
+        what = "The event before this one is not a play" if scene.past else "This is the first event"
         return f"{what}, so there is nothing to challenge.\n"
     if play.player != scene.event.player:
         return f"The play on line {scene.lines[len(scene.past) - 1]} is {scene.other}'s, so its bonus cannot go to {scene.nick}.\n"
@@ -221,7 +221,7 @@ def bad_bonus(scene):
     amounts = in_words([str(rules.challenge_unit * k) for k in range(1, listed + 1)], "or")
     are = "word of the play is" if listed == 1 else "words of the play are"
     front = f"A bonus is {rules.challenge_unit} points for each challenged word that is in the word list."
-    return f"{front} {listed} {are}, so the bonus can be {amounts}, and {scene.event.score} is written.\n"
+    return f"{front} {listed} {are}, so the bonus can be {amounts}, but {scene.event.score} is written.\n"
 
 
 def game_over(scene):
@@ -251,18 +251,18 @@ def bad_time(scene):
     player = scene.event.player
     if scene.game.timed[player]:
         line = next(line for line, it in zip(scene.lines, scene.past) if it.kind == "time" and it.player == player)
-        return f"{scene.nick} has a penalty for time already, on line {line}, and a player has one at the most.\n"
-    return f"A penalty for time is a negative multiple of {scene.game.rules.time_step}, and {scene.event.score} is written.\n"
+        return f"{scene.nick} already has a penalty for time, on line {line}, and a player has one at most.\n"
+    return f"A penalty for time is a negative multiple of {scene.game.rules.time_step}, but {scene.event.score} is written.\n"
 
 
 def not_your_turn(scene):
     if scene.event.kind == "rack":
         return f"{scene.other} is out, so {scene.nick}'s last rack has to be on a line of {scene.other}, who gets the points.\n"
-    return f"It is {scene.other}'s turn, and not {scene.nick}'s.\n"
+    return f"It is {scene.other}'s turn, not {scene.nick}'s.\n"
 
 
 def exchange_refused(scene):
-    return f"The bag has {count(scene.game.bag, 'tile')}, and an exchange needs {scene.game.rules.exchange_min} in the bag.\n"
+    return f"The bag has {count(scene.game.bag, 'tile')}, but an exchange is allowed only while it has {scene.game.rules.exchange_min} or more.\n"
 
 
 def exchange_size(scene):
@@ -281,7 +281,7 @@ def withdrawn_valid(scene):
 
 def bonus_on_phony(scene):
     line, words = scene.lines[len(scene.past) - 1], in_words(scene.words_before())
-    return f"The challenge of line {line} succeeds, since none of its words is in the word list: {words}.\n{OTHER_LIST}"
+    return f"The challenge of the play on line {line} succeeds, since none of its words is in the word list: {words}.\n{OTHER_LIST}"
 
 
 RULE_FAULTS = {
@@ -322,7 +322,7 @@ def must_have(places, player, now):
 def rack_too_big(places, now, lines, nicks):
     holder = places[now].holder
     must, size = must_have(places, holder, now), places[now].racks[holder]
-    told = [f"{nicks[holder]} has {count(size, 'tile')} here, but by what the lines show the rack must have {must.total()}: {tiles_text(must)}."]
+    told = [f"{nicks[holder]} has {count(size, 'tile')} here, but by the lines below the rack would have to hold {must.total()}: {tiles_text(must)}."]
     for k in range(epoch(places, holder, now), now + 1):
         it = places[k]
         if it.holder == holder and it.need.total():
@@ -336,7 +336,7 @@ def tiles_short(places, now, lines, nicks, kind, rules):
     laid = sum(it.used[kind] for it in places[:now] if it.stands)
     first, second = (must_have(places, player, now)[kind] for player in (0, 1))
     told = [
-        f"Of the tile {kind} the game has {rules.tiles[kind]}, but by what the lines show there must be {laid + first + second}: "
+        f"The game has {rules.tiles[kind]} of the tile {kind}, but by the lines below there would have to be {laid + first + second}: "
         f"{laid} on the board, {first} on {nicks[0]}'s rack and {second} on {nicks[1]}'s."
     ]
     for k, it in enumerate(places[: now + 1]):
@@ -380,24 +380,24 @@ def field_text(written, why):
     fields = [it for it in re.split(b"[ \t]+", written.partition(b":")[2].strip(BLANKS)) if it]
     if why == "Fields":
         many = f"is {len(fields)} field" if len(fields) == 1 else "are more than 5 fields" if len(fields) > 5 else f"are {len(fields)} fields"
-        return f"There {many} after the colon, and an event has 3 to 5.\n".encode()
+        return f"There {many} after the colon, but an event has 3 to 5.\n".encode()
     if why == "Rack":
-        return fields[0] + b" is no rack: that is 1 to 7 tiles, each A to Z or ?.\n"
+        return fields[0] + b" is not a rack: a rack is 1 to 7 tiles, each A to Z or ?.\n"
     if why == "Position":
-        return fields[-4] + b" is no position: that is a row from 1 to 15 and a column from A to O, in either order.\n"
+        return fields[-4] + b" is not a position: a position is a row from 1 to 15 and a column from A to O, in either order.\n"
     if why == "Word":
-        return fields[-3] + b" is no word of a play: that is 1 to 15 letters and dots.\n"
+        return fields[-3] + b" cannot be the word of a play: a word is 1 to 15 letters and dots.\n"
     if why == "Code":
         what = b"a play with its position, word, score and total, or one of the codes -, --, -TILES, -NUMBER, (challenge), (time) and (TILES)"
-        return fields[-3] + b" is no event: that is " + what + b".\n"
+        return fields[-3] + b" is not an event: an event is " + what + b".\n"
     bad = -2 if number(fields[-2]) is None else -1
     what = b"score" if bad == -2 else b"total"
-    return b"The " + what + b" " + fields[bad] + b" is no number of 1 to 6 digits, with or without a sign.\n"
+    return b"The " + what + b" " + fields[bad] + b" is not a number of 1 to 6 digits, with or without a sign.\n"
 
 
 def third_player(game, line, written):
     if not written.startswith(b">"):
-        return b"This line gives a player the nickname that the other player has already.\n"
+        return b"This line gives a player the nickname that the other player already has.\n"
     players, _ = read(b"\n".join(game.split(b"\n")[: line - 1]) + b"\n")
     nick = written[1:].partition(b":")[0].strip(BLANKS)
     return nick + b" is a third nickname: the players are " + players[0][0] + b" and " + players[1][0] + b".\n"
@@ -406,17 +406,17 @@ def third_player(game, line, written):
 def record_text(game, fault):
     """What is said of a text that is no record."""
     if fault.why == "TooLong":
-        return b"The file has more than 1,048,576 bytes, and no game record is as long. Was another file named?\n"
+        return b"The file has more than 1,048,576 bytes, and no game record may be that long. Is it the wrong file?\n"
     written = line_of(game, fault.line)
     if fault.why == "TooManyEvents":
-        return b"This is event 1,001, and a record has 1,000 at the most.\n"
+        return b"This is event 1,001, and a record has 1,000 at most.\n"
     if fault.why == "ThirdPlayer":
         return third_player(game, fault.line, written)
     if fault.why != "NoColon":
         return field_text(written, fault.why)
     head, colon, _ = written[1:].partition(b":")
     if not colon:
-        return b"An event begins with >, a nickname and a colon, and this line has no colon.\n"
+        return b"An event begins with >, a nickname and a colon, but this line has no colon.\n"
     inside = b"There is a space or a tab inside the nickname before the colon.\n"
     return inside if head.strip(BLANKS) else b"There is no nickname before the colon.\n"
 

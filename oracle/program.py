@@ -951,27 +951,27 @@ def explained(run):
     told("nothing", 0, "legal unfinished\nThe record has no event. Is it a game record?\n")
     told("page", 0, "legal unfinished\nThe record has no event. Is it a game record?\n")
     for line in ([], ["0"], ["1"]):
-        score = "illegal line 1: WrongScore 16\nline 1: >A: DORWAAE 8E WORD +18 18\nThe play scores 16, and 18 is written.\n"
+        score = "illegal line 1: WrongScore 16\nline 1: >A: DORWAAE 8E WORD +18 18\nThe play scores 16, but 18 is written.\n"
         told("line-18", 1, score + WORD_SUMS + picture_of(1, True, WORD_MARKED), *line)
-    total = "illegal line 1: WrongTotal 16\nline 1: >A: DORWAAE 8E WORD +16 17\nA had 0 and scores 16 on this line, which makes 16; 17 is written.\n"
+    total = "illegal line 1: WrongTotal 16\nline 1: >A: DORWAAE 8E WORD +16 17\nA had 0 and scores 16 on this line, which makes 16, but 17 is written.\n"
     told("line-17", 1, total + WORD_SUMS + picture_of(1, True, WORD_MARKED))
-    turn = "illegal line 2: NotYourTurn\nline 2: >A: - +0 16\nIt is the other player's turn, and not A's.\n"
+    turn = "illegal line 2: NotYourTurn\nline 2: >A: - +0 16\nIt is the other player's turn, not A's.\n"
     told("turn", 1, turn + picture_of(2, False, ROW_OF_WORD))
     centre = "illegal line 1: MissesCentre\nline 1: >A: DORWAAE 8D WORD +16 16\nThe first play of a game has to cover 8H, and this one does not.\n"
-    spot = "The same letters score 16 at 8E across, 8F across, 8G across and in 5 more places.\n"
+    spot = "The same letters score 16 at 8E across, 8F across, 8G across and 5 other places.\n"
     told("line-8d", 1, centre + spot + picture_of(1, True, (ROW_OF_WORD[0], " 8 = . .[' . . .]- . . . ' . . =")))
-    short = "Of the tile ? the game has 2, but by what the lines show there must be 3: 0 on the board, 2 on A's rack and 1 on B's.\n"
+    short = "The game has 2 of the tile ?, but by the lines below there would have to be 3: 0 on the board, 2 on A's rack and 1 on B's.\n"
     shown = "  line 1 shows 2 on A's rack\n  line 2 shows 1 on B's rack\n"
     told("blanks", 1, f"illegal line 2: TilesShort ?\nline 2: >B: ? - +0 0\n{short}{shown}" + picture_of(2, False))
     no_deal = "No deal of the tiles gives the players the racks that the lines up to this one show, though no line alone shows too much.\n"
     exchanged = "Compare the racks with the exchanges:\n  line 1: A exchanges 1 tile\n"
     told("one-of-seven", 1, f"illegal line 3: NoDeal\nline 3: >A: BCDFGHJ - +0 0\n{no_deal}{exchanged}" + picture_of(3, False))
     third = "bad record line 3: ThirdPlayer\nline 3: >C: - +0 0\nC is a third nickname: the players are A and B.\n"
-    number = "bad record line 1: Number\nline 1: >A: 8E WORD +x 16\nThe score +x is no number of 1 to 6 digits, with or without a sign.\n"
+    number = "bad record line 1: Number\nline 1: >A: 8E WORD +x 16\nThe score +x is not a number of 1 to 6 digits, with or without a sign.\n"
     for line in ([], ["7"]):
         told("third", 3, third, *line)
         told("number", 3, number, *line)
-    long = "The file has more than 1,048,576 bytes, and no game record is as long. Was another file named?\n"
+    long = "The file has more than 1,048,576 bytes, and no game record may be that long. Is it the wrong file?\n"
     told("long-game", 3, f"bad record: TooLong\n{long}")
     for game, line in (("line", "2"), ("line", "4294967295"), ("nothing", "0")):
         told(game, 3, "bad line: no event is on it or after it\n", line)

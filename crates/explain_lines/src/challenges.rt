@@ -63,7 +63,7 @@ pub fn push_valid(text: &mut Vec<u8>, scene: &Scene<'_, '_>) -> Result<(), Alloc
         ],
     )?;
     push_words(text, &last_words(scene.past))?;
-    text.extend_from_slice(b".\nPerhaps the game was played by another word list.\n")
+    text.extend_from_slice(b".\nPerhaps the game was played with another word list.\n")
 }
 
 /// Appends that no word of the challenged play is in the list.
@@ -71,13 +71,13 @@ pub fn push_phony(text: &mut Vec<u8>, scene: &Scene<'_, '_>) -> Result<(), Alloc
     say(
         text,
         &[
-            Part::Say("The challenge of line "),
+            Part::Say("The challenge of the play on line "),
             Part::Line(line_before(scene)),
             Part::Say(" succeeds, since none of its words is in the word list: "),
         ],
     )?;
     push_words(text, &last_words(scene.past))?;
-    text.extend_from_slice(b".\nPerhaps the game was played by another word list.\n")
+    text.extend_from_slice(b".\nPerhaps the game was played with another word list.\n")
 }
 
 /// Appends which bonus a challenge gives, or that there is no play to be challenged.
@@ -100,7 +100,7 @@ pub fn push_wrong_bonus(text: &mut Vec<u8>, scene: &Scene<'_, '_>) -> Result<(),
             text.extend_from_slice(b"This is the first event, so there is nothing to challenge.\n")
         }
         None => text.extend_from_slice(
-            b"The event before this one is no play, so there is nothing to challenge.\n",
+            b"The event before this one is not a play, so there is nothing to challenge.\n",
         ),
     }
 }
@@ -131,7 +131,7 @@ fn push_bonus(text: &mut Vec<u8>, scene: &Scene<'_, '_>) -> Result<(), AllocErro
     say(
         text,
         &[
-            Part::Say(", and "),
+            Part::Say(", but "),
             Part::Points(scene.event.score.value()),
             Part::Say(" is written.\n"),
         ],

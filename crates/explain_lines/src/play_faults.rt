@@ -30,7 +30,7 @@ pub fn push_play_fault(
         PlayFault::Mismatch => push_mismatch(text, board, play),
         PlayFault::NoNewTile => {
             text.extend_from_slice(
-                b"Every square of the play has a tile already: no tile is new.\n",
+                b"Every square of the play already has a tile, so no tile is new.\n",
             )
         }
         PlayFault::TooManyTiles => push_too_many(text, board, play),
@@ -44,7 +44,7 @@ pub fn push_play_fault(
             text.extend_from_slice(b"The play makes no word of two letters or more.\n")
         }
         PlayFault::Apart => text.extend_from_slice(
-            b"No tile of the play touches a tile that is on the board already.\n",
+            b"No tile of the play touches a tile that is already on the board.\n",
         ),
     }
 }
@@ -126,7 +126,7 @@ fn push_too_many(text: &mut Vec<u8>, board: &Board, play: &Written<'_>) -> Resul
         &[
             Part::Say("The play puts down "),
             Part::Many(tiles),
-            Part::Say(" tiles, and a rack has 7 at the most.\n"),
+            Part::Say(" tiles, and a rack has 7 at most.\n"),
         ],
     )
 }

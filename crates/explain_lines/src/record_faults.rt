@@ -18,10 +18,10 @@ pub fn push_record_fault(
     let written = line_of(bytes, line).unwrap_or(b"");
     match why {
         Why::TooLong => text.extend_from_slice(
-            b"The file has more than 1,048,576 bytes, and no game record is as long. Was another file named?\n",
+            b"The file has more than 1,048,576 bytes, and no game record may be that long. Is it the wrong file?\n",
         ),
         Why::TooManyEvents => text.extend_from_slice(
-            b"This is event 1,001, and a record has 1,000 at the most.\n",
+            b"This is event 1,001, and a record has 1,000 at most.\n",
         ),
         Why::NoColon => push_no_colon(text, written),
         Why::ThirdPlayer => push_third(alloc, text, front_of(bytes, line), written),
@@ -29,23 +29,23 @@ pub fn push_record_fault(
         Why::Rack => push_no(
             text,
             rack_in(written),
-            " is no rack: that is 1 to 7 tiles, each A to Z or ?.\n",
+            " is not a rack: a rack is 1 to 7 tiles, each A to Z or ?.\n",
         ),
         Why::Position => push_no(
             text,
             position_in(written),
-            " is no position: that is a row from 1 to 15 and a column from A to O, in either order.\n",
+            " is not a position: a position is a row from 1 to 15 and a column from A to O, in either order.\n",
         ),
         Why::Word => push_no(
             text,
             word_in(written),
-            " is no word of a play: that is 1 to 15 letters and dots.\n",
+            " cannot be the word of a play: a word is 1 to 15 letters and dots.\n",
         ),
         Why::Number => push_number(text, written),
         Why::Code => push_no(
             text,
             code_in(written),
-            " is no event: that is a play with its position, word, score and total, or one of the codes -, --, -TILES, -NUMBER, (challenge), (time) and (TILES).\n",
+            " is not an event: an event is a play with its position, word, score and total, or one of the codes -, --, -TILES, -NUMBER, (challenge), (time) and (TILES).\n",
         ),
         Why::NoMemory => Ok(()),
     }
@@ -95,7 +95,7 @@ fn push_no(text: &mut Vec<u8>, field: &[u8], what: &str) -> Result<(), AllocErro
 fn push_no_colon(text: &mut Vec<u8>, written: &[u8]) -> Result<(), AllocError> {
     let Some(head) = before_colon(written) else {
         return text.extend_from_slice(
-            b"An event begins with >, a nickname and a colon, and this line has no colon.\n",
+            b"An event begins with >, a nickname and a colon, but this line has no colon.\n",
         );
     };
     match next_field(head) {
@@ -115,7 +115,7 @@ fn push_third(
 ) -> Result<(), AllocError> {
     let Some(head) = before_colon(written) else {
         return text.extend_from_slice(
-            b"This line gives a player the nickname that the other player has already.\n",
+            b"This line gives a player the nickname that the other player already has.\n",
         );
     };
     let nick = field_at(head, 0);
@@ -145,7 +145,7 @@ fn push_fields(text: &mut Vec<u8>, written: &[u8]) -> Result<(), AllocError> {
     let many = many_fields(after_colon(written));
     if many > 5 {
         return text.extend_from_slice(
-            b"There are more than 5 fields after the colon, and an event has 3 to 5.\n",
+            b"There are more than 5 fields after the colon, but an event has 3 to 5.\n",
         );
     }
     say(
@@ -155,7 +155,7 @@ fn push_fields(text: &mut Vec<u8>, written: &[u8]) -> Result<(), AllocError> {
             Part::Many(many),
             Part::Say(" field"),
             plural(many),
-            Part::Say(" after the colon, and an event has 3 to 5.\n"),
+            Part::Say(" after the colon, but an event has 3 to 5.\n"),
         ],
     )
 }
@@ -171,7 +171,7 @@ fn push_number(text: &mut Vec<u8>, written: &[u8]) -> Result<(), AllocError> {
             &[
                 Part::Say("The score "),
                 Part::Raw(score),
-                Part::Say(" is no number of 1 to 6 digits, with or without a sign.\n"),
+                Part::Say(" is not a number of 1 to 6 digits, with or without a sign.\n"),
             ],
         );
     }
@@ -180,7 +180,7 @@ fn push_number(text: &mut Vec<u8>, written: &[u8]) -> Result<(), AllocError> {
         &[
             Part::Say("The total "),
             Part::Raw(field_at(fields, many.saturating_sub(1))),
-            Part::Say(" is no number of 1 to 6 digits, with or without a sign.\n"),
+            Part::Say(" is not a number of 1 to 6 digits, with or without a sign.\n"),
         ],
     )
 }

@@ -79,7 +79,7 @@ fn push_not_your_turn(text: &mut Vec<u8>, scene: &Scene<'_, '_>) -> Result<(), A
         &[
             Part::Say("It is "),
             Part::Raw(scene.other_nick()),
-            Part::Say("'s turn, and not "),
+            Part::Say("'s turn, not "),
             Part::Raw(scene.nick()),
             Part::Say("'s.\n"),
         ],
@@ -105,7 +105,7 @@ fn push_nothing_to_withdraw(text: &mut Vec<u8>, scene: &Scene<'_, '_>) -> Result
             text.extend_from_slice(b"This is the first event, so there is nothing to take back.\n")
         }
         _ => text.extend_from_slice(
-            b"The event before this one is no play, so there is nothing to take back.\n",
+            b"The event before this one is not a play, so there is nothing to take back.\n",
         ),
     }
 }

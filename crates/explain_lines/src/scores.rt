@@ -51,7 +51,7 @@ fn push_score(
         &[
             Part::Say(front),
             Part::Points(right),
-            Part::Say(", and "),
+            Part::Say(", but "),
             Part::Points(scene.event.score.value()),
             Part::Say(" is written.\n"),
         ],
@@ -143,9 +143,9 @@ fn push_spots(text: &mut Vec<u8>, spots: &[Spot]) -> Result<(), AllocError> {
         say(
             text,
             &[
-                Part::Say(" and in "),
+                Part::Say(" and "),
                 Part::Many(spots.len() - NAMED),
-                Part::Say(" more place"),
+                Part::Say(" other place"),
                 plural(spots.len() - NAMED),
             ],
         )?;

@@ -41,7 +41,7 @@ pub fn push_exchange_refused(text: &mut Vec<u8>, scene: &Scene<'_, '_>) -> Resul
             Part::Many(bag),
             Part::Say(" tile"),
             plural(bag),
-            Part::Say(", and an exchange is allowed only while it has "),
+            Part::Say(", but an exchange is allowed only while it has "),
             Part::Many(scene.sheet.rules.exchange_min as usize),
             Part::Say(" or more.\n"),
         ],

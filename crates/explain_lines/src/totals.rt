@@ -23,7 +23,7 @@ pub fn push_wrong_total(
             Part::Points(scene.event.score.value()),
             Part::Say(" on this line, which makes "),
             Part::Points(right),
-            Part::Say("; "),
+            Part::Say(", but "),
             Part::Points(written),
             Part::Say(" is written.\n"),
         ],
@@ -74,7 +74,7 @@ pub fn push_bad_time(text: &mut Vec<u8>, scene: &Scene<'_, '_>) -> Result<(), Al
         &[
             Part::Say("A penalty for time is a negative multiple of "),
             Part::Many(scene.sheet.rules.time_step as usize),
-            Part::Say(", and "),
+            Part::Say(", but "),
             Part::Points(scene.event.score.value()),
             Part::Say(" is written.\n"),
         ],
@@ -90,9 +90,9 @@ fn push_second_time(text: &mut Vec<u8>, scene: &Scene<'_, '_>) -> Result<(), All
         text,
         &[
             Part::Raw(scene.nick()),
-            Part::Say(" has a penalty for time already, on line "),
+            Part::Say(" already has a penalty for time, on line "),
             Part::Line(line),
-            Part::Say(", and a player has one at the most.\n"),
+            Part::Say(", and a player has one at most.\n"),
         ],
     )
 }

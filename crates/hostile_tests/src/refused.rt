@@ -262,7 +262,7 @@ fn complete_with_an_exchange(rt: HostRuntime) {
 /// What explains a wrong score.
 const WRONG_SCORE: &str = "illegal line 1: WrongScore 16
 line 1: >A: DORWAAE 8E WORD +18 18
-The play scores 16, and 18 is written.
+The play scores 16, but 18 is written.
 WORD
   8E W 4
   8F O 1
@@ -294,7 +294,7 @@ small letters are blanks
 /// What explains racks.
 const SHORT_RACKS: &str = "illegal line 2: TilesShort ?
 line 2: >B: ? - +0 0
-Of the tile ? the game has 2, but by what the lines show there must be 3: 0 on the board, 2 on A's rack and 1 on B's.
+The game has 2 of the tile ?, but by the lines below there would have to be 3: 0 on the board, 2 on A's rack and 1 on B's.
   line 1 shows 2 on A's rack
   line 2 shows 1 on B's rack
 board before line 2

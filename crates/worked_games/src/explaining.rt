@@ -12,6 +12,7 @@ use std::alloc::Global;
 use std::process::Abort;
 
 /// A word list, a record, the line that is asked for, and the front of what is written: all of it but the board.
+#[derive(Drop)]
 struct Row {
     words: &'static str,
     game: &'static str,
@@ -109,13 +110,13 @@ const PLAYS: [Row; 11] = [
         words: "WORD",
         game: ">A: DORWAAE 8E WORD +16 16\n>B: 8E .... +0 0\n",
         line: None,
-        head: "illegal line 2: NoNewTile\nline 2: >B: 8E .... +0 0\nEvery square of the play has a tile already: no tile is new.\n",
+        head: "illegal line 2: NoNewTile\nline 2: >B: 8E .... +0 0\nEvery square of the play already has a tile, so no tile is new.\n",
     },
     Row {
         words: "WORD",
         game: ">A: DORWAAE 8E WORD +16 16\n>B: 1A ABCDEFGH +0 0\n",
         line: None,
-        head: "illegal line 2: TooManyTiles\nline 2: >B: 1A ABCDEFGH +0 0\nThe play puts down 8 tiles, and a rack has 7 at the most.\n",
+        head: "illegal line 2: TooManyTiles\nline 2: >B: 1A ABCDEFGH +0 0\nThe play puts down 8 tiles, and a rack has 7 at most.\n",
     },
     Row {
         words: "WORD",
@@ -133,7 +134,7 @@ const PLAYS: [Row; 11] = [
         words: "WORD",
         game: ">A: 8D WORD +16 16\n",
         line: None,
-        head: "illegal line 1: MissesCentre\nline 1: >A: 8D WORD +16 16\nThe first play of a game has to cover 8H, and this one does not.\nThe same letters score 16 at 8E across, 8F across, 8G across and in 5 more places.\n",
+        head: "illegal line 1: MissesCentre\nline 1: >A: 8D WORD +16 16\nThe first play of a game has to cover 8H, and this one does not.\nThe same letters score 16 at 8E across, 8F across, 8G across and 5 other places.\n",
     },
     Row {
         words: "WORD",
@@ -145,7 +146,7 @@ const PLAYS: [Row; 11] = [
         words: "WORD",
         game: ">A: DORWAAE 8E WORD +16 16\n>B: 1A AT +0 0\n",
         line: None,
-        head: "illegal line 2: Apart\nline 2: >B: 1A AT +0 0\nNo tile of the play touches a tile that is on the board already.\n",
+        head: "illegal line 2: Apart\nline 2: >B: 1A AT +0 0\nNo tile of the play touches a tile that is already on the board.\n",
     },
 ];
 
@@ -160,13 +161,13 @@ const SCORES: [Row; 9] = [
         words: "WORD",
         game: ">A: 8E WORD +18 18\n",
         line: None,
-        head: "illegal line 1: WrongScore 16\nline 1: >A: 8E WORD +18 18\nThe play scores 16, and 18 is written.\nWORD\n  8E W 4\n  8F O 1\n  8G R 1\n  8H D 2, double word\n  sum 8 x 2 = 16\nscore of the play: 16\n",
+        head: "illegal line 1: WrongScore 16\nline 1: >A: 8E WORD +18 18\nThe play scores 16, but 18 is written.\nWORD\n  8E W 4\n  8F O 1\n  8G R 1\n  8H D 2, double word\n  sum 8 x 2 = 16\nscore of the play: 16\n",
     },
     Row {
         words: "WORD\nAT\nRA\nDT",
         game: ">A: DORWAAE 8E WORD +16 16\n>B: 9F AT +9 9\n",
         line: None,
-        head: "illegal line 2: WrongScore 8\nline 2: >B: 9F AT +9 9\nThe play scores 8, and 9 is written.\nThe same letters score 9 at 9G across.\nAT\n  9F A 1\n  9G T 1 x 2 = 2, double letter\n  sum 3\nOA, which is not in the word list\n  8F O 1, already on the board\n  9F A 1\n  sum 2\nRT, which is not in the word list\n  8G R 1, already on the board\n  9G T 1 x 2 = 2, double letter\n  sum 3\nscore of the play: 8\n",
+        head: "illegal line 2: WrongScore 8\nline 2: >B: 9F AT +9 9\nThe play scores 8, but 9 is written.\nThe same letters score 9 at 9G across.\nAT\n  9F A 1\n  9G T 1 x 2 = 2, double letter\n  sum 3\nOA, which is not in the word list\n  8F O 1, already on the board\n  9F A 1\n  sum 2\nRT, which is not in the word list\n  8G R 1, already on the board\n  9G T 1 x 2 = 2, double letter\n  sum 3\nscore of the play: 8\n",
     },
     Row {
         words: "WORD\nAT\nRA\nDT",
@@ -178,37 +179,37 @@ const SCORES: [Row; 9] = [
         words: "ALOES",
         game: ">A: 8F ALOES +12 12\n",
         line: None,
-        head: "illegal line 1: WrongScore 10\nline 1: >A: 8F ALOES +12 12\nThe play scores 10, and 12 is written.\nThe same letters score 12 at 8D across, 8H across, H4 down and in 1 more place.\nALOES\n  8F A 1\n  8G L 1\n  8H O 1, double word\n  8I E 1\n  8J S 1\n  sum 5 x 2 = 10\nscore of the play: 10\n",
+        head: "illegal line 1: WrongScore 10\nline 1: >A: 8F ALOES +12 12\nThe play scores 10, but 12 is written.\nThe same letters score 12 at 8D across, 8H across, H4 down and 1 other place.\nALOES\n  8F A 1\n  8G L 1\n  8H O 1, double word\n  8I E 1\n  8J S 1\n  sum 5 x 2 = 10\nscore of the play: 10\n",
     },
     Row {
         words: "RETAINS",
         game: ">A: 8E rETAINS +64 64\n",
         line: None,
-        head: "illegal line 1: WrongScore 62\nline 1: >A: 8E rETAINS +64 64\nThe play scores 62, and 64 is written.\nThe same letters score 64 at 8B across, 8C across, 8F across and in 7 more places.\nRETAINS\n  8E r 0\n  8F E 1\n  8G T 1\n  8H A 1, double word\n  8I I 1\n  8J N 1\n  8K S 1\n  sum 6 x 2 = 12\nbonus for seven tiles: 50\nscore of the play: 62\n",
+        head: "illegal line 1: WrongScore 62\nline 1: >A: 8E rETAINS +64 64\nThe play scores 62, but 64 is written.\nThe same letters score 64 at 8B across, 8C across, 8F across and 7 other places.\nRETAINS\n  8E r 0\n  8F E 1\n  8G T 1\n  8H A 1, double word\n  8I I 1\n  8J N 1\n  8K S 1\n  sum 6 x 2 = 12\nbonus for seven tiles: 50\nscore of the play: 62\n",
     },
     Row {
         words: "WORD",
         game: ">A: - +5 5\n",
         line: None,
-        head: "illegal line 1: WrongScore 0\nline 1: >A: - +5 5\nA pass scores 0, and 5 is written.\n",
+        head: "illegal line 1: WrongScore 0\nline 1: >A: - +5 5\nA pass scores 0, but 5 is written.\n",
     },
     Row {
         words: "WORD",
         game: ">A: -AB +5 5\n",
         line: None,
-        head: "illegal line 1: WrongScore 0\nline 1: >A: -AB +5 5\nAn exchange scores 0, and 5 is written.\n",
+        head: "illegal line 1: WrongScore 0\nline 1: >A: -AB +5 5\nAn exchange scores 0, but 5 is written.\n",
     },
     Row {
         words: "AT",
         game: ">A: 8E WORD +16 16\n>A: -- -18 -2\n",
         line: None,
-        head: "illegal line 2: WrongScore -16\nline 2: >A: -- -18 -2\nA withdrawal takes the points of the play off again: it scores -16, and -18 is written.\n",
+        head: "illegal line 2: WrongScore -16\nline 2: >A: -- -18 -2\nA withdrawal takes the points of the play off again: it scores -16, but -18 is written.\n",
     },
     Row {
         words: "AT",
         game: ">A: - +0 0\n>B: - +0 0\n>A: - +0 0\n>B: - +0 0\n>A: - +0 0\n>B: - +0 0\n>A: (AEINRST) +7 7\n",
         line: None,
-        head: "illegal line 7: WrongScore -7\nline 7: >A: (AEINRST) +7 7\nA loses the points of the rack AEINRST: the score is -7, and 7 is written.\n",
+        head: "illegal line 7: WrongScore -7\nline 7: >A: (AEINRST) +7 7\nA loses the points of the rack AEINRST: the score is -7, but 7 is written.\n",
     },
 ];
 
@@ -223,19 +224,19 @@ const TOTALS: [Row; 3] = [
         words: "WORD",
         game: ">A: 8E WORD +16 17\n",
         line: None,
-        head: "illegal line 1: WrongTotal 16\nline 1: >A: 8E WORD +16 17\nA had 0 and scores 16 on this line, which makes 16; 17 is written.\nWORD\n  8E W 4\n  8F O 1\n  8G R 1\n  8H D 2, double word\n  sum 8 x 2 = 16\nscore of the play: 16\n",
+        head: "illegal line 1: WrongTotal 16\nline 1: >A: 8E WORD +16 17\nA had 0 and scores 16 on this line, which makes 16, but 17 is written.\nWORD\n  8E W 4\n  8F O 1\n  8G R 1\n  8H D 2, double word\n  sum 8 x 2 = 16\nscore of the play: 16\n",
     },
     Row {
         words: "WORD",
         game: ">A: DORWAAE 8E WORD +16 16\n>B: - +0 0\n>A: - +0 0\n",
         line: None,
-        head: "illegal line 3: WrongTotal 16\nline 3: >A: - +0 0\nA had 16 and scores 0 on this line, which makes 16; 0 is written.\nThe written total leaves out line 1, which scores 16.\n",
+        head: "illegal line 3: WrongTotal 16\nline 3: >A: - +0 0\nA had 16 and scores 0 on this line, which makes 16, but 0 is written.\nThe written total leaves out line 1, which scores 16.\n",
     },
     Row {
         words: "WORD",
         game: ">A: DORWAAE 8E WORD +16 16\n>B: - +0 0\n>A: (time) -5 16\n",
         line: None,
-        head: "illegal line 3: WrongTotal 11\nline 3: >A: (time) -5 16\nA had 16 and scores -5 on this line, which makes 11; 16 is written.\nThe written total leaves out the score of this line.\n",
+        head: "illegal line 3: WrongTotal 11\nline 3: >A: (time) -5 16\nA had 16 and scores -5 on this line, which makes 11, but 16 is written.\nThe written total leaves out the score of this line.\n",
     },
 ];
 
@@ -250,13 +251,13 @@ const TURNS: [Row; 11] = [
         words: "WORD",
         game: ">A: DORWAAE 8E WORD +16 16\n>A: - +0 16\n",
         line: None,
-        head: "illegal line 2: NotYourTurn\nline 2: >A: - +0 16\nIt is the other player's turn, and not A's.\n",
+        head: "illegal line 2: NotYourTurn\nline 2: >A: - +0 16\nIt is the other player's turn, not A's.\n",
     },
     Row {
         words: "WORD",
         game: ">A: DORWAAE 8E WORD +16 16\n>B: - +0 0\n>B: - +0 0\n",
         line: None,
-        head: "illegal line 3: NotYourTurn\nline 3: >B: - +0 0\nIt is A's turn, and not B's.\n",
+        head: "illegal line 3: NotYourTurn\nline 3: >B: - +0 0\nIt is A's turn, not B's.\n",
     },
     Row {
         words: "AT",
@@ -304,13 +305,13 @@ const TURNS: [Row; 11] = [
         words: "AT",
         game: ">A: (time) -7 -7\n",
         line: None,
-        head: "illegal line 1: BadTime\nline 1: >A: (time) -7 -7\nA penalty for time is a negative multiple of 5, and -7 is written.\n",
+        head: "illegal line 1: BadTime\nline 1: >A: (time) -7 -7\nA penalty for time is a negative multiple of 5, but -7 is written.\n",
     },
     Row {
         words: "AT",
         game: ">A: (time) -5 -5\n>B: - +0 0\n>A: (time) -5 -10\n",
         line: None,
-        head: "illegal line 3: BadTime\nline 3: >A: (time) -5 -10\nA has a penalty for time already, on line 1, and a player has one at the most.\n",
+        head: "illegal line 3: BadTime\nline 3: >A: (time) -5 -10\nA already has a penalty for time, on line 1, and a player has one at most.\n",
     },
 ];
 
@@ -331,7 +332,7 @@ const CHALLENGES: [Row; 10] = [
         words: "WORD",
         game: ">A: - +0 0\n>A: -- +0 0\n",
         line: None,
-        head: "illegal line 2: NothingToWithdraw\nline 2: >A: -- +0 0\nThe event before this one is no play, so there is nothing to take back.\n",
+        head: "illegal line 2: NothingToWithdraw\nline 2: >A: -- +0 0\nThe event before this one is not a play, so there is nothing to take back.\n",
     },
     Row {
         words: "AT",
@@ -343,13 +344,13 @@ const CHALLENGES: [Row; 10] = [
         words: "WORD\nAT\nRA\nDT",
         game: ">A: DORWAAE 8E WORD +16 16\n>B: 9G AT +9 9\n>B: -- -9 0\n",
         line: None,
-        head: "illegal line 3: WithdrawnValid\nline 3: >B: -- -9 0\nThe play on line 2 stands, since each of its words is in the word list: AT, RA and DT.\nPerhaps the game was played by another word list.\n",
+        head: "illegal line 3: WithdrawnValid\nline 3: >B: -- -9 0\nThe play on line 2 stands, since each of its words is in the word list: AT, RA and DT.\nPerhaps the game was played with another word list.\n",
     },
     Row {
         words: "AT",
         game: ">A: DORWAAE 8E WORD +16 16\n>A: (challenge) +5 21\n",
         line: None,
-        head: "illegal line 2: BonusOnPhony\nline 2: >A: (challenge) +5 21\nThe challenge of line 1 succeeds, since none of its words is in the word list: WORD.\nPerhaps the game was played by another word list.\n",
+        head: "illegal line 2: BonusOnPhony\nline 2: >A: (challenge) +5 21\nThe challenge of the play on line 1 succeeds, since none of its words is in the word list: WORD.\nPerhaps the game was played with another word list.\n",
     },
     Row {
         words: "AT",
@@ -361,7 +362,7 @@ const CHALLENGES: [Row; 10] = [
         words: "AT",
         game: ">A: - +0 0\n>A: (challenge) +5 5\n",
         line: None,
-        head: "illegal line 2: BadBonus\nline 2: >A: (challenge) +5 5\nThe event before this one is no play, so there is nothing to challenge.\n",
+        head: "illegal line 2: BadBonus\nline 2: >A: (challenge) +5 5\nThe event before this one is not a play, so there is nothing to challenge.\n",
     },
     Row {
         words: "WORD",
@@ -373,13 +374,13 @@ const CHALLENGES: [Row; 10] = [
         words: "WORD\nAT\nRA\nDT",
         game: ">A: DORWAAE 8E WORD +16 16\n>B: 9G AT +9 9\n>B: (challenge) +20 29\n",
         line: None,
-        head: "illegal line 3: BadBonus\nline 3: >B: (challenge) +20 29\nA bonus is 5 points for each challenged word that is in the word list. 3 words of the play are, so the bonus can be 5, 10 or 15, and 20 is written.\n",
+        head: "illegal line 3: BadBonus\nline 3: >B: (challenge) +20 29\nA bonus is 5 points for each challenged word that is in the word list. 3 words of the play are, so the bonus can be 5, 10 or 15, but 20 is written.\n",
     },
     Row {
         words: "WORD",
         game: ">A: DORWAAE 8E WORD +16 16\n>A: (challenge) +7 23\n",
         line: None,
-        head: "illegal line 2: BadBonus\nline 2: >A: (challenge) +7 23\nA bonus is 5 points for each challenged word that is in the word list. 1 word of the play is, so the bonus can be 5, and 7 is written.\n",
+        head: "illegal line 2: BadBonus\nline 2: >A: (challenge) +7 23\nA bonus is 5 points for each challenged word that is in the word list. 1 word of the play is, so the bonus can be 5, but 7 is written.\n",
     },
 ];
 
@@ -400,7 +401,7 @@ const RACKS: [Row; 5] = [
         words: "AT",
         game: ">A: AEINRST 8H AT +4 4\n>B: - +0 0\n>A: AAABCDE - +0 4\n",
         line: None,
-        head: "illegal line 3: RackTooBig\nline 3: >A: AAABCDE - +0 4\nA has 7 tiles here, but by what the lines show the rack must have 11: AAABCDEINRS.\n  line 1 shows AEINRST and plays AT\n  line 3 shows AAABCDE\n",
+        head: "illegal line 3: RackTooBig\nline 3: >A: AAABCDE - +0 4\nA has 7 tiles here, but by the lines below the rack would have to hold 11: AAABCDEINRS.\n  line 1 shows AEINRST and plays AT\n  line 3 shows AAABCDE\n",
     },
     Row {
         words: "AT",
@@ -412,19 +413,19 @@ const RACKS: [Row; 5] = [
         words: "AT",
         game: ">A: ?? - +0 0\n>B: ? - +0 0\n",
         line: None,
-        head: "illegal line 2: TilesShort ?\nline 2: >B: ? - +0 0\nOf the tile ? the game has 2, but by what the lines show there must be 3: 0 on the board, 2 on A's rack and 1 on B's.\n  line 1 shows 2 on A's rack\n  line 2 shows 1 on B's rack\n",
+        head: "illegal line 2: TilesShort ?\nline 2: >B: ? - +0 0\nThe game has 2 of the tile ?, but by the lines below there would have to be 3: 0 on the board, 2 on A's rack and 1 on B's.\n  line 1 shows 2 on A's rack\n  line 2 shows 1 on B's rack\n",
     },
     Row {
         words: "QAT",
         game: ">A: Q 8F QAT +24 24\n>B: AE -2 +0 0\n>A: - +0 24\n>B: Q - +0 0\n",
         line: None,
-        head: "illegal line 4: TilesShort Q\nline 4: >B: Q - +0 0\nOf the tile Q the game has 1, but by what the lines show there must be 2: 1 on the board, 0 on A's rack and 1 on B's.\n  line 1 shows 1 on A's rack and plays 1\n  line 4 shows 1 on B's rack\n",
+        head: "illegal line 4: TilesShort Q\nline 4: >B: Q - +0 0\nThe game has 1 of the tile Q, but by the lines below there would have to be 2: 1 on the board, 0 on A's rack and 1 on B's.\n  line 1 shows 1 on A's rack and plays 1\n  line 4 shows 1 on B's rack\n",
     },
     Row {
         words: "AT",
         game: ">A: AEI -AEI +0 0\n>B: - +0 0\n>A: BCDFGHJ -BC +0 0\n>B: - +0 0\n>A: KLMNOPQ - +0 0\n",
         line: None,
-        head: "illegal line 5: RackTooBig\nline 5: >A: KLMNOPQ - +0 0\nA has 7 tiles here, but by what the lines show the rack must have 12: DFGHJKLMNOPQ.\n  line 1 shows AEI and exchanges AEI\n  line 3 shows BCDFGHJ and exchanges BC\n  line 5 shows KLMNOPQ\n",
+        head: "illegal line 5: RackTooBig\nline 5: >A: KLMNOPQ - +0 0\nA has 7 tiles here, but by the lines below the rack would have to hold 12: DFGHJKLMNOPQ.\n  line 1 shows AEI and exchanges AEI\n  line 3 shows BCDFGHJ and exchanges BC\n  line 5 shows KLMNOPQ\n",
     },
 ];
 
@@ -439,7 +440,7 @@ const RECORDS: [Row; 18] = [
         words: "AT",
         game: ">A 8E WORD +16 16\n",
         line: None,
-        head: "bad record line 1: NoColon\nline 1: >A 8E WORD +16 16\nAn event begins with >, a nickname and a colon, and this line has no colon.\n",
+        head: "bad record line 1: NoColon\nline 1: >A 8E WORD +16 16\nAn event begins with >, a nickname and a colon, but this line has no colon.\n",
     },
     Row {
         words: "AT",
@@ -463,85 +464,85 @@ const RECORDS: [Row; 18] = [
         words: "AT",
         game: "#player1 A\n#player2 A\n",
         line: None,
-        head: "bad record line 2: ThirdPlayer\nline 2: #player2 A\nThis line gives a player the nickname that the other player has already.\n",
+        head: "bad record line 2: ThirdPlayer\nline 2: #player2 A\nThis line gives a player the nickname that the other player already has.\n",
     },
     Row {
         words: "AT",
         game: ">A: 8E\n",
         line: None,
-        head: "bad record line 1: Fields\nline 1: >A: 8E\nThere is 1 field after the colon, and an event has 3 to 5.\n",
+        head: "bad record line 1: Fields\nline 1: >A: 8E\nThere is 1 field after the colon, but an event has 3 to 5.\n",
     },
     Row {
         words: "AT",
         game: ">A: 8E WORD\n",
         line: None,
-        head: "bad record line 1: Fields\nline 1: >A: 8E WORD\nThere are 2 fields after the colon, and an event has 3 to 5.\n",
+        head: "bad record line 1: Fields\nline 1: >A: 8E WORD\nThere are 2 fields after the colon, but an event has 3 to 5.\n",
     },
     Row {
         words: "AT",
         game: ">A: A 8E WORD +1 1 1\n",
         line: None,
-        head: "bad record line 1: Fields\nline 1: >A: A 8E WORD +1 1 1\nThere are more than 5 fields after the colon, and an event has 3 to 5.\n",
+        head: "bad record line 1: Fields\nline 1: >A: A 8E WORD +1 1 1\nThere are more than 5 fields after the colon, but an event has 3 to 5.\n",
     },
     Row {
         words: "AT",
         game: ">Ann: AEINRSTU - +0 0\n",
         line: None,
-        head: "bad record line 1: Rack\nline 1: >Ann: AEINRSTU - +0 0\nAEINRSTU is no rack: that is 1 to 7 tiles, each A to Z or ?.\n",
+        head: "bad record line 1: Rack\nline 1: >Ann: AEINRSTU - +0 0\nAEINRSTU is not a rack: a rack is 1 to 7 tiles, each A to Z or ?.\n",
     },
     Row {
         words: "AT",
         game: ">Ann: 16A AT +4 4\n",
         line: None,
-        head: "bad record line 1: Position\nline 1: >Ann: 16A AT +4 4\n16A is no position: that is a row from 1 to 15 and a column from A to O, in either order.\n",
+        head: "bad record line 1: Position\nline 1: >Ann: 16A AT +4 4\n16A is not a position: a position is a row from 1 to 15 and a column from A to O, in either order.\n",
     },
     Row {
         words: "AT",
         game: ">Ann: AT 16A AT +4 4\n",
         line: None,
-        head: "bad record line 1: Position\nline 1: >Ann: AT 16A AT +4 4\n16A is no position: that is a row from 1 to 15 and a column from A to O, in either order.\n",
+        head: "bad record line 1: Position\nline 1: >Ann: AT 16A AT +4 4\n16A is not a position: a position is a row from 1 to 15 and a column from A to O, in either order.\n",
     },
     Row {
         words: "AT",
         game: ">Ann: 8E W0RD +16 16\n",
         line: None,
-        head: "bad record line 1: Word\nline 1: >Ann: 8E W0RD +16 16\nW0RD is no word of a play: that is 1 to 15 letters and dots.\n",
+        head: "bad record line 1: Word\nline 1: >Ann: 8E W0RD +16 16\nW0RD cannot be the word of a play: a word is 1 to 15 letters and dots.\n",
     },
     Row {
         words: "AT",
         game: ">Ann: -8 +0 0\n",
         line: None,
-        head: "bad record line 1: Code\nline 1: >Ann: -8 +0 0\n-8 is no event: that is a play with its position, word, score and total, or one of the codes -, --, -TILES, -NUMBER, (challenge), (time) and (TILES).\n",
+        head: "bad record line 1: Code\nline 1: >Ann: -8 +0 0\n-8 is not an event: an event is a play with its position, word, score and total, or one of the codes -, --, -TILES, -NUMBER, (challenge), (time) and (TILES).\n",
     },
     Row {
         words: "AT",
         game: ">Ann: AT -8 +0 0\n",
         line: None,
-        head: "bad record line 1: Code\nline 1: >Ann: AT -8 +0 0\n-8 is no event: that is a play with its position, word, score and total, or one of the codes -, --, -TILES, -NUMBER, (challenge), (time) and (TILES).\n",
+        head: "bad record line 1: Code\nline 1: >Ann: AT -8 +0 0\n-8 is not an event: an event is a play with its position, word, score and total, or one of the codes -, --, -TILES, -NUMBER, (challenge), (time) and (TILES).\n",
     },
     Row {
         words: "AT",
         game: ">Ann: 8E WORD +16\n",
         line: None,
-        head: "bad record line 1: Code\nline 1: >Ann: 8E WORD +16\n8E is no event: that is a play with its position, word, score and total, or one of the codes -, --, -TILES, -NUMBER, (challenge), (time) and (TILES).\n",
+        head: "bad record line 1: Code\nline 1: >Ann: 8E WORD +16\n8E is not an event: an event is a play with its position, word, score and total, or one of the codes -, --, -TILES, -NUMBER, (challenge), (time) and (TILES).\n",
     },
     Row {
         words: "AT",
         game: ">Ann: - +1234567 0\n",
         line: None,
-        head: "bad record line 1: Number\nline 1: >Ann: - +1234567 0\nThe score +1234567 is no number of 1 to 6 digits, with or without a sign.\n",
+        head: "bad record line 1: Number\nline 1: >Ann: - +1234567 0\nThe score +1234567 is not a number of 1 to 6 digits, with or without a sign.\n",
     },
     Row {
         words: "AT",
         game: ">Ann: 8H AT +0 0x\n",
         line: None,
-        head: "bad record line 1: Number\nline 1: >Ann: 8H AT +0 0x\nThe total 0x is no number of 1 to 6 digits, with or without a sign.\n",
+        head: "bad record line 1: Number\nline 1: >Ann: 8H AT +0 0x\nThe total 0x is not a number of 1 to 6 digits, with or without a sign.\n",
     },
     Row {
         words: "AT",
         game: "#note\r\n>Ann: - +0\r\n",
         line: None,
-        head: "bad record line 2: Fields\nline 2: >Ann: - +0\nThere are 2 fields after the colon, and an event has 3 to 5.\n",
+        head: "bad record line 2: Fields\nline 2: >Ann: - +0\nThere are 2 fields after the colon, but an event has 3 to 5.\n",
     },
 ];
 
@@ -565,7 +566,7 @@ const LAST_RACKS: [Row; 7] = [
         words: "AT",
         game: ">A: -AT +0 0\n",
         line: None,
-        head: "illegal line 1: ExchangeRefused\nline 1: >A: -AT +0 0\nThe bag has 0 tiles, and an exchange needs 7 in the bag.\n",
+        head: "illegal line 1: ExchangeRefused\nline 1: >A: -AT +0 0\nThe bag has 0 tiles, but an exchange is allowed only while it has 7 or more.\n",
     },
     Row {
         words: "RETAINS",
@@ -589,7 +590,7 @@ const LAST_RACKS: [Row; 7] = [
         words: "RETAINS",
         game: ">A: 8E RETAINS +64 64\n>A: (ADEEORT) +8 72\n",
         line: None,
-        head: "illegal line 2: WrongScore 16\nline 2: >A: (ADEEORT) +8 72\nA gets twice the points of the rack ADEEORT: the score is 16, and 8 is written.\n",
+        head: "illegal line 2: WrongScore 16\nline 2: >A: (ADEEORT) +8 72\nA gets twice the points of the rack ADEEORT: the score is 16, but 8 is written.\n",
     },
     Row {
         words: "RETAINS",
@@ -683,7 +684,7 @@ const ASKED: [(Exit, Row); 10] = [
             words: "WORD",
             game: ">A: 8E WORD +18 18\n",
             line: Some(0),
-            head: "illegal line 1: WrongScore 16\nline 1: >A: 8E WORD +18 18\nThe play scores 16, and 18 is written.\nWORD\n  8E W 4\n  8F O 1\n  8G R 1\n  8H D 2, double word\n  sum 8 x 2 = 16\nscore of the play: 16\n",
+            head: "illegal line 1: WrongScore 16\nline 1: >A: 8E WORD +18 18\nThe play scores 16, but 18 is written.\nWORD\n  8E W 4\n  8F O 1\n  8G R 1\n  8H D 2, double word\n  sum 8 x 2 = 16\nscore of the play: 16\n",
         },
     ),
     (
@@ -710,7 +711,7 @@ const ASKED: [(Exit, Row); 10] = [
             words: "AT",
             game: ">A: - +0\n",
             line: Some(7),
-            head: "bad record line 1: Fields\nline 1: >A: - +0\nThere are 2 fields after the colon, and an event has 3 to 5.\n",
+            head: "bad record line 1: Fields\nline 1: >A: - +0\nThere are 2 fields after the colon, but an event has 3 to 5.\n",
         },
     ),
 ];
@@ -725,7 +726,7 @@ fn lines_asked_for(rt: HostRuntime) {
 /// All of a text, with the board.
 const WHOLE: &str = "illegal line 1: WrongScore 16
 line 1: >A: DORWAAE H8 WORD +18 18
-The play scores 16, and 18 is written.
+The play scores 16, but 18 is written.
 WORD
   8H W 4, double word
   9H O 1
@@ -780,12 +781,12 @@ const TOO_LONG: [(&str, usize, &str); 2] = [
     (
         "\n",
         1_048_577,
-        "bad record: TooLong\nThe file has more than 1,048,576 bytes, and no game record is as long. Was another file named?\n",
+        "bad record: TooLong\nThe file has more than 1,048,576 bytes, and no game record may be that long. Is it the wrong file?\n",
     ),
     (
         ">A: (time) -5 0\n",
         1_001,
-        "bad record line 1001: TooManyEvents\nline 1001: >A: (time) -5 0\nThis is event 1,001, and a record has 1,000 at the most.\n",
+        "bad record line 1001: TooManyEvents\nline 1001: >A: (time) -5 0\nThis is event 1,001, and a record has 1,000 at most.\n",
     ),
 ];
 
