@@ -228,7 +228,7 @@ pub fn ok_line(alloc: Global, words: usize) -> Result<Vec<u8>, AllocError>
 }
 
 /// `legal complete` or `legal unfinished`.
-fn legal_line(complete: bool) -> &'static [u8]
+pub fn legal_line(complete: bool) -> &'static [u8]
     ensures { result.now ≡ legal_line complete }
 {
     if complete {
