@@ -2,9 +2,10 @@
 import re
 
 import audits
+import explains
 import rules_texts
 from best import MANY, best_plays
-from deals import event_of, judge_deal, settled_ways
+from deals import event_of, judge_deal, settled_verdicts, settled_ways
 from games import board_after, go_through
 from lexicons import build, check, convert
 from records import Fault, read
@@ -51,9 +52,9 @@ def told_of(report, game, players):
     return b"\n".join([verdict, *events])
 
 
-def answered(words, lexicon, game, text, answer):
+def answered(words, lexicon, game, text, answer, bad_record=Fault.text):
     """The first fault of the inputs, a rules text before them (None for none: the English rules), or what is to be printed of the
-    words, the players, the events and the rules."""
+    words, the players, the events and the rules. `bad_record` tells a fault of the record."""
     try:
         rules = ENGLISH if text is None else rules_texts.read(text)
     except rules_texts.Fault as fault:
@@ -67,7 +68,7 @@ def answered(words, lexicon, game, text, answer):
     try:
         players, said = read(game)
     except Fault as fault:
-        return fault.text()
+        return bad_record(fault)
     return answer(listed, players, [event_of(it) for it in said], rules)
 
 
@@ -101,6 +102,17 @@ def audited(words, lexicon, game, text=None):
 
     answers = answered(words, lexicon, game, text, lines)
     return answers if isinstance(answers, list) else [answers]
+
+
+def explained(words, lexicon, game, asked, told, text=None):
+    """What `explain` is to print of a record, or of a line where one is asked for, where its first line is `told`, if that can be."""
+
+    def sentences(listed, players, events, rules):
+        verdicts = [audits.on_line(verdict, lines_of(game)) for verdict in settled_verdicts(events, listed, rules)]
+        verdict = told.decode("latin-1") if told.decode("latin-1") in verdicts else verdicts[0]
+        return explains.explained(verdict, game, players, events, lines_of(game), listed, rules, asked)
+
+    return answered(words, lexicon, game, text, sentences, lambda fault: explains.explained_fault(game, fault))
 
 
 def audit_status(output):

@@ -3,7 +3,7 @@ import copy
 from dataclasses import replace
 
 from boards import Refused
-from deals import settled_ways
+from deals import settled_verdicts
 from games import Game, step
 from rules import ENGLISH
 
@@ -70,7 +70,7 @@ def wrong_numbers(events, right, whole, numbers=None, nicks="AB"):
 def ways(events, listed, rules=ENGLISH, numbers=None, nicks="AB"):
     """The wrong numbers of a sheet, and the verdict lines of which one has to follow."""
     right, whole = corrected(events, listed, rules)
-    verdicts = [way.split("\n")[0] for way in settled_ways(right, listed, rules)]
+    verdicts = settled_verdicts(right, listed, rules)
     if numbers:
         verdicts = [on_line(verdict, numbers) for verdict in verdicts]
     return wrong_numbers(events, right, whole, numbers, nicks), verdicts

@@ -295,6 +295,15 @@ def legal_report(events, listed, rules=ENGLISH):
     return report(*go_through(events, listed, rules=rules), listed, rules)
 
 
+def settled_verdicts(events, listed, rules=ENGLISH):
+    """The verdict lines that `referee judge --settle` may print of these events on the lines 1, 2 and so on."""
+    known = decide(events, listed, rules)[0].removesuffix("\n")
+    if known != "unsettled":
+        return [known]
+    legal = go_through(events, listed, rules=rules)[0].removesuffix("\n")
+    return [legal, *(f"illegal line {k}: NoDeal" for k in range(1, len(events) + 1)), known]
+
+
 def settled_ways(events, listed, rules=ENGLISH):
     """What `referee judge --settle` may print of these events: what `judge` does, or where that leaves the game open, that it is legal, or
     that no deal yields the racks up to an event."""

@@ -2,7 +2,7 @@
 of it: fuzz.py PROGRAM SECONDS SEED
 
 Each round makes a game that was dealt for real, its list and its lexicon in either format, damages some of them, and runs `judge`,
-`audit`, `check`, `build`, `convert`, `tidy`, `top` and `board` on them; some rounds judge by a rules text, which may be damaged too. Statuses, outputs
+`audit`, `explain`, `check`, `build`, `convert`, `tidy`, `top` and `board` on them; some rounds judge by a rules text, which may be damaged too. Statuses, outputs
 and the files of `build` and `convert` have to be those of the second judge.
 """
 import random
@@ -13,7 +13,7 @@ import time
 from collections import Counter
 from pathlib import Path
 
-from answers import audit_status, audited, boarded, built, checked, converted, error_of, first_fields, judged, settled, status_of, topped, words_of
+from answers import audit_status, audited, boarded, built, checked, converted, error_of, explained, first_fields, judged, settled, status_of, topped, words_of
 from dealing import Dealer, likely, line, words_in_reach
 from lexicons import GAD2, build, convert
 from records import tidy
@@ -125,6 +125,15 @@ class Fuzzer:
             self.differences += 1
             print(*words, "status", ran.returncode, ran.stdout, ran.stderr, "for", ways[:2], self.game.read_bytes(), sep="\n  ")
 
+    def explain(self, by, words, lexicon, game, text):
+        """`explain`, of the verdict or of a line: after the verdict line, of which one of some has to come, each byte is known."""
+        asked = choose([None, None, random.randint(0, game.count(b"\n") + 2)])
+        named = [] if asked is None else [str(asked)]
+        line_ = [self.program, "explain", *by, self.words, self.lexicon, self.game, *named]
+        first = subprocess.run(line_, capture_output=True, check=False, timeout=60).stdout.split(b"\n")[0]
+        told = explained(words, lexicon, game, asked, first, text)
+        self.compare(line_[1:], told, status_of(told))
+
     def round(self, words, lexicon, game, text):
         """One run of each command; a text is that of the rules to play by, None for none."""
         self.fielded = ["--first-field"] if likely(0.3) else []
@@ -139,6 +148,7 @@ class Fuzzer:
         self.compare(["judge", *by, self.words, self.lexicon, self.game], report, status_of(report))
         self.settle(by, settled(words, lexicon, game, text))
         self.audit(by, audited(words, lexicon, game, text))
+        self.explain(by, words, lexicon, game, text)
         rack = choose(["A", "?E", "AEINRST"])
         plays = topped(words, lexicon, game, rack, text)
         self.compare(["top", *by, self.words, self.lexicon, self.game, rack], plays, status_of(plays))

@@ -36,6 +36,7 @@ if [ -x "$program" ]; then
     part oracle/program.py "$program"
     part oracle/manual.py "$program"
     part oracle/pages.py "$program"
+    part oracle/sentences.py "$program"
     part oracle/releases.py "$program"
     part oracle/compare_records.py "$program" 1000 "$seed"
     part oracle/compare_games.py "$program" 200 "$seed"
@@ -46,6 +47,7 @@ if [ -x "$program" ]; then
     part oracle/compare_archive.py "$program" 60 "$seed"
     part oracle/archive_scripts.py "$program" 30 "$seed"
     part oracle/compare_audits.py "$program" 60 "$seed"
+    part oracle/compare_explains.py "$program" 60 "$seed"
     part oracle/fuzz.py "$program" 60 "$seed"
 else
     failed=$((failed + 1))

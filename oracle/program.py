@@ -911,6 +911,97 @@ def audited(run):
         run.row(["audit", "--corrected", "/dev/full", "word", "word.gad", "line"], 4, error="write failed")
 
 
+STANDS = "The rules allow every event, and a deal of the tiles gives the players every rack that is shown.\n"
+WORD_SUMS = "WORD\n  8E W 4\n  8F O 1\n  8G R 1\n  8H D 2, double word\n  sum 8 x 2 = 16\nscore of the play: 16\n"
+AT_SUMS = """\
+AT
+  9G A 1 x 2 = 2, double letter
+  9H T 1
+  sum 3
+RA
+  8G R 1, already on the board
+  9G A 1 x 2 = 2, double letter
+  sum 3
+DT, which is not in the word list
+  8H D 2, already on the board
+  9H T 1
+  sum 3
+score of the play: 9
+"""
+WORD_MARKED = (ROW_OF_WORD[0], " 8 = . . '[. . . -]. . . ' . . =")
+AT_MARKED = (ROW_OF_AT[0], " 9 . . ' . . .[' .]' . . . ' . .")
+
+
+def picture_of(line, play, *changes):
+    """The English board before a line, with some of its rows changed."""
+    text = f"board before line {line}{', the squares of the play in brackets' if play else ''}\n{SQUARES}"
+    for old, new in changes:
+        assert text.count(old) == 1, old
+        text = text.replace(old, new)
+    return text
+
+
+def explained(run):
+    """`explain`, by the verdict and by the line that is named."""
+    run.row(["build", "word", "word.gad"], 0)
+    run.row(["build", "word-at-ra", "word-at-ra.gad"], 0)
+    told = lambda game, status, out, *line: run.row(["explain", "word", "word.gad", game, *line], status, out)
+    told("line", 0, f"legal unfinished\n{STANDS}")
+    told("ends", 0, f"legal complete\n{STANDS}")
+    told("nothing", 0, "legal unfinished\nThe record has no event. Is it a game record?\n")
+    told("page", 0, "legal unfinished\nThe record has no event. Is it a game record?\n")
+    for line in ([], ["0"], ["1"]):
+        score = "illegal line 1: WrongScore 16\nline 1: >A: DORWAAE 8E WORD +18 18\nThe play scores 16, but 18 is written.\n"
+        told("line-18", 1, score + WORD_SUMS + picture_of(1, True, WORD_MARKED), *line)
+    total = "illegal line 1: WrongTotal 16\nline 1: >A: DORWAAE 8E WORD +16 17\nA had 0 and scores 16 on this line, which makes 16, but 17 is written.\n"
+    told("line-17", 1, total + WORD_SUMS + picture_of(1, True, WORD_MARKED))
+    turn = "illegal line 2: NotYourTurn\nline 2: >A: - +0 16\nIt is the other player's turn, not A's.\n"
+    told("turn", 1, turn + picture_of(2, False, ROW_OF_WORD))
+    centre = "illegal line 1: MissesCentre\nline 1: >A: DORWAAE 8D WORD +16 16\nThe first play of a game has to cover 8H, and this one does not.\n"
+    spot = "The same letters score 16 at 8E across, 8F across, 8G across and 5 other places.\n"
+    told("line-8d", 1, centre + spot + picture_of(1, True, (ROW_OF_WORD[0], " 8 = . .[' . . .]- . . . ' . . =")))
+    short = "The game has 2 of the tile ?, but by the lines below there would have to be 3: 0 on the board, 2 on A's rack and 1 on B's.\n"
+    shown = "  line 1 shows 2 on A's rack\n  line 2 shows 1 on B's rack\n"
+    told("blanks", 1, f"illegal line 2: TilesShort ?\nline 2: >B: ? - +0 0\n{short}{shown}" + picture_of(2, False))
+    no_deal = "No deal of the tiles gives the players the racks that the lines up to this one show, though no line alone shows too much.\n"
+    exchanged = "Compare the racks with the exchanges:\n  line 1: A exchanges 1 tile\n"
+    told("one-of-seven", 1, f"illegal line 3: NoDeal\nline 3: >A: BCDFGHJ - +0 0\n{no_deal}{exchanged}" + picture_of(3, False))
+    third = "bad record line 3: ThirdPlayer\nline 3: >C: - +0 0\nC is a third nickname: the players are A and B.\n"
+    number = "bad record line 1: Number\nline 1: >A: 8E WORD +x 16\nThe score +x is not a number of 1 to 6 digits, with or without a sign.\n"
+    for line in ([], ["7"]):
+        told("third", 3, third, *line)
+        told("number", 3, number, *line)
+    long = "The file has more than 1,048,576 bytes, and no game record may be that long. Is it the wrong file?\n"
+    told("long-game", 3, f"bad record: TooLong\n{long}")
+    for game, line in (("line", "2"), ("line", "4294967295"), ("nothing", "0")):
+        told(game, 3, "bad line: no event is on it or after it\n", line)
+    allowed = "The rules allow this event.\n"
+    told("line", 0, f"legal unfinished\nline 1: {WORD}{allowed}{WORD_SUMS}" + picture_of(1, True, WORD_MARKED), "1")
+    listed = ["explain", "word-at-ra", "word-at-ra.gad"]
+    laid = f"legal unfinished\nline 2: >B: AT 9G AT +9 9\n{allowed}{AT_SUMS}" + picture_of(2, True, ROW_OF_WORD, AT_MARKED)
+    run.row([*listed, "unlisted", "2"], 0, laid)
+    back = f"legal unfinished\nline 3: >B: AT -- -9 0\n{allowed}" + picture_of(3, False, ROW_OF_WORD, ROW_OF_AT)
+    run.row([*listed, "withdrawn", "3"], 0, back)
+    not_judged = "The rules do not allow line 1, so this line was not judged.\n"
+    unknown = "The board before this line is not known, since the play on line 2 cannot be laid.\n"
+    told("stops", 1, "illegal line 2: Mismatch\nline 3: >A: - +0 16\n" + not_judged.replace("1", "2") + unknown, "3")
+    for words, status, out in [
+        (["digit", "word.gad", "line"], 3, "bad word list line 2: BadLetter\n"),
+        (["at", "extra.gad", "line"], 3, "bad lexicon: Extra A\n"),
+        (["--rules", "tiles.rules", "word", "word.gad", "line"], 3, "bad rules line 1: Unknown\n"),
+        (["--rules", "two-sets.rules", "at", "at.gad", "blanks"], 0, f"legal unfinished\n{STANDS}"),
+    ]:
+        run.row(["explain", *words], status, out)
+    run.row(["explain", "word", "word.gad", "-"], 0, f"legal unfinished\n{STANDS}", stdin=WORD)
+    run.row(["explain", "word", "word.gad", "nowhere"], 4, error="cannot open nowhere")
+    run.row(["explain", "word", "folder", "line"], 4, error="cannot read folder")
+    run.row(["explain", "word", "word.gad", "folder"], 4, error="cannot read folder")
+    for words in (["line", "x"], ["line", "-1"], ["line", "4294967296"], ["line", "1", "2"], ["--before", "1", "line"]):
+        run.row(["explain", "word", "word.gad", *words], 64, error=None)
+    if os.path.exists("/dev/full"):
+        run.row(["explain", "word", "word.gad", "line"], 4, error="write failed", stdout="/dev/full")
+
+
 def broken(run):
     """Status 4: files that cannot be opened, read or written, and want of memory."""
     run.row(["judge", "nowhere", "at.gad", "line"], 4, error="cannot open nowhere")
@@ -949,7 +1040,7 @@ def helped(run):
     run.row(["-V"], 0, "referee 1.0.0\n")
     for words in (["help"], ["--help"], ["-h"], ["judge", "--help"], ["judge", "-h"], ["help", "help"]):
         run.row(words, 0, None)
-    for command in ("judge", "archive", "audit", "board", "build", "check", "convert", "top", "tidy"):
+    for command in ("judge", "archive", "audit", "explain", "board", "build", "check", "convert", "top", "tidy"):
         run.row(["help", command], 0, None)
         run.row([command, "--help"], 0, None)
     if os.path.exists("/dev/full"):
@@ -969,6 +1060,8 @@ def misused(run):
         for names in range(count):
             run.row([command, *["at"] * names], 64, error=None)
         run.row([command, *["at"] * (count + 1)], 64, error=None)
+    for names in range(3):
+        run.row(["explain", *["at"] * names], 64, error=None)
     run.row(["tidy", b"\xff\xfe"], 64, error=None)
     run.row(["tidy", "--loud", "line"], 64, error=None)
 
@@ -977,7 +1070,7 @@ def main():
     with tempfile.TemporaryDirectory() as folder:
         files(folder)
         run = Runner(os.path.abspath(sys.argv[1]), folder)
-        for part in (judged, settled, built_and_checked, converted, topped, topped_before, ruled, tidied, boarded, widest, from_standard_input, fielded, archived, audited, broken, helped, misused):
+        for part in (judged, settled, built_and_checked, converted, topped, topped_before, ruled, tidied, boarded, widest, from_standard_input, fielded, archived, audited, explained, broken, helped, misused):
             part(run)
         if sys.argv[2:] == ["large"]:
             converted_large(run)

@@ -1,6 +1,6 @@
 //! The lines of an audit.
 
-use engine::{Audit, Finding, GameFault, fault_text};
+use engine::{Audit, Finding, finding_line};
 use game_sheets::WrongNumber;
 use gcg_read::{Players, Seat};
 use itoa::{Buffer, Integer};
@@ -84,28 +84,6 @@ fn push_number<I: Integer>(text: &mut Vec<u8>, number: I) -> Result<(), AllocErr
 
 /// Appends the verdict line of a finding.
 fn push_finding(alloc: Global, text: &mut Vec<u8>, finding: &Finding) -> Result<(), AllocError> {
-    match finding {
-        Finding::Legal { complete: true } => text.extend_from_slice(b"legal complete\n"),
-        Finding::NoGame | Finding::Legal { complete: false } => {
-            text.extend_from_slice(b"legal unfinished\n")
-        }
-        Finding::Illegal { line, fault } => push_illegal(alloc, text, *line, fault),
-        Finding::Unsettled => text.extend_from_slice(b"unsettled\n"),
-    }
-}
-
-/// Appends the line of a fault.
-fn push_illegal(
-    alloc: Global,
-    text: &mut Vec<u8>,
-    line: u32,
-    fault: &GameFault,
-) -> Result<(), AllocError> {
-    text.extend_from_slice(b"illegal line ")?;
-    push_number(text, line)?;
-    text.extend_from_slice(b": ")?;
-    let told = fault_text(alloc, fault)?;
-    text.extend_from_slice(told.as_slice())?;
-    text.push(b'\n')?;
-    Ok(())
+    let line = finding_line(alloc, finding)?;
+    text.extend_from_slice(line.as_slice())
 }

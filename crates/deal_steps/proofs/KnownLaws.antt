@@ -22,7 +22,7 @@ use Rattle.deal_steps.specs.declared.known.Known.{Known}
 use Rattle.deal_steps.specs.Piles.{kinds, joined, without, greater}
 use Rattle.deal_steps.specs.Steps.{used_by, left_by, laid_by, thrown_by, of_act, throws_unknown, needed_of, size_of}
 use Rattle.deal_steps.specs.Bounds.{gone, low, low_at, laid, laid_earlier, thrown, held, raised, is_too_big, short_kind, kind_at, bound_of, bound_for, bound_at, first_bound_after}
-use Rattle.deal_steps.specs.Knowing.{known_of, raised_by, IsKnown, short_of, excess_of, excess, shown_by, moved_by, HasRoom}
+use Rattle.deal_steps.specs.Knowing.{known_of, raised_by, IsKnown, IsShown, short_of, excess_of, excess, shown_by, moved_by, HasRoom}
 use Rattle.deal_steps.proofs.PileLaws.{joined_is, get-joined, get-without, get-greater, get-no_tiles, length-joined, length-without, length-greater, length-no_tiles, sum-joined, sum_is, part_of_kinds}
 
 -- ---- numbers
@@ -380,14 +380,6 @@ held_number earlier low thrown gone laid known k below e even =
     let both = get-joined earlier low k below in
     omega (arith, whole, rest, both, even)
 
--- what the moments up to a step show of both players, by what is known
-record IsShown (s : Step) (past : List Step) (known : Known) : Type 0 where
-  pub first : low_at First s past ≡ joined known.first (gone First past)
-  pub second : low_at Second s past ≡ joined known.second (gone Second past)
-  pub laid_is : known.laid ≡ joined (laid First past) (laid Second past)
-  pub first_long : length known.first ≡ 27
-  pub second_long : length known.second ≡ 27
-
 short_test : (counts : ℕ) (first second all x y : ℕ) (a b : ℕ) → x ≡ a + first → y ≡ b + second → all ≡ a + b
     → nat_lt counts (all + first + second) ≡ nat_lt counts (x + y)
 short_test counts first second all x y a b e f g = grind (arith, nat_tests, e, f, g)
@@ -427,7 +419,8 @@ same_bound rules seat s past known shown =
     let short = ap (λ (o : Option ℕ). fault_of s (is_too_big seat s past) o) (same_short rules seat s past known shown) in
     size ∙ short
 
-shown_at : (s : Step) (past : List Step) (known : Known) → IsKnown past known → IsShown s past (shown_by s.player s.act known)
+-- what is shown at a step, by what is known
+pub shown_at : (s : Step) (past : List Step) (known : Known) → IsKnown past known → IsShown s past (shown_by s.player s.act known)
 shown_at s past known is =
     record {
       first = side_shown First s.player s.act (low First past) (gone First past) known is.first;
@@ -565,6 +558,9 @@ bound_taken rules s known now past is shows = rw shows (known_bound rules s past
 pub known_taken : (s : Step) (known now new : Known) (past : List Step) → IsKnown past known → now ≡ shown_by s.player s.act known
     → new ≡ moved_by s.player s.act now → IsKnown (s ∷ past) new
 known_taken s known now new past is shows moves = rw moves (rw shows (known_after s past known is))
+
+pub shown_taken : (s : Step) (known now : Known) (past : List Step) → IsKnown past known → now ≡ shown_by s.player s.act known → IsShown s past now
+shown_taken s known now past is shows = rw shows (shown_at s past known is)
 
 -- the steps before a place, the latest first
 abbrev pub past_at : List Step → ℕ → List Step

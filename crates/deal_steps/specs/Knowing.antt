@@ -1,6 +1,6 @@
 -- The bounds by what must be on the racks now. A player must have the tiles that the moments of the present epoch show,
 -- less those that left since.
-use Rattle.std.specs.Prelude.{◌≡◌, ℕ, ◌+◌, ◌<◌, nat_lt, List, sum, length, slice_index, Option, Some, None, if◌then◌else◌}
+use Rattle.std.specs.Prelude.{◌≡◌, ℕ, ◌+◌, ◌<◌, nat_lt, List, sum, length, reverse, take, slice_get, slice_index, Option, Some, None, if◌then◌else◌}
 use Rattle.std.specs.List.{find}
 use Rattle.std.specs.Option.{option_map}
 use Rattle.ref_tiles.specs.declared.rulebook.Rules.{Rules}
@@ -17,7 +17,7 @@ use Rattle.deal_steps.specs.declared.faults.DealFault.TheVariants as fault
 use Rattle.deal_steps.specs.declared.known.Known.{Known}
 use Rattle.deal_steps.specs.Piles.{kinds, joined, without, greater}
 use Rattle.deal_steps.specs.Steps.{used_by, size_of}
-use Rattle.deal_steps.specs.Bounds.{low, gone, laid, kind_at}
+use Rattle.deal_steps.specs.Bounds.{low, low_at, gone, laid, kind_at}
 
 abbrev pub known_of : Known → Seat → List ℕ
 known_of known First = known.first
@@ -37,6 +37,20 @@ pub record IsKnown (past : List Step) (known : Known) : Type 0 where
   pub laid_is : known.laid ≡ joined (laid First past) (laid Second past)
   pub first_long : length known.first ≡ 27
   pub second_long : length known.second ≡ 27
+
+-- What is shown at a step behind a past: with what left the racks before, what the moments show up to that of the step itself.
+pub record IsShown (s : Step) (past : List Step) (known : Known) : Type 0 where
+  pub first : low_at First s past ≡ joined known.first (gone First past)
+  pub second : low_at Second s past ≡ joined known.second (gone Second past)
+  pub laid_is : known.laid ≡ joined (laid First past) (laid Second past)
+  pub first_long : length known.first ≡ 27
+  pub second_long : length known.second ≡ 27
+
+-- what is shown at a place of some steps
+pub record IsShownAt (steps : List Step) (place : ℕ) (known : Known) : Type 0 where
+  pub step : Step
+  pub there : slice_get steps place ≡ Some step
+  pub shown : IsShown step (reverse (take place steps)) known
 
 -- the first kind of which more is known than there is
 abbrev pub short_of : Rules → Known → Option ℕ

@@ -1,11 +1,27 @@
-//! The first bound that the steps of a game exceed.
-ghost use Rattle.std.specs.Prelude.{◌≡◌};
+//! The first bound that the steps of a game exceed, and what they show of the racks.
+ghost use Rattle.std.specs.Prelude.{◌≡◌, ◌⊎◌, ◌≤◌, Some, None, IfOk, OnOk, IfErr, IfSome, IsSome, length, take, reverse};
 ghost use Rattle.deal_steps.specs.Bounds.{first_bound};
+ghost use Rattle.deal_steps.specs.Knowing.{IsKnown, IsShownAt};
 
 use crate::faults::DealFault;
 use crate::known::Known;
 use crate::steps::Step;
 use ref_tiles::Rules;
+
+/// What is known of the racks behind the steps of a game, or the first bound that they exceed.
+fn known_behind(rules: &Rules, steps: &[Step]) -> Result<Known, DealFault>
+    ensures fault { IfErr result (λ fault. first_bound rules.now steps.now ≡ Some fault) }
+    ensures none { OnOk result (first_bound rules.now steps.now ≡ None) }
+    ensures known { IfOk result (IsKnown (reverse steps.now)) }
+{
+    let mut known = Known::new();
+    for step in steps {
+        if let Some(fault) = known.take(rules, step) {
+            return Err(fault);
+        }
+    }
+    Ok(known)
+}
 
 /// The first bound that the steps of a game exceed.
 ///
@@ -15,11 +31,23 @@ use ref_tiles::Rules;
 pub fn first_bound(rules: &Rules, steps: &[Step]) -> Option<DealFault>
     ensures { result ≡ first_bound rules.now steps.now }
 {
-    let mut known = Known::new();
-    for step in steps {
-        if let Some(fault) = known.take(rules, step) {
-            return Some(fault);
-        }
+    known_behind(rules, steps).err()
+}
+
+/// What the steps of a game show of the racks at one of them, by its place from 0: what each player must have on the rack, and the
+/// tiles of the plays that stand. None where an earlier step exceeds a bound, and behind the last step.
+#[tactic(auto, using(crate::proofs::KnownLaws::shown_taken))]
+pub fn shown_at(rules: &Rules, steps: &[Step], place: usize) -> Option<Known>
+    ensures shown { IfSome result (IsShownAt steps.now place) }
+    ensures bounded { IsSome result → first_bound rules.now (take place steps.now) ≡ None }
+    ensures none { result ≡ None → (length steps.now ≤ place) ⊎ IsSome (first_bound rules.now (take place steps.now)) }
+{
+    if place >= steps.len() {
+        return None;
     }
-    None
+    let Ok(mut known) = known_behind(rules, &steps[..place]) else {
+        return None;
+    };
+    known.show(&steps[place]);
+    Some(known)
 }

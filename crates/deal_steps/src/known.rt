@@ -111,7 +111,7 @@ impl Known {
     }
 
     /// What the step shows is known.
-    fn show(&mut self, step: &Step)
+    pub(crate) fn show(&mut self, step: &Step)
         ensures { self.new ≡ shown_by step.now.player step.now.act self.old }
     {
         match &step.act {

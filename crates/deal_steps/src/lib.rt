@@ -13,7 +13,7 @@ mod laws;
 mod piles;
 mod steps;
 
-pub use bounding::first_bound;
+pub use bounding::{first_bound, shown_at};
 pub use deals::{Deal, Held, Racks};
 pub use faults::DealFault;
 pub use fitting::{fits, fits_at, follows, follows_to, used_by};

@@ -20,3 +20,4 @@ pub mod Settling
 pub mod OwnVerdicts
 pub mod Archiving
 pub mod Auditing
+pub mod Explaining

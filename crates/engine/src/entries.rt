@@ -163,7 +163,7 @@ pub(crate) fn entry_of(
 }
 
 /// The entry of the record of a text, or the fault of the record.
-fn entry_from(
+pub(crate) fn entry_from(
     alloc: Global,
     rules: &Rules,
     pair: &Checked<'_>,

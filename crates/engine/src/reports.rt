@@ -82,7 +82,7 @@ fn push_fault(text: &mut Vec<u8>, fault: &GameFault) -> Result<(), AllocError>
     }
 }
 
-/// The text of a fault of a game, as a report tells it: its name, and the number that was expected or the kind that is short.
+/// The text of a fault of a game, as a report has it: its name, and the number that was expected or the kind that is short.
 pub fn fault_text(alloc: Global, fault: &GameFault) -> Result<Vec<u8>, AllocError>
     ensures { IfOk result (λ text. text.items ≡ fault_text fault.now) }
 {
@@ -228,7 +228,7 @@ pub fn ok_line(alloc: Global, words: usize) -> Result<Vec<u8>, AllocError>
 }
 
 /// `legal complete` or `legal unfinished`.
-fn legal_line(complete: bool) -> &'static [u8]
+pub fn legal_line(complete: bool) -> &'static [u8]
     ensures { result.now ≡ legal_line complete }
 {
     if complete {

@@ -1,29 +1,12 @@
 //! Laying the plays of a record.
 ghost use Rattle.std.specs.Prelude.{◌≡◌, ◌<◌, ◌≤◌, ◌+◌, length, slice_get, if◌then◌else◌, Some, None, IfOk, OnOk, IfErr};
-ghost use Rattle.ref_play.specs.Legality.{IsLegal};
-ghost use Rattle.ref_play.specs.Texts.{placement_of};
-ghost use Rattle.game_turns.specs.Checks.{play_fault};
 ghost use Rattle.game_turns.specs.Tallies.{withdraws as next_withdraws};
 ghost use Rattle.game_board.specs.Laying.{board_before, kind_fault, laid_on, AreLaid};
 
-use game_turns::withdraws;
+use game_turns::{legal_play, withdraws};
 use gcg_read::{Event, EventKind};
-use ref_board::{Board, Dir, Square};
-use ref_play::{Play, PlayFault, apply, from_text, judge};
-use ref_tiles::Symbol;
-
-/// The play that a text names, where it is legal.
-#[tactic(auto, unfolding(game_turns::specs::Checks::play_fault))]
-fn legal_play(board: &Board, at: Square, dir: Dir, word: &[Symbol]) -> Result<Play, PlayFault>
-    ensures fault { IfErr result (λ why. play_fault board.now dir at word.now ≡ Some why) }
-    ensures none { OnOk result (play_fault board.now dir at word.now ≡ None) }
-    ensures legal { IfOk result (λ play. IsLegal board.now play.tiles.items) }
-    ensures tiles { IfOk result (λ play. play.tiles.items ≡ placement_of board.now dir at word.now) }
-{
-    let play = from_text(board, at, dir, word)?;
-    judge(board, &play)?;
-    Ok(play)
-}
+use ref_board::Board;
+use ref_play::{PlayFault, apply};
 
 /// The board with the play of an event, where it is one and can be laid.
 fn lay(board: &Board, kind: &EventKind) -> Result<Board, PlayFault>

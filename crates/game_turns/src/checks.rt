@@ -22,7 +22,7 @@ use ref_tiles::{Counts, Symbol};
 
 /// The play that a text names, where it is legal.
 #[tactic(auto, unfolding(crate::specs::Checks::play_fault))]
-fn legal_play(board: &Board, at: Square, dir: Dir, word: &[Symbol]) -> Result<Play, PlayFault>
+pub fn legal_play(board: &Board, at: Square, dir: Dir, word: &[Symbol]) -> Result<Play, PlayFault>
     ensures fault { IfErr result (λ why. play_fault board.now dir at word.now ≡ Some why) }
     ensures none { OnOk result (play_fault board.now dir at word.now ≡ None) }
     ensures legal { IfOk result (λ play. IsLegal board.now play.tiles.items) }

@@ -18,11 +18,12 @@ mod sides;
 mod steps;
 mod turns;
 
+pub use checks::legal_play;
 pub use faults::RuleFault;
 pub use kinds::{is_turn, withdraws};
 pub use laws::law_of_tallies;
 pub use listing::all_listed;
 pub use machine::Machine;
 pub use passed::Passed;
-pub use playing::{Refusal, board_before, play_through};
+pub use playing::{Refusal, board_before, play_events, play_through};
 pub use turns::Turn;

@@ -94,6 +94,27 @@ impl Machine {
         self.out
     }
 
+    /// How many turns there were since the latest play that stands, up to the limit of the rules.
+    pub fn idle_turns(&self) -> usize
+        ensures { result ≡ (state_of self.now).zero_run }
+    {
+        self.zero_run as usize
+    }
+
+    /// Whether a last rack of this player stands.
+    pub fn has_ended(&self, player: Seat) -> bool
+        ensures { result ≡ (side_of (state_of self.now).sides player).ended }
+    {
+        self.sides.of(player).ended
+    }
+
+    /// Whether a time penalty of this player stands.
+    pub fn is_timed(&self, player: Seat) -> bool
+        ensures { result ≡ (side_of (state_of self.now).sides player).timed }
+    {
+        self.sides.of(player).timed
+    }
+
     /// The new tiles of the latest event where it is a play, and those that it took back where it is a
     /// withdrawal.
     pub fn last_play(&self) -> Option<&Play>

@@ -45,8 +45,13 @@ pub(crate) fn event_behind(events: &[Event], place: usize) -> Option<&Event>
     events.get(place + 1)
 }
 
-/// The machine behind the events before a place, or the first of them that the rules do not allow.
-fn play_events(
+/// The machine behind the events before a place of a record, counted from 0: the game as it stands there.
+///
+/// # Errors
+///
+/// The first event before the place that the rules do not allow, and the first check that fails there. Nothing is asked of
+/// the events at the place and behind it.
+pub fn play_events(
     rules: &Rules,
     events: &[Event],
     list: &WordList,

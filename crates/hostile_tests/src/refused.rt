@@ -1,11 +1,13 @@
 //! Memory that is refused: each request in turn, by `bench/refuse_memory.py`, until a run meets no refusal. Each test is for one
 //! call, and takes little memory besides. Without a refusal the answer is the row's.
+use crate::feeds::{Feed, NEVER};
 use crate::jobs::{
     AT, AT_BY_NODES, BEST_PLAYS, BUILT, CHECKED, CONVERTED, CONVERTED_BACK, Job, NO_DEAL, ONE_PLAY,
     PLAYS_BEFORE, RULED, RULED_BOARD, RULED_NO_DEAL, RULED_PLAYS, RULED_PLAYS_BEFORE, SETTLED,
     SHOWN, STALE, TIDIED, UNSETTLED, WITHDRAWN, WORD, attempt, working,
 };
-use engine::RunFault;
+use engine::{RunFault, open_case, pair_file};
+use explain_lines::push_explanation;
 use game_deal::{DealFault, Steps, bounds, complete};
 use game_turns::play_through;
 use gcg_read::{Record, read};
@@ -255,4 +257,120 @@ fn complete_with_an_exchange(rt: HostRuntime) {
     if let Some((record, list)) = dealt(rt.alloc(), game) {
         assert_deal(&rt, rt.alloc(), &record, &list);
     }
+}
+
+/// What explains a wrong score.
+const WRONG_SCORE: &str = "illegal line 1: WrongScore 16
+line 1: >A: DORWAAE 8E WORD +18 18
+The play scores 16, but 18 is written.
+WORD
+  8E W 4
+  8F O 1
+  8G R 1
+  8H D 2, double word
+  sum 8 x 2 = 16
+score of the play: 16
+board before line 1, the squares of the play in brackets
+   A B C D E F G H I J K L M N O
+ 1 = . . ' . . . = . . . ' . . =
+ 2 . - . . . \" . . . \" . . . - .
+ 3 . . - . . . ' . ' . . . - . .
+ 4 ' . . - . . . ' . . . - . . '
+ 5 . . . . - . . . . . - . . . .
+ 6 . \" . . . \" . . . \" . . . \" .
+ 7 . . ' . . . ' . ' . . . ' . .
+ 8 = . . '[. . . -]. . . ' . . =
+ 9 . . ' . . . ' . ' . . . ' . .
+10 . \" . . . \" . . . \" . . . \" .
+11 . . . . - . . . . . - . . . .
+12 ' . . - . . . ' . . . - . . '
+13 . . - . . . ' . ' . . . - . .
+14 . - . . . \" . . . \" . . . - .
+15 = . . ' . . . = . . . ' . . =
+= triple word, - double word, \" triple letter, ' double letter
+small letters are blanks
+";
+
+/// What explains racks.
+const SHORT_RACKS: &str = "illegal line 2: TilesShort ?
+line 2: >B: ? - +0 0
+The game has 2 of the tile ?, but by the lines below there would have to be 3: 0 on the board, 2 on A's rack and 1 on B's.
+  line 1 shows 2 on A's rack
+  line 2 shows 1 on B's rack
+board before line 2
+   A B C D E F G H I J K L M N O
+ 1 = . . ' . . . = . . . ' . . =
+ 2 . - . . . \" . . . \" . . . - .
+ 3 . . - . . . ' . ' . . . - . .
+ 4 ' . . - . . . ' . . . - . . '
+ 5 . . . . - . . . . . - . . . .
+ 6 . \" . . . \" . . . \" . . . \" .
+ 7 . . ' . . . ' . ' . . . ' . .
+ 8 = . . ' . . . - . . . ' . . =
+ 9 . . ' . . . ' . ' . . . ' . .
+10 . \" . . . \" . . . \" . . . \" .
+11 . . . . - . . . . . - . . . .
+12 ' . . - . . . ' . . . - . . '
+13 . . - . . . ' . ' . . . - . .
+14 . - . . . \" . . . \" . . . - .
+15 = . . ' . . . = . . . ' . . =
+= triple word, - double word, \" triple letter, ' double letter
+small letters are blanks
+";
+
+/// What explains a text that is no record.
+const THIRD_PLAYER: &str = "bad record line 3: ThirdPlayer
+line 3: >C: - +0 0
+C is a third nickname: the players are A and B.
+";
+
+/// Asserts what explains a record by the list WORD, or that memory is refused.
+fn assert_explained(rt: &impl Abort, alloc: Global, game: &[u8], want: &str) {
+    if let Some(text) = explained(alloc, game) {
+        assert_eq!(rt; text.as_slice(), want.as_bytes());
+    }
+}
+
+/// What explains a record by the list WORD; none where memory is refused.
+fn explained(alloc: Global, game: &[u8]) -> Option<Vec<u8>> {
+    let rules = english_rules();
+    let list = WordList::read(alloc, b"WORD").ok()?;
+    let Ok(Ok(pair)) = pair_file(alloc, &list, &WORD) else {
+        return None;
+    };
+    let mut game = Feed::new(game, 8192, NEVER);
+    let case = open_case(alloc, &rules, &pair, &mut game).ok()?;
+    let mut text = Vec::new(alloc);
+    push_explanation(alloc, &mut text, &rules, &list, &case, None).ok()?;
+    Some(text)
+}
+
+#[test]
+fn explain_of_a_wrong_score(rt: HostRuntime) {
+    assert_explained(
+        &rt,
+        rt.alloc(),
+        b">A: DORWAAE 8E WORD +18 18\n",
+        WRONG_SCORE,
+    );
+}
+
+#[test]
+fn explain_of_racks(rt: HostRuntime) {
+    assert_explained(
+        &rt,
+        rt.alloc(),
+        b">A: ?? - +0 0\n>B: ? - +0 0\n",
+        SHORT_RACKS,
+    );
+}
+
+#[test]
+fn explain_of_no_record(rt: HostRuntime) {
+    assert_explained(
+        &rt,
+        rt.alloc(),
+        b">A: - +0 0\n>B: - +0 0\n>C: - +0 0\n",
+        THIRD_PLAYER,
+    );
 }

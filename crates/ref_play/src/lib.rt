@@ -15,16 +15,17 @@ mod texts;
 mod writing;
 
 pub use faults::PlayFault;
-pub use judging::{apply, judge, undo};
+pub use judging::{apply, formed, judge, undo};
 pub use laws::{
     law_of_before, law_of_directions, law_of_legality, law_of_lines, law_of_notations, law_of_runs,
     law_of_undoing,
 };
+pub use legality::covers;
 pub use notations::Notation;
 pub use placed::Placed;
 pub use plays::{Play, RACK};
 pub use runs::Run;
-pub use scoring::{points_on, score};
+pub use scoring::{bonus_score, points_on, run_score, score, words_factor};
 pub use spelling::{Word, Words, words};
-pub use texts::{along, from_text, shortened};
+pub use texts::{along, from_text, placement_of, shortened, symbol_fits};
 pub use writing::{before, notation};

@@ -84,7 +84,7 @@ fn factor_in(rules: &Rules, run: &Run, placed: &Placed) -> u32
 }
 
 /// The product of the word premiums under the new tiles of a word.
-fn words_factor(rules: &Rules, tiles: &[Placed], run: &Run) -> u32
+pub fn words_factor(rules: &Rules, tiles: &[Placed], run: &Run) -> u32
     requires within { IsWithin run.now }
     requires few { length tiles.now ≤ 7 }
     ensures factor { result ≡ words_factor rules.now tiles.now run.now }
@@ -98,7 +98,7 @@ fn words_factor(rules: &Rules, tiles: &[Placed], run: &Run) -> u32
 }
 
 /// What a word scores.
-fn run_score(rules: &Rules, after: &Board, tiles: &[Placed], run: &Run) -> u32
+pub fn run_score(rules: &Rules, after: &Board, tiles: &[Placed], run: &Run) -> u32
     requires within { IsWithin run.now }
     requires few { length tiles.now ≤ 7 }
     ensures score { result ≡ run_score rules.now after.now tiles.now run.now }
@@ -123,7 +123,7 @@ fn runs_score(rules: &Rules, after: &Board, tiles: &[Placed], runs: &[Run]) -> u
 }
 
 /// What a play of seven tiles scores on top.
-fn bonus_score(rules: &Rules, tiles: &[Placed]) -> u32
+pub fn bonus_score(rules: &Rules, tiles: &[Placed]) -> u32
     ensures score { result ≡ bonus_score rules.now tiles.now }
     ensures limit { result ≤ 999 }
 {

@@ -26,7 +26,7 @@ pub fn along(square: Square, dir: Dir, by: usize) -> Square
 }
 
 /// Whether a symbol agrees with what lies on its square.
-fn symbol_fits(cell: Option<Tile>, symbol: Symbol) -> bool
+pub fn symbol_fits(cell: Option<Tile>, symbol: Symbol) -> bool
     ensures { result ≡ symbol_fits cell symbol }
 {
     match cell {
@@ -76,7 +76,7 @@ fn fits_board(board: &Board, at: Square, dir: Dir, word: &[Symbol]) -> bool
 
 /// The new tiles of a text: its symbols that lie on empty squares.
 #[tactic(auto, unfolding(crate::specs::Texts::placement_of, crate::specs::Texts::text_cells))]
-fn placement_of(board: &Board, at: Square, dir: Dir, word: &[Symbol]) -> ArrayVec<Placed, SIDE>
+pub fn placement_of(board: &Board, at: Square, dir: Dir, word: &[Symbol]) -> ArrayVec<Placed, SIDE>
     requires { place_of dir at + length word.now ≤ 15 }
     ensures { result.items ≡ placement_of board.now dir at word.now }
 {

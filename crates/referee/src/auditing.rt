@@ -2,12 +2,12 @@
 
 use crate::command_line::GameFiles;
 use crate::files::create;
-use crate::inputs::{Inputs, lexicon_of, list_of, open_inputs, refuse, rules_of, write};
-use crate::sources::{open_source, shown};
+use crate::inputs::{refuse, write};
+use crate::sources::shown;
 use audit_lines::{exit_of, is_corrected, push_audit};
 use devices::{FromRead, FromWrite, write_whole};
 use endings::{Exit, Trouble};
-use engine::{Audit, audit_sheet, pair_file};
+use engine::{Audit, audit_sheet};
 use gcg_read::Record;
 use lex_check::Checked;
 use ref_tiles::Rules;
@@ -15,38 +15,9 @@ use std::alloc::{AllocError, Global};
 use std::io::Read;
 use std::rt::{Files, Runtime};
 
-/// Audits the sheet of a record: writes each wrong number and the verdict of the corrected record to standard output, and that record in
-/// its normal form to the file `out`, where one is named and the record stands.
-pub fn audit<'a, R: Runtime + AllocGlobal>(
-    rt: &R,
-    files: GameFiles<'a>,
-    out: Option<&'a str>,
-) -> Result<Exit, Trouble<'a>> {
-    let inputs = open_inputs(rt, files.rules, files.words, files.lexicon)?;
-    let game = open_source(rt, files.game)?;
-    let Inputs {
-        rules,
-        words,
-        lexicon,
-    } = inputs;
-    let rules = match rules_of(rt.alloc(), files.rules, rules)? {
-        Ok(rules) => rules,
-        Err(decision) => return refuse(rt, &decision),
-    };
-    let list = match list_of(rt.alloc(), files.words.name, words)? {
-        Ok(list) => list,
-        Err(decision) => return refuse(rt, &decision),
-    };
-    let bytes = lexicon_of(rt.alloc(), files.lexicon, lexicon)?;
-    match pair_file(rt.alloc(), &list, &bytes) {
-        Ok(Ok(pair)) => audit_by(rt, files, &rules, &pair, game, out),
-        Ok(Err(decision)) => refuse(rt, &decision),
-        Err(_) => Err(Trouble::NoMemory),
-    }
-}
-
-/// Audits the sheet of an open record by rules and a pair that were read.
-fn audit_by<'a, R: Runtime + AllocGlobal, F: Read + Drop>(
+/// Audits the sheet of an open record by rules and a pair that were read: writes each wrong number and the verdict of the corrected
+/// record to standard output, and that record in its normal form to the file `out`, where one is named and the record stands.
+pub fn audit_by<'a, R: Runtime + AllocGlobal, F: Read + Drop>(
     rt: &R,
     files: GameFiles<'a>,
     rules: &Rules,

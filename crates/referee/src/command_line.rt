@@ -1,7 +1,7 @@
 //! The command line: the commands that the program knows, and what one asks for.
 
 use crate::commands::{
-    ARCHIVE, AUDIT, BOARD, BUILD, CHECK, CONVERT, JUDGE, SHORT_VERSION, TIDY, TOP, VERSION,
+    ARCHIVE, AUDIT, BOARD, BUILD, CHECK, CONVERT, EXPLAIN, JUDGE, SHORT_VERSION, TIDY, TOP, VERSION,
 };
 use crate::sources::STANDARD_INPUT;
 use clap::builder::ValueParser;
@@ -71,7 +71,7 @@ impl<'a> ArchiveNames<'a> {
 /// What is said of the progress of a run.
 #[derive(Clone, Copy)]
 pub enum Progressing {
-    /// That it is to be told.
+    /// That it is to be shown.
     Shown,
     /// That it is not.
     Quiet,
@@ -92,11 +92,11 @@ pub struct Archive<'a> {
     pub names: ArchiveNames<'a>,
     /// Whether the lines are JSON objects.
     pub json: bool,
-    /// Whether it is told how many games are done.
+    /// Whether to show how many games are done.
     pub progress: Progressing,
 }
 
-/// What the command line asks for. Files are told by their names, a rack by its tiles.
+/// What the command line asks for. Files are given by their names, a rack by its tiles.
 #[derive(Drop)]
 pub enum Request<'a> {
     /// To judge the game of a record, and to search for a deal where `settle` says so.
@@ -104,12 +104,17 @@ pub enum Request<'a> {
         settle: bool,
         files: GameFiles<'a>,
     },
-    /// To judge many games, and to tell each on one line.
+    /// To judge many games, and to write a line for each.
     Archive(Archive<'a>),
     /// To audit the sheet of a record, and to write the corrected record to the file `out` where there is one.
     Audit {
         files: GameFiles<'a>,
         out: Option<&'a str>,
+    },
+    /// To explain the verdict on a record, or the event on a line where one is named.
+    Explain {
+        files: GameFiles<'a>,
+        line: Option<u32>,
     },
     /// To write the lexicon of a word list to the file `out`.
     Build {
@@ -182,6 +187,7 @@ fn command<'a>(alloc: Global) -> Result<Command<'a>, AllocError> {
         .subcommand(judge_command(alloc)?)?
         .subcommand(archive_command(alloc)?)?
         .subcommand(audit_command(alloc)?)?
+        .subcommand(explain_command(alloc)?)?
         .subcommand(build_command(alloc)?)?
         .subcommand(check_command(alloc)?)?
         .subcommand(convert_command(alloc)?)?
@@ -250,6 +256,24 @@ fn audit_command<'a>(alloc: Global) -> Result<Command<'a>, AllocError> {
                 .long("corrected")
                 .value_name("OUT")
                 .help("write the corrected record to this file, where nothing else is wrong"),
+        )?
+        .arg(first_field_option(alloc))?
+        .arg(rules_option(alloc))
+}
+
+/// `explain [--first-field] [--rules FILE] WORDS LEXICON GAME [LINE]`.
+fn explain_command<'a>(alloc: Global) -> Result<Command<'a>, AllocError> {
+    EXPLAIN
+        .command(alloc)
+        .arg(name(alloc, "WORDS", "the word list; - is standard input"))?
+        .arg(name(alloc, "LEXICON", "the lexicon file of the words"))?
+        .arg(name(alloc, "GAME", "the GCG record; - is standard input"))?
+        .arg(
+            Arg::new(alloc, "LINE")
+                .value_parser(value_parser!(u32))
+                .help(
+                    "the line of the record to be explained, counted from 1; without it the one that the verdict names",
+                ),
         )?
         .arg(first_field_option(alloc))?
         .arg(rules_option(alloc))
@@ -437,6 +461,10 @@ fn small_request_of<'a>(command: &str, names: &ArgMatches<'a>) -> Option<Request
         "audit" => Some(Request::Audit {
             files: game_files(names)?,
             out: names.get_str("corrected"),
+        }),
+        "explain" => Some(Request::Explain {
+            files: game_files(names)?,
+            line: names.get_one::<u32>("LINE"),
         }),
         "build" => Some(Request::Build {
             words: words_file(names)?,

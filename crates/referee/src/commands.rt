@@ -78,6 +78,22 @@ Exit status:
   64  the command line is wrong",
 };
 
+/// `explain`.
+pub const EXPLAIN: CommandText = CommandText {
+    name: "explain",
+    about: "Explains the verdict on a game, or one of its lines, in plain words",
+    behind: "Example:
+  referee explain words.txt words.gad game.gcg
+
+Exit status:
+  0   legal
+  1   illegal
+  2   unsettled: every event stands, but no deal was found
+  3   the rules text, the word list, the lexicon or the record is bad, or no event is on the line or after it
+  4   a file could not be read or written, or there was no memory
+  64  the command line is wrong",
+};
+
 /// `board`.
 pub const BOARD: CommandText = CommandText {
     name: "board",

@@ -8,6 +8,7 @@ mod auditing;
 mod command_line;
 mod commands;
 mod counted;
+mod explaining;
 mod files;
 mod games;
 mod inputs;
@@ -15,6 +16,7 @@ mod lexicons;
 mod names;
 mod progress;
 mod running;
+mod sheets;
 mod sources;
 
 use crate::running::run_program;

@@ -1,10 +1,10 @@
 //! What the program does: it takes the command line for a request, has it done, and says what kept it from its end.
 
 use crate::archiving::archive;
-use crate::auditing::audit;
 use crate::command_line::{Request, mistake, parse_arguments};
 use crate::games::{board, judge, tidy, top};
 use crate::lexicons::{build, check, convert};
+use crate::sheets::{SheetTask, answer_sheet};
 use clap::Error;
 use clap::error::ErrorKind;
 use endings::{Exit, Trouble};
@@ -61,7 +61,8 @@ fn answer<R: Runtime + AllocGlobal>(rt: &R, request: Request<'_>, watched: bool)
     let outcome = match request {
         Request::Archive(games) => archive(rt, &games, watched),
         Request::Judge { settle, files } => ended(judge(rt, settle, files)),
-        Request::Audit { files, out } => audit(rt, files, out),
+        Request::Audit { files, out } => answer_sheet(rt, files, SheetTask::Audit(out)),
+        Request::Explain { files, line } => answer_sheet(rt, files, SheetTask::Explain(line)),
         Request::Build { words, out } => ended(build(rt, words, out)),
         Request::Check { words, lexicon } => ended(check(rt, words, lexicon)),
         Request::Convert {

@@ -1,4 +1,4 @@
-//! The worked games, lexicons and records, judged, built, checked, converted, tidied and shown over memory by the calls of the engine, and
+//! The worked games, lexicons and records, judged, explained, built, checked, converted, tidied and shown over memory by the calls of the engine, and
 //! tests of the devices that they are read from and written to.
 //!
 //! Each table shows one rule. They stand here, and not in the crates that they test, since a crate with tests of its own
@@ -17,6 +17,8 @@ mod converting;
 mod deals;
 #[cfg(test)]
 mod devices_over_memory;
+#[cfg(test)]
+mod explaining;
 #[cfg(test)]
 mod games;
 #[cfg(test)]

@@ -1,0 +1,39 @@
+-- What is to be explained of one sheet, by a word list and a lexicon that were read before.
+use Rattle.std.specs.Prelude.{◌≡◌, ℕ, false, List, Result, Ok, Err}
+use Rattle.ref_tiles.specs.declared.rulebook.Rules.{Rules}
+use Rattle.gcg_read.specs.declared.faults.ReadFault.{ReadFault}
+use Rattle.engine.specs.declared.entries.Entry.{Entry}
+use Rattle.engine.specs.declared.explains.Case.{Case}
+use Rattle.engine.specs.declared.findings.Finding.{Finding}
+use Rattle.engine.specs.declared.findings.Finding.TheVariants as finding
+use Rattle.engine.specs.declared.verdicts.Verdict.{Verdict}
+use Rattle.engine.specs.declared.verdicts.Verdict.TheVariants as verdict
+use Rattle.engine.specs.Archiving.{IsEntryOf}
+use Rattle.engine.specs.Reports.{legal_line, illegal_line, unsettled_line, bad_record_line}
+
+-- the settled verdict of what is found of a record: a record without an event is a legal game that is not finished
+abbrev pub verdict_in : Finding → Verdict
+verdict_in finding.NoGame = verdict.Legal false
+verdict_in (finding.Legal complete) = verdict.Legal complete
+verdict_in (finding.Illegal line fault) = verdict.Illegal line fault
+verdict_in finding.Unsettled = verdict.Unsettled
+
+-- the line that tells it
+abbrev pub finding_line : Finding → List ℕ
+finding_line finding.NoGame = legal_line false
+finding_line (finding.Legal complete) = legal_line complete
+finding_line (finding.Illegal line fault) = illegal_line line fault
+finding_line finding.Unsettled = unsettled_line
+
+-- the same of a record that was read, or of a text that is none
+abbrev pub case_verdict : Result Entry ReadFault → Verdict
+case_verdict (Ok entry) = verdict_in entry.finding
+case_verdict (Err fault) = verdict.BadRecord
+
+abbrev pub case_line : Result Entry ReadFault → List ℕ
+case_line (Ok entry) = finding_line entry.finding
+case_line (Err fault) = bad_record_line fault
+
+-- the case of a text: the text itself, and the entry of the record that it means, or its first fault
+abbrev pub IsCaseOf : Rules → (list : List (List ℕ)) → (text : List ℕ) → Case → Type 0
+IsCaseOf rules list text case = (case.text.items ≡ text) × IsEntryOf rules list text case.read

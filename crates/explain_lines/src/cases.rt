@@ -1,0 +1,225 @@
+//! What explains a case.
+
+use crate::boards::{Stretch, push_board};
+use crate::lines::push_line;
+use crate::parts::{Part, say};
+use crate::racks::push_rack_fault;
+use crate::record_faults::push_record_fault;
+use crate::rule_faults::push_rule_fault;
+use crate::scenes::Scene;
+use crate::sheets::Sheet;
+use crate::words::push_words;
+use engine::{Case, Finding, GameFault, case_line};
+use game_board::{Laying, lay_plays, place_of_line};
+use game_turns::play_events;
+use gcg_read::{Event, EventKind, ReadFault};
+use lex_list::WordList;
+use ref_tiles::Rules;
+use std::alloc::{AllocError, Global};
+
+/// Appends what explains the verdict on a record, or one of its lines: the verdict line; the line as it stands in the file; what is
+/// wrong with it; the words of a play with what each square adds; and the board before it.
+///
+/// It fails only where memory runs out.
+pub fn push_explanation(
+    alloc: Global,
+    text: &mut Vec<u8>,
+    rules: &Rules,
+    list: &WordList,
+    case: &Case,
+    line: Option<u32>,
+) -> Result<(), AllocError> {
+    let entry = match &case.read {
+        Ok(entry) => entry,
+        Err(fault) => return push_bad_record(alloc, text, case, fault),
+    };
+    let sheet = Sheet {
+        rules,
+        list,
+        record: &entry.record,
+        finding: &entry.finding,
+        text: case.text.as_slice(),
+    };
+    match what_is_asked(&sheet, line) {
+        Asked::Missing => text.extend_from_slice(b"bad line: no event is on it or after it\n"),
+        Asked::Whole => {
+            push_verdict(alloc, text, case)?;
+            push_whole(text, &sheet)
+        }
+        Asked::At(place) => {
+            push_verdict(alloc, text, case)?;
+            push_place(alloc, text, &sheet, place)
+        }
+    }
+}
+
+/// Appends the verdict line.
+fn push_verdict(alloc: Global, text: &mut Vec<u8>, case: &Case) -> Result<(), AllocError> {
+    let line = case_line(alloc, case)?;
+    text.extend_from_slice(line.as_slice())
+}
+
+/// Appends what is wrong with a text that is no record.
+fn push_bad_record(
+    alloc: Global,
+    text: &mut Vec<u8>,
+    case: &Case,
+    fault: &ReadFault,
+) -> Result<(), AllocError> {
+    push_verdict(alloc, text, case)?;
+    push_line(text, case.text.as_slice(), fault.line)?;
+    push_record_fault(alloc, text, case.text.as_slice(), fault.line, fault.why)
+}
+
+/// What is to be explained.
+enum Asked {
+    /// The event at a place.
+    At(usize),
+    /// The record as a whole.
+    Whole,
+    /// Nothing, since there is no event on the line or after it.
+    Missing,
+}
+
+/// What is to be explained: the event on a line or after it; without a line the one that is faulty, or the record as a whole.
+fn what_is_asked(sheet: &Sheet<'_>, line: Option<u32>) -> Asked {
+    if let Some(line) = line {
+        return match place_of_line(sheet.events(), line) {
+            None => Asked::Missing,
+            Some(place) => Asked::At(place),
+        };
+    }
+    match sheet.finding {
+        Finding::Illegal { line, .. } => match place_of_line(sheet.events(), *line) {
+            None => Asked::Whole,
+            Some(place) => Asked::At(place),
+        },
+        Finding::NoGame | Finding::Legal { .. } | Finding::Unsettled => Asked::Whole,
+    }
+}
+
+/// Appends what is said of a record as a whole.
+fn push_whole(text: &mut Vec<u8>, sheet: &Sheet<'_>) -> Result<(), AllocError> {
+    match sheet.finding {
+        Finding::NoGame => text.extend_from_slice(
+            b"The record has no event. Is it a game record?\n",
+        ),
+        Finding::Legal { .. } => text.extend_from_slice(
+            b"The rules allow every event, and a deal of the tiles gives the players every rack that is shown.\n",
+        ),
+        Finding::Unsettled => text.extend_from_slice(
+            b"The rules allow every event. Neither a deal of the tiles that gives the players every rack that is shown was found, nor a proof that there is none.\n",
+        ),
+        Finding::Illegal { .. } => Ok(()),
+    }
+}
+
+/// Appends what is said of the event at a place.
+fn push_place(
+    alloc: Global,
+    text: &mut Vec<u8>,
+    sheet: &Sheet<'_>,
+    place: usize,
+) -> Result<(), AllocError> {
+    let events = sheet.events();
+    let Some(event) = events.get(place) else {
+        return Ok(());
+    };
+    push_line(text, sheet.text, event.line)?;
+    push_judged(alloc, text, sheet, event, place)?;
+    let laying = lay_plays(events, place.min(events.len()));
+    if laying.end < place {
+        return push_not_laid(text, events, &laying);
+    }
+    push_picture(text, sheet, event, &laying)
+}
+
+/// Appends what the rules say of the event at a place.
+fn push_judged<'a>(
+    alloc: Global,
+    text: &mut Vec<u8>,
+    sheet: &Sheet<'a>,
+    event: &'a Event,
+    place: usize,
+) -> Result<(), AllocError> {
+    let events = sheet.events();
+    let machine = match play_events(sheet.rules, events, sheet.list, place.min(events.len())) {
+        Ok(machine) => machine,
+        Err(refusal) => return push_not_judged(text, refusal.line),
+    };
+    match sheet.finding {
+        Finding::Illegal { line, fault } if *line == event.line => match fault {
+            GameFault::Rule(rule) => {
+                let scene = Scene {
+                    sheet: *sheet,
+                    past: events.get(..place).unwrap_or(&[]),
+                    event,
+                    machine: &machine,
+                };
+                push_rule_fault(alloc, text, &scene, rule)
+            }
+            _ => push_rack_fault(alloc, text, sheet, place, fault),
+        },
+        _ => text.extend_from_slice(b"The rules allow this event.\n"),
+    }
+}
+
+/// Appends that an event was not judged, since one before it is not allowed.
+fn push_not_judged(text: &mut Vec<u8>, refused: u32) -> Result<(), AllocError> {
+    say(
+        text,
+        &[
+            Part::Say("The rules do not allow line "),
+            Part::Line(refused),
+            Part::Say(", so this line was not judged.\n"),
+        ],
+    )
+}
+
+/// Appends that the board before an event is not known.
+fn push_not_laid(text: &mut Vec<u8>, events: &[Event], laying: &Laying) -> Result<(), AllocError> {
+    let Some(event) = events.get(laying.end) else {
+        return Ok(());
+    };
+    say(
+        text,
+        &[
+            Part::Say("The board before this line is not known, since the play on line "),
+            Part::Line(event.line),
+            Part::Say(" cannot be laid.\n"),
+        ],
+    )
+}
+
+/// Appends the words of a play, and the board before it.
+fn push_picture(
+    text: &mut Vec<u8>,
+    sheet: &Sheet<'_>,
+    event: &Event,
+    laying: &Laying,
+) -> Result<(), AllocError> {
+    match &event.kind {
+        EventKind::Play { at, dir, word } => {
+            push_words(text, sheet, &laying.board, *at, *dir, word.as_slice())?;
+            let marked = Stretch::of(*at, *dir, word.as_slice());
+            push_heading(text, event, ", the squares of the play in brackets\n")?;
+            push_board(text, sheet, &laying.board, Some(marked))
+        }
+        _ => {
+            push_heading(text, event, "\n")?;
+            push_board(text, sheet, &laying.board, None)
+        }
+    }
+}
+
+/// Appends which board it is.
+fn push_heading(text: &mut Vec<u8>, event: &Event, end: &str) -> Result<(), AllocError> {
+    say(
+        text,
+        &[
+            Part::Say("board before line "),
+            Part::Line(event.line),
+            Part::Say(end),
+        ],
+    )
+}

@@ -1,0 +1,156 @@
+//! Plays that are taken back or challenged, and their words.
+
+use crate::parts::{Part, say};
+use crate::scenes::Scene;
+use arrayvec::ArrayVec;
+use game_board::lay_plays;
+use game_turns::legal_play;
+use gcg_read::{Event, EventKind, same_seat};
+use ref_play::{Word, Words, words};
+use std::alloc::AllocError;
+
+/// The words of the play that comes last among some events, on the board before it; none where the last event is no play, and
+/// where its play cannot be laid.
+fn last_words(events: &[Event]) -> Words {
+    let none = ArrayVec::new();
+    let Some((last, past)) = events.split_last() else {
+        return none;
+    };
+    let EventKind::Play { at, dir, word } = &last.kind else {
+        return none;
+    };
+    let board = lay_plays(events, past.len()).board;
+    match legal_play(&board, *at, *dir, word.as_slice()) {
+        Ok(play) => words(&board, &play),
+        Err(_) => none,
+    }
+}
+
+/// Appends words, with a comma or an `and` between two.
+fn push_words(text: &mut Vec<u8>, words: &[Word]) -> Result<(), AllocError> {
+    let mut left = words.len();
+    for word in words {
+        text.extend_from_slice(word.as_slice())?;
+        left = left.saturating_sub(1);
+        say(
+            text,
+            &[Part::Say(match left {
+                0 => "",
+                1 => " and ",
+                _ => ", ",
+            })],
+        )?;
+    }
+    Ok(())
+}
+
+/// The line of the play before, or 0.
+fn line_before(scene: &Scene<'_, '_>) -> u32 {
+    match scene.past.last() {
+        None => 0,
+        Some(event) => event.line,
+    }
+}
+
+/// Appends that the words of the play before are all in the list, so that it cannot be taken back.
+pub fn push_valid(text: &mut Vec<u8>, scene: &Scene<'_, '_>) -> Result<(), AllocError> {
+    say(
+        text,
+        &[
+            Part::Say("The play on line "),
+            Part::Line(line_before(scene)),
+            Part::Say(" stands, since each of its words is in the word list: "),
+        ],
+    )?;
+    push_words(text, &last_words(scene.past))?;
+    text.extend_from_slice(b".\nPerhaps the game was played with another word list.\n")
+}
+
+/// Appends that no word of the challenged play is in the list.
+pub fn push_phony(text: &mut Vec<u8>, scene: &Scene<'_, '_>) -> Result<(), AllocError> {
+    say(
+        text,
+        &[
+            Part::Say("The challenge of the play on line "),
+            Part::Line(line_before(scene)),
+            Part::Say(" succeeds, since none of its words is in the word list: "),
+        ],
+    )?;
+    push_words(text, &last_words(scene.past))?;
+    text.extend_from_slice(b".\nPerhaps the game was played with another word list.\n")
+}
+
+/// Appends which bonus a challenge gives, or that there is no play to be challenged.
+pub fn push_wrong_bonus(text: &mut Vec<u8>, scene: &Scene<'_, '_>) -> Result<(), AllocError> {
+    match scene.play_before() {
+        Some(play) if same_seat(play.player, scene.event.player) => push_bonus(text, scene),
+        Some(play) => say(
+            text,
+            &[
+                Part::Say("The play on line "),
+                Part::Line(play.line),
+                Part::Say(" is "),
+                Part::Raw(scene.other_nick()),
+                Part::Say("'s, so its bonus cannot go to "),
+                Part::Raw(scene.nick()),
+                Part::Say(".\n"),
+            ],
+        ),
+        None if scene.past.is_empty() => {
+            text.extend_from_slice(b"This is the first event, so there is nothing to challenge.\n")
+        }
+        None => text.extend_from_slice(
+            b"The event before this one is not a play, so there is nothing to challenge.\n",
+        ),
+    }
+}
+
+/// Appends which bonus is allowed.
+fn push_bonus(text: &mut Vec<u8>, scene: &Scene<'_, '_>) -> Result<(), AllocError> {
+    let words = last_words(scene.past);
+    let listed = words
+        .iter()
+        .filter(|word| scene.sheet.list.has(word.as_slice()))
+        .count();
+    let unit = scene.sheet.rules.challenge_unit as usize;
+    say(
+        text,
+        &[
+            Part::Say("A bonus is "),
+            Part::Many(unit),
+            Part::Say(" points for each challenged word that is in the word list. "),
+            Part::Many(listed),
+            Part::Say(if listed == 1 {
+                " word of the play is, so the bonus can be "
+            } else {
+                " words of the play are, so the bonus can be "
+            }),
+        ],
+    )?;
+    push_amounts(text, unit, listed)?;
+    say(
+        text,
+        &[
+            Part::Say(", but "),
+            Part::Points(scene.event.score.value()),
+            Part::Say(" is written.\n"),
+        ],
+    )
+}
+
+/// Appends the amounts of a bonus for one word or more.
+fn push_amounts(text: &mut Vec<u8>, unit: usize, listed: usize) -> Result<(), AllocError> {
+    let mut amount = 0usize;
+    for k in 0..listed {
+        amount = amount.saturating_add(unit);
+        let front = if k == 0 {
+            ""
+        } else if k + 1 == listed {
+            " or "
+        } else {
+            ", "
+        };
+        say(text, &[Part::Say(front), Part::Many(amount)])?;
+    }
+    Ok(())
+}

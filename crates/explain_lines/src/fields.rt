@@ -1,0 +1,58 @@
+//! The fields of an event line.
+
+use text_lines::next_field;
+
+/// How many fields are counted at the most: one more than an event has.
+const FIELDS: usize = 6;
+
+/// Where the colon of an event line is, and whether the line is one.
+fn colon_of(written: &[u8]) -> Option<usize> {
+    if written.first() != Some(&b'>') {
+        return None;
+    }
+    written.iter().position(|byte| *byte == b':')
+}
+
+/// What stands between the > and the colon of an event line.
+pub fn before_colon(written: &[u8]) -> Option<&[u8]> {
+    let colon = colon_of(written)?;
+    written.get(1..colon)
+}
+
+/// What stands behind the colon of an event line.
+pub fn after_colon(written: &[u8]) -> &[u8] {
+    let Some(colon) = colon_of(written) else {
+        return b"";
+    };
+    match written.get(colon..) {
+        Some([_, after @ ..]) => after,
+        _ => b"",
+    }
+}
+
+/// How many fields a text has, counted up to one more than an event has.
+pub fn many_fields(text: &[u8]) -> usize {
+    let mut left = text;
+    for many in 0..FIELDS {
+        match next_field(left) {
+            None => return many,
+            Some(field) => left = field.after,
+        }
+    }
+    FIELDS
+}
+
+/// The field of a text with this number, counted from 0.
+pub fn field_at(text: &[u8], number: usize) -> &[u8] {
+    let mut left = text;
+    for _k in 0..number {
+        match next_field(left) {
+            None => return b"",
+            Some(field) => left = field.after,
+        }
+    }
+    match next_field(left) {
+        None => b"",
+        Some(field) => field.bytes,
+    }
+}

@@ -1,0 +1,27 @@
+//! What explains the verdict on a record, or one of its lines, in plain words for a director.
+//!
+//! [`push_explanation`] writes the verdict line, the line as it stands in the file, what is wrong with it, the words of a play with
+//! what each square adds, and the board before the line. Each number, square and letter comes from a proved call of the crates below;
+//! that the sentences say it well is a matter of tests. [`exit_of`] is the exit of the program.
+#![tactic(auto)]
+
+mod boards;
+mod cases;
+mod challenges;
+mod exits;
+mod fields;
+mod lines;
+mod parts;
+mod play_faults;
+mod racks;
+mod record_faults;
+mod rule_faults;
+mod scenes;
+mod scores;
+mod sheets;
+mod tiles;
+mod totals;
+mod words;
+
+pub use cases::push_explanation;
+pub use exits::exit_of;

@@ -1,0 +1,40 @@
+//! What a line of a record is explained by.
+
+use engine::Finding;
+use gcg_read::{Event, Record, Seat};
+use lex_list::WordList;
+use ref_tiles::Rules;
+
+/// A sheet: a record with its rules and its word list, and what is found of it.
+#[derive(Clone, Copy)]
+pub struct Sheet<'a> {
+    /// The rules.
+    pub rules: &'a Rules,
+    /// The word list.
+    pub list: &'a WordList,
+    /// The record.
+    pub record: &'a Record,
+    /// What is found of it.
+    pub finding: &'a Finding,
+    /// The bytes that it was read from.
+    pub text: &'a [u8],
+}
+
+impl<'a> Sheet<'a> {
+    /// The events.
+    pub fn events(&self) -> &'a [Event] {
+        self.record.events.as_slice()
+    }
+
+    /// The nickname of a player, or words for a player who has none.
+    pub fn nick(&self, player: Seat) -> &'a [u8] {
+        let nick = match player {
+            Seat::First => self.record.players.first.nick.as_bytes(),
+            Seat::Second => self.record.players.second.nick.as_bytes(),
+        };
+        if !nick.is_empty() {
+            return nick;
+        }
+        b"the other player"
+    }
+}

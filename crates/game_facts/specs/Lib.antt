@@ -1,0 +1,6 @@
+pub mod Words
+pub mod Laws
+pub mod Texts
+pub mod Spots
+pub mod Totals
+pub mod Lines

@@ -1,0 +1,143 @@
+"""Compares `referee explain` with the second judge, byte by byte: compare_explains.py PROGRAM CASES SEED
+
+Each case is a game that nobody dealt, or one that was dealt for real with mistakes of a director's day: a play that was written at another
+place or in the other direction, a total without a turn, a wrong score, a rack that was copied wrongly, a line that is missing or stands twice. The
+verdict is explained, and then one of the lines. At the end stands how often each fault was explained.
+"""
+import random
+import subprocess
+import sys
+import tempfile
+from collections import Counter
+from dataclasses import replace
+from pathlib import Path
+
+from answers import explained, status_of
+from compare_games import Maker, some_tiles
+from dealing import Dealer, likely, line
+from lexicons import GAD2, build, convert
+from rules import ENGLISH, SIDE
+from rules_texts import text_of
+from ruling import random_rules
+
+choose = random.choice
+MOST = 999_999
+
+
+def moved(event):
+    """A play that was written at another place, or in the other direction."""
+    if event.kind != "play":
+        return event
+    if likely(0.4):
+        return with_text(replace(event, direction=event.direction[::-1]))
+    at = tuple(max(0, min(SIDE - 1, it + random.randint(-2, 2))) for it in event.at)
+    return with_text(replace(event, at=at))
+
+
+def misspelt(event):
+    """A play with a wrong letter, a dot too many or a letter too few."""
+    if event.kind != "play":
+        return event
+    at = random.randrange(len(event.word))
+    word = event.word[:at] + choose([".", "A", "q", ""]) + event.word[at + 1 :]
+    return with_text(replace(event, word=word or "."))
+
+
+def with_text(event):
+    """The event with the text that its line has."""
+    row, column = str(event.at[0] + 1), chr(65 + event.at[1])
+    return replace(event, text=f"{row + column if event.direction == (0, 1) else column + row} {event.word}")
+
+
+def with_total_short(events, place):
+    """The events, of which one player's total lacks a turn from a place on."""
+    player = events[place].player
+    own = [it for it in events[: place + 1] if it.player == player]
+    short = choose(own).score
+    return [replace(it, total=it.total - short) if k >= place and it.player == player else it for k, it in enumerate(events)]
+
+
+def with_mistake(events):
+    """Events with one mistake."""
+    place, what = random.randrange(len(events)), random.random()
+    event = events[place]
+    if what < 0.15:
+        return with_total_short(events, place)
+    if what < 0.3:
+        return events[:place] + events[place + choose([1, 2]) :]
+    if what < 0.4:
+        return events[: place + 1] + events[place:]
+    change = {
+        0: lambda: moved(event),
+        1: lambda: misspelt(event),
+        2: lambda: replace(event, score=event.score + choose([-50, -2, -1, 1, 2, 10, 50])),
+        3: lambda: replace(event, rack=some_tiles(random.randint(1, 7))),
+        4: lambda: replace(event, player=1 - event.player),
+        5: lambda: replace(event, total=event.total + choose([-10, -1, 1, 100])),
+    }
+    return [*events[:place], change[random.randrange(6)](), *events[place + 1 :]]
+
+
+def some_game(rules):
+    """A game and the words of its list."""
+    if likely(0.5):
+        maker = Maker(choose([2, 6, 40]), rules)
+        events = maker.game()
+        listed = set(maker.listed)
+    else:
+        dealer = Dealer(rules, choose([6, 25, 40]), choose([(), ("known", "unknown")]), choose(["whole", "mixed", "none"]), 4)
+        events, _, listed = dealer.game()
+        listed = set(listed) - dealer.phonies
+    for _ in range(choose([0, 1, 1, 2]) if events else 0):
+        events = with_mistake(events) or events
+    return events, {word for word in listed if 2 <= len(word) <= SIDE}
+
+
+class Explaining:
+    """A program, a folder for its inputs, and what was told so far."""
+
+    def __init__(self, program, folder):
+        self.program, self.folder, self.differences, self.seen = program, Path(folder), 0, Counter()
+
+    def put(self, name, data):
+        (self.folder / name).write_bytes(data)
+        return data
+
+    def case(self):
+        rules = ENGLISH if likely(0.75) else random_rules()
+        events, listed = some_game(rules)
+        if any(abs(number) > MOST for it in events for number in (it.score, it.total)):
+            return
+        words = self.put("words", "\n".join(sorted(listed)).encode())
+        lexicon = self.put("lexicon", choose([build(listed), convert(build(listed), GAD2)]))
+        text = self.put("rules", text_of(rules)) if rules != ENGLISH or likely(0.2) else None
+        remark = "" if likely(0.7) else "#note\n"
+        game = self.put("game", "".join(choose(["", "", remark]) + line(it) for it in events).encode())
+        for asked in (None, random.randint(0, len(events) + 2)):
+            self.compare(words, lexicon, game, asked, text)
+
+    def compare(self, words, lexicon, game, asked, text):
+        by = ["--rules", "rules"] if text is not None else []
+        named = [] if asked is None else [str(asked)]
+        ran = subprocess.run([self.program, "explain", *by, "words", "lexicon", "game", *named], cwd=self.folder, capture_output=True, check=False, timeout=600)
+        first = ran.stdout.split(b"\n")[0]
+        if asked is None:
+            self.seen[first.decode("latin-1").split(": ")[-1].split(" ")[0]] += 1
+        told = explained(words, lexicon, game, asked, first, text)
+        if ran.stdout != told or ran.returncode != status_of(told) or ran.stderr:
+            self.differences += 1
+            print("line", asked, "status", ran.returncode, ran.stderr, ran.stdout.decode("latin-1"), "for", told.decode("latin-1"), game.decode("latin-1"), sep="\n")
+
+
+def main():
+    program, cases = str(Path(sys.argv[1]).resolve()), int(sys.argv[2])
+    random.seed(int(sys.argv[3]))
+    with tempfile.TemporaryDirectory() as folder:
+        explaining = Explaining(program, folder)
+        for _ in range(cases):
+            explaining.case()
+    print(f"{cases} cases, {explaining.differences} differences", dict(sorted(explaining.seen.items())))
+    sys.exit(explaining.differences > 0)
+
+
+main()
