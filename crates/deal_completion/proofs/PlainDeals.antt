@@ -21,8 +21,9 @@ use Rattle.deal_steps.specs.Piles.{kinds, joined, without, greater}
 use Rattle.deal_steps.specs.Steps.{used_by, left_by, of_act, left_in, needed, needed_of, size_of}
 use Rattle.deal_steps.specs.Fitting.{rack_of, in_bag, AddsUp, IsThrownBy, HasTurn, AllowsAct, FitsAt, ActsTo, Follows, FollowsTo, Fits}
 use Rattle.deal_steps.specs.Bounds.{gone, first_bound}
-use Rattle.deal_steps.specs.Runs.{Course, none_waiting, size_in, MayAct, act_course, IsOnCourse, IsRunFrom, first_course, IsRun, HasKindsBy, HasKinds, HaveKinds}
+use Rattle.deal_steps.specs.Runs.{Course, none_waiting, size_in, MayAct, turn_course, act_course, IsOnCourse, IsRunFrom, first_course, IsRun, HasKindsBy, HasKinds, HaveKinds}
 use Rattle.deal_steps.proofs.PileLaws.{get-joined, get-without, get-no_tiles, length-no_tiles, length-joined, same_numbers, sum_of_sums, sum_is, sum-joined, sum-no_tiles, sum_kinds_same}
+use Rattle.deal_steps.proofs.Refills.{refilled_from}
 use Rattle.deal_completion.specs.declared.picking.Pick.{Pick}
 use Rattle.deal_completion.specs.declared.hands.Hands.{Hands}
 use Rattle.deal_completion.specs.Completion.{want_list, pick, take_off, put_on, draw, throws, acted, is_within, is_met, held_at, dealt_from, opener, undealt, start, dealt}
@@ -196,35 +197,39 @@ on_at : (seat : Seat) (tiles : List ℕ) (h : Hands) (k : ℕ) → k < 27
 on_at seat tiles h k below =
     ap (λ (l : List ℕ). get_or l k 0) (rack_with h.racks seat (joined (rack_of h.racks seat) tiles)) ∙ get-joined (rack_of h.racks seat) tiles k below
 
+size_after : (c : Course) (seat : Seat) (used : List ℕ) (number : ℕ) → size_in (turn_course c seat (motion.Lays used number)) seat ≡ size_in c seat - sum used + number
+size_after c First used number = refl
+size_after c Second used number = refl
+
 pub acts_by : (player : Seat) (what : Act) (rules : Rules) (c : Course) (bag : List ℕ) (rest : List Step) (h : Hands) → IsWhole rules c h → swaps what ≡ false → is_met player what h.racks ≡ true
-    → ((k : ℕ) → k < 27 → get_or bag k 0 ≡ get_or h.bag k 0)
+    → ((k : ℕ) → k < 27 → get_or bag k 0 ≡ get_or h.bag k 0) → MayAct c player what → HasKinds what → sum (rack_of h.racks player) ≡ size_in c player
+    → sum (rack_of (acted player what (throws player what rest h.racks) rest h).racks player) ≡ size_in (act_course c player what) player
     → ActsTo bag what (throws player what rest h.racks) (rack_of h.racks player) (rack_of (acted player what (throws player what rest h.racks) rest h).racks player)
-acts_by player (act.Turns shown motion.Keeps) rules c bag rest h whole plain met same = refl
-acts_by player (act.Turns shown (motion.Lays used drawn)) rules c bag rest h whole plain met same =
+acts_by player (act.Turns shown motion.Keeps) rules c bag rest h whole plain met same may are before after = refl
+acts_by player (act.Turns shown (motion.Lays used drawn)) rules c bag rest h whole plain met same may are before after =
     let off = take_off player used h in
     let d = draw_keeps player drawn rest off whole.bag_long in
-    record {
-      gone = λ k below.
-          let o = off_at player used h k below in
-          let m = d.more k below in
-          omega arith;
-      drawn = λ k below.
-          let o = off_at player used h k below in
-          let w = d.whole k below in
-          let t = (shown_there shown used (rack_of h.racks player) met k below).1 in
-          let b = same k below in
-          omega arith;
-    }
-acts_by player (act.Turns shown (motion.Tries used)) rules c bag rest h whole plain met same =
+    let size = size_after c player used drawn in
+    let enough = may.1.1 in
+    refilled_from bag drawn used (rack_of h.racks player) (rack_of (draw player drawn rest off).racks player) are.1 (rack_long rules c player h whole) d.long
+    (omega (arith, before, after, size, enough))
+    (λ k below.
+    let o = off_at player used h k below in
+    let m = d.more k below in
+    let w = d.whole k below in
+    let t = (shown_there shown used (rack_of h.racks player) met k below).1 in
+    let b = same k below in
+    (omega arith, omega arith))
+acts_by player (act.Turns shown (motion.Tries used)) rules c bag rest h whole plain met same may are before after =
     λ k below.
     let o = off_at player used h k below in
     let t = (shown_there shown used (rack_of h.racks player) met k below).1 in
     omega arith
-acts_by player (act.Turns shown (motion.Throws tiles)) rules c bag rest h whole plain met same = absurd (cc)
-acts_by player (act.Turns shown (motion.ThrowsUnknown n)) rules c bag rest h whole plain met same = absurd (cc)
-acts_by player (act.TakesBack used) rules c bag rest h whole plain met same = λ k below. sym (on_at player used h k below)
-acts_by player (act.Ends holder tiles) rules c bag rest h whole plain met same = refl
-acts_by player act.Rests rules c bag rest h whole plain met same = refl
+acts_by player (act.Turns shown (motion.Throws tiles)) rules c bag rest h whole plain met same may are before after = absurd (cc)
+acts_by player (act.Turns shown (motion.ThrowsUnknown n)) rules c bag rest h whole plain met same may are before after = absurd (cc)
+acts_by player (act.TakesBack used) rules c bag rest h whole plain met same may are before after = λ k below. sym (on_at player used h k below)
+acts_by player (act.Ends holder tiles) rules c bag rest h whole plain met same may are before after = refl
+acts_by player act.Rests rules c bag rest h whole plain met same may are before after = refl
 
 pub stays_by : (player : Seat) (what : Act) (rules : Rules) (c : Course) (rest : List Step) (h : Hands) → IsWhole rules c h → swaps what ≡ false
     → rack_of (acted player what (throws player what rest h.racks) rest h).racks (other_seat player) ≡ rack_of h.racks (other_seat player)
@@ -288,7 +293,8 @@ plain_deal rules c (s ∷ rest) h long run plain are whole ready =
     let behind = plain_deal rules (act_course c player what) rest next long run.1 plain.1 are.1 next_whole next_ready in
     let held = held_at s rest h.racks in
     let follows : Follows rules s held next.racks = record {
-      acts = acts_by player what rules c (in_bag rules s h.racks) rest h whole plain.0 met (bag_is rules c s h on whole);
+      acts = acts_by player what rules c (in_bag rules s h.racks) rest h whole plain.0 met (bag_is rules c s h on whole) on.may are.0
+          (size_is player c (s ∷ rest) h ready) (size_is player (act_course c player what) rest next next_ready);
       stays = stays_by player what rules c rest h whole plain.0;
     } in
     let fits_at : FitsAt rules s held = record {

@@ -19,7 +19,7 @@ use Rattle.deal_steps.specs.Steps.{left_by, of_act, left_in, ends_epoch, needed,
 use Rattle.deal_steps.specs.Fitting.{rack_of}
 use Rattle.deal_steps.specs.Bounds.{gone}
 use Rattle.deal_steps.specs.Runs.{Course, none_waiting, waits, size_in, with_size, MayTurn, MayAct, turn_course, act_course, IsRunFrom, HasKinds}
-use Rattle.deal_steps.proofs.PileLaws.{get-joined, get-without, get-greater, get-no_tiles, length-without, sum_of_sums, sum_is, sum-joined, sum_kinds_same, zero_kinds}
+use Rattle.deal_steps.proofs.PileLaws.{get-joined, get-without, get-greater, get-no_tiles, length-without, sum_is, sum-joined, sum-without, sum_kinds_same, zero_kinds}
 use Rattle.deal_completion.specs.declared.picking.Pick.{Pick}
 use Rattle.deal_completion.specs.declared.hands.Hands.{Hands}
 use Rattle.deal_completion.specs.Completion.{lacking, with_gone, wanted, want_list, pick, take_off, put_on, drawn, draw, throws, acted, is_within, is_met}
@@ -64,16 +64,6 @@ are_wanted seat (s ∷ steps) gone have =
     (kinds_unless (ends_epoch seat s) rest (are_wanted seat steps (joined gone (left_in seat s)) (greater have (with_gone gone (needed seat s)))))
 
 -- ---- sums
-
-pub sum-without : (a b : List ℕ) → length a ≡ 27 → length b ≡ 27 → ((k : ℕ) → k < 27 → get_or b k 0 ≤ get_or a k 0) → sum (without a b) + sum b ≡ sum a
-sum-without a b la lb le =
-    let x = sum_is a la in
-    let y = sum_is b lb in
-    let z = sum_is (without a b) (length-without a b) in
-    let both = sum_of_sums (λ k. get_or (without a b) k 0) (λ k. get_or b k 0) kinds in
-    let same = sum_kinds_same (λ k. get_or (without a b) k 0 + get_or b k 0) (λ k. get_or a k 0)
-    (λ k h. let w = get-without a b k h in let l = le k h in omega arith) in
-    omega arith
 
 -- tiles that are on a rack of no more tiles are all of it
 pub all_there : (tiles rack : List ℕ) → length tiles ≡ 27 → length rack ≡ 27 → sum tiles ≡ sum rack → ((k : ℕ) → k < 27 → get_or tiles k 0 ≤ get_or rack k 0)

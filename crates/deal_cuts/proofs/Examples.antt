@@ -1,5 +1,5 @@
 -- A cut of a small game as the definitions give it, computed: AEINRST cannot become BCDFGHJ by an exchange of one tile.
-use Rattle.std.proofs.Common.{◌≡◌, ℕ, ◌==◌, Bool, true, false, List, [], ◌∷◌, map, refl}
+use Rattle.std.proofs.Common.{◌≡◌, ℕ, ◌==◌, Bool, true, false, List, [], map, refl}
 use Rattle.std.specs.Prelude.{codes}
 use Rattle.std.specs.List.{count_by, list_any, range_with_len}
 use Rattle.ref_tiles.specs.English.{english, english_premiums}

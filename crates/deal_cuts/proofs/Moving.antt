@@ -15,6 +15,7 @@ use Rattle.deal_steps.specs.Piles.{greater}
 use Rattle.deal_steps.specs.Steps.{used_by, of_act, needed_of}
 use Rattle.deal_steps.specs.Fitting.{rack_of, AllowsAct, ActsTo, IsRefilled}
 use Rattle.deal_steps.proofs.PileLaws.{get-no_tiles, get-greater}
+use Rattle.deal_steps.proofs.Refills.{refilled_kinds}
 use Rattle.deal_cuts.specs.Cutting.{number_in, number_beside}
 use Rattle.deal_cuts.specs.Flowing.{tiles_of, taken_back, unknown_of}
 use Rattle.deal_cuts.proofs.Parts.{IsCounting, counting_in, counting_beside, whole_within}
@@ -61,40 +62,35 @@ stays bag rack new same =
       drawn = λ k small. let none = get-no_tiles k small in let here = ap (λ (xs : List ℕ). get_or xs k 0) same in omega (arith, none, here);
     }
 
--- what a refill says of a kind: what was there is still there or went off, and what is new was in the bag
-refilled : (bag off rack new : List ℕ) → IsRefilled bag off rack new → (k : ℕ) → k < 27
-    → (get_or rack k 0 ≤ get_or new k 0 + get_or off k 0) × (get_or new k 0 + get_or off k 0 ≤ get_or rack k 0 + get_or bag k 0)
-refilled bag off rack new is k small = (is.gone k small, is.drawn k small)
-
-known_refill : (bag off tiles rack new : List ℕ) → off ≡ tiles → ((k : ℕ) → get_or tiles k 0 ≤ get_or rack k 0) → IsRefilled bag off rack new
+known_refill : (bag : List ℕ) (number : ℕ) (off tiles rack new : List ℕ) → off ≡ tiles → ((k : ℕ) → get_or tiles k 0 ≤ get_or rack k 0) → IsRefilled bag number off rack new
     → Moves bag rack new tiles no_tiles no_tiles
-known_refill bag off tiles rack new same there is =
+known_refill bag number off tiles rack new same there is =
     record {
       off = λ k small. let none = get-no_tiles k small in let has = there k in omega (arith, none, has);
       gone = λ k small.
           let none = get-no_tiles k small in
           let here = ap (λ (xs : List ℕ). get_or xs k 0) same in
-          let parts = refilled bag off rack new is k small in
+          let parts = refilled_kinds bag number off rack new is k small in
           omega (arith, none, here, parts.0);
       drawn = λ k small.
           let none = get-no_tiles k small in
           let here = ap (λ (xs : List ℕ). get_or xs k 0) same in
-          let parts = refilled bag off rack new is k small in
+          let parts = refilled_kinds bag number off rack new is k small in
           omega (arith, none, here, parts.1);
     }
 
-unknown_refill : (bag thrown rack new : List ℕ) → ((k : ℕ) → get_or thrown k 0 ≤ get_or rack k 0) → IsRefilled bag thrown rack new
+unknown_refill : (bag : List ℕ) (number : ℕ) (thrown rack new : List ℕ) → ((k : ℕ) → get_or thrown k 0 ≤ get_or rack k 0) → IsRefilled bag number thrown rack new
     → Moves bag rack new no_tiles thrown no_tiles
-unknown_refill bag thrown rack new there is =
+unknown_refill bag number thrown rack new there is =
     record {
       off = λ k small. let none = get-no_tiles k small in let has = there k in omega (arith, none, has);
       gone = λ k small.
           let none = get-no_tiles k small in
-          let parts = refilled bag thrown rack new is k small in
+          let parts = refilled_kinds bag number thrown rack new is k small in
           omega (arith, none, parts.0);
       drawn = λ k small.
           let none = get-no_tiles k small in
-          let parts = refilled bag thrown rack new is k small in
+          let parts = refilled_kinds bag number thrown rack new is k small in
           omega (arith, none, parts.1);
     }
 
@@ -118,12 +114,12 @@ came_back bag used rack new less =
 moves_own : (bag : List ℕ) (player : Seat) (what : Act) (held : Held) (new : List ℕ) → AllowsAct player what held → ActsTo bag what held.thrown (rack_of held.racks player) new
     → Moves bag (rack_of held.racks player) new (of_act used_by what) (strays_in what held.thrown) (taken_back what)
 moves_own bag player (act.Turns shown motion.Keeps) held new allows acts = stays bag (rack_of held.racks player) new acts
-moves_own bag player (act.Turns shown (motion.Lays used drawn)) held new allows acts = known_refill bag used used (rack_of held.racks player) new refl allows.has_used acts
+moves_own bag player (act.Turns shown (motion.Lays used drawn)) held new allows acts = known_refill bag drawn used used (rack_of held.racks player) new refl allows.has_used acts
 moves_own bag player (act.Turns shown (motion.Tries used)) held new allows acts = tried bag used (rack_of held.racks player) new acts
 moves_own bag player (act.Turns shown (motion.Throws tiles)) held new allows acts =
-    known_refill bag held.thrown tiles (rack_of held.racks player) new allows.throws allows.has_used acts.0
+    known_refill bag _ held.thrown tiles (rack_of held.racks player) new allows.throws allows.has_used acts
 moves_own bag player (act.Turns shown (motion.ThrowsUnknown n)) held new allows acts =
-    unknown_refill bag held.thrown (rack_of held.racks player) new allows.has_thrown acts.0
+    unknown_refill bag _ held.thrown (rack_of held.racks player) new allows.has_thrown acts
 moves_own bag player (act.TakesBack used) held new allows acts = came_back bag used (rack_of held.racks player) new acts
 moves_own bag player (act.Ends holder tiles) held new allows acts = stays bag (rack_of held.racks player) new acts
 moves_own bag player act.Rests held new allows acts = stays bag (rack_of held.racks player) new acts

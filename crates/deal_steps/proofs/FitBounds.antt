@@ -20,6 +20,7 @@ use Rattle.deal_steps.specs.Bounds.{first_bound_after, first_bound, bound_at}
 use Rattle.deal_steps.specs.Knowing.{IsKnown, excess_of, excess, shown_by, moved_by}
 use Rattle.deal_steps.specs.Runs.{Course, none_waiting, MayAct, act_course, IsOnCourse, IsRunFrom, first_course, IsRun}
 use Rattle.deal_steps.proofs.PileLaws.{get-joined, get-without, get-greater, get-no_tiles, sum_is, sum_kinds_le}
+use Rattle.deal_steps.proofs.Refills.{refilled_kinds}
 use Rattle.deal_steps.proofs.KnownLaws.{known_bound, known_after, shown_first_long, shown_second_long, no_short, nothing_known, known_at_start}
 
 -- What must be on a rack is on it, or in the play that is about to be taken back; the tiles on the board are known.
@@ -181,7 +182,7 @@ had_after bag c First (act.Turns shown motion.Keeps) known held next had may all
     }
 had_after bag c First (act.Turns shown (motion.Lays used drawn)) known held next had may allows acts stays =
     record {
-      first = λ k below. refilled_is_had known.first used held.racks.first next.first c.waiting.first k below (had.first k below) (acts.gone k below);
+      first = λ k below. refilled_is_had known.first used held.racks.first next.first c.waiting.first k below (had.first k below) (refilled_kinds bag drawn used _ _ acts k below).0;
       second = λ k below. stays_had known.second held.racks.second next.second c.waiting.second _ k (had.second k below) stays refl;
       laid = ap (λ (xs : List ℕ). joined xs used) had.laid;
     }
@@ -193,7 +194,7 @@ had_after bag c First (act.Turns shown (motion.Tries used)) known held next had 
     }
 had_after bag c First (act.Turns shown (motion.Throws tiles)) known held next had may allows acts stays =
     record {
-      first = λ k below. refilled_is_had known.first tiles held.racks.first next.first c.waiting.first k below (had.first k below) (off_is held.thrown tiles held.racks.first next.first k allows.throws (acts.0.gone k below));
+      first = λ k below. refilled_is_had known.first tiles held.racks.first next.first c.waiting.first k below (had.first k below) (off_is held.thrown tiles held.racks.first next.first k allows.throws (refilled_kinds bag _ held.thrown _ _ acts k below).0);
       second = λ k below. stays_had known.second held.racks.second next.second c.waiting.second _ k (had.second k below) stays refl;
       laid = had.laid;
     }
@@ -230,7 +231,7 @@ had_after bag c Second (act.Turns shown motion.Keeps) known held next had may al
 had_after bag c Second (act.Turns shown (motion.Lays used drawn)) known held next had may allows acts stays =
     record {
       first = λ k below. stays_had known.first held.racks.first next.first c.waiting.first _ k (had.first k below) stays refl;
-      second = λ k below. refilled_is_had known.second used held.racks.second next.second c.waiting.second k below (had.second k below) (acts.gone k below);
+      second = λ k below. refilled_is_had known.second used held.racks.second next.second c.waiting.second k below (had.second k below) (refilled_kinds bag drawn used _ _ acts k below).0;
       laid = ap (λ (xs : List ℕ). joined xs used) had.laid;
     }
 had_after bag c Second (act.Turns shown (motion.Tries used)) known held next had may allows acts stays =
@@ -242,7 +243,7 @@ had_after bag c Second (act.Turns shown (motion.Tries used)) known held next had
 had_after bag c Second (act.Turns shown (motion.Throws tiles)) known held next had may allows acts stays =
     record {
       first = λ k below. stays_had known.first held.racks.first next.first c.waiting.first _ k (had.first k below) stays refl;
-      second = λ k below. refilled_is_had known.second tiles held.racks.second next.second c.waiting.second k below (had.second k below) (off_is held.thrown tiles held.racks.second next.second k allows.throws (acts.0.gone k below));
+      second = λ k below. refilled_is_had known.second tiles held.racks.second next.second c.waiting.second k below (had.second k below) (off_is held.thrown tiles held.racks.second next.second k allows.throws (refilled_kinds bag _ held.thrown _ _ acts k below).0);
       laid = had.laid;
     }
 had_after bag c Second (act.Turns shown (motion.ThrowsUnknown n)) known held next had may allows acts stays =

@@ -168,6 +168,16 @@ sum-joined a b long long2 =
     let second = sum_is b long2 in
     omega (arith, whole, parts, first, second)
 
+pub sum-without : (a b : List ℕ) → length a ≡ 27 → length b ≡ 27 → ((k : ℕ) → k < 27 → get_or b k 0 ≤ get_or a k 0) → sum (without a b) + sum b ≡ sum a
+sum-without a b la lb le =
+    let x = sum_is a la in
+    let y = sum_is b lb in
+    let z = sum_is (without a b) (length-without a b) in
+    let both = sum_of_sums (λ k. get_or (without a b) k 0) (λ k. get_or b k 0) kinds in
+    let same = sum_kinds_same (λ k. get_or (without a b) k 0 + get_or b k 0) (λ k. get_or a k 0)
+    (λ k h. let w = get-without a b k h in let l = le k h in omega arith) in
+    omega arith
+
 pub sum-no_tiles : sum no_tiles ≡ 0
 unfolding no_tiles
 sum-no_tiles = refl

@@ -65,10 +65,14 @@ pub record FitsAt (rules : Rules) (s : Step) (held : Held) : Type 0 where
   pub adds_up : AddsUp rules s held.racks
   pub allows : AllowsAct s.player s.act held
 
--- Tiles go off a rack, and tiles that are in the bag come to it.
-pub record IsRefilled (bag off rack new : List ℕ) : Type 0 where
-  pub gone : (k : ℕ) → k < 27 → slice_index rack k ≤ slice_index new k + slice_index off k
-  pub drawn : (k : ℕ) → k < 27 → slice_index new k + slice_index off k ≤ slice_index rack k + slice_index bag k
+-- Tiles go off a rack, and so many are drawn to it from the bag: the tiles that went off and those on the new rack are the tiles
+-- that were on the rack and those that were drawn.
+pub record IsRefilled (bag : List ℕ) (number : ℕ) (off rack new : List ℕ) : Type 0 where
+  pub drawn : List ℕ
+  pub kinds : length drawn ≡ 27
+  pub from_bag : IsContainedIn drawn bag
+  pub as_asked : sum drawn ≡ number
+  pub makes : (k : ℕ) → k < 27 → slice_index new k + slice_index off k ≡ slice_index rack k + slice_index drawn k
 
 -- other tiles than these stay
 abbrev pub IsLess : (off rack new : List ℕ) → Type 0
@@ -77,10 +81,10 @@ IsLess off rack new = (k : ℕ) → k < 27 → slice_index new k + slice_index o
 -- what a turn makes of its player's rack
 abbrev pub TurnsTo : (bag : List ℕ) → Motion → (thrown rack new : List ℕ) → Type 0
 TurnsTo bag motion.Keeps thrown rack new = new ≡ rack
-TurnsTo bag (motion.Lays used drawn) thrown rack new = IsRefilled bag used rack new
+TurnsTo bag (motion.Lays used drawn) thrown rack new = IsRefilled bag drawn used rack new
 TurnsTo bag (motion.Tries used) thrown rack new = IsLess used rack new
-TurnsTo bag (motion.Throws tiles) thrown rack new = IsRefilled bag thrown rack new × (sum new ≡ sum rack)
-TurnsTo bag (motion.ThrowsUnknown n) thrown rack new = IsRefilled bag thrown rack new × (sum new ≡ sum rack)
+TurnsTo bag (motion.Throws tiles) thrown rack new = IsRefilled bag (sum thrown) thrown rack new
+TurnsTo bag (motion.ThrowsUnknown n) thrown rack new = IsRefilled bag (sum thrown) thrown rack new
 
 -- what an act makes of its player's rack
 abbrev pub ActsTo : (bag : List ℕ) → Act → (thrown rack new : List ℕ) → Type 0

@@ -1,5 +1,5 @@
 //! Whether racks fit the steps of a game: before each step, and from each step to the next.
-ghost use Rattle.std.specs.Prelude.{◌≡◌, ◌+◌, ◌↔◌, IsTrue};
+ghost use Rattle.std.specs.Prelude.{◌≡◌, ◌+◌, ◌<◌, ◌≤◌, ◌↔◌, ℕ, IsTrue, slice_index};
 ghost use Rattle.deal_steps.specs.Steps.{used_by};
 ghost use Rattle.deal_steps.specs.Fitting.{rack_of, in_bag, IsWithinSet, AddsUp, IsThrownBy, HasTurn, AllowsAct, FitsAt, IsRefilled, IsLess, TurnsTo, ActsTo, Follows, FollowsTo, Fits};
 
@@ -123,9 +123,30 @@ fn tiles_in_bag(rules: &Rules, step: &Step, racks: &Racks) -> Counts
     without(&others, &racks.second)
 }
 
+/// Whether tiles go off a rack, and so many of the bag come to it.
+fn is_refilled(bag: &Counts, number: usize, off: &Counts, rack: &Counts, new: &Counts) -> bool
+    ensures { IsTrue result ↔ IsRefilled bag.now number off.now rack.now new.now }
+{
+    let before = rack.total();
+    let after = new.total();
+    are_drawn(before, off.total(), number, after) && come_from_bag(bag, off, rack, new)
+}
+
+/// Whether so many tiles are left of some where some go off and others are drawn.
+fn are_drawn(before: usize, off: usize, drawn: usize, after: usize) -> bool
+    ensures { IsTrue result ↔ (after + off ≡ before + drawn) }
+{
+    if off <= before {
+        after >= before - off && after - (before - off) == drawn
+    } else {
+        drawn >= off - before && drawn - (off - before) == after
+    }
+}
+
 /// Whether tiles go off a rack, and tiles of the bag come to it.
-fn is_refilled(bag: &Counts, off: &Counts, rack: &Counts, new: &Counts) -> bool
-    ensures { IsTrue result ↔ IsRefilled bag.now off.now rack.now new.now }
+fn come_from_bag(bag: &Counts, off: &Counts, rack: &Counts, new: &Counts) -> bool
+    ensures { IsTrue result ↔ ((k : ℕ) → k < 27 → (slice_index rack.now k ≤ slice_index new.now k + slice_index off.now k)
+        × (slice_index new.now k + slice_index off.now k ≤ slice_index rack.now k + slice_index bag.now k)) }
 {
     let there = bag.numbers();
     let gone = off.numbers();
@@ -162,10 +183,10 @@ fn turns_to(bag: &Counts, motion: &Motion, thrown: &Counts, rack: &Counts, new: 
 {
     match motion {
         Motion::Keeps => new == rack,
-        Motion::Lays { used, .. } => is_refilled(bag, used, rack, new),
+        Motion::Lays { used, drawn } => is_refilled(bag, *drawn, used, rack, new),
         Motion::Tries(used) => is_less(used, rack, new),
         Motion::Throws(_) | Motion::ThrowsUnknown(_) => {
-            is_refilled(bag, thrown, rack, new) && new.total() == rack.total()
+            is_refilled(bag, thrown.total(), thrown, rack, new)
         }
     }
 }

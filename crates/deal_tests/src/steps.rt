@@ -134,6 +134,37 @@ fn bounds_of_games(rt: HostRuntime) {
     );
 }
 
+/// The first player plays AT off AEINRST and draws so many tiles: the rack after it, and whether it fits.
+#[test]
+fn draws(rt: HostRuntime) {
+    let english = english_rules();
+    for (drawn, after, fit) in [
+        (2, "EINRSBC", true),
+        (2, "EINRSAT", true),
+        (1, "EINRSBC", false),
+        (2, "EINRSQQ", false),
+        (2, "EINRBCD", false),
+    ] {
+        let played = Act::Turns {
+            shown: Counts::new(),
+            motion: Motion::Lays {
+                used: tiles("AT"),
+                drawn,
+            },
+        };
+        let mut next = shows(2, Seat::Second, "");
+        next.board = tiles("AT");
+        next.bag = 84;
+        let steps = [step(1, Seat::First, played), next];
+        let deal = [held("AEINRST", "OOOOUUU", ""), held(after, "OOOOUUU", "")];
+        assert_eq!(rt;
+            fits(&english, &steps, &deal),
+            fit,
+            "{drawn} drawn to {after}"
+        );
+    }
+}
+
 /// The first player exchanges a tile: the racks before it, those after it, and whether they fit.
 #[test]
 fn exchanges(rt: HostRuntime) {

@@ -1,5 +1,5 @@
 use Rattle.std.proofs.Common.{◌+◌, ◌<◌, ◌≤◌, ℕ, get_or}
-use Rattle.deal_steps.proofs.fitting.is_refilled.Given as goal
+use Rattle.deal_steps.proofs.fitting.come_from_bag.Given as goal
 
 abbrev pub invariant-loop-kind : goal.invariant-loop-kind
 invariant-loop-kind l = (k : ℕ) → k < l.kind
