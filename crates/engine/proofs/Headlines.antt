@@ -180,9 +180,9 @@ legal_game exact rules texts complete report words game listed paired recorded i
       told = lines.is_told.best;
       lines = lines.is_told.count;
       printed = lines.behind ∙ ap (λ t. legal_line complete ++ t) lines.is_told.are;
-      best = λ place e rack at judged full.
-          let tells = lines.is_told.each place (slice_get_within game.events place e at) e at in
-          by_rack rules words (tally_at rules game.events place).board rack (slice_index_or lines.is_told.best place []) (full_rack (tally_at rules game.events place) e) full (tells.judged judged);
+      best = λ place e rack turn.
+          let tells = lines.is_told.each place (slice_get_within game.events place e turn.event) e turn.event in
+          by_rack rules words (tally_at rules game.events place).board rack (slice_index_or lines.is_told.best place []) (full_rack (tally_at rules game.events place) e) turn.is_full (tells.judged turn.is_turn);
     }
 
 game_of : (rules : Rules) (words : List (List ℕ)) (r : Record) (v : Verdict) (report : List ℕ) → IsLegal rules words r v report → IsGame rules words r.events

@@ -42,6 +42,13 @@ IsBestPrinted rules list board rack told =
     × (told ≡ codes " best " ++ notation_text (notation_of board ps) ++ 32 ∷ decimal (score_of rules board ps)))
     ⊎ (((ps : List Placed) → IsCandidate list board rack ps → ⊥) × (told ≡ codes " best none"))
 
+-- A turn of a record whose line states a full rack: the event at a place, counted from 0, is a turn of its player, and the line
+-- has as many tiles as the player then holds.
+pub record IsFullTurn (rules : Rules) (events : List Event) (place : ℕ) (e : Event) (rack : List ℕ) : Type 0 where
+  pub event : slice_get events place ≡ Some e
+  pub is_turn : is_judged (tally_at rules events place).out e.kind ≡ true
+  pub is_full : full_rack (tally_at rules events place) e ≡ Some rack
+
 -- the bytes of a word list, a lexicon file and a record
 pub record Texts : Type 0 where
   pub words : List ℕ
@@ -72,8 +79,7 @@ pub record IsLegalGame (rules : Rules) (texts : Texts) (complete : Bool) (report
   pub lines : length told ≡ length game.events
   -- On each turn with a full rack no legal, valid play scores more than the printed best, which is itself legal and valid.
   pub printed : report ≡ legal_line complete ++ lines_from rules list game 0 told
-  pub best : (place : ℕ) (e : Event) (rack : List ℕ) → slice_get game.events place ≡ Some e → is_judged (tally_at rules game.events place).out e.kind ≡ true
-      → full_rack (tally_at rules game.events place) e ≡ Some rack
+  pub best : (place : ℕ) (e : Event) (rack : List ℕ) → IsFullTurn rules game.events place e rack
       → IsBestPrinted rules list (tally_at rules game.events place).board rack (slice_index_or told place [])
 
 -- the verdict that a game is legal, with its report, means that
