@@ -70,7 +70,8 @@ impl Cross {
     /// have their letters searched, and across it those next to the run through each of its tiles. It takes no memory.
     pub fn after_play<L: PathLex>(&mut self, rules: &Rules, board: &Board, lex: &L, play: &Play)
         ensures { (words : List (List ℕ)) (before : List (Option Tile)) → StandsFor (L.language lex.now) words
-            → DifferOn play.now.tiles.items before board.now → IsRight rules.now words before self.old → IsRight rules.now words board.now self.new }
+            → DifferOn play.now.tiles.items before board.now
+            → IsRight rules.now words before self.old → IsRight rules.now words board.now self.new }
     {
         match play.dir {
             Dir::Across => {
@@ -101,7 +102,8 @@ impl Cross {
     /// Renews the values that the content of one square decides.
     fn renew<L: PathLex>(&mut self, rules: &Rules, board: &Board, lex: &L, square: Square)
         ensures { (words : List (List ℕ)) (before : List (Option Tile)) (cell : Option Tile) → StandsFor (L.language lex.now) words
-            → board.now ≡ with_tile before square cell → IsRight rules.now words before self.old → IsRight rules.now words board.now self.new }
+            → board.now ≡ with_tile before square cell
+            → IsRight rules.now words before self.old → IsRight rules.now words board.now self.new }
     {
         renew_beside(rules, board, lex, Dir::Across, square, &mut self.across);
         renew_beside(rules, board, lex, Dir::Down, square, &mut self.down);

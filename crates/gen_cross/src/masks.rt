@@ -19,7 +19,8 @@ pub const LETTERS: usize = 26;
 pub fn mask_of<L: PathLex>(board: &Board, lex: &L, square: Square, run: &Run) -> [bool; LETTERS]
     requires run { IsRunWith board.now square run.now }
     requires long { 2 ≤ run.now.len }
-    ensures { (words : List (List ℕ)) (d : Dir) → StandsFor (L.language lex.now) words → run.now.dir ≡ other_dir d → IsMask words d board.now square result }
+    ensures { (words : List (List ℕ)) (d : Dir) → StandsFor (L.language lex.now) words → run.now.dir ≡ other_dir d
+        → IsMask words d board.now square result }
 {
     let dir = run.dir;
     let line = square.line(dir);
@@ -48,7 +49,8 @@ fn letters_between<L: PathLex>(
     before: &Stretch,
     behind: &Stretch,
 ) -> [bool; LETTERS]
-    ensures { (letter : ℕ) → letter < 26 → slice_index_or result letter false ≡ L.language lex.now (labels_of board.now behind.now ++ ((letter + 1) ∷ labels_of board.now before.now)) }
+    ensures { (letter : ℕ) → letter < 26
+        → slice_index_or result letter false ≡ L.language lex.now (labels_of board.now behind.now ++ ((letter + 1) ∷ labels_of board.now before.now)) }
 {
     let mut letters = [false; LETTERS];
     let whole = Step {
@@ -94,7 +96,8 @@ fn walk_back<L: PathLex>(
 ) -> Option<Step<L::Node>>
     requires { IsOpen (L.is_node lex.now) at.next }
     ensures none { IfNone result ((t : List ℕ) → strings (L.tail lex.now) at (labels_of board.now stretch.now ++ t) ≡ false) }
-    ensures some { IfSome result (λ s. (t : List ℕ) → strings (L.tail lex.now) at (labels_of board.now stretch.now ++ t) ≡ strings (L.tail lex.now) s t) }
+    ensures some { IfSome result (λ s. (t : List ℕ)
+        → strings (L.tail lex.now) at (labels_of board.now stretch.now ++ t) ≡ strings (L.tail lex.now) s t) }
     ensures node { IfSome result (λ s. IsOpen (L.is_node lex.now) s.next) }
 {
     let mut step = at;

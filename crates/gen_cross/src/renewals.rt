@@ -27,7 +27,8 @@ pub fn renew_tiles<L: PathLex>(
 )
     requires { is_play dir tiles.now ≡ true }
     ensures { (words : List (List ℕ)) (before : List (Option Tile)) → StandsFor (L.language lex.now) words
-        → DifferOn tiles.now before board.now → AreValues rules.now words dir before values.old → AreValues rules.now words dir board.now values.new }
+        → DifferOn tiles.now before board.now
+        → AreValues rules.now words dir before values.old → AreValues rules.now words dir board.now values.new }
 {
     let _squares = board.len();
     for placed in tiles {
@@ -47,7 +48,8 @@ pub fn renew_line<L: PathLex>(
 )
     requires { is_play (other_dir dir) tiles.now ≡ true }
     ensures { (words : List (List ℕ)) (before : List (Option Tile)) → StandsFor (L.language lex.now) words
-        → DifferOn tiles.now before board.now → AreValues rules.now words dir before values.old → AreValues rules.now words dir board.now values.new }
+        → DifferOn tiles.now before board.now
+        → AreValues rules.now words dir before values.old → AreValues rules.now words dir board.now values.new }
 {
     let _squares = board.len();
     let stretch = stretch_of(dir.other(), tiles);
@@ -83,7 +85,8 @@ fn renew_stretch<L: PathLex>(
 )
     requires across { stretch.now.dir ≡ other_dir dir }
     requires some { stretch.now.first < stretch.now.end }
-    ensures { (words : List (List ℕ)) (before : List (Option Tile)) (other : ℕ) → StandsFor (L.language lex.now) words → length before ≡ length board.now → other < 225
+    ensures { (words : List (List ℕ)) (before : List (Option Tile)) (other : ℕ) → StandsFor (L.language lex.now) words
+        → length before ≡ length board.now → other < 225
         → AgreeOff dir stretch.now.line stretch.now.first stretch.now.end other before board.now
         → IsValue rules.now words dir before other (slice_index_or values.old other no_value)
         → IsValue rules.now words dir board.now other (slice_index_or values.new other no_value) }
@@ -111,7 +114,8 @@ pub fn renew_beside<L: PathLex>(
     square: Square,
     values: &mut [Value; SQUARES],
 )
-    ensures near { (words : List (List ℕ)) (before : List (Option Tile)) (other : ℕ) → StandsFor (L.language lex.now) words → length before ≡ length board.now → other < 225
+    ensures near { (words : List (List ℕ)) (before : List (Option Tile)) (other : ℕ) → StandsFor (L.language lex.now) words
+        → length before ≡ length board.now → other < 225
         → AgreeBut dir square other before board.now
         → IsValue rules.now words dir before other (slice_index_or values.old other no_value)
         → IsValue rules.now words dir board.now other (slice_index_or values.new other no_value) }
@@ -155,7 +159,8 @@ fn renew_value<L: PathLex>(
     ensures value { (words : List (List ℕ)) → StandsFor (L.language lex.now) words → (other : ℕ) → other < 225
         → ((other ≡ square → ⊥) → IsValue rules.now words dir board.now other (slice_index_or values.old other no_value))
         → IsValue rules.now words dir board.now other (slice_index_or values.new other no_value) }
-    ensures others { (other : ℕ) → (other ≡ square → ⊥) → slice_index_or values.new other no_value ≡ slice_index_or values.old other no_value }
+    ensures others { (other : ℕ) → (other ≡ square → ⊥)
+        → slice_index_or values.new other no_value ≡ slice_index_or values.old other no_value }
 {
     values[square.number()] = value_of(rules, board, lex, dir, square);
 }

@@ -44,7 +44,8 @@ pub fn next_letter<L: PathLex>(
     ensures reached { IfSome result (λ on. from ≤ on.branch.label) }
     ensures passed { IfSome result (λ on. (label : ℕ) → from ≤ label → label < on.branch.label → NoTail (L.tail lex.now) node label) }
     ensures label { IfSome result (λ on. on.branch.label < 27) }
-    ensures some { IfSome result (λ on. (t : List ℕ) → L.tail lex.now node (on.branch.label ∷ t) ≡ strings (L.tail lex.now) on.branch.step t) }
+    ensures some { IfSome result (λ on. (t : List ℕ)
+        → L.tail lex.now node (on.branch.label ∷ t) ≡ strings (L.tail lex.now) on.branch.step t) }
     ensures open { IfSome result (λ on. IsOpen (L.is_node lex.now) on.branch.step.next) }
     ensures rest { IfSome result (λ on. L.is_rest lex.now node (on.branch.label + 1) on.rest) }
 {

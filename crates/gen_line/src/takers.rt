@@ -2,6 +2,7 @@
 ghost use Rattle.std.specs.Prelude.{◌≡◌, List, [], ◌∷◌, ℕ, Bool, false, IsOk};
 ghost use Rattle.gen_line.specs.Walk.{Took};
 
+use ref_board::SIDE;
 use std::alloc::AllocError as NoMemory;
 
 /// What takes the moves of a line: it makes of each what a sink keeps, and gives it to the sink.
@@ -35,7 +36,7 @@ pub trait Taker<S> {
     /// # Errors
     ///
     /// Where the sink was refused memory. It then has what it had.
-    fn take(&self, fresh: &[u8; 15], sink: &mut S) -> Result<(), NoMemory>
+    fn take(&self, fresh: &[u8; SIDE], sink: &mut S) -> Result<(), NoMemory>
         requires { can_take self.now (made_for sink.old) fresh.now }
         ensures made_for { made_for sink.new ≡ made_for sink.old }
         ensures took { Took (tell self.now (made_for sink.old)) (items sink.old) (fresh.now ∷ []) (items sink.new) result }

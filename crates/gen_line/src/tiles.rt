@@ -4,14 +4,16 @@ ghost use Rattle.gen_line.specs.Entries.{letter_of, kind_of};
 ghost use Rattle.gen_line.specs.Model.{may, less};
 
 use crate::cells::Open;
+use ref_board::SIDE;
+use ref_tiles::KINDS;
 
 /// The tiles of a walk. What an entry says is told at [`crate::Taker`].
 #[derive(Clone, Copy)]
 pub struct Tiles {
     /// The new tiles on the places of the line.
-    pub fresh: [u8; 15],
+    pub fresh: [u8; SIDE],
     /// How many tiles of each kind are left on the rack: A to Z, and then blanks.
-    pub rack: [u8; 27],
+    pub rack: [u8; KINDS],
 }
 
 /// The letter that a new tile shows, 0 for A to 25 for Z.

@@ -9,20 +9,22 @@ use crate::cells::{Cell, Open};
 use crate::takers::Taker;
 use crate::tiles::Tiles;
 use lex_file::{Branch, PathLex, Step, advance};
+use ref_board::SIDE;
+use ref_tiles::KINDS;
 use std::alloc::AllocError as NoMemory;
 
 /// A walk over a line from one of its anchors: to the left, and then, behind the mark, to the right.
 #[derive(Drop)]
 pub struct LineWalk<'a, L, T> {
     pub lex: &'a L,
-    pub line: &'a [Cell; 15],
+    pub line: &'a [Cell; SIDE],
     pub anchor: usize,
     pub taker: &'a T,
     ghost size: { length line.now ≡ 15 },
 }
 
 /// Whether what a lexicon accepts may end before a place: no old tile lies there.
-fn ends_at(line: &[Cell; 15], place: usize, accepts: bool) -> bool
+fn ends_at(line: &[Cell; SIDE], place: usize, accepts: bool) -> bool
     ensures { result ≡ (starts_free (drop place line.now) && accepts) }
 {
     match line.get(place) {
@@ -39,7 +41,9 @@ impl<L: PathLex, T> LineWalk<'_, L, T> {
         T: Taker<S>,
         requires can { Every (T.can_take self.now.taker.now (T.made_for sink.old)) (gives_leaf is_move tiles.now.fresh) }
         ensures made_for { T.made_for sink.new ≡ T.made_for sink.old }
-        ensures took { Took (T.tell self.now.taker.now (T.made_for sink.old)) (T.items sink.old) (gives_leaf is_move tiles.now.fresh) (T.items sink.new) result }
+        ensures took { Took (T.tell self.now.taker.now (T.made_for sink.old)) (T.items sink.old)
+            (gives_leaf is_move tiles.now.fresh)
+            (T.items sink.new) result }
         ensures steady { T.grows ≡ false → IsOk result }
     {
         if is_move {
@@ -61,9 +65,12 @@ impl<L: PathLex, T> LineWalk<'_, L, T> {
         T: Taker<S>,
         requires node { IsOpen (L.is_node self.now.lex.now) at.next }
         requires place { place ≤ 15 }
-        requires can { Every (T.can_take self.now.taker.now (T.made_for sink.old)) (gives_right (strings (L.tail self.now.lex.now) at) self.now.line.now place tiles.now.fresh tiles.now.rack) }
+        requires can { Every (T.can_take self.now.taker.now (T.made_for sink.old))
+            (gives_right (strings (L.tail self.now.lex.now) at) self.now.line.now place tiles.now.fresh tiles.now.rack) }
         ensures made_for { T.made_for sink.new ≡ T.made_for sink.old }
-        ensures took { Took (T.tell self.now.taker.now (T.made_for sink.old)) (T.items sink.old) (gives_right (strings (L.tail self.now.lex.now) at) self.now.line.now place tiles.now.fresh tiles.now.rack) (T.items sink.new) result }
+        ensures took { Took (T.tell self.now.taker.now (T.made_for sink.old)) (T.items sink.old)
+            (gives_right (strings (L.tail self.now.lex.now) at) self.now.line.now place tiles.now.fresh tiles.now.rack)
+            (T.items sink.new) result }
         ensures steady { T.grows ≡ false → IsOk result }
     {
         if place == self.line.len() {
@@ -96,9 +103,12 @@ impl<L: PathLex, T> LineWalk<'_, L, T> {
         T: Taker<S>,
         requires node { IsOpen (L.is_node self.now.lex.now) at.next }
         requires place { place < 15 }
-        requires can { Every (T.can_take self.now.taker.now (T.made_for sink.old)) (gives_tries_right (strings (L.tail self.now.lex.now) at) self.now.line.now place free.now tiles.now.fresh tiles.now.rack) }
+        requires can { Every (T.can_take self.now.taker.now (T.made_for sink.old))
+            (gives_tries_right (strings (L.tail self.now.lex.now) at) self.now.line.now place free.now tiles.now.fresh tiles.now.rack) }
         ensures made_for { T.made_for sink.new ≡ T.made_for sink.old }
-        ensures took { Took (T.tell self.now.taker.now (T.made_for sink.old)) (T.items sink.old) (gives_tries_right (strings (L.tail self.now.lex.now) at) self.now.line.now place free.now tiles.now.fresh tiles.now.rack) (T.items sink.new) result }
+        ensures took { Took (T.tell self.now.taker.now (T.made_for sink.old)) (T.items sink.old)
+            (gives_tries_right (strings (L.tail self.now.lex.now) at) self.now.line.now place free.now tiles.now.fresh tiles.now.rack)
+            (T.items sink.new) result }
         ensures steady { T.grows ≡ false → IsOk result }
     {
         if tiles.left() == 0 {
@@ -137,9 +147,12 @@ impl<L: PathLex, T> LineWalk<'_, L, T> {
         requires place { place < 15 }
         requires low { 0 < label }
         requires high { label < 27 }
-        requires can { Every (T.can_take self.now.taker.now (T.made_for sink.old)) (gives_letter_right (strings (L.tail self.now.lex.now) next) self.now.line.now place free.now tiles.now.fresh tiles.now.rack label) }
+        requires can { Every (T.can_take self.now.taker.now (T.made_for sink.old))
+            (gives_letter_right (strings (L.tail self.now.lex.now) next) self.now.line.now place free.now tiles.now.fresh tiles.now.rack label) }
         ensures made_for { T.made_for sink.new ≡ T.made_for sink.old }
-        ensures took { Took (T.tell self.now.taker.now (T.made_for sink.old)) (T.items sink.old) (gives_letter_right (strings (L.tail self.now.lex.now) next) self.now.line.now place free.now tiles.now.fresh tiles.now.rack label) (T.items sink.new) result }
+        ensures took { Took (T.tell self.now.taker.now (T.made_for sink.old)) (T.items sink.old)
+            (gives_letter_right (strings (L.tail self.now.lex.now) next) self.now.line.now place free.now tiles.now.fresh tiles.now.rack label)
+            (T.items sink.new) result }
         ensures steady { T.grows ≡ false → IsOk result }
     {
         self.one_right(next, place, free, 2 * label - 1, tiles, sink)?;
@@ -164,9 +177,12 @@ impl<L: PathLex, T> LineWalk<'_, L, T> {
         requires place { place < 15 }
         requires low { 0 < entry }
         requires high { entry < 53 }
-        requires can { Every (T.can_take self.now.taker.now (T.made_for sink.old)) (gives_try_right (strings (L.tail self.now.lex.now) next) self.now.line.now place free.now tiles.now.fresh tiles.now.rack entry) }
+        requires can { Every (T.can_take self.now.taker.now (T.made_for sink.old))
+            (gives_try_right (strings (L.tail self.now.lex.now) next) self.now.line.now place free.now tiles.now.fresh tiles.now.rack entry) }
         ensures made_for { T.made_for sink.new ≡ T.made_for sink.old }
-        ensures took { Took (T.tell self.now.taker.now (T.made_for sink.old)) (T.items sink.old) (gives_try_right (strings (L.tail self.now.lex.now) next) self.now.line.now place free.now tiles.now.fresh tiles.now.rack entry) (T.items sink.new) result }
+        ensures took { Took (T.tell self.now.taker.now (T.made_for sink.old)) (T.items sink.old)
+            (gives_try_right (strings (L.tail self.now.lex.now) next) self.now.line.now place free.now tiles.now.fresh tiles.now.rack entry)
+            (T.items sink.new) result }
         ensures steady { T.grows ≡ false → IsOk result }
     {
         if tiles.allow(free, entry) {
@@ -183,9 +199,12 @@ impl<L: PathLex, T> LineWalk<'_, L, T> {
         T: Taker<S>,
         requires node { IsOpen (L.is_node self.now.lex.now) at.next }
         requires anchor { self.now.anchor < 15 }
-        requires can { Every (T.can_take self.now.taker.now (T.made_for sink.old)) (gives_turn (strings (L.tail self.now.lex.now) at) self.now.line.now self.now.anchor tiles.now.fresh tiles.now.rack) }
+        requires can { Every (T.can_take self.now.taker.now (T.made_for sink.old))
+            (gives_turn (strings (L.tail self.now.lex.now) at) self.now.line.now self.now.anchor tiles.now.fresh tiles.now.rack) }
         ensures made_for { T.made_for sink.new ≡ T.made_for sink.old }
-        ensures took { Took (T.tell self.now.taker.now (T.made_for sink.old)) (T.items sink.old) (gives_turn (strings (L.tail self.now.lex.now) at) self.now.line.now self.now.anchor tiles.now.fresh tiles.now.rack) (T.items sink.new) result }
+        ensures took { Took (T.tell self.now.taker.now (T.made_for sink.old)) (T.items sink.old)
+            (gives_turn (strings (L.tail self.now.lex.now) at) self.now.line.now self.now.anchor tiles.now.fresh tiles.now.rack)
+            (T.items sink.new) result }
         ensures steady { T.grows ≡ false → IsOk result }
     {
         self.offer(ends_at(self.line, self.anchor + 1, at.accepts), tiles, sink)?;
@@ -215,9 +234,12 @@ impl<L: PathLex, T> LineWalk<'_, L, T> {
         requires node { IsOpen (L.is_node self.now.lex.now) at.next }
         requires anchor { self.now.anchor < 15 }
         requires places { places ≤ self.now.anchor }
-        requires can { Every (T.can_take self.now.taker.now (T.made_for sink.old)) (gives_left (strings (L.tail self.now.lex.now) at) self.now.line.now self.now.anchor places tiles.now.fresh tiles.now.rack) }
+        requires can { Every (T.can_take self.now.taker.now (T.made_for sink.old))
+            (gives_left (strings (L.tail self.now.lex.now) at) self.now.line.now self.now.anchor places tiles.now.fresh tiles.now.rack) }
         ensures made_for { T.made_for sink.new ≡ T.made_for sink.old }
-        ensures took { Took (T.tell self.now.taker.now (T.made_for sink.old)) (T.items sink.old) (gives_left (strings (L.tail self.now.lex.now) at) self.now.line.now self.now.anchor places tiles.now.fresh tiles.now.rack) (T.items sink.new) result }
+        ensures took { Took (T.tell self.now.taker.now (T.made_for sink.old)) (T.items sink.old)
+            (gives_left (strings (L.tail self.now.lex.now) at) self.now.line.now self.now.anchor places tiles.now.fresh tiles.now.rack)
+            (T.items sink.new) result }
         ensures steady { T.grows ≡ false → IsOk result }
     {
         if places == 0 {
@@ -254,9 +276,13 @@ impl<L: PathLex, T> LineWalk<'_, L, T> {
         requires node { IsOpen (L.is_node self.now.lex.now) at.next }
         requires anchor { self.now.anchor < 15 }
         requires place { place ≤ self.now.anchor }
-        requires can { Every (T.can_take self.now.taker.now (T.made_for sink.old)) (gives_tries_left (strings (L.tail self.now.lex.now) at) self.now.line.now self.now.anchor place free.now tiles.now.fresh tiles.now.rack) }
+        requires can { Every (T.can_take self.now.taker.now (T.made_for sink.old))
+            (gives_tries_left (strings (L.tail self.now.lex.now) at) self.now.line.now self.now.anchor
+            place free.now tiles.now.fresh tiles.now.rack) }
         ensures made_for { T.made_for sink.new ≡ T.made_for sink.old }
-        ensures took { Took (T.tell self.now.taker.now (T.made_for sink.old)) (T.items sink.old) (gives_tries_left (strings (L.tail self.now.lex.now) at) self.now.line.now self.now.anchor place free.now tiles.now.fresh tiles.now.rack) (T.items sink.new) result }
+        ensures took { Took (T.tell self.now.taker.now (T.made_for sink.old)) (T.items sink.old)
+            (gives_tries_left (strings (L.tail self.now.lex.now) at) self.now.line.now self.now.anchor place free.now tiles.now.fresh tiles.now.rack)
+            (T.items sink.new) result }
         ensures steady { T.grows ≡ false → IsOk result }
     {
         if tiles.left() == 0 {
@@ -296,9 +322,14 @@ impl<L: PathLex, T> LineWalk<'_, L, T> {
         requires place { place ≤ self.now.anchor }
         requires low { 0 < label }
         requires high { label < 27 }
-        requires can { Every (T.can_take self.now.taker.now (T.made_for sink.old)) (gives_letter_left (strings (L.tail self.now.lex.now) next) self.now.line.now self.now.anchor place free.now tiles.now.fresh tiles.now.rack label) }
+        requires can { Every (T.can_take self.now.taker.now (T.made_for sink.old))
+            (gives_letter_left (strings (L.tail self.now.lex.now) next) self.now.line.now self.now.anchor
+            place free.now tiles.now.fresh tiles.now.rack label) }
         ensures made_for { T.made_for sink.new ≡ T.made_for sink.old }
-        ensures took { Took (T.tell self.now.taker.now (T.made_for sink.old)) (T.items sink.old) (gives_letter_left (strings (L.tail self.now.lex.now) next) self.now.line.now self.now.anchor place free.now tiles.now.fresh tiles.now.rack label) (T.items sink.new) result }
+        ensures took { Took (T.tell self.now.taker.now (T.made_for sink.old)) (T.items sink.old)
+            (gives_letter_left (strings (L.tail self.now.lex.now) next) self.now.line.now self.now.anchor
+            place free.now tiles.now.fresh tiles.now.rack label)
+            (T.items sink.new) result }
         ensures steady { T.grows ≡ false → IsOk result }
     {
         self.one_left(next, place, free, 2 * label - 1, tiles, sink)?;
@@ -324,9 +355,14 @@ impl<L: PathLex, T> LineWalk<'_, L, T> {
         requires place { place ≤ self.now.anchor }
         requires low { 0 < entry }
         requires high { entry < 53 }
-        requires can { Every (T.can_take self.now.taker.now (T.made_for sink.old)) (gives_try_left (strings (L.tail self.now.lex.now) next) self.now.line.now self.now.anchor place free.now tiles.now.fresh tiles.now.rack entry) }
+        requires can { Every (T.can_take self.now.taker.now (T.made_for sink.old))
+            (gives_try_left (strings (L.tail self.now.lex.now) next) self.now.line.now self.now.anchor
+            place free.now tiles.now.fresh tiles.now.rack entry) }
         ensures made_for { T.made_for sink.new ≡ T.made_for sink.old }
-        ensures took { Took (T.tell self.now.taker.now (T.made_for sink.old)) (T.items sink.old) (gives_try_left (strings (L.tail self.now.lex.now) next) self.now.line.now self.now.anchor place free.now tiles.now.fresh tiles.now.rack entry) (T.items sink.new) result }
+        ensures took { Took (T.tell self.now.taker.now (T.made_for sink.old)) (T.items sink.old)
+            (gives_try_left (strings (L.tail self.now.lex.now) next) self.now.line.now self.now.anchor
+            place free.now tiles.now.fresh tiles.now.rack entry)
+            (T.items sink.new) result }
         ensures steady { T.grows ≡ false → IsOk result }
     {
         if tiles.allow(free, entry) {
@@ -340,9 +376,12 @@ impl<L: PathLex, T> LineWalk<'_, L, T> {
     where
         T: Taker<S>,
         requires anchor { self.now.anchor < 15 }
-        requires can { Every (T.can_take self.now.taker.now (T.made_for sink.old)) (gives_anchor (L.language self.now.lex.now) self.now.line.now tiles.now.fresh tiles.now.rack self.now.anchor) }
+        requires can { Every (T.can_take self.now.taker.now (T.made_for sink.old))
+            (gives_anchor (L.language self.now.lex.now) self.now.line.now tiles.now.fresh tiles.now.rack self.now.anchor) }
         ensures made_for { T.made_for sink.new ≡ T.made_for sink.old }
-        ensures took { Took (T.tell self.now.taker.now (T.made_for sink.old)) (T.items sink.old) (gives_anchor (L.language self.now.lex.now) self.now.line.now tiles.now.fresh tiles.now.rack self.now.anchor) (T.items sink.new) result }
+        ensures took { Took (T.tell self.now.taker.now (T.made_for sink.old)) (T.items sink.old)
+            (gives_anchor (L.language self.now.lex.now) self.now.line.now tiles.now.fresh tiles.now.rack self.now.anchor)
+            (T.items sink.new) result }
         ensures steady { T.grows ≡ false → IsOk result }
     {
         match &self.line[self.anchor] {
@@ -371,20 +410,23 @@ impl<L: PathLex, T> LineWalk<'_, L, T> {
 /// Where the sink was refused memory. It then has a front of the moves.
 pub fn walk_anchor<L: PathLex, S, T: Taker<S>>(
     lex: &L,
-    line: &[Cell; 15],
+    line: &[Cell; SIDE],
     anchor: usize,
-    rack: &[u8; 27],
+    rack: &[u8; KINDS],
     taker: &T,
     sink: &mut S,
 ) -> Result<(), NoMemory>
     requires anchor { anchor < 15 }
-    requires can { Every (T.can_take taker.now (T.made_for sink.old)) (anchor_moves (L.language lex.now) line.now rack.now anchor) }
+    requires can { Every (T.can_take taker.now (T.made_for sink.old))
+        (anchor_moves (L.language lex.now) line.now rack.now anchor) }
     ensures made_for { T.made_for sink.new ≡ T.made_for sink.old }
-    ensures took { Took (T.tell taker.now (T.made_for sink.old)) (T.items sink.old) (anchor_moves (L.language lex.now) line.now rack.now anchor) (T.items sink.new) result }
+    ensures took { Took (T.tell taker.now (T.made_for sink.old)) (T.items sink.old)
+        (anchor_moves (L.language lex.now) line.now rack.now anchor)
+        (T.items sink.new) result }
     ensures steady { T.grows ≡ false → IsOk result }
 {
     let tiles = Tiles {
-        fresh: [0; 15],
+        fresh: [0; SIDE],
         rack: *rack,
     };
     let walk = LineWalk {

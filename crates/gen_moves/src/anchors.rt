@@ -68,7 +68,8 @@ fn anchor_bounds(
     requires points { points ≤ 2000000 }
     requires ones { ones ≤ 2000000 }
     requires bonus { bonus ≤ 65535 }
-    ensures { (h : ℕ) → h < 15 → is_anchor_cell (cell_at cells.now h) ≡ true → IsAnchorBound bonus points ones cells.now (place_in places.now) h (slice_index result h) }
+    ensures { (h : ℕ) → h < 15 → is_anchor_cell (cell_at cells.now h) ≡ true
+        → IsAnchorBound bonus points ones cells.now (place_in places.now) h (slice_index result h) }
 {
     let mut bounds = [0; SIDE];
     for anchor in 0..SIDE {
@@ -114,7 +115,8 @@ pub fn all_bounds(
     requires points { points ≤ 2000000 }
     requires ones { ones ≤ 2000000 }
     requires scores { HasScores rules.now board.now cross.now }
-    ensures { (line : ℕ) → line < 15 → (g : List ℕ → Bool) (rack : List ℕ) → AreOffers rules.now points ones board.now g (slice_index_or lines.now line []) rack dir line
+    ensures { (line : ℕ) → line < 15 → (g : List ℕ → Bool) (rack : List ℕ)
+        → AreOffers rules.now points ones board.now g (slice_index_or lines.now line []) rack dir line
         → (h : ℕ) → h < 15 → AreUnder rules.now board.now g (slice_index_or lines.now line []) rack dir line h (bound_in result line h) }
 {
     let mut bounds = [[0; SIDE]; SIDE];

@@ -22,7 +22,8 @@ fn back_over<L: PathLex>(
     requires node { IsOpen (L.is_node lex.now) at.next }
     requires place { place ≤ 15 }
     ensures none { IfNone result ((t : List ℕ) → strings (L.tail lex.now) at (back (olds (drop place cells.now)) t) ≡ false) }
-    ensures some { IfSome result (λ s. (t : List ℕ) → strings (L.tail lex.now) at (back (olds (drop place cells.now)) t) ≡ strings (L.tail lex.now) s t) }
+    ensures some { IfSome result (λ s. (t : List ℕ)
+        → strings (L.tail lex.now) at (back (olds (drop place cells.now)) t) ≡ strings (L.tail lex.now) s t) }
     ensures open { IfSome result (λ s. IsOpen (L.is_node lex.now) s.next) }
 {
     if place == SIDE {
@@ -81,7 +82,8 @@ fn letters_before<L: PathLex>(
 /// has right before them; the moves are the same.
 pub fn narrowed<L: PathLex>(lex: &L, cells: &[Cell; SIDE], anchor: usize) -> [Cell; SIDE]
     requires { anchor < 15 }
-    ensures { IsSpelt (L.language lex.now) cells.now → (rack : List ℕ) → anchor_moves (L.language lex.now) result rack anchor ≡ anchor_moves (L.language lex.now) cells.now rack anchor }
+    ensures { IsSpelt (L.language lex.now) cells.now → (rack : List ℕ)
+        → anchor_moves (L.language lex.now) result rack anchor ≡ anchor_moves (L.language lex.now) cells.now rack anchor }
 {
     let Cell::Free(free) = &cells[anchor] else {
         return *cells;

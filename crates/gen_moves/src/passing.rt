@@ -11,7 +11,8 @@ const MOST: u64 = i32::MAX as u64;
 
 /// Whether no play that is written in a direction and scores so much at the most would change what a sink has.
 pub fn passes<S: Sink>(sink: &S, dir: Dir, bound: u64) -> bool
-    ensures { IsTrue result → (given : Given) → GoesAlong (S.made_for sink.now) dir given → given.score ≤ℤ pos bound → S.add (S.made_for sink.now) (S.items sink.now) given ≡ S.items sink.now }
+    ensures { IsTrue result → (given : Given) → GoesAlong (S.made_for sink.now) dir given → given.score ≤ℤ pos bound
+        → S.add (S.made_for sink.now) (S.items sink.now) given ≡ S.items sink.now }
 {
     if bound > MOST {
         return false;

@@ -109,7 +109,11 @@ impl Sum {
         requires points { points ≤ 2000000 }
         requires ones { ones ≤ 2000000 }
         requires bonus { bonus ≤ 65535 }
-        ensures { result ≡ (self.now.old + (least self.now.letters ((self.now.letter - 1) * ones) + least ones self.now.free) + self.now.letter * points) * self.now.word + (self.now.side + least self.now.crosses (self.now.cross * ones) + self.now.cross * points) + (if nat_le 7 self.now.free then bonus else 0) }
+        ensures { result ≡
+            (self.now.old + (least self.now.letters ((self.now.letter - 1) * ones) + least ones self.now.free) + self.now.letter * points)
+            * self.now.word
+            + (self.now.side + least self.now.crosses (self.now.cross * ones) + self.now.cross * points)
+            + (if nat_le 7 self.now.free then bonus else 0) }
     {
         let more = lesser(self.letters, self.letter.saturating_sub(1) * ones);
         let letters = self.old + (more + lesser(ones, self.free)) + self.letter * points;

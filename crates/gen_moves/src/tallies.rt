@@ -95,7 +95,8 @@ fn is_laid(place: &Place, entry: u8) -> bool
 /// What the move of some entries scores at the most: what the stretch adds up to in which its tiles lie.
 pub fn tally_of(rules: &Rules, places: &[Place; SIDE], fresh: &[u8; SIDE]) -> u64
     requires { AreSmall (place_in places.now) }
-    ensures { (first len : ℕ) → LiesOn (place_in places.now) fresh.now first len → result ≡ tally rules.now (place_in places.now) fresh.now first len }
+    ensures { (first len : ℕ) → LiesOn (place_in places.now) fresh.now first len
+        → result ≡ tally rules.now (place_in places.now) fresh.now first len }
 {
     let mut tally = Tally::none();
     for place in 0..SIDE {

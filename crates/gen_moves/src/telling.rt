@@ -36,7 +36,9 @@ impl<S: Sink> Taker<S> for LinePlays<'_> {
 
     ghost made_for = { S.made_for };
 
-    ghost can_take = { λ plays board entries. (IsFor board plays.spot.now.board × AreSmall (place_in plays.places.now)) × (IsFit plays.spot.now entries × IsTallied plays.rules.now plays.spot.now (place_in plays.places.now) entries) };
+    ghost can_take = { λ plays board entries.
+        (IsFor board plays.spot.now.board × AreSmall (place_in plays.places.now))
+        × (IsFit plays.spot.now entries × IsTallied plays.rules.now plays.spot.now (place_in plays.places.now) entries) };
 
     ghost tell = { λ plays board items entries. tell plays.rules.now plays.spot.now (S.add board) items entries };
 

@@ -26,11 +26,13 @@ pub trait Sink {
 
     /// Whether no play that scores so much at the most would change what the sink has.
     fn skips(&self, bound: i32) -> bool
-        ensures { IsTrue result → (given : Given) → given.score ≤ℤ bound → add (made_for self.now) (items self.now) given ≡ items self.now };
+        ensures { IsTrue result → (given : Given) → given.score ≤ℤ bound
+            → add (made_for self.now) (items self.now) given ≡ items self.now };
 
     /// Whether no play that is written down and scores so much at the most would change what the sink has.
     fn skips_down(&self, bound: i32) -> bool
-        ensures { IsTrue result → (given : Given) → GoesDown (made_for self.now) given → given.score ≤ℤ bound → add (made_for self.now) (items self.now) given ≡ items self.now };
+        ensures { IsTrue result → (given : Given) → GoesDown (made_for self.now) given → given.score ≤ℤ bound
+            → add (made_for self.now) (items self.now) given ≡ items self.now };
 
     /// Takes a play with its score. A sink that was made for a board asks that the play is legal on that board.
     ///
