@@ -63,6 +63,7 @@ fn answer<R: Runtime + AllocGlobal>(rt: &R, request: Request<'_>, watched: bool)
         Request::Judge { settle, files } => ended(judge(rt, settle, files)),
         Request::Audit { files, out } => answer_sheet(rt, files, SheetTask::Audit(out)),
         Request::Explain { files, line } => answer_sheet(rt, files, SheetTask::Explain(line)),
+        Request::Page { files, out } => answer_sheet(rt, files, SheetTask::Page(out)),
         Request::Build { words, out } => ended(build(rt, words, out)),
         Request::Check { words, lexicon } => ended(check(rt, words, lexicon)),
         Request::Convert {
