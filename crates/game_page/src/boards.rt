@@ -2,6 +2,7 @@
 ghost use Rattle.std.specs.Prelude.{◌<◌};
 
 use crate::pieces::{Piece, write};
+use game_facts::Stretch;
 use ref_board::{Board, Dir, SIDE, Square};
 use ref_tiles::{Kind, Premium, Rules, Symbol, Tile};
 use std::alloc::{AllocError, Global};
@@ -13,28 +14,35 @@ pub struct Picture<'a> {
     pub rules: &'a Rules,
     /// The board.
     pub board: &'a Board,
-    /// The board without the tiles that are marked.
+    /// The board without its new tiles.
     pub before: &'a Board,
+    /// The squares of a play that cannot be laid.
+    pub marked: Option<Stretch>,
 }
 
 /// The markup of an empty square.
-fn empty_square(premium: Premium) -> &'static str {
-    match premium {
-        Premium::Plain => "<td></td>",
-        Premium::DoubleLetter => "<td class=\"dl\">DL</td>",
-        Premium::TripleLetter => "<td class=\"tl\">TL</td>",
-        Premium::DoubleWord => "<td class=\"dw\">DW</td>",
-        Premium::TripleWord => "<td class=\"tw\">TW</td>",
+fn empty_square(premium: Premium, is_marked: bool) -> &'static str {
+    match (premium, is_marked) {
+        (Premium::Plain, false) => "<td></td>",
+        (Premium::Plain, true) => "<td class=\"m\"></td>",
+        (Premium::DoubleLetter, false) => "<td class=\"dl\">DL</td>",
+        (Premium::DoubleLetter, true) => "<td class=\"dl m\">DL</td>",
+        (Premium::TripleLetter, false) => "<td class=\"tl\">TL</td>",
+        (Premium::TripleLetter, true) => "<td class=\"tl m\">TL</td>",
+        (Premium::DoubleWord, false) => "<td class=\"dw\">DW</td>",
+        (Premium::DoubleWord, true) => "<td class=\"dw m\">DW</td>",
+        (Premium::TripleWord, false) => "<td class=\"tw\">TW</td>",
+        (Premium::TripleWord, true) => "<td class=\"tw m\">TW</td>",
     }
 }
 
-/// The markup before the letter of a tile: blanks and new tiles have classes of their own.
-fn tile_begin(kind: Kind, is_new: bool) -> &'static str {
-    match (kind, is_new) {
+/// The markup before the letter of a tile: blanks and marked tiles have classes of their own.
+fn tile_begin(kind: Kind, is_marked: bool) -> &'static str {
+    match (kind, is_marked) {
         (Kind::Letter(_), false) => "<td class=\"t\">",
-        (Kind::Letter(_), true) => "<td class=\"t n\">",
+        (Kind::Letter(_), true) => "<td class=\"t m\">",
         (Kind::Blank, false) => "<td class=\"t b\">",
-        (Kind::Blank, true) => "<td class=\"t b n\">",
+        (Kind::Blank, true) => "<td class=\"t b m\">",
     }
 }
 
@@ -52,20 +60,28 @@ fn push_tile(
     page: &mut Vec<u8>,
     rules: &Rules,
     tile: &Tile,
-    is_new: bool,
+    is_marked: bool,
 ) -> Result<(), AllocError> {
     let letter = [letter_of(tile)];
     write(
         alloc,
         page,
         &[
-            Piece::Markup(tile_begin(tile.kind, is_new)),
+            Piece::Markup(tile_begin(tile.kind, is_marked)),
             Piece::Text(&letter),
             Piece::Markup("<sub>"),
             Piece::Points(i32::from(rules.points_of(tile.kind))),
             Piece::Markup("</sub></td>"),
         ],
     )
+}
+
+/// Whether a square has a new tile, or is one of a play that cannot be laid.
+fn is_marked(picture: &Picture<'_>, square: Square) -> bool {
+    match picture.marked {
+        Some(stretch) => stretch.has(square),
+        None => picture.board.at(square).is_some() && picture.before.at(square).is_none(),
+    }
 }
 
 /// Appends a square.
@@ -75,15 +91,13 @@ fn push_square(
     picture: &Picture<'_>,
     square: Square,
 ) -> Result<(), AllocError> {
+    let is_marked = is_marked(picture, square);
     match picture.board.at(square) {
         None => {
             let premium = picture.rules.premium(square.number());
-            page.extend_from_slice(empty_square(premium).as_bytes())
+            page.extend_from_slice(empty_square(premium, is_marked).as_bytes())
         }
-        Some(tile) => {
-            let is_new = picture.before.at(square).is_none();
-            push_tile(alloc, page, picture.rules, &tile, is_new)
-        }
+        Some(tile) => push_tile(alloc, page, picture.rules, &tile, is_marked),
     }
 }
 

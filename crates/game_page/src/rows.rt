@@ -117,6 +117,7 @@ fn push_after(
         rules: sheet.rules,
         board: &after.board,
         before: &before.board,
+        marked: None,
     };
     push_board(alloc, page, &picture)?;
     page.extend_from_slice(b"</details></td></tr>\n")
