@@ -27,15 +27,16 @@ h1{font-size:1.5rem;margin:0}h2{font-size:1.1rem;margin:1.5rem 0 .5rem}\n\
 .board .m{outline:3px solid var(--new);outline-offset:-3px}\n\
 .board sub{font-size:.55em;font-weight:400;font-style:normal;vertical-align:-.35em;margin-left:.05em}\n\
 .sheet{border-collapse:collapse;width:100%}\n\
-.sheet>tbody>tr>td,.sheet>thead>tr>th{padding:.25rem .5rem;text-align:left;vertical-align:top;border-top:1px solid var(--line)}\n\
+.sheet>tbody>tr{border-top:1px solid var(--line)}.sheet>tbody>.after{border-top:0}\n\
+.sheet>tbody>tr>td,.sheet>thead>tr>th{padding:.25rem .5rem;text-align:left;vertical-align:top}\n\
 .sheet .p{text-align:right;font-variant-numeric:tabular-nums}\n\
-.sheet .after>td{border-top:0;padding-top:0}.sheet .fault>td{border-top:3px solid var(--bad)}\n\
+.sheet .after>td{padding-top:0}.sheet>tbody>.fault{border-top:3px solid var(--bad)}\n\
 .sheet .wrong{color:var(--bad);font-weight:600}\n\
 summary{cursor:pointer;color:var(--faint);font-size:.85rem}\n\
 footer,.key{color:var(--faint);font-size:.85rem}code{overflow-wrap:anywhere}\n\
 @media(max-width:45rem){.sheet>thead{display:none}.sheet,.sheet>tbody,.sheet>tbody>tr{display:block}\n\
-.sheet>tbody>tr{border-top:1px solid var(--line);padding:.35rem 0}.sheet>tbody>.after{border-top:0;padding-top:0}\n\
-.sheet>tbody>tr>td{display:inline-block;border:0;padding:0 .9rem 0 0}.sheet>tbody>.after>td{display:block;padding:0}\n\
+.sheet>tbody>tr{padding:.35rem 0}.sheet>tbody>.after{padding-top:0}\n\
+.sheet>tbody>tr>td{display:inline-block;padding:0 .9rem 0 0}.sheet>tbody>.after>td{display:block;padding:0}\n\
 .sheet>tbody>tr>td[data-name]::before{content:attr(data-name) ' ';color:var(--faint);font-size:.85rem;font-weight:400}\n\
 .sheet>tbody>tr>td:empty{display:none}.board{font-size:min(1rem,3.4vw)}}\n\
 @media print{body{max-width:none;padding:0}details:not([open]){display:none}.board td,.sheet,.verdict{print-color-adjust:exact}}\n";

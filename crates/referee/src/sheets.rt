@@ -3,7 +3,6 @@
 use crate::auditing::audit_by;
 use crate::command_line::GameFiles;
 use crate::explaining::explain_by;
-use crate::paging::page_by;
 use crate::inputs::{Inputs, lexicon_of, list_of, open_inputs, refuse, rules_of};
 use crate::sources::{Source, open_source};
 use endings::{Exit, Trouble};
@@ -19,8 +18,6 @@ pub enum SheetTask<'a> {
     Audit(Option<&'a str>),
     /// To explain its verdict, or one of its lines.
     Explain(Option<u32>),
-    /// To write its page to a file.
-    Page(&'a str),
 }
 
 /// Opens the files of a sheet, reads what it is judged by, and does what is asked of it.
@@ -63,7 +60,6 @@ fn answer_by<'a, R: Runtime + AllocGlobal>(
 ) -> Result<Exit, Trouble<'a>> {
     match task {
         SheetTask::Audit(out) => audit_by(rt, files, rules, pair, game, out),
-        SheetTask::Page(out) => page_by(rt, files, rules, pair, game, out),
         SheetTask::Explain(line) => explain_by(rt, files, rules, pair, game, line),
     }
 }
