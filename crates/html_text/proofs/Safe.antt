@@ -1,8 +1,8 @@
 -- What a text is written as is no markup.
-use Rattle.std.proofs.Common.{◌≡◌, ℕ, Bool, true, false, not, ◌==◌, ◌&&◌, ◌||◌, List, [], ◌∷◌, ◌++◌, refl, codes, if◌then◌else◌}
-use Rattle.std.specs.List.{list_all, flat_map}
+use Rattle.std.proofs.Common.{◌≡◌, ℕ, Bool, true, false, not, ◌==◌, List, [], ◌∷◌, ◌++◌, refl}
+use Rattle.std.specs.List.{list_all}
 use Rattle.html_text.specs.Texts.{written, html_text}
-use Rattle.html_text.specs.Laws.{is_mark, begins, begins_name, has_names, HasNoMark, HasOnlyNames}
+use Rattle.html_text.specs.Laws.{is_mark, has_names, HasNoMark, HasOnlyNames}
 
 -- no mark
 abbrev pub is_safe : List ℕ → Bool

@@ -1,8 +1,8 @@
 -- A reader has the text again.
-use Rattle.std.proofs.Common.{◌≡◌, ℕ, Bool, true, false, ◌==◌, List, [], ◌∷◌, ◌++◌, refl, ap, sym, ◌∙◌, codes, if◌then◌else◌, arith}
+use Rattle.std.proofs.Common.{◌≡◌, ℕ, Bool, true, false, ◌==◌, List, [], ◌∷◌, ◌++◌, refl, ap, ◌∙◌, arith}
 use Rattle.std.proofs.lemmas.Bool.Decides.{nat_tests}
 use Rattle.html_text.specs.Texts.{written, html_text}
-use Rattle.html_text.specs.Laws.{begins, undone_behind, undone, IsUndone}
+use Rattle.html_text.specs.Laws.{undone_behind, IsUndone}
 
 -- a byte that stands for itself
 plain : (byte : ℕ) (text : List ℕ) → (byte == 38) ≡ false → undone_behind 0 (byte ∷ text) ≡ byte ∷ undone_behind 0 text
