@@ -1,20 +1,14 @@
--- Texts, totals and numbers with one more.
-use Rattle.std.proofs.Common.{◌≡◌, ℕ, ℤ, suc, ◌+◌, List, [], ◌∷◌, ◌++◌, reverse, take, slice_get, Option, Some, refl, sym, ap, ◌∙◌, arith}
-use Rattle.std.specs.Prelude.{if◌then◌else◌}
+-- Texts and numbers with one more.
+use Rattle.std.proofs.Common.{◌≡◌, ℕ, suc, ◌+◌, List, [], ◌∷◌, ◌++◌, Option, refl, sym, ap, ◌∙◌, arith}
 use Rattle.std.specs.List.{flat_map, range_with_len}
 use Rattle.std.proofs.lemmas.List.{append-nil, append_assoc}
 use Rattle.std.proofs.lemmas.List.Concat.{flat_map-append}
 use Rattle.ref_tiles.specs.declared.tiles.Tile.{Tile}
 use Rattle.ref_tiles.specs.declared.rulebook.Rules.{Rules}
 use Rattle.ref_play.proofs.Ranges.{range_push}
-use Rattle.gcg_read.specs.declared.events.Event.{Event}
-use Rattle.gcg_read.specs.declared.events.Seat.{Seat}
-use Rattle.gcg_read.specs.Players.{same_seat}
 use Rattle.game_turns.proofs.Lists.{sum_range_more}
-use Rattle.game_board.specs.Sheets.{last_total}
 use Rattle.game_board.specs.Texts.{cell_text, cells_text, row_line, rows_text, kind_text, kinds_text}
 use Rattle.game_board.specs.Tiles.{off_board, all_off}
-use Rattle.game_board.proofs.Steps.{past_more}
 
 -- ---- texts that are appended one after the other
 
@@ -81,9 +75,3 @@ off_none rules board = refl
 pub off_more : (rules : Rules) (board : List (Option Tile)) (kinds : ℕ) → all_off rules board (kinds + 1) ≡ all_off rules board kinds + off_board rules board kinds
 unfolding all_off
 off_more rules board kinds = sum_range_more (off_board rules board) kinds
-
--- the last total behind one event more
-pub total_more : (seat : Seat) (events : List Event) (place : ℕ) (e : Event) (old new : ℤ) → slice_get events place ≡ Some e → old ≡ last_total seat (reverse (take place events))
-    → new ≡ (if same_seat e.player seat then e.total else old) → new ≡ last_total seat (reverse (take (place + 1) events))
-total_more seat events place e old new is before now =
-    now ∙ ap (λ t. if same_seat e.player seat then e.total else t) before ∙ ap (last_total seat) (sym (past_more events place e is))

@@ -2,5 +2,4 @@ pub mod Places
 pub mod Laying
 pub mod Marks
 pub mod Tiles
-pub mod Sheets
 pub mod Texts

@@ -1,5 +1,5 @@
 -- The board of a record as a text of lines of 80 bytes at the most.
-use Rattle.std.specs.Prelude.{ℕ, ◌+◌, ◌*◌, List, [], ◌∷◌, ◌++◌, Option, Some, None, codes, decimal, slice_get, take, reverse, nat_lt, if◌then◌else◌}
+use Rattle.std.specs.Prelude.{ℕ, ◌+◌, ◌*◌, List, [], ◌∷◌, ◌++◌, Option, Some, None, codes, decimal, slice_get, take, nat_lt, if◌then◌else◌}
 use Rattle.std.specs.Fmt.{signed_decimal}
 use Rattle.std.specs.List.{flat_map, range_with_len}
 use Rattle.ref_tiles.specs.declared.tiles.Tile.{Tile}
@@ -12,9 +12,9 @@ use Rattle.gcg_read.specs.declared.events.Event.{Event}
 use Rattle.gcg_read.specs.declared.records.Record.{Record}
 use Rattle.gcg_read.specs.Players.{player_of}
 use Rattle.gcg_write.specs.Fields.{tiles_text}
+use Rattle.game_sheets.specs.WrongNumbers.{had_before}
 use Rattle.game_board.specs.Laying.{board_before}
 use Rattle.game_board.specs.Marks.{square_mark}
-use Rattle.game_board.specs.Sheets.{last_total}
 use Rattle.game_board.specs.Tiles.{off_board, all_off}
 
 -- ---- which board it is
@@ -75,8 +75,8 @@ unfoldable pub short_nick : List ℕ → List ℕ
 short_nick nick = take 60 nick
 
 -- a player, and the last total that is written before a place
-unfoldable pub player_line : Record → (past : List Event) → Seat → List ℕ
-player_line r past seat = short_nick (player_of r.players seat).nick ++ 32 ∷ signed_decimal (last_total seat past) ++ 10 ∷ []
+unfoldable pub player_line : Record → (place : ℕ) → Seat → List ℕ
+player_line r place seat = short_nick (player_of r.players seat).nick ++ 32 ∷ signed_decimal (had_before r.events seat place) ++ 10 ∷ []
 
 -- the rack of an event, where its line has one
 abbrev pub stated_rack : Option (List ℕ) → List ℕ
@@ -89,7 +89,7 @@ rack_text (Some e) = stated_rack e.rack
 
 abbrev pub players_text : Record → (place : ℕ) → List ℕ
 players_text r place =
-    player_line r (reverse (take place r.events)) First ++ player_line r (reverse (take place r.events)) Second ++ rack_text (slice_get r.events place)
+    player_line r place First ++ player_line r place Second ++ rack_text (slice_get r.events place)
 
 -- ---- the tiles that are not on the board
 

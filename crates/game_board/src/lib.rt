@@ -7,13 +7,11 @@
 mod laying;
 mod marks;
 mod places;
-mod sheets;
 mod texts;
 mod tiles;
 
 pub use laying::{Laying, lay_plays};
 pub use marks::square_mark;
 pub use places::place_of_line;
-pub use sheets::last_total;
 pub use texts::board_text;
 pub use tiles::tiles_off;

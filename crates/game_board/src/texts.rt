@@ -1,5 +1,5 @@
 //! The board of a record as a text.
-ghost use Rattle.std.specs.Prelude.{◌≡◌, ◌<◌, ◌≤◌, ◌+◌, ◌∷◌, ◌++◌, [], OnOk, IfOk, length, slice_get, reverse, take, decimal};
+ghost use Rattle.std.specs.Prelude.{◌≡◌, ◌<◌, ◌≤◌, ◌+◌, ◌∷◌, ◌++◌, [], OnOk, IfOk, length, slice_get, decimal};
 ghost use Rattle.std.specs.Fmt.{signed_decimal};
 ghost use Rattle.std.specs.Option.{option_copied};
 ghost use Rattle.ref_play.specs.Faults.{name_of};
@@ -8,8 +8,8 @@ ghost use Rattle.game_board.specs.Texts.{place_text, refusal_text, end_text, row
 
 use crate::laying::Laying;
 use crate::marks::square_mark;
-use crate::sheets::last_total;
 use crate::tiles::{off_board, tiles_off};
+use game_sheets::had_before;
 use gcg_read::{Event, Record, Seat};
 use gcg_write::tiles_text;
 use itoa::Buffer;
@@ -178,12 +178,12 @@ fn push_player(
     player: Seat,
 ) -> Result<(), AllocError>
     requires { place ≤ length game.now.events }
-    ensures { OnOk result (text.new.items ≡ text.old.items ++ player_line game.now (reverse (take place game.now.events)) player) }
+    ensures { OnOk result (text.new.items ≡ text.old.items ++ player_line game.now place player) }
 {
     let mut buffer = Buffer::new();
     text.extend_from_slice(short_nick(game.players.of(player).nick.as_bytes()))?;
     text.push(b' ')?;
-    let total = last_total(game.events.as_slice(), place, player);
+    let total = had_before(game.events.as_slice(), player, place);
     text.extend_from_slice(buffer.format(total).as_bytes())?;
     text.push(b'\n')?;
     Ok(())

@@ -12,4 +12,4 @@ pub use auditing::audit;
 pub use correcting::correct;
 pub use last_totals::last_total;
 pub use laws::law_of_corrections;
-pub use wrong_numbers::{WrongNumber, push_totals, wrong_lines};
+pub use wrong_numbers::{WrongNumber, had_before, push_totals, wrong_lines};

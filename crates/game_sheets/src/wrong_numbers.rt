@@ -57,8 +57,8 @@ fn push_score(
     Ok(())
 }
 
-/// What a sheet says that a player had before a place: the player's last total, or 0 before the first.
-fn had_before(events: &[Event], player: Seat, place: usize) -> i32
+/// What a sheet says that a player had before a place, counted from 0: the player's last total, or 0 before the first.
+pub fn had_before(events: &[Event], player: Seat, place: usize) -> i32
     requires { place ≤ length events.now }
     ensures had { result ≡ had_before events.now player place }
     ensures in_range { IsPoints result }
