@@ -73,7 +73,7 @@ fn audit_from(
 
 /// Reads the record of a game, corrects its scores and totals as far as the rules allow its events, and settles what comes of
 /// it: which numbers are wrong, and the entry of the corrected record, as [`archive_entry`](crate::archive_entry) gives it. Or
-/// the verdict that tells the first fault of the record.
+/// the verdict that names the first fault of the record.
 ///
 /// The input is read to its end, or to one byte past 1 MiB and no further.
 ///

@@ -121,7 +121,7 @@ fn decide_ruled_board<R: Input, G: Input>(
 /// text of lines of 80 bytes at the most.
 ///
 /// The record is read to its end, or to one byte past 1 MiB and no further. Its plays are laid one after the other, up to that
-/// event or to the first play whose text or placement has a fault; nothing else is asked of the events. The text tells which
+/// event or to the first play whose text or placement has a fault; nothing else is asked of the events. The text says which
 /// board it is, each square by the tile that it has or by its premium, both players with the last totals that are written for
 /// them, the rack of the line, and the tiles that are not on the board. Where no event stands on the line or behind it, the
 /// verdict is `BadLine`. What is written is made in memory before the first write.

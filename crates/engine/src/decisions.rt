@@ -7,6 +7,6 @@ use crate::verdicts::Verdict;
 pub struct Decision {
     /// The verdict.
     pub verdict: Verdict,
-    /// The bytes that tell it.
+    /// The bytes that report it.
     pub report: Vec<u8>,
 }

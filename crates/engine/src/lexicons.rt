@@ -33,7 +33,7 @@ pub enum LexiconFault {
     TooManyArcs,
 }
 
-/// Opens a lexicon file. One that has too many bytes is told as such before all else.
+/// Opens a lexicon file. One that has too many bytes is reported as such before anything else.
 #[tactic(auto, unfolding(crate::specs::Lexicons::file_fault))]
 pub fn open_within(bytes: &[u8]) -> Result<LexFile<'_>, FileFault>
     ensures form { Refuses result (file_fault bytes.now) }
@@ -61,7 +61,7 @@ pub fn read_lexicon<L: Input>(alloc: Global, lexicon: &mut L) -> Result<Vec<u8>,
     }
 }
 
-/// The verdict that tells a fault.
+/// The verdict that names a fault.
 pub fn bad_file(alloc: Global, fault: &LexiconFault) -> Result<Decision, AllocError>
     ensures { IfOk result (λ d. IsRefusedFile fault.now d) }
 {
@@ -72,7 +72,7 @@ pub fn bad_file(alloc: Global, fault: &LexiconFault) -> Result<Decision, AllocEr
     })
 }
 
-/// The verdict that tells a fault, in place of a list and a lexicon.
+/// The verdict that names a fault, in place of a list and a lexicon.
 fn refused<'a>(
     alloc: Global,
     fault: &LexiconFault,

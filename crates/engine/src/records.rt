@@ -16,7 +16,7 @@ use devices::Input;
 use gcg_read::{MAX_BYTES, ReadFault, Record, Why, read};
 use std::alloc::{AllocError, Global};
 
-/// The verdict that tells a fault of a record.
+/// The verdict that names a fault of a record.
 fn bad_record(alloc: Global, fault: &ReadFault) -> Result<Decision, AllocError>
     ensures { IfOk result (λ d. IsTold verdict.BadRecord (reports.bad_record_line fault.now) d.verdict d.report.items) }
 {
@@ -55,7 +55,7 @@ pub fn record_from(alloc: Global, text: &[u8]) -> Result<Result<Record, Decision
     Ok(Err(decision))
 }
 
-/// Reads a record to its end, or to one byte past 1 MiB and no further: the record, or the verdict that tells its first
+/// Reads a record to its end, or to one byte past 1 MiB and no further: the record, or the verdict that names its first
 /// fault.
 ///
 /// # Errors

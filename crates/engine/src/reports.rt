@@ -82,7 +82,7 @@ fn push_fault(text: &mut Vec<u8>, fault: &GameFault) -> Result<(), AllocError>
     }
 }
 
-/// The text of a fault of a game, as a report tells it: its name, and the number that was expected or the kind that is short.
+/// The text of a fault of a game, as a report has it: its name, and the number that was expected or the kind that is short.
 pub fn fault_text(alloc: Global, fault: &GameFault) -> Result<Vec<u8>, AllocError>
     ensures { IfOk result (λ text. text.items ≡ fault_text fault.now) }
 {

@@ -16,7 +16,7 @@ use devices::Input;
 use ref_tiles::{MAX_RULES_BYTES, Rules, RulesFault};
 use std::alloc::{AllocError, Global};
 
-/// The verdict that tells a fault of a rules text.
+/// The verdict that names a fault of a rules text.
 fn bad_rules(alloc: Global, fault: &RulesFault) -> Result<Decision, AllocError>
     ensures { IfOk result (λ d. IsTold verdict.BadRules (reports.bad_rules_line fault.now) d.verdict d.report.items) }
 {
@@ -40,7 +40,7 @@ pub fn rules_from(alloc: Global, text: &[u8]) -> Result<Result<Rules, Decision>,
     }
 }
 
-/// Reads a rules text to its end, or to one byte past 65,536 bytes and no further: the rules, or the verdict that tells its
+/// Reads a rules text to its end, or to one byte past 65,536 bytes and no further: the rules, or the verdict that names its
 /// first fault.
 ///
 /// # Errors

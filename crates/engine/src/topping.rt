@@ -47,8 +47,8 @@ pub(crate) fn decide_bad_rack(alloc: Global) -> Result<Decision, RunFault>
 /// Writes the ten best plays by a rack on the board after a record, by the words of a list and their lexicon.
 ///
 /// The rack is 1 to 7 of A to Z and `?`, in any order; where it is not, that is the verdict, and no input is read. Else the
-/// inputs are read as [`run`](crate::run) reads them, and a bad input or an event that the rules do not allow is told as
-/// `run` tells it. Racks of the record are not held against each other: what `run` says of deals is not looked at. What is
+/// inputs are read as [`run`](crate::run) reads them, and a bad input or an event that the rules do not allow is reported
+/// as `run` reports it. Racks of the record are not compared with each other: what `run` says of deals is not looked at. What is
 /// written is made in memory before the first write: one line `NOTATION SCORE` for each play, the greatest score first, and of
 /// equal ones the first by their notations; `none` where there is no play.
 ///

@@ -16,7 +16,7 @@ use devices::Input;
 use lex_list::{ListFault, ListWhy, MAX_BYTES, WordList};
 use std::alloc::{AllocError, Global};
 
-/// The verdict that tells a fault of a word list.
+/// The verdict that names a fault of a word list.
 fn bad_list(alloc: Global, fault: &ListFault) -> Result<Decision, AllocError>
     ensures { IfOk result (λ d. IsTold verdict.BadList (reports.bad_list_line fault.now) d.verdict d.report.items) }
 {
@@ -43,7 +43,7 @@ pub fn list_from(alloc: Global, text: &[u8]) -> Result<Result<WordList, Decision
     Ok(Err(decision))
 }
 
-/// Reads a word list to its end, or to one byte past 16 MiB and no further: the list, or the verdict that tells its first
+/// Reads a word list to its end, or to one byte past 16 MiB and no further: the list, or the verdict that names its first
 /// fault.
 ///
 /// # Errors

@@ -1,5 +1,5 @@
 //! Tiles of a rack as they are laid: letters, and blanks as letters.
-ghost use Rattle.std.specs.Prelude.{◌≡◌, ◌<◌, slice_index, slice_set};
+ghost use Rattle.std.specs.Prelude.{◌≡◌, ◌<◌, slice_index, slice_set, sum};
 ghost use Rattle.gen_line.specs.Entries.{letter_of, kind_of};
 ghost use Rattle.gen_line.specs.Model.{may, less};
 
@@ -37,6 +37,18 @@ fn kind(entry: u8) -> u8
 }
 
 impl Tiles {
+    /// How many tiles are left on the rack.
+    #[inline(always)]
+    pub fn left(&self) -> u16
+        ensures { result ≡ sum self.now.rack }
+    {
+        let mut left = 0;
+        for number in &self.rack {
+            left += u16::from(*number);
+        }
+        left
+    }
+
     /// Whether a square and the rack allow a new tile.
     #[inline(always)]
     pub fn allow(&self, free: &Open, entry: u8) -> bool

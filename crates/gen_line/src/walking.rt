@@ -101,6 +101,9 @@ impl<L: PathLex, T> LineWalk<'_, L, T> {
         ensures took { Took (T.tell self.now.taker.now (T.made_for sink.old)) (T.items sink.old) (gives_tries_right (strings (L.tail self.now.lex.now) at) self.now.line.now place free.now tiles.now.fresh tiles.now.rack) (T.items sink.new) result }
         ensures steady { T.grows ≡ false → IsOk result }
     {
+        if tiles.left() == 0 {
+            return Ok(());
+        }
         let Some(node) = at.next else {
             return Ok(());
         };
@@ -256,6 +259,9 @@ impl<L: PathLex, T> LineWalk<'_, L, T> {
         ensures took { Took (T.tell self.now.taker.now (T.made_for sink.old)) (T.items sink.old) (gives_tries_left (strings (L.tail self.now.lex.now) at) self.now.line.now self.now.anchor place free.now tiles.now.fresh tiles.now.rack) (T.items sink.new) result }
         ensures steady { T.grows ≡ false → IsOk result }
     {
+        if tiles.left() == 0 {
+            return Ok(());
+        }
         let Some(node) = at.next else {
             return Ok(());
         };

@@ -29,6 +29,7 @@ use Rattle.gen_moves.specs.LineTiles.{tile_of_entry}
 use Rattle.gen_moves.specs.Laws.{TellsWords, AreLong}
 use Rattle.gen_moves.specs.declared.places.Place.{Place}
 use Rattle.gen_moves.specs.Bounds.{total, times, IsPlaceOf, one_if, free_count, rack_points, rack_ones, least, stretch_bound}
+use Rattle.gen_moves.specs.Tallies.{letter_sum, cross_sum, tally}
 use Rattle.gen_moves.proofs.Entering.{put_from, put_there, on_top}
 use Rattle.gen_moves.proofs.MovePlaces.{at_place, put_by, put_at, there_then, move_sound}
 use Rattle.gen_moves.proofs.Moving.{move_candidate}
@@ -71,7 +72,7 @@ one_first (suc c) p =
     let times = ap (λ m. m * (p - (p - 1))) e in
     omega arith
 
-some_is : {A : Type 0} (o : Option A) → IsSome o → o ≡ None → ⊥
+pub some_is : {A : Type 0} (o : Option A) → IsSome o → o ≡ None → ⊥
 some_is None h e = false≢true h
 some_is (Some a) h e = cc
 
@@ -133,9 +134,9 @@ module _ (rules : Rules) (words : List (List ℕ)) (d : Dir) (board : List (Opti
   single i = sums.at_place (one rules) d line i (entry i)
 
   -- what the square of a place adds to the word of the stretch
-  point_le : (i letter : ℕ) → i < 15 → ((places i).free ≡ true → (places i).letter ≤ letter) → (o : Option Tile) → entry i ≡ o
-      → square_points rules (with_tiles board (put_by d line y)) (put_by d line y) (square_at d line i) ≤ ((places i).old + (((places i).letter - 1) * sums.at_place (one rules) d line i o + sums.at_place (one rules) d line i o)) + letter * sums.at_place (worth rules) d line i o
-  point_le i letter below most None e =
+  point_le : (i : ℕ) → i < 15 → (o : Option Tile) → entry i ≡ o
+      → square_points rules (with_tiles board (put_by d line y)) (put_by d line y) (square_at d line i) ≤ (places i).old + (places i).letter * points_on rules o
+  point_le i below None e =
       let square = square_at d line i in
       let there : tile_at (with_tiles board (put_by d line y)) square ≡ tile_at board square = there_then d board line y i size low below ∙ ap (λ (o : Option Tile). on_top o (tile_at board square)) e in
       let bare : covers (put_by d line y) square ≡ false =
@@ -150,41 +151,30 @@ module _ (rules : Rules) (words : List (List ℕ)) (d : Dir) (board : List (Opti
       ap (λ (o : Option Tile). points_on rules o * factor_on rules (put_by d line y) square) there
       ∙ ap (λ (b : Bool). points_on rules (tile_at board square) * (if b then letter_factor (premium_at rules square) else 1)) bare in
       omega arith
-  point_le i letter below most (Some t) e =
+  point_le i below (Some t) e =
       let square = square_at d line i in
       let q : Placed = record { square = square; tile = t } in
       let there : tile_at (with_tiles board (put_by d line y)) square ≡ Some t = there_then d board line y i size low below ∙ ap (λ (o : Option Tile). on_top o (tile_at board square)) e in
       let laid : Contains (put_by d line y) q = put_there d line entry 0 15 i t (omega arith) (omega arith) e in
       let cover : covers (put_by d line y) square ≡ true = covered (put_by d line y) square q laid refl in
-      let free = new_free i below t e in
-      let own = (known i below).letter free in
-      let le : letter_factor (premium_at rules square) ≤ letter = let b = most free in omega arith in
       let points = points_of rules t.kind in
       let is : square_points rules (with_tiles board (put_by d line y)) (put_by d line y) square ≡ points * letter_factor (premium_at rules square) =
       ap (λ (o : Option Tile). points_on rules o * factor_on rules (put_by d line y) square) there
       ∙ ap (λ (b : Bool). points * (if b then letter_factor (premium_at rules square) else 1)) cover in
       let swap = mul_comm points (letter_factor (premium_at rules square)) in
-      let single = one_first (letter_factor (premium_at rules square)) points in
-      let extra : (letter_factor (premium_at rules square) - 1) * (points - (points - 1)) ≤ ((places i).letter - 1) * (points - (points - 1)) = mul-le-mul (omega arith) (omega arith) in
-      let more : letter_factor (premium_at rules square) * (points - 1) ≤ letter * (points - 1) = mul-le-mul le (omega arith) in
+      let most : letter_factor (premium_at rules square) * points ≤ (places i).letter * points = mul-le-mul ((known i below).letter (new_free i below t e)) (omega arith) in
       omega arith
 
-  letters_le : (letter : ℕ) → ((i : ℕ) → first ≤ i → i < first + len → (places i).free ≡ true → (places i).letter ≤ letter)
-      → letters_score rules (with_tiles board (put_by d line y)) (put_by d line y) (run_of d line (first, len)) ≤ total (λ i. (places i).old) first len + (total (λ i. ((places i).letter - 1) * single i) first len + total single first len) + letter * total weight first len
+  letters_le : letters_score rules (with_tiles board (put_by d line y)) (put_by d line y) (run_of d line (first, len)) ≤ total (letter_sum rules places y) first len
   unfolding letters_score
-  letters_le letter most =
+  letters_le =
       let inside = move.whole.inside in
-      let each =
-      range_sum (λ k. square_points rules (with_tiles board (put_by d line y)) (put_by d line y) (along d (square_at d line first) k)) (λ i. ((places i).old + (((places i).letter - 1) * single i + single i)) + letter * weight i) 0 first len
+      range_sum (λ k. square_points rules (with_tiles board (put_by d line y)) (put_by d line y) (along d (square_at d line first) k)) (letter_sum rules places y) 0 first len
       (λ k less.
       let zero_k : 0 + k ≡ k = omega arith in
       let at : along d (square_at d line first) (0 + k) ≡ square_at d line (first + k) = ap (along d (square_at d line first)) zero_k ∙ along_at d line first k in
-      let le = point_le (first + k) letter (omega arith) (most (first + k) (omega arith) (omega arith)) (entry (first + k)) refl in
-      subst (λ s. square_points rules (with_tiles board (put_by d line y)) (put_by d line y) s ≤ ((places (first + k)).old + (((places (first + k)).letter - 1) * single (first + k) + single (first + k))) + letter * weight (first + k)) (sym at) le) in
-      let split = total-scaled (λ i. (places i).old + (((places i).letter - 1) * single i + single i)) weight letter first len in
-      let both = total-both (λ i. (places i).old) (λ i. ((places i).letter - 1) * single i + single i) first len in
-      let parts = total-both (λ i. ((places i).letter - 1) * single i) single first len in
-      omega arith
+      let le = point_le (first + k) (omega arith) (entry (first + k)) refl in
+      subst (λ s. square_points rules (with_tiles board (put_by d line y)) (put_by d line y) s ≤ letter_sum rules places y (first + k)) (sym at) le)
 
   factor_le : (run : Run) → words_factor rules (put_by d line y) run ≤ times (λ i. (places i).word) first len
   unfolding words_factor
@@ -199,27 +189,92 @@ module _ (rules : Rules) (words : List (List ℕ)) (d : Dir) (board : List (Opti
       by i true one le = le
       by i false one le = one
 
-  crosses_le : (cross : ℕ) → ((i : ℕ) → first ≤ i → i < first + len → (places i).free ≡ true → (places i).cross ≤ cross)
-      → sum_by (λ (p : Placed). cross_score rules (other_dir d) board p.square p.tile) (put_by d line y) ≤ total (λ i. (places i).side) first len + total (λ i. (places i).cross * single i) first len + cross * total weight first len
-  crosses_le cross most =
+  crosses_le : sum_by (λ (p : Placed). cross_score rules (other_dir d) board p.square p.tile) (put_by d line y) ≤ total (cross_sum rules places y) first len
+  crosses_le =
       let inside = move.whole.inside in
       let score : Placed → ℕ = λ p. cross_score rules (other_dir d) board p.square p.tile in
       let is = ap (sum_by score) tiles_are ∙ sum_put score d line entry first len in
       let each =
-      total-mono (λ i. sums.at_place score d line i (entry i)) (λ i. ((places i).side + (places i).cross * single i) + cross * weight i) first len
+      total-mono (λ i. sums.at_place score d line i (entry i)) (cross_sum rules places y) first len
+      (λ i from upto. by i (omega arith) (entry i) refl) in
+      omega arith
+    where
+      by : (i : ℕ) → i < 15 → (o : Option Tile) → entry i ≡ o
+          → sums.at_place (λ (p : Placed). cross_score rules (other_dir d) board p.square p.tile) d line i o ≤ (places i).side + (places i).cross * points_on rules o
+      by i below None e = omega arith
+      by i below (Some t) e = (known i below).cross (new_free i below t e) t
+
+  -- the play of a stretch scores no more than it adds up to
+  pub tally_le : score_of rules board (put_by d line y) ≤ tally rules places y first len
+  tally_le =
+      let on = move_candidate words d board line cells is listed rack y first len tells long_words size low move few in
+      let ps = put_by d line y in
+      let run = run_of d line (first, len) in
+      let long = on.0.long in
+      let found = move_sound words d board line cells is listed rack y first len size low long move in
+      let sound : IsSound d board ps = record { free = found.free; line = line; first = first; len = len; lies = on.0.lies; run = found.run; anchor = found.anchor } in
+      let score = score_of_lines d rules board ps size on.1 sound in
+      let main : sum_by (run_score rules (with_tiles board ps) ps) (run_in d line first len) ≡ run_score rules (with_tiles board ps) ps run =
+      ap (λ (b : Bool). sum_by (run_score rules (with_tiles board ps) ps) (if b then run ∷ [] else [])) (le-leb 2 len long) ∙ one_run (run_score rules (with_tiles board ps) ps) run in
+      let run_le = mul-le-mul letters_le (factor_le run) in
+      let cross_here = crosses_le in
+      let bonus : bonus_score rules ps ≤ (if nat_le 7 (free_count places first len) then rules.bonus else 0) =
+      subst (λ n. (if length ps == 7 then rules.bonus else 0) ≤ (if nat_le 7 n then rules.bonus else 0)) count_is (bonus_le (length ps)) in
+      omega arith
+    where
+      one_run : (f : Run → ℕ) (run : Run) → sum_by f (run ∷ []) ≡ f run
+      one_run f run = omega arith
+
+      bonus_le : (n : ℕ) → (if n == 7 then rules.bonus else 0) ≤ (if nat_le 7 n then rules.bonus else 0)
+      bonus_le n =
+          ⊎_elim
+          (λ (yes_seven : (n == 7) ≡ true).
+          let seven = eqb-true n 7 yes_seven in
+          let reach = le-leb 7 n (omega arith) in
+          rw (yes_seven, reach) (omega arith))
+          (λ (no_seven : (n == 7) ≡ false). rw no_seven (omega arith))
+          (cases_Bool (n == 7))
+
+  -- ---- what a stretch adds up to, by the tiles of the rack alone
+  letters_up : (letter : ℕ) → ((i : ℕ) → first ≤ i → i < first + len → (places i).free ≡ true → (places i).letter ≤ letter)
+      → total (letter_sum rules places y) first len ≤ total (λ i. (places i).old) first len + (total (λ i. ((places i).letter - 1) * single i) first len + total single first len) + letter * total weight first len
+  letters_up letter most =
+      let inside = move.whole.inside in
+      let each =
+      total-mono (letter_sum rules places y) (λ i. ((places i).old + (((places i).letter - 1) * single i + single i)) + letter * weight i) first len
+      (λ i from upto. by i (omega arith) (most i from upto) (entry i) refl) in
+      let split = total-scaled (λ i. (places i).old + (((places i).letter - 1) * single i + single i)) weight letter first len in
+      let both = total-both (λ i. (places i).old) (λ i. ((places i).letter - 1) * single i + single i) first len in
+      let parts = total-both (λ i. ((places i).letter - 1) * single i) single first len in
+      omega arith
+    where
+      by : (i : ℕ) → i < 15 → ((places i).free ≡ true → (places i).letter ≤ letter) → (o : Option Tile) → entry i ≡ o
+          → (places i).old + (places i).letter * points_on rules o ≤ ((places i).old + (((places i).letter - 1) * sums.at_place (one rules) d line i o + sums.at_place (one rules) d line i o)) + letter * sums.at_place (worth rules) d line i o
+      by i below top None e = omega arith
+      by i below top (Some t) e =
+          let points = points_of rules t.kind in
+          let first_one = one_first (places i).letter points in
+          let more : (places i).letter * (points - 1) ≤ letter * (points - 1) = mul-le-mul (top (new_free i below t e)) (omega arith) in
+          omega arith
+
+  crosses_up : (cross : ℕ) → ((i : ℕ) → first ≤ i → i < first + len → (places i).free ≡ true → (places i).cross ≤ cross)
+      → total (cross_sum rules places y) first len ≤ total (λ i. (places i).side) first len + total (λ i. (places i).cross * single i) first len + cross * total weight first len
+  crosses_up cross most =
+      let inside = move.whole.inside in
+      let each =
+      total-mono (cross_sum rules places y) (λ i. ((places i).side + (places i).cross * single i) + cross * weight i) first len
       (λ i from upto. by i (omega arith) (most i from upto) (entry i) refl) in
       let split = total-scaled (λ i. (places i).side + (places i).cross * single i) weight cross first len in
       let both = total-both (λ i. (places i).side) (λ i. (places i).cross * single i) first len in
       omega arith
     where
       by : (i : ℕ) → i < 15 → ((places i).free ≡ true → (places i).cross ≤ cross) → (o : Option Tile) → entry i ≡ o
-          → sums.at_place (λ (p : Placed). cross_score rules (other_dir d) board p.square p.tile) d line i o ≤ ((places i).side + (places i).cross * sums.at_place (one rules) d line i o) + cross * sums.at_place (worth rules) d line i o
+          → (places i).side + (places i).cross * points_on rules o ≤ ((places i).side + (places i).cross * sums.at_place (one rules) d line i o) + cross * sums.at_place (worth rules) d line i o
       by i below top None e = omega arith
       by i below top (Some t) e =
-          let free = new_free i below t e in
-          let le = (known i below).cross free t in
-          let above = one_above (places i).cross (points_of rules t.kind) in
-          let more : (places i).cross * (points_of rules t.kind - 1) ≤ cross * (points_of rules t.kind - 1) = mul-le-mul (top free) (omega arith) in
+          let points = points_of rules t.kind in
+          let above = one_above (places i).cross points in
+          let more : (places i).cross * (points - 1) ≤ cross * (points - 1) = mul-le-mul (top (new_free i below t e)) (omega arith) in
           omega arith
 
   -- one on each free place at the most
@@ -260,13 +315,7 @@ module _ (rules : Rules) (words : List (List ℕ)) (d : Dir) (board : List (Opti
   score_le points ones letter cross rack_is ones_is letters crosses =
       let on = move_candidate words d board line cells is listed rack y first len tells long_words size low move few in
       let ps = put_by d line y in
-      let run = run_of d line (first, len) in
-      let long = on.0.long in
-      let found = move_sound words d board line cells is listed rack y first len size low long move in
-      let sound : IsSound d board ps = record { free = found.free; line = line; first = first; len = len; lies = on.0.lies; run = found.run; anchor = found.anchor } in
-      let score = score_of_lines d rules board ps size on.1 sound in
-      let main : sum_by (run_score rules (with_tiles board ps) ps) (run_in d line first len) ≡ run_score rules (with_tiles board ps) ps run =
-      ap (λ (b : Bool). sum_by (run_score rules (with_tiles board ps) ps) (if b then run ∷ [] else [])) (le-leb 2 len long) ∙ one_run (run_score rules (with_tiles board ps) ps) run in
+      let tight = tally_le in
       let weights : total weight first len ≤ points =
       let w = sym (ap (sum_by (worth rules)) tiles_are ∙ sum_put (worth rules) d line entry first len) in
       let within = worth_within rules rack ps on.0.candidate.from in
@@ -278,26 +327,12 @@ module _ (rules : Rules) (words : List (List ℕ)) (d : Dir) (board : List (Opti
       let ones_here : total single first len ≤ ones = let le = least-first ones (free_count places first len) in omega arith in
       let spare_letters = spare_le (λ i. (places i).letter - 1) (letter - 1) ones (λ i from upto free. let le = letters i from upto free in omega arith) ones_here in
       let spare_crosses = spare_le (λ i. (places i).cross) cross ones crosses ones_here in
-      let letters_here = letters_le letter letters in
+      let letters_here = letters_up letter letters in
       let letters_more : letter * total weight first len ≤ letter * points = mul-le-mul (omega arith) weights in
-      let line_le : letters_score rules (with_tiles board ps) ps run
+      let line_le : total (letter_sum rules places y) first len
       ≤ total (λ i. (places i).old) first len + (least (total (λ i. (places i).letter - 1) first len) ((letter - 1) * ones) + least ones (free_count places first len)) + letter * points = omega arith in
-      let run_le = mul-le-mul line_le (factor_le run) in
-      let cross_here = crosses_le cross crosses in
+      let same : times (λ i. (places i).word) first len ≤ times (λ i. (places i).word) first len = omega arith in
+      let run_le = mul-le-mul line_le same in
+      let cross_here = crosses_up cross crosses in
       let cross_more : cross * total weight first len ≤ cross * points = mul-le-mul (omega arith) weights in
-      let bonus : bonus_score rules ps ≤ (if nat_le 7 (free_count places first len) then rules.bonus else 0) =
-      subst (λ n. (if length ps == 7 then rules.bonus else 0) ≤ (if nat_le 7 n then rules.bonus else 0)) count_is (bonus_le (length ps)) in
       omega arith
-    where
-      one_run : (f : Run → ℕ) (run : Run) → sum_by f (run ∷ []) ≡ f run
-      one_run f run = omega arith
-
-      bonus_le : (n : ℕ) → (if n == 7 then rules.bonus else 0) ≤ (if nat_le 7 n then rules.bonus else 0)
-      bonus_le n =
-          ⊎_elim
-          (λ (yes_seven : (n == 7) ≡ true).
-          let seven = eqb-true n 7 yes_seven in
-          let reach = le-leb 7 n (omega arith) in
-          rw (yes_seven, reach) (omega arith))
-          (λ (no_seven : (n == 7) ≡ false). rw no_seven (omega arith))
-          (cases_Bool (n == 7))

@@ -15,6 +15,7 @@ pub mod Sums
 pub mod Worths
 pub mod Bounding
 pub mod Longest
+pub mod Tallying
 pub mod Offering
 pub mod Reordering
 pub mod Starting

@@ -119,7 +119,7 @@ one_or_none true = omega arith
 one_or_none false = omega arith
 
 -- a part of a stretch has no more
-total-inside : (f : ℕ → ℕ) (first k n len : ℕ) → k + n ≤ len → total f (first + k) n ≤ total f first len
+pub total-inside : (f : ℕ → ℕ) (first k n len : ℕ) → k + n ≤ len → total f (first + k) n ≤ total f first len
 total-inside f first zero n len le = let e : first + 0 ≡ first = omega arith in let up = total-up f first n len (omega arith) in rw e up
 total-inside f first (suc k) n len le =
     let e : first + suc k ≡ first + 1 + k = omega arith in

@@ -1,5 +1,5 @@
 -- The plays of an anchor pass none of its bounds.
-use Rattle.std.proofs.Common.{◌≡◌, ℕ, ◌+◌, ◌*◌, ◌<◌, ◌≤◌, ◌==◌, ◌≤ℤ◌, pos, Bool, true, false, List, [], ◌∷◌, length, refl, sym, subst, arith, Option, if◌then◌else◌}
+use Rattle.std.proofs.Common.{◌≡◌, ℕ, ◌+◌, ◌*◌, ◌<◌, ◌≤◌, ◌==◌, ◌≤ℤ◌, pos, Bool, true, false, List, [], ◌∷◌, length, get_or, refl, sym, ap, ◌∙◌, subst, arith, ⊎_elim, not, ◌&&◌, Option, Some, None, if◌then◌else◌}
 use Rattle.std.proofs.lemmas.Int.{ints}
 use Rattle.ref_tiles.specs.declared.tiles.Tile.{Tile}
 use Rattle.ref_tiles.specs.declared.rulebook.Rules.{Rules}
@@ -10,13 +10,16 @@ use Rattle.ref_play.specs.Scores.{score_of}
 use Rattle.ref_play.specs.Directions.{is_wanted}
 use Rattle.ref_play.specs.Best.{Given}
 use Rattle.ref_play.specs.Crosses.{cross_runs}
-use Rattle.ref_board.specs.Lines.{other_dir}
+use Rattle.ref_board.specs.Lines.{other_dir, square_at}
+use Rattle.ref_board.specs.Cells.{tile_at}
+use Rattle.ref_play.proofs.Agreeing.{whole_agree}
+use Rattle.std.proofs.lemmas.Bool.{cases_Bool}
 use Rattle.gen_cross.specs.declared.crosses.Cross.{Cross}
 use Rattle.gen_cross.specs.Values.{value_at, IsRight}
 use Rattle.gen_cross.proofs.CrossLaws.{score_of_tile}
 use Rattle.gen_line.specs.declared.cells.Cell.{Cell}
 use Rattle.gen_line.specs.declared.cells.Cell.TheVariants.{Old, Free}
-use Rattle.gen_line.specs.Cells.{cell_at, is_anchor_cell}
+use Rattle.gen_line.specs.Cells.{cell_at, is_anchor_cell, is_full, full_on}
 use Rattle.gen_line.specs.Model.{zeros, owes}
 use Rattle.gen_line.specs.Walk.{Every, add_all, anchor_moves}
 use Rattle.gen_line.proofs.Anchors.{anchor_old, anchor_not}
@@ -26,10 +29,13 @@ use Rattle.gen_moves.specs.declared.places.Place.{Place}
 use Rattle.gen_moves.specs.LineTiles.{tiles_of}
 use Rattle.gen_moves.specs.Findings.{told}
 use Rattle.gen_moves.specs.Laws.{Setting}
-use Rattle.gen_moves.specs.Bounds.{rack_points, rack_ones, ArePlaces, HasScores, TellsUnder, IsOffer, AreOffers}
-use Rattle.gen_moves.proofs.MovePlaces.{put_by}
+use Rattle.gen_moves.specs.BoardLines.{IsLineOf}
+use Rattle.gen_moves.specs.Telling.{spot_of}
+use Rattle.gen_moves.specs.Tallies.{is_laid, tally, IsTallied}
+use Rattle.gen_moves.specs.Bounds.{rack_points, rack_ones, IsPlaceOf, ArePlaces, HasScores, TellsUnder, IsOffer, AreOffers}
+use Rattle.gen_moves.proofs.MovePlaces.{put_by, at_place}
 use Rattle.gen_moves.proofs.Gathering.{tiles_is, line_labelled, wanted_few}
-use Rattle.gen_moves.proofs.Bounding.{count_is, score_le}
+use Rattle.gen_moves.proofs.Bounding.{some_is, count_is, tally_le, score_le}
 
 pub every-more : {X : Type 0} (P Q : X → Type 0) (xs : List X) → ((x : X) → P x → Q x) → Every P xs → Every Q xs
 every-more P Q [] h all = tt
@@ -70,6 +76,63 @@ pub all_offers : (rules : Rules) (words : List (List ℕ)) (board : List (Option
 all_offers rules words board g listed cells s rack d line low places are h below =
     every-more (λ y. owes g (cells d line) rack h y ≡ true) (IsOffer rules (rack_points rules rack 27) (rack_ones rules rack 27) board d line (cells d line) places h) (anchor_moves g (cells d line) rack h)
     (λ y e. offer rules words board g listed cells s rack d line low places are h below y e)
+    (anchor_owes g (cells d line) rack h (s.lines d line low).size below)
+
+-- ---- what the stretch of a move adds up to
+free_of_none : (rules : Rules) (d : Dir) (board : List (Option Tile)) (square : ℕ) (p : Place) → IsPlaceOf rules d board square p → tile_at board square ≡ None → p.free ≡ true
+free_of_none rules d board square p is none =
+    ⊎_elim
+    (λ (free : p.free ≡ true). free)
+    (λ (taken : p.free ≡ false). absurd (some_is (tile_at board square) (is.taken taken) none))
+    (cases_Bool p.free)
+
+laid_same : (rules : Rules) (words : List (List ℕ)) (d : Dir) (board : List (Option Tile)) (line : ℕ) (cells : List Cell) → IsLineOf words d board line cells
+    → (places : ℕ → Place) → ArePlaces rules d board line places → (y : List ℕ) (i : ℕ) → i < 15 → (o : Option Tile) → tile_at board (square_at d line i) ≡ o → full_on cells y i ≡ is_laid places y i
+laid_same rules words d board line cells is places are y i below None none =
+    let free = free_of_none rules d board (square_at d line i) (places i) (are i below) none in
+    ap (λ (c : Cell). is_full c (get_or y i 0)) (is.free i below none).1 ∙ sym (ap (λ (b : Bool). not (b && get_or y i 0 == 0)) free)
+laid_same rules words d board line cells is places are y i below (Some t) there =
+    let taken : (places i).free ≡ false =
+    ⊎_elim
+    (λ (free : (places i).free ≡ true). let both : None ≡ Some t = sym ((are i below).empty free) ∙ there in cc)
+    (λ (taken : (places i).free ≡ false). taken)
+    (cases_Bool (places i).free) in
+    ap (λ (c : Cell). is_full c (get_or y i 0)) (is.old i t below there) ∙ sym (ap (λ (b : Bool). not (b && get_or y i 0 == 0)) taken)
+
+tallied : (rules : Rules) (words : List (List ℕ)) (board : List (Option Tile)) (g listed : List ℕ → Bool) (cells : Dir → ℕ → List Cell) → Setting words board g listed cells
+    → (rack : List ℕ) (d : Dir) (line : ℕ) → line < 15 → (places : ℕ → Place) → ArePlaces rules d board line places → (h : ℕ) → h < 15 → (y : List ℕ)
+    → owes g (cells d line) rack h y ≡ true → IsTallied rules (spot_of board d line) places y
+tallied rules words board g listed cells s rack d line low places are h below y e =
+    let is = s.lines d line low in
+    let found = anchor_reach g listed s.splits (cells d line) rack y h (line_labelled words d board line (cells d line) is) below e in
+    let first = found.0 in
+    let len = found.1 in
+    let move = found.2 in
+    let new = move.anchored in
+    let within = move.within new.0 new.1 new.2 in
+    let none = (at_place words d board line (cells d line) is new.0 (get_or y new.0 0) new.1 (move.allowed new.0 new.1)).empty new.2 in
+    record {
+      first = first;
+      len = len;
+      lies = record {
+        whole = whole_agree (full_on (cells d line) y) (is_laid places y)
+            (λ i on. laid_same rules words d board line (cells d line) is places are y i on (tile_at board (square_at d line i)) refl) first len move.whole;
+        within = move.within;
+        some = (new.0, within.0, within.1, free_of_none rules d board (square_at d line new.0) (places new.0) (are new.0 new.1) none);
+      };
+      under = told_under rules board d line y (tally rules places y first len) (λ wanted.
+          let few_tiles = (wanted_few board d (tiles_of d line y) wanted).1 in
+          let few : length (put_by d line y) ≤ 7 = subst (λ (qs : List Placed). length qs ≤ 7) (tiles_is d line y) few_tiles in
+          subst (λ (qs : List Placed). score_of rules board qs ≤ tally rules places y first len) (sym (tiles_is d line y))
+          (tally_le rules words d board line (cells d line) is listed rack y first len s.told s.long s.size low move few places are));
+    }
+
+pub all_tallied : (rules : Rules) (words : List (List ℕ)) (board : List (Option Tile)) (g listed : List ℕ → Bool) (cells : Dir → ℕ → List Cell) → Setting words board g listed cells
+    → (rack : List ℕ) (d : Dir) (line : ℕ) → line < 15 → (places : ℕ → Place) → ArePlaces rules d board line places → (h : ℕ) → h < 15
+    → Every (IsTallied rules (spot_of board d line) places) (anchor_moves g (cells d line) rack h)
+all_tallied rules words board g listed cells s rack d line low places are h below =
+    every-more (λ y. owes g (cells d line) rack h y ≡ true) (IsTallied rules (spot_of board d line) places) (anchor_moves g (cells d line) rack h)
+    (λ y e. tallied rules words board g listed cells s rack d line low places are h below y e)
     (anchor_owes g (cells d line) rack h (s.lines d line low).size below)
 
 -- the side scores of cross-sets that are right

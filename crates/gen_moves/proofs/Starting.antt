@@ -30,7 +30,7 @@ use Rattle.gen_moves.specs.Telling.{IsFit, spot_of}
 use Rattle.gen_moves.specs.Bounds.{TellsUnder}
 use Rattle.gen_moves.specs.Starts.{IsStartOf, AreStarts, IsGood, GoesAlong, AreUnder, dir_of, bound_in, given_at, given_from}
 use Rattle.gen_moves.proofs.Fitting.{moves_fit, add_all-flat_map, join_flat}
-use Rattle.gen_moves.proofs.Offering.{passed_over, every-both}
+use Rattle.gen_moves.proofs.Offering.{passed_over, every-both, all_tallied}
 use Rattle.gen_moves.proofs.Gathering.{line_labelled, wanted_few}
 
 -- ---- a start that is left out
@@ -48,7 +48,7 @@ goes_along (Some own) board Down line y score is fit wanted =
     ∙ ap (λ (d : Dir). (written_on ps (runs_along d (with_tiles board ps) ps)).dir) few.0
     ∙ ap (λ (rs : List Run). (written_on ps rs).dir) runs
 
-told_along : (for : Option (List (Option Tile))) (rules : Rules) (board : List (Option Tile)) (d : Dir) (line : ℕ) (y : List ℕ) → IsFor for board → IsFit (spot_of board d line) y
+pub told_along : (for : Option (List (Option Tile))) (rules : Rules) (board : List (Option Tile)) (d : Dir) (line : ℕ) (y : List ℕ) → IsFor for board → IsFit (spot_of board d line) y
     → Every (GoesAlong for d) (told rules board d line y)
 unfolding told
 told_along for rules board d line y is fit = by (is_wanted board d (tiles_of d line y)) refl
@@ -97,7 +97,7 @@ good_by : (rules : Rules) (words : List (List ℕ)) (board : List (Option Tile))
     → AreUnder rules board g (cells d line) rack d line h bound → IsGood rules board g cells rack s
 good_by rules words board g listed cells setting rack s d line h bound is_dir is_line is_place is_bound low below under =
     let there : IsGood rules board g cells rack (record { dir = d; line = line; place = h; bound = bound }) =
-    record { line = low; place = below; fits = anchor_fits words board g listed cells setting rack d line h low below; under = under; spelt = record { listed = listed; splits = setting.splits; labels = line_labelled words d board line (cells d line) (setting.lines d line low) } } in
+    record { line = low; place = below; fits = anchor_fits words board g listed cells setting rack d line h low below; under = under; tallied = λ places are. all_tallied rules words board g listed cells setting rack d line low places are h below; spelt = record { listed = listed; splits = setting.splits; labels = line_labelled words d board line (cells d line) (setting.lines d line low) } } in
     let with_bound = subst (λ (n : ℕ). IsGood rules board g cells rack (record { dir = d; line = line; place = h; bound = n })) (sym is_bound) there in
     let with_place = subst (λ (n : ℕ). IsGood rules board g cells rack (record { dir = d; line = line; place = n; bound = s.bound })) (sym is_place) with_bound in
     let with_line = subst (λ (n : ℕ). IsGood rules board g cells rack (record { dir = d; line = n; place = s.place; bound = s.bound })) (sym is_line) with_place in

@@ -4,5 +4,6 @@ pub mod Findings
 pub mod Laws
 pub mod Telling
 pub mod Bounds
+pub mod Tallies
 pub mod Starts
 pub mod Narrowing

@@ -12,7 +12,9 @@ use Rattle.gen_moves.specs.declared.starts.Start.{Start}
 use Rattle.gen_moves.specs.Findings.{told}
 use Rattle.gen_moves.specs.Telling.{IsFit, spot_of}
 use Rattle.gen_sinks.specs.Skips.{GoesDown}
-use Rattle.gen_moves.specs.Bounds.{TellsUnder}
+use Rattle.gen_moves.specs.declared.places.Place.{Place}
+use Rattle.gen_moves.specs.Bounds.{TellsUnder, ArePlaces}
+use Rattle.gen_moves.specs.Tallies.{IsTallied}
 use Rattle.gen_moves.specs.Narrowing.{IsSpelt}
 
 -- the direction of a numbered place: those of the lines across come first
@@ -49,11 +51,12 @@ abbrev pub GoesAlong : Option (List (Option Tile)) → Dir → Given → Type 0
 GoesAlong board Across given = Unit {0}
 GoesAlong board Down given = GoesDown board given
 
--- what is known of a start: its place is on the board, its moves are plays, none of them passes its bound, and the lexicon has the
--- paths of words
+-- what is known of a start: its place is on the board, its moves are plays, none of them passes its bound nor what its stretch adds up
+-- to, and the lexicon has the paths of words
 pub record IsGood (rules : Rules) (board : List (Option Tile)) (g : List ℕ → Bool) (cells : Dir → ℕ → List Cell) (rack : List ℕ) (s : Start) : Type 0 where
   pub line : s.line < 15
   pub place : s.place < 15
   pub fits : Every (IsFit (spot_of board s.dir s.line)) (anchor_moves g (cells s.dir s.line) rack s.place)
   pub under : AreUnder rules board g (cells s.dir s.line) rack s.dir s.line s.place s.bound
+  pub tallied : (places : ℕ → Place) → ArePlaces rules s.dir board s.line places → Every (IsTallied rules (spot_of board s.dir s.line) places) (anchor_moves g (cells s.dir s.line) rack s.place)
   pub spelt : IsSpelt g (cells s.dir s.line)

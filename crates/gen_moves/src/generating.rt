@@ -1,5 +1,5 @@
 //! Every legal, valid play that a rack allows on a board.
-ghost use Rattle.std.specs.Prelude.{◌≡◌, ℕ, ◌<◌, ◌≤ℤ◌, pos, List, false, All, IsOk, IsTrue};
+ghost use Rattle.std.specs.Prelude.{◌≡◌, ℕ, ◌<◌, List, false, All, IsOk};
 ghost use Rattle.std.specs.List.{flat_map};
 ghost use Rattle.lex_list.specs.RotatedPaths.{StandsFor};
 ghost use Rattle.ref_play.specs.Best.{Given, AreAll};
@@ -8,11 +8,14 @@ ghost use Rattle.gen_line.specs.Walk.{Took};
 ghost use Rattle.gen_sinks.specs.Sinks.{IsFor};
 ghost use Rattle.gen_moves.specs.Laws.{AreLong};
 ghost use Rattle.gen_moves.specs.Telling.{both_cells};
-ghost use Rattle.gen_moves.specs.Starts.{IsGood, GoesAlong, given_from};
+ghost use Rattle.gen_moves.specs.Bounds.{HasScores};
+ghost use Rattle.gen_moves.specs.Starts.{IsGood, given_from};
 
 use crate::anchors::{all_bounds, points_of_rack, tiles_with_points};
 use crate::fronts::narrowed;
 use crate::lines::all_cells;
+use crate::passing::passes;
+use crate::places::line_places;
 use crate::spots::Spot;
 use crate::starts::{STARTS, Start, all_starts, best_first};
 use crate::telling::LinePlays;
@@ -22,9 +25,6 @@ use gen_sinks::{NoMemory, Sink};
 use lex_file::PathLex;
 use ref_board::{Board, Dir, SIDE};
 use ref_tiles::{Counts, KINDS, Rules};
-
-/// The greatest number that is looked for among scores.
-const MOST: u64 = i32::MAX as u64;
 
 /// The cells of a line.
 fn cells_of<'a>(
@@ -42,23 +42,11 @@ fn cells_of<'a>(
     }
 }
 
-/// Whether no play that is written in a direction and scores so much at the most would change what a sink has.
-fn passes<S: Sink>(sink: &S, dir: Dir, bound: u64) -> bool
-    ensures { IsTrue result → (given : Given) → GoesAlong (S.made_for sink.now) dir given → given.score ≤ℤ pos bound → S.add (S.made_for sink.now) (S.items sink.now) given ≡ S.items sink.now }
-{
-    if bound > MOST {
-        return false;
-    }
-    match dir {
-        Dir::Across => sink.skips(bound as i32),
-        Dir::Down => sink.skips_down(bound as i32),
-    }
-}
-
 /// Gives a sink the plays of one start. They are not looked for where none of them would change what it has.
 fn from_start<L: PathLex, S: Sink>(
     rules: &Rules,
     board: &Board,
+    cross: &Cross,
     across: &[[Cell; SIDE]; SIDE],
     down: &[[Cell; SIDE]; SIDE],
     rack: &[u8; KINDS],
@@ -66,6 +54,7 @@ fn from_start<L: PathLex, S: Sink>(
     start: &Start,
     sink: &mut S,
 ) -> Result<(), NoMemory>
+    requires scores { HasScores rules.now board.now cross.now }
     requires sink { IsFor (S.made_for sink.old) board.now }
     requires good { IsGood rules.now board.now (L.language lex.now) (both_cells across.now down.now) rack.now start.now }
     ensures made_for { S.made_for sink.new ≡ S.made_for sink.old }
@@ -88,7 +77,12 @@ fn from_start<L: PathLex, S: Sink>(
         dir,
         line,
     };
-    let plays = LinePlays { rules, spot: &spot };
+    let places = line_places(rules, board, cross, dir, line);
+    let plays = LinePlays {
+        rules,
+        spot: &spot,
+        places: &places,
+    };
     walk_anchor(lex, &cells, place, rack, &plays, sink)
 }
 
@@ -96,6 +90,7 @@ fn from_start<L: PathLex, S: Sink>(
 fn from_starts<L: PathLex, S: Sink>(
     rules: &Rules,
     board: &Board,
+    cross: &Cross,
     across: &[[Cell; SIDE]; SIDE],
     down: &[[Cell; SIDE]; SIDE],
     rack: &[u8; KINDS],
@@ -103,6 +98,7 @@ fn from_starts<L: PathLex, S: Sink>(
     starts: &[Start; STARTS],
     sink: &mut S,
 ) -> Result<(), NoMemory>
+    requires scores { HasScores rules.now board.now cross.now }
     requires sink { IsFor (S.made_for sink.old) board.now }
     requires good { All (IsGood rules.now board.now (L.language lex.now) (both_cells across.now down.now) rack.now) starts.now }
     ensures made_for { S.made_for sink.new ≡ S.made_for sink.old }
@@ -111,7 +107,17 @@ fn from_starts<L: PathLex, S: Sink>(
     ensures steady { S.grows ≡ false → IsOk result }
 {
     for number in 0..STARTS {
-        from_start(rules, board, across, down, rack, lex, &starts[number], sink)?;
+        from_start(
+            rules,
+            board,
+            cross,
+            across,
+            down,
+            rack,
+            lex,
+            &starts[number],
+            sink,
+        )?;
     }
     Ok(())
 }
@@ -154,5 +160,7 @@ pub fn generate<L: PathLex, S: Sink>(
         &all_bounds(rules, board, cross, Dir::Across, &across, points, ones),
         &all_bounds(rules, board, cross, Dir::Down, &down, points, ones),
     ));
-    from_starts(rules, board, &across, &down, &numbers, lex, &starts, sink)
+    from_starts(
+        rules, board, cross, &across, &down, &numbers, lex, &starts, sink,
+    )
 }

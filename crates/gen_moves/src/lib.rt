@@ -7,10 +7,12 @@ mod fronts;
 mod generating;
 mod laws;
 mod lines;
+mod passing;
 mod places;
 mod spots;
 mod starts;
 mod stretches;
+mod tallies;
 mod telling;
 
 pub use gen_sinks::{All, Best, NoMemory, Sink, Top};

@@ -22,7 +22,7 @@ pub struct Spot {
 }
 
 /// The tile of an entry: none for 0, else 1 + 2 * letter stands for a letter, A being 0, and one more for a blank.
-fn tile_of(entry: u8) -> Option<Tile>
+pub fn tile_of(entry: u8) -> Option<Tile>
     ensures { result ≡ tile_of_entry entry }
 {
     if entry == 0 {

@@ -1,16 +1,22 @@
 //! The moves of a line, told to a sink as plays with their scores.
+use crate::passing::passes;
+use crate::places::Place;
 use crate::spots::Spot;
+use crate::tallies::tally_of;
 use gen_line::Taker;
 use gen_sinks::{NoMemory, Sink};
 use ref_board::SIDE;
 use ref_play::score;
 use ref_tiles::Rules;
 
-/// What makes plays of the moves of a line, each with its score, and gives them to a sink.
+/// What makes plays of the moves of a line, each with its score, and gives them to a sink. What the sink need not see is left out
+/// before its play is made.
 #[derive(Drop)]
 pub struct LinePlays<'a> {
     pub rules: &'a Rules,
     pub spot: &'a Spot,
+    /// What each place of the line adds to a score.
+    pub places: &'a [Place; SIDE],
 }
 
 impl<S: Sink> Taker<S> for LinePlays<'_> {
@@ -19,6 +25,8 @@ impl<S: Sink> Taker<S> for LinePlays<'_> {
     ghost use Rattle.ref_play.specs.Best.{Given};
     ghost use Rattle.gen_sinks.specs.Sinks.{IsFor};
     ghost use Rattle.gen_moves.specs.Telling.{IsFit, tell};
+    ghost use Rattle.gen_moves.specs.Bounds.{place_in};
+    ghost use Rattle.gen_moves.specs.Tallies.{AreSmall, IsTallied};
 
     ghost Items = { List Given };
 
@@ -28,13 +36,20 @@ impl<S: Sink> Taker<S> for LinePlays<'_> {
 
     ghost made_for = { S.made_for };
 
-    ghost can_take = { λ plays board entries. IsFor board plays.spot.now.board × IsFit plays.spot.now entries };
+    ghost can_take = { λ plays board entries. (IsFor board plays.spot.now.board × AreSmall (place_in plays.places.now)) × (IsFit plays.spot.now entries × IsTallied plays.rules.now plays.spot.now (place_in plays.places.now) entries) };
 
     ghost tell = { λ plays board items entries. tell plays.rules.now plays.spot.now (S.add board) items entries };
 
     ghost grows = { S.grows };
 
     fn take(&self, fresh: &[u8; SIDE], sink: &mut S) -> Result<(), NoMemory> {
+        if passes(
+            sink,
+            self.spot.dir,
+            tally_of(self.rules, self.places, fresh),
+        ) {
+            return Ok(());
+        }
         let Some(play) = self.spot.play_of(fresh) else {
             return Ok(());
         };

@@ -2,3 +2,4 @@ pub mod Ranking
 pub mod RankOrder
 pub mod Keeping
 pub mod Skipping
+pub mod Turns

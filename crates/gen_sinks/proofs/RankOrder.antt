@@ -29,7 +29,7 @@ pub rank_total : (board : List (Option Tile)) → IsTotalOrder (rank_cmp board)
 rank_total board =
     then_total (back_total (on_total (λ (g : Given). g.score) int_cmp_total)) (on_total (λ (g : Given). notation_of board g.tiles) written_total)
 
-less : (o : Ordering) → is_lt o ≡ true → o ≡ Less
+pub less : (o : Ordering) → is_lt o ≡ true → o ≡ Less
 less Less e = refl
 less Equal e = absurd (let h = e in cc)
 less Greater e = absurd (let h = e in cc)

@@ -2,15 +2,14 @@
 use Rattle.std.proofs.Common.{◌≡◌, ℕ, ℤ, ◌<ℤ◌, ◌≤ℤ◌, false, List, map, length, get_or, take, insert, refl, sym, ap, ◌∙◌, arith, ⊎_elim, Option, Some}
 use Rattle.std.specs.declared.cmp.Ordering.{Ordering}
 use Rattle.std.specs.declared.cmp.Ordering.TheVariants.{Less, Equal, Greater}
-use Rattle.ref_board.specs.declared.directions.Dir.{Dir}
 use Rattle.ref_board.specs.declared.directions.Dir.TheVariants.{Across, Down}
-use Rattle.std.specs.Ordering.{int_cmp, nat_cmp, ordering_then, is_lt}
+use Rattle.std.specs.Ordering.{int_cmp, ordering_then, is_lt}
 use Rattle.std.proofs.lemmas.Cmp.{int_ranked}
 use Rattle.std.proofs.lemmas.Int.{ints}
 use Rattle.std.proofs.lemmas.List.{length-map}
 use Rattle.ref_tiles.specs.declared.tiles.Tile.{Tile}
 use Rattle.ref_play.specs.declared.plays.Play.{Play}
-use Rattle.ref_play.specs.Notations.{Written, notation_of, written_cmp, dir_number}
+use Rattle.ref_play.specs.Notations.{Written, notation_of, written_cmp}
 use Rattle.ref_play.specs.Best.{Given}
 use Rattle.gen_sinks.specs.Sinks.{seen_pair}
 use Rattle.gen_sinks.specs.Ranks.{ranks_before, add_top}

@@ -1,5 +1,5 @@
 -- The best so many of some plays, best first.
-use Rattle.std.specs.Prelude.{◌≡◌, ℕ, ◌≤◌, ◌⊎◌, Bool, true, List, [], ◌∷◌, length, take, Contains, Option, Some, None, if◌then◌else◌}
+use Rattle.std.specs.Prelude.{◌≡◌, ℕ, ◌≤◌, ◌⊎◌, ◌&&◌, not, Bool, true, List, [], ◌∷◌, length, take, Contains, Option, Some, None, if◌then◌else◌}
 use Rattle.std.specs.declared.cmp.Ordering.{Ordering}
 use Rattle.std.specs.Ordering.{int_cmp, on, then_cmp, flip_args, is_lt}
 use Rattle.ref_tiles.specs.declared.tiles.Tile.{Tile}
@@ -27,6 +27,16 @@ add_top n before kept x = take n (put_in before x kept)
 abbrev pub add_ranked : ℕ → Option (List (Option Tile)) → List Given → Given → List Given
 add_ranked n None kept given = kept
 add_ranked n (Some board) kept given = add_top n (ranks_before board) kept given
+
+-- whether an element may stand in front of others: the first of these does not come before it
+abbrev pub may_lead : {A : Type 0} → (A → A → Bool) → A → List A → Bool
+may_lead before x [] = true
+may_lead before x (y ∷ ys) = not (before y x)
+
+-- whether no element comes before the one in front of it
+unfoldable pub in_turn : {A : Type 0} → (A → A → Bool) → List A → Bool
+in_turn before [] = true
+in_turn before (x ∷ xs) = may_lead before x xs && in_turn before xs
 
 -- each element comes before all behind it
 abbrev pub InOrder : {A : Type 0} → (A → A → Bool) → List A → Type 0

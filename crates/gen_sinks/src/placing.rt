@@ -1,8 +1,9 @@
 //! Where a play comes among those that are kept.
-ghost use Rattle.std.specs.Prelude.{◌≡◌, ◌≤◌, ◌<ℤ◌, IsTrue, length, map, take, insert};
+ghost use Rattle.std.specs.Prelude.{◌≡◌, ◌<◌, ◌≤◌, ◌<ℤ◌, ℕ, ℤ, false, IsTrue, length, map, take, insert, slice_index_or};
+ghost use Rattle.ref_play.specs.declared.plays.Play.{Play};
 ghost use Rattle.ref_play.specs.Legality.{IsLegal};
 ghost use Rattle.gen_sinks.specs.Sinks.{seen, seen_pair};
-ghost use Rattle.gen_sinks.specs.Ranks.{ranks_before, put_in};
+ghost use Rattle.gen_sinks.specs.Ranks.{ranks_before, put_in, in_turn};
 ghost use Rattle.gen_sinks.specs.Skips.{AllAbove, IsBeforeDown, AllBeforeDown};
 ghost use Rattle.gen_sinks.specs.Legals.{are_legal};
 
@@ -20,15 +21,36 @@ fn ranks_before(board: &Board, play: &Play, score: i32, other: &(Play, i32)) -> 
     score > *points || (score == *points && before(board, play, second))
 }
 
-/// The place of a play among those that are kept: that of the first one that it ranks before, else behind them all.
+/// Whether a play ranks before none of those that are kept, best first, so that it comes behind them: it does not rank before the
+/// last one.
+fn comes_last(board: &Board, kept: &[(Play, i32)], play: &Play, score: i32) -> bool
+    requires legal { IsLegal board.now play.now.tiles.items }
+    requires kept { IsTrue (are_legal board.now kept.now) }
+    requires turn { IsTrue (in_turn (ranks_before board.now) (map seen_pair kept.now)) }
+    ensures { IsTrue result → (place : ℕ) (d : Play × ℤ) → place < length kept.now
+        → ranks_before board.now (seen play.now score) (seen_pair (slice_index_or kept.now place d)) ≡ false }
+{
+    let _size = board.len();
+    let many = kept.len();
+    if many == 0 {
+        return true;
+    }
+    !ranks_before(board, play, score, &kept[many - 1])
+}
+
+/// The place of a play among those that are kept, best first: that of the first one that it ranks before, else behind them all.
 pub fn place_of(board: &Board, kept: &[(Play, i32)], play: &Play, score: i32) -> usize
     requires legal { IsLegal board.now play.now.tiles.items }
     requires kept { IsTrue (are_legal board.now kept.now) }
+    requires turn { IsTrue (in_turn (ranks_before board.now) (map seen_pair kept.now)) }
     ensures inside { result ≤ length kept.now }
     ensures place { put_in (ranks_before board.now) (seen play.now score) (map seen_pair kept.now)
         ≡ insert (map seen_pair kept.now) result (seen play.now score) }
 {
     let _size = board.len();
+    if comes_last(board, kept, play, score) {
+        return kept.len();
+    }
     for place in 0..kept.len() {
         if ranks_before(board, play, score, &kept[place]) {
             return place;

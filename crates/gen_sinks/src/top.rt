@@ -1,5 +1,7 @@
 //! Sinks that keep the best plays: so many, or one.
-ghost use Rattle.std.specs.Prelude.{◌≡◌, IsTrue};
+ghost use Rattle.std.specs.Prelude.{◌≡◌, IsTrue, map};
+ghost use Rattle.gen_sinks.specs.Sinks.{seen_pair};
+ghost use Rattle.gen_sinks.specs.Ranks.{ranks_before, in_turn};
 ghost use Rattle.gen_sinks.specs.Legals.{are_legal};
 
 use crate::placing::{all_above, all_before_down, place_of, put_at};
@@ -15,17 +17,17 @@ pub struct Top<const N: usize> {
     board: Board,
     kept: ArrayVec<(Play, i32), N>,
     ghost legal: { IsTrue (are_legal board kept.items) },
+    ghost turn: { IsTrue (in_turn (ranks_before board) (map seen_pair kept.items)) },
 }
 
 /// A sink that keeps the best play of one board.
 pub type Best = Top<1>;
 
 impl<const N: usize> Top<N> {
-    ghost use Rattle.std.specs.Prelude.{[], Some, map};
-    ghost use Rattle.gen_sinks.specs.Sinks.{seen_pair};
+    ghost use Rattle.std.specs.Prelude.{[], Some};
 
     /// A sink without plays, for the plays of this board.
-    #[tactic(auto, unfolding(crate::specs::Legals::are_legal))]
+    #[tactic(auto, unfolding(crate::specs::Legals::are_legal, crate::specs::Ranks::in_turn))]
     pub fn new(board: &Board) -> Top<N>
         ensures board { ⟦<Top<N> as Sink>⟧.made_for result ≡ Some board.now }
         ensures items { ⟦<Top<N> as Sink>⟧.items result ≡ [] }
@@ -45,8 +47,7 @@ impl<const N: usize> Top<N> {
 }
 
 impl<const N: usize> Sink for Top<N> {
-    ghost use Rattle.std.specs.Prelude.{Some, false, map};
-    ghost use Rattle.gen_sinks.specs.Sinks.{seen_pair};
+    ghost use Rattle.std.specs.Prelude.{Some, false};
     ghost use Rattle.gen_sinks.specs.Ranks.{add_ranked};
 
     ghost made_for = { λ sink. Some sink.board };

@@ -3,3 +3,4 @@ pub mod Paths
 pub mod Splits
 pub mod Bounds
 pub mod Walking
+pub mod Turned

@@ -1,5 +1,5 @@
 -- Where a walk over a file is, as the strings that it still allows.
-use Rattle.std.specs.Prelude.{◌≡◌, ℕ, ◌≤◌, Bool, true, false, List, ◌∷◌, ◌++◌, length, take, slice_index_or, None, IsTrue}
+use Rattle.std.specs.Prelude.{◌≡◌, ℕ, ◌<◌, ◌≤◌, Bool, true, false, List, [], ◌∷◌, ◌++◌, length, take, slice_index_or, None, IsTrue}
 use Rattle.lex_file.specs.declared.files.Node.{Node}
 use Rattle.lex_file.specs.declared.lexicons.Step.{Step}
 use Rattle.lex_file.specs.Files.{number_of}
@@ -7,6 +7,7 @@ use Rattle.lex_file.specs.Languages.{file_tail, language_of}
 use Rattle.lex_file.specs.Shapes.{is_file_node}
 use Rattle.lex_file.specs.Walking.{strings, IsOpen}
 use Rattle.lex_agree.specs.Chains.{first_path}
+use Rattle.lex_agree.specs.declared.kept.Kept.{Kept}
 
 -- the tails of a node of a file
 abbrev pub node_tail : List ℕ → Node → List ℕ → Bool
@@ -47,3 +48,24 @@ pub record AreAlike (one other : List ℕ) (count : ℕ) : Type 0 where
   pub in_one : count ≤ length one
   pub in_other : count ≤ length other
   pub alike : take count one ≡ take count other
+
+-- The steps behind a label and the first labels of a front: at each place up to a count stands the one behind so many.
+pub record AreTurned (bytes : List ℕ) (first : ℕ) (front : List ℕ) (count : ℕ) (steps : List (Step Node)) : Type 0 where
+  pub room : length steps ≡ 16
+  pub each : (split : ℕ) → split ≤ count → IsStepAt bytes (first ∷ take split front) (slice_index_or steps split no_step)
+
+-- What is kept of a label: each step that is known is that behind the label and so many labels of the front.
+pub record IsKept (bytes : List ℕ) (first : ℕ) (kept : Kept) : Type 0 where
+  pub letters : length kept.front ≡ 15
+  pub room : length kept.steps ≡ 16
+  pub few : kept.known ≤ 16
+  pub each : (split : ℕ) → split < kept.known → IsStepAt bytes (first ∷ take split kept.front) (slice_index_or kept.steps split no_step)
+
+-- where nothing is kept
+abbrev pub no_kept : Kept
+no_kept = record { front = []; known = 0; steps = [] }
+
+-- of each label something is kept
+pub record AreKept (bytes : List ℕ) (kept : List Kept) : Type 0 where
+  pub room : length kept ≡ 27
+  pub each : (label : ℕ) → label < 27 → IsKept bytes label (slice_index_or kept label no_kept)

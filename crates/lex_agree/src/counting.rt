@@ -42,10 +42,13 @@ fn count_node(file: &LexFile<'_>, counts: &[u32], node: Node) -> u32
 {
     let mut count = 0;
     let mut from = 0;
-    while let Some(branch) = file.branch_from(node, from) {
+    let mut rest = file.rest(node);
+    while let Some(on) = file.branch_on(node, from, rest) {
+        let branch = on.branch;
         let more = count_behind(file, counts, branch.step.next);
         count = sum_of(count, more, branch.step.accepts);
         from = branch.label + 1;
+        rest = on.rest;
     }
     count
 }

@@ -35,8 +35,8 @@ pub fn has_firsts(list: &WordList, file: &LexFile<'_>) -> bool
     true
 }
 
-/// The number of letters with which two words begin alike.
-fn common_letters(one: &[u8], other: &[u8]) -> usize
+/// The number of letters with which two words begin alike, or of labels with which two fronts do.
+pub fn common_letters(one: &[u8], other: &[u8]) -> usize
     ensures { AreAlike one.now other.now result }
 {
     let mut same = 0;

@@ -11,6 +11,7 @@
 mod agreeing;
 mod counting;
 mod firsts;
+mod kept;
 mod letters;
 mod steps;
 mod turning;

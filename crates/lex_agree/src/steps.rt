@@ -46,15 +46,11 @@ pub fn follow(file: &LexFile<'_>, at: Step<Node>, label: u8) -> Step<Node>
     }
 }
 
-/// What stands behind a label and others.
-pub fn walk(file: &LexFile<'_>, first: u8, labels: &[u8]) -> Step<Node>
-    ensures { IsStepAt (bytes_of file.now) (first ∷ labels.now) result }
+/// What stands behind a label.
+pub fn behind_label(file: &LexFile<'_>, label: u8) -> Step<Node>
+    ensures { IsStepAt (bytes_of file.now) (label ∷ []) result }
 {
-    let mut at = follow(file, start(file), first);
-    for label in labels {
-        at = follow(file, at, *label);
-    }
-    at
+    follow(file, start(file), label)
 }
 
 /// Whether two walks go on at the same node, or neither does.

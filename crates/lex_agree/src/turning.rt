@@ -5,48 +5,64 @@ ghost use Rattle.lex_list.specs.RotatedPaths.{behind_mark};
 ghost use Rattle.lex_file.specs.Files.{bytes_of, number_of};
 ghost use Rattle.lex_file.specs.Languages.{file_tail, language_of};
 ghost use Rattle.lex_agree.specs.Chains.{TurnsOverFrom};
-ghost use Rattle.lex_agree.specs.Walks.{IsNodeOf, IsNodeAt};
+ghost use Rattle.lex_agree.specs.Walks.{IsNodeOf, IsNodeAt, AreKept};
 
-use crate::steps::{MARK, follow, is_same, walk};
-use lex_file::{Branch, LexFile, Node, PathLex};
+use crate::kept::{Kept, MOST_LABELS, none_kept, walk_on};
+use crate::steps::{MARK, follow, is_same, start};
+use lex_file::{LABELS, LexFile, Node, PathLex};
 
-/// The most labels before a mark.
-const MOST_LABELS: usize = 15;
+/// The number of labels.
+const EACH_LABEL: usize = LABELS as usize;
 
 /// Whether letters turn over in the whole file, which has no more fronts than so many words of letters together have.
+#[tactic(auto, using(crate::proofs::Turned::kept_none))]
 pub fn all_turn_over(file: &LexFile<'_>, letters: usize) -> bool
     requires { letters ≤ 6000000 }
     ensures { OnTrue result (TurnsOverFrom (language_of (bytes_of file.now)) []) }
 {
     let fronts = (MOST_LABELS * letters + 1) as u32;
-    turn_over(file, &[], file.root(), fronts).is_some()
+    let mut kept = [none_kept(start(file)); EACH_LABEL];
+    turn_over(file, &[], file.root(), fronts, &mut kept).is_some()
 }
 
 /// The number of fronts that are left of so many, where letters turn over at a node behind a front and at all nodes that
 /// come behind it before a mark; none where one does not, or where there are too many fronts or too long ones.
-fn turn_over(file: &LexFile<'_>, front: &[u8], node: Node, fronts: u32) -> Option<u32>
-    requires { IsNodeAt (bytes_of file.now) front.now node }
-    ensures { OnSome result (TurnsOverFrom (language_of (bytes_of file.now)) front.now) }
+///
+/// Of each label it is kept what stands behind it and the front that was turned over to it last.
+fn turn_over(
+    file: &LexFile<'_>,
+    front: &[u8],
+    node: Node,
+    fronts: u32,
+    kept: &mut [Kept; EACH_LABEL],
+) -> Option<u32>
+    requires node { IsNodeAt (bytes_of file.now) front.now node }
+    requires kept { AreKept (bytes_of file.now) kept.old }
+    ensures turned { OnSome result (TurnsOverFrom (language_of (bytes_of file.now)) front.now) }
+    ensures kept { OnSome result (AreKept (bytes_of file.now) kept.new) }
 {
     if fronts == 0 || front.len() >= MOST_LABELS {
         return None;
     }
     let mut left = fronts - 1;
     let mut from = 0;
-    while let Some(branch) = file.branch_from(node, from) {
+    let mut rest = file.rest(node);
+    while let Some(on) = file.branch_on(node, from, rest) {
+        let branch = on.branch;
         match branch.step.next {
             None => {}
             Some(behind) if branch.label == MARK => {
-                if !turn_over_at(file, front, behind) {
+                if !turn_over_at(file, front, behind, kept) {
                     return None;
                 }
             }
             Some(next) => {
                 let longer = with_label(front, branch.label);
-                left = turn_over(file, &longer[..front.len() + 1], next, left)?;
+                left = turn_over(file, &longer[..front.len() + 1], next, left, kept)?;
             }
         }
         from = branch.label + 1;
+        rest = on.rest;
     }
     Some(left)
 }
@@ -63,13 +79,23 @@ fn with_label(front: &[u8], label: u8) -> [u8; MOST_LABELS]
 }
 
 /// Whether the letters turn over with which tails of a node begin, which stands behind the mark of a front.
-fn turn_over_at(file: &LexFile<'_>, front: &[u8], behind: Node) -> bool
-    requires { IsNodeOf (bytes_of file.now) behind }
-    ensures { OnTrue result ((label : ℕ) (rest : List ℕ) → file_tail (bytes_of file.now) (number_of behind) (label ∷ rest) ≡ true → language_of (bytes_of file.now) (label ∷ front.now ++ behind_mark rest) ≡ true) }
+fn turn_over_at(
+    file: &LexFile<'_>,
+    front: &[u8],
+    behind: Node,
+    kept: &mut [Kept; EACH_LABEL],
+) -> bool
+    requires few { length front.now < 15 }
+    requires behind { IsNodeOf (bytes_of file.now) behind }
+    requires kept { AreKept (bytes_of file.now) kept.old }
+    ensures turned { OnTrue result ((label : ℕ) (rest : List ℕ) → file_tail (bytes_of file.now) (number_of behind) (label ∷ rest) ≡ true → language_of (bytes_of file.now) (label ∷ front.now ++ behind_mark rest) ≡ true) }
+    ensures kept { OnTrue result (AreKept (bytes_of file.now) kept.new) }
 {
     let mut from = 0;
-    while let Some(branch) = file.branch_from(behind, from) {
-        let turned = walk(file, branch.label, front);
+    let mut rest = file.rest(behind);
+    while let Some(on) = file.branch_on(behind, from, rest) {
+        let branch = on.branch;
+        let turned = walk_on(file, branch.label, front, &mut kept[branch.label as usize]);
         let marked = follow(file, turned, MARK);
         if !is_kept(branch.step.accepts, turned.accepts) {
             return false;
@@ -78,6 +104,7 @@ fn turn_over_at(file: &LexFile<'_>, front: &[u8], behind: Node) -> bool
             return false;
         }
         from = branch.label + 1;
+        rest = on.rest;
     }
     true
 }

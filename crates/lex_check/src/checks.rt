@@ -30,11 +30,12 @@ pub enum Mismatch {
 /// Compares a compiled lexicon with the rotated paths of a word list, and names the first difference in the order of
 /// strings of labels. The number of words is compared after that.
 ///
-/// That they agree is mostly told by [`agree`]. Where it is not, the paths are put in order and walked beside the file.
+/// That they agree is mostly told by [`agree`], which is not asked where the file states another number of words. Where it
+/// does not tell so, the paths are put in order and walked beside the file.
 pub fn check(alloc: Global, list: &WordList, file: &LexFile<'_>) -> Result<(), Mismatch>
     ensures { MatchResult result (λ _. IsAgreed list.now (bytes_of file.now)) (λ why. IsMismatch list.now (bytes_of file.now) why) }
 {
-    if agree(alloc, list, file) {
+    if file.word_count() as usize == list.len() && agree(alloc, list, file) {
         return check_count(list, file);
     }
     walk_beside(alloc, list, file)?;

@@ -130,7 +130,7 @@ struct Run {
 }
 
 impl Run {
-    /// Judges one game, and tells its line. A name that is no UTF-8 text is one of no file.
+    /// Judges one game, and writes its line. A name that is not UTF-8 text is the name of no file.
     fn take_game<'a, R: Runtime + AllocGlobal>(
         &mut self,
         rt: &R,

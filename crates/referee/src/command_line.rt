@@ -71,7 +71,7 @@ impl<'a> ArchiveNames<'a> {
 /// What is said of the progress of a run.
 #[derive(Clone, Copy)]
 pub enum Progressing {
-    /// That it is to be told.
+    /// That it is to be shown.
     Shown,
     /// That it is not.
     Quiet,
@@ -92,11 +92,11 @@ pub struct Archive<'a> {
     pub names: ArchiveNames<'a>,
     /// Whether the lines are JSON objects.
     pub json: bool,
-    /// Whether it is told how many games are done.
+    /// Whether to show how many games are done.
     pub progress: Progressing,
 }
 
-/// What the command line asks for. Files are told by their names, a rack by its tiles.
+/// What the command line asks for. Files are given by their names, a rack by its tiles.
 #[derive(Drop)]
 pub enum Request<'a> {
     /// To judge the game of a record, and to search for a deal where `settle` says so.
@@ -104,7 +104,7 @@ pub enum Request<'a> {
         settle: bool,
         files: GameFiles<'a>,
     },
-    /// To judge many games, and to tell each on one line.
+    /// To judge many games, and to write a line for each.
     Archive(Archive<'a>),
     /// To audit the sheet of a record, and to write the corrected record to the file `out` where there is one.
     Audit {

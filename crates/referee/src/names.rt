@@ -4,7 +4,7 @@ use std::io::{self, BufRead};
 
 /// Where the names of games come from.
 pub trait Names {
-    /// Puts the next name into the buffer, which is empty, and tells whether there is one.
+    /// Puts the next name into the buffer, which is empty, and says whether there is one.
     fn next_name(&mut self, name: &mut Vec<u8>) -> io::Result<bool>;
 }
 

@@ -2,10 +2,10 @@
 
 use std::rt::Runtime;
 
-/// The games between two times that the progress is told.
+/// How many games are done between two reports of the progress.
 const STEP: u64 = 100;
 
-/// How many games are done, and whether standard error is told.
+/// How many games are done, and whether that is shown on standard error.
 #[derive(Clone, Copy)]
 pub struct Progress {
     shown: bool,

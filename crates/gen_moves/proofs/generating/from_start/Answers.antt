@@ -5,6 +5,9 @@ use Rattle.gen_sinks.specs.Sinks.{IsFor}
 use Rattle.gen_moves.specs.Telling.{IsFit, both_cells, spot_of, tell}
 use Rattle.gen_moves.specs.Narrowing.{IsSpelt}
 use Rattle.gen_moves.proofs.Fitting.{every_with, took_told}
+use Rattle.gen_moves.specs.Bounds.{place_in}
+use Rattle.gen_moves.specs.Tallies.{AreSmall, IsTallied}
+use Rattle.gen_moves.proofs.Offering.{every-both}
 use Rattle.gen_moves.proofs.Starting.{left_out}
 use Rattle.gen_moves.proofs.generating.from_start.Goals as goal
 
@@ -24,10 +27,13 @@ walk_anchor-requires-clause-can g c =
     let cells = both_cells c.args.across.now c.args.down.now s.dir s.line in
     let same : anchor_moves path c.narrowed-cells.result rack s.place ≡ anchor_moves path cells rack s.place =
     c.narrowed-cells.ensures (subst (IsSpelt path) (sym c.cells_of.ensures) c.requires.good.spelt) rack ∙ ap (λ (ds : List Cell). anchor_moves path ds rack s.place) c.cells_of.ensures in
-    subst
-    (λ (ys : List (List ℕ)). Every (λ y. IsFor (g.S.Sink.made_for c.args.sink.now) board × IsFit (spot_of board s.dir s.line) y) ys)
-    (sym same)
-    (every_with (IsFor (g.S.Sink.made_for c.args.sink.now) board) (IsFit (spot_of board s.dir s.line)) (anchor_moves path cells rack s.place) c.requires.sink c.requires.good.fits)
+    let places = place_in c.line_places-places.result in
+    let fit = IsFit (spot_of board s.dir s.line) in
+    let summed = IsTallied c.args.rules.now (spot_of board s.dir s.line) places in
+    let asked = IsFor (g.S.Sink.made_for c.args.sink.now) board × AreSmall places in
+    subst (λ (ys : List (List ℕ)). Every (λ y. asked × (fit y × summed y)) ys) (sym same)
+    (every_with asked (λ y. fit y × summed y) (anchor_moves path cells rack s.place) (c.requires.sink, c.line_places-places.ensures.small)
+    (every-both fit summed (anchor_moves path cells rack s.place) c.requires.good.fits (c.requires.good.tallied places (c.line_places-places.ensures.places c.requires.scores))))
 
 pub returns-clause-took : goal.returns-clause-took
 returns-clause-took g c =

@@ -21,6 +21,9 @@ all_bounds-requires-clause-scores g c = right_scores c.args.rules.now g.words c.
 pub all_bounds-requires-2-clause-scores : goal.all_bounds-requires-2-clause-scores
 all_bounds-requires-2-clause-scores g c = right_scores c.args.rules.now g.words c.args.board.now c.args.cross.now c.len-size.ensures.size c.requires.1.1.1.1.1.1.0
 
+pub from_starts-requires-clause-scores : goal.from_starts-requires-clause-scores
+from_starts-requires-clause-scores g c = right_scores c.args.rules.now g.words c.args.board.now c.args.cross.now c.len-size.ensures.size c.requires.1.1.1.1.1.1.0
+
 pub from_starts-requires-clause-good : goal.from_starts-requires-clause-good
 from_starts-requires-clause-good g c =
     let path = g.L.PathLex.language c.args.lex.now in

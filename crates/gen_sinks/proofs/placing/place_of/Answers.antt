@@ -14,6 +14,17 @@ ranks_before-requires-clause-other c =
     subst (λ (p : Play × ℤ). IsLegal c.args.board.now p.0.tiles.items) (sym c.index-kept-place.is)
     (legal_at c.args.board.now c.args.kept.now c.loop-place.place scored c.len-size.ensures.size c.requires.kept c.loop-place-test.true)
 
+pub returns-then-comes_last-clause-place : goal.returns-then-comes_last-clause-place
+returns-then-comes_last-clause-place c =
+    let board = c.args.board.now in
+    let kept = c.args.kept.now in
+    let play = c.args.play.now in
+    let score = to_z w32 (of_z w32 c.args.score) in
+    subst (λ (s : ℤ). put_in (ranks_before board) (seen play s) (map seen_pair kept) ≡ insert (map seen_pair kept) (length kept) (seen play s))
+    (to_z-of_z c.ranges.score)
+    (put_there (ranks_before board) seen_pair (seen play score) kept (length kept) (omega arith) (c.comes_last.ensures c.if-comes_last.true)
+    (λ d lt. absurd (omega arith)))
+
 pub returns-then-ranks_before-clause-place : goal.returns-then-ranks_before-clause-place
 returns-then-ranks_before-clause-place c =
     let board = c.args.board.now in

@@ -1,5 +1,3 @@
-use Rattle.std.specs.Prelude.{true}
-use Rattle.std.proofs.Common.{◌≡◌}
 use Rattle.std.proofs.lemmas.Bool.{OnTrue_at, OnTrue_from}
 use Rattle.lex_list.specs.RotatedPaths.{StandsFor}
 use Rattle.lex_file.specs.Languages.{language_of}

@@ -1,4 +1,5 @@
 use Rattle.std.proofs.Common.{◌+◌, length, take, arith}
+use Rattle.lex_agree.specs.Walks.{AreKept}
 use Rattle.lex_agree.proofs.Bounds.{label_low}
 use Rattle.lex_agree.proofs.Walking.{TurnsBehind, behind_none_there, behind_mark_there, behind_letter_there, so_far_more, so_far_all}
 use Rattle.lex_agree.proofs.turning.+turn_over.Goals as goal
@@ -6,41 +7,50 @@ use Rattle.lex_agree.proofs.turning.+turn_over.Goals.{in-None, in-Some-next+else
 
 pub overflow_add-from : goal.overflow_add-from
 overflow_add-from t c =
-    let branch = c.in-Some.branch in
-    let low = label_low c.args.file.now.bytes.now c.args.file.now.shape c.args.node branch.label branch.step.accepts branch.step.next c.requires.node_there
+    let branch = c.in-Some.on.branch in
+    let low = label_low c.args.file.now.bytes.now c.args.file.now.shape c.args.node branch.label branch.step.accepts branch.step.next c.requires.node.node_there
     c.in-Some.ensures.accepts c.in-Some.ensures.next c.in-Some.ensures.alive in
     omega arith
 
-pub loop-branch-smaller : goal.loop-branch-smaller
-loop-branch-smaller t c =
-    let branch = c.in-Some.branch in
-    let low = label_low c.args.file.now.bytes.now c.args.file.now.shape c.args.node branch.label branch.step.accepts branch.step.next c.requires.node_there
+pub loop-on-smaller : goal.loop-on-smaller
+loop-on-smaller t c =
+    let branch = c.in-Some.on.branch in
+    let low = label_low c.args.file.now.bytes.now c.args.file.now.shape c.args.node branch.label branch.step.accepts branch.step.next c.requires.node.node_there
     c.in-Some.ensures.accepts c.in-Some.ensures.next c.in-Some.ensures.alive in
     let reached = c.in-Some.ensures.reached in
     omega arith
 
-pub loop-branch-preserved : goal.loop-branch-preserved
-loop-branch-preserved t c =
+pub loop-on-preserved : goal.loop-on-preserved
+loop-on-preserved t c =
     let bytes = c.args.file.now.bytes.now in
     let front = c.args.front.now in
-    let branch = c.in-Some.branch in
-    let low = label_low bytes c.args.file.now.shape c.args.node branch.label branch.step.accepts branch.step.next c.requires.node_there
+    let branch = c.in-Some.on.branch in
+    let low = label_low bytes c.args.file.now.shape c.args.node branch.label branch.step.accepts branch.step.next c.requires.node.node_there
     c.in-Some.ensures.accepts c.in-Some.ensures.next c.in-Some.ensures.alive in
     let there : TurnsBehind bytes front branch.label branch.step.next = elim c.match-branch.branch [
-      | in-None w ↦ behind_none_there bytes front c.args.node branch.label branch.step.next c.requires w.in-None.is c.in-Some.ensures.next
+      | in-None w ↦ behind_none_there bytes front c.args.node branch.label branch.step.next c.requires.node w.in-None.is c.in-Some.ensures.next
       | in-Some-next+else-not-turn_over_at w ↦
-          behind_mark_there bytes front c.args.node w.in-Some-next.behind branch.label branch.step.next c.requires w.if-branch-eq-MARK.true
-          w.in-Some-next.is c.in-Some.ensures.next w.if-not-turn_over_at.ensures
+          behind_mark_there bytes front c.args.node w.in-Some-next.behind branch.label branch.step.next c.requires.node w.if-branch-eq-MARK.true
+          w.in-Some-next.is c.in-Some.ensures.next w.if-not-turn_over_at.ensures.turned
       | in-Some-2+in_ok-left-in-Some-2 w ↦
           behind_letter_there bytes front (take (length front + 1) w.with_label-longer.result) branch.label branch.step.next w.in-Some-2.next
-          w.if-branch-eq-MARK.false w.in-Some-2.is w.with_label-longer.ensures w.in_ok-left-in-Some-2.ensures
+          w.if-branch-eq-MARK.false w.in-Some-2.is w.with_label-longer.ensures w.in_ok-left-in-Some-2.ensures.turned
+    ] in
+    let kept : AreKept bytes c.match-branch.kept = elim c.match-branch.branch [
+      | in-None w ↦ rw w.kept-is c.loop-on.invariant.kept
+      | in-Some-next+else-not-turn_over_at w ↦ rw w.kept-is w.if-not-turn_over_at.ensures.kept
+      | in-Some-2+in_ok-left-in-Some-2 w ↦ rw w.kept-is w.in_ok-left-in-Some-2.ensures.kept
     ] in
     record {
       low = omega arith;
-      below = so_far_more bytes front c.args.node c.loop-branch.from branch.label branch.step.next c.requires c.loop-branch.invariant.below
+      rest = c.in-Some.ensures.rest;
+      kept = kept;
+      below = so_far_more bytes front c.args.node c.loop-on.from branch.label branch.step.next c.requires.node c.loop-on.invariant.below
           c.in-Some.ensures.passed c.in-Some.ensures.reached c.in-Some.ensures.next there;
     }
 
 pub returns : goal.returns
-returns t c =
-    so_far_all c.args.file.now.bytes.now c.args.front.now c.args.node c.loop-branch.from c.requires c.loop-branch.invariant.below c.in_default.ensures.none
+returns t c = record {
+  turned = so_far_all c.args.file.now.bytes.now c.args.front.now c.args.node c.loop-on.from c.requires.node c.loop-on.invariant.below c.in_default.ensures.none;
+  kept = c.loop-on.invariant.kept;
+}

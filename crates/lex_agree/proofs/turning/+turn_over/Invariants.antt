@@ -1,18 +1,21 @@
 use Rattle.std.proofs.Common.{◌-◌, ◌≤◌}
-use Rattle.lex_file.specs.Files.{number_of}
+use Rattle.lex_file.specs.Files.{number_of, IsRest}
 use Rattle.lex_file.specs.Languages.{language_of}
+use Rattle.lex_agree.specs.Walks.{AreKept}
 use Rattle.lex_agree.proofs.Walking.{TurnsSoFar}
 use Rattle.lex_agree.proofs.turning.+turn_over.Given as goal
 
 abbrev pub decreases-turn_over : goal.decreases-turn_over
 decreases-turn_over l = number_of l.node
 
-abbrev pub invariant-loop-branch : goal.invariant-loop-branch
-invariant-loop-branch l =
+abbrev pub invariant-loop-on : goal.invariant-loop-on
+invariant-loop-on l =
     record {
       low : l.from ≤ 27;
+      rest : IsRest l.file.bytes.now (number_of l.node) l.from l.rest;
+      kept : AreKept l.file.bytes.now l.kept;
       below : TurnsSoFar (language_of l.file.bytes.now) l.front l.from;
     }
 
-abbrev pub decreases-loop-branch : goal.decreases-loop-branch
-decreases-loop-branch l = 27 - l.from
+abbrev pub decreases-loop-on : goal.decreases-loop-on
+decreases-loop-on l = 27 - l.from

@@ -1,4 +1,4 @@
-use Rattle.std.proofs.Common.{rules, arith, ◌≡◌, ◌<◌, ◌++◌, ◌-◌, ◌*◌, ℕ, Bool, true, false, List, is_some, ap, ◌∙◌}
+use Rattle.std.proofs.Common.{rules, arith, ◌≡◌, ◌<◌, ◌++◌, ◌-◌, ◌*◌, ℕ, Bool, true, false, List, is_some, sym, ap, ◌∙◌}
 use Rattle.gen_line.specs.Model.{may}
 use Rattle.lex_file.specs.Walking.{strings}
 use Rattle.gen_line.specs.Walk.{Every, gives_turn, gives_left, gives_tries_left, gives_letter_left, gives_one_left, gives_try_left}
@@ -6,6 +6,7 @@ use Rattle.gen_line.proofs.Sinks.{all-same, every-left, every-right, every-same,
 use Rattle.gen_line.proofs.LeftWalks.{gives_left-none, left-old-dead, left-old-goes, gives_left-stop, gives_left-go, gives_left-free, tries_left-is, tries_left-dead}
 use Rattle.gen_line.proofs.Branching.{try_left-yes, try_left-no, goes_left, ends_left, labels-every, labels-took, labels-front}
 use Rattle.gen_line.proofs.Walks.{may-left, no_more}
+use Rattle.gen_line.proofs.Spent.{tries_left-spent}
 use Rattle.gen_line.proofs.walking.LineWalk.+left.Goals as goal
 
 -- ---- one entry
@@ -135,6 +136,9 @@ left-returns-else-free-clause-took g t c =
     (took-for tells _ _ _ tried _ _ c.in_ok-turn-in-Free.ensures.made_for c.tries_left.ensures.took))
 
 -- ---- the entries of a cell
+
+pub tries_left-returns-then-left-eq0-clause-took : goal.tries_left-returns-then-left-eq0-clause-took
+tries_left-returns-then-left-eq0-clause-took g t c = nothing-took _ _ _ (tries_left-spent _ _ _ _ _ _ _ (sym c.left.ensures ∙ c.if-left-eq0.true))
 
 pub tries_left-returns-in_default-clause-took : goal.tries_left-returns-in_default-clause-took
 tries_left-returns-in_default-clause-took g t c =

@@ -1,10 +1,11 @@
-use Rattle.std.proofs.Common.{rules, arith, ◌≡◌, ◌<◌, ◌≤◌, ◌+◌, ◌++◌, ◌-◌, ◌*◌, ℕ, Bool, true, false, List, length, is_some, ap, ◌∙◌}
+use Rattle.std.proofs.Common.{rules, arith, ◌≡◌, ◌<◌, ◌≤◌, ◌+◌, ◌++◌, ◌-◌, ◌*◌, ℕ, Bool, true, false, List, length, is_some, sym, ap, ◌∙◌}
 use Rattle.gen_line.specs.Model.{may}
 use Rattle.lex_file.specs.Walking.{strings}
 use Rattle.gen_line.specs.Walk.{Every, gives_leaf, gives_right, gives_tries_right, gives_letter_right, gives_one_right, gives_try_right}
 use Rattle.gen_line.proofs.Sinks.{all-same, every-left, every-right, every-same, every-for, front-less, front-same, front-for, took-more, took-same, took-for, took-refused, all-for, nothing-took}
 use Rattle.gen_line.proofs.Walks.{gives_right-end, right-old-dead, right-old-goes, gives_right-free, tries_right-is, tries_right-dead, may-left, no_more}
 use Rattle.gen_line.proofs.Branching.{try_right-yes, try_right-no, goes_right, ends_right, labels-every, labels-took, labels-front}
+use Rattle.gen_line.proofs.Spent.{tries_right-spent}
 use Rattle.gen_line.proofs.walking.LineWalk.+right.Goals as goal
 
 -- ---- one entry
@@ -129,6 +130,9 @@ right-returns-in_ok-offer-in-Free-clause-took g t c =
     (took-for tells _ _ _ tried _ _ c.in_ok-offer-in-Free.ensures.made_for c.tries_right.ensures.took))
 
 -- ---- the entries of a cell
+
+pub tries_right-returns-then-left-eq0-clause-took : goal.tries_right-returns-then-left-eq0-clause-took
+tries_right-returns-then-left-eq0-clause-took g t c = nothing-took _ _ _ (tries_right-spent _ _ _ _ _ _ (sym c.left.ensures ∙ c.if-left-eq0.true))
 
 pub tries_right-returns-in_default-clause-took : goal.tries_right-returns-in_default-clause-took
 tries_right-returns-in_default-clause-took g t c =

@@ -1,8 +1,23 @@
 use Rattle.std.proofs.lemmas.Int.{ints}
-use Rattle.std.proofs.Common.{rules, ◌≡◌, ◌∙◌, subst, to_z, of_z, w32, to_z-of_z}
+use Rattle.std.proofs.Common.{rules, ◌≡◌, ◌∙◌, sym, subst, to_z, of_z, w32, to_z-of_z}
 use Rattle.gen_moves.specs.Telling.{PlayIs}
+use Rattle.gen_moves.specs.Bounds.{TellsUnder}
+use Rattle.gen_moves.specs.Starts.{GoesAlong}
+use Rattle.gen_moves.proofs.Offering.{passed_over}
+use Rattle.gen_moves.proofs.Starting.{told_along}
 use Rattle.gen_moves.proofs.Taking.{tell_none, took_one}
 use Rattle.gen_moves.proofs.telling.LinePlaysTaker.take.Goals as goal
+
+pub returns-then-passes-clause-took : goal.returns-then-passes-clause-took
+returns-then-passes-clause-took g c =
+    let taker = c.args.self.now in
+    let spot = taker.spot.now in
+    let for = g.S.Sink.made_for c.args.sink.now in
+    let known = c.requires.1.1 in
+    let under = subst (TellsUnder taker.rules.now spot.board spot.dir spot.line c.args.fresh.now) (sym (c.tally_of.ensures known.first known.len known.lies)) known.under in
+    sym
+    (passed_over taker.rules.now spot.board spot.dir spot.line c.args.fresh.now c.tally_of.result (GoesAlong for spot.dir) (g.S.Sink.add for) (g.S.Sink.items c.args.sink.now)
+    (c.passes.ensures c.if-passes.true) (told_along for taker.rules.now spot.board spot.dir spot.line c.args.fresh.now c.requires.0.0 c.requires.1.0) under)
 
 pub returns-in_default-clause-took : goal.returns-in_default-clause-took
 returns-in_default-clause-took g c =

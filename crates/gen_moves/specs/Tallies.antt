@@ -1,0 +1,55 @@
+-- What a move of a line scores at the most, by what each place of its stretch adds.
+use Rattle.std.specs.Prelude.{◌≡◌, ◌≢◌, ℕ, ◌+◌, ◌*◌, ◌<◌, ◌≤◌, ◌==◌, ◌&&◌, not, nat_le, Bool, true, List, slice_index, if◌then◌else◌}
+use Rattle.ref_tiles.specs.declared.rulebook.Rules.{Rules}
+use Rattle.ref_board.specs.Runs.{IsWhole}
+use Rattle.ref_play.specs.Scores.{points_on}
+use Rattle.gen_moves.specs.declared.places.Place.{Place}
+use Rattle.gen_moves.specs.declared.spots.Spot.{Spot}
+use Rattle.gen_moves.specs.declared.tallies.Tally.{Tally}
+use Rattle.gen_moves.specs.LineTiles.{tile_of_entry}
+use Rattle.gen_moves.specs.Bounds.{total, times, free_count, IsSmall, TellsUnder}
+
+-- the points of the new tile on a place; a blank has none
+abbrev pub points_at : Rules → List ℕ → ℕ → ℕ
+points_at rules y i = points_on rules (tile_of_entry (slice_index y i))
+
+-- whether a place has an old tile or a new one
+abbrev pub is_laid : (ℕ → Place) → List ℕ → ℕ → Bool
+is_laid places y i = not ((places i).free && slice_index y i == 0)
+
+-- what a place adds to the word of the stretch, and its cross word to the score
+abbrev pub letter_sum : Rules → (ℕ → Place) → List ℕ → ℕ → ℕ
+letter_sum rules places y i = (places i).old + (places i).letter * points_at rules y i
+
+abbrev pub cross_sum : Rules → (ℕ → Place) → List ℕ → ℕ → ℕ
+cross_sum rules places y i = (places i).side + (places i).cross * points_at rules y i
+
+-- the word of a stretch, its cross words, and the bonus
+abbrev pub tally : Rules → (ℕ → Place) → List ℕ → ℕ → ℕ → ℕ
+tally rules places y first len =
+    total (letter_sum rules places y) first len * times (λ i. (places i).word) first len
+    + total (cross_sum rules places y) first len
+    + (if nat_le 7 (free_count places first len) then rules.bonus else 0)
+
+-- the sums and products of a stretch
+pub record IsTally (rules : Rules) (places : ℕ → Place) (y : List ℕ) (first len : ℕ) (t : Tally) : Type 0 where
+  pub letters : t.letters ≡ total (letter_sum rules places y) first len
+  pub word : t.word ≡ times (λ i. (places i).word) first len
+  pub crosses : t.crosses ≡ total (cross_sum rules places y) first len
+  pub free : t.free ≡ free_count places first len
+
+-- the new tiles of a line lie in one whole stretch of it, and there is one
+pub record LiesOn (places : ℕ → Place) (y : List ℕ) (first len : ℕ) : Type 0 where
+  pub whole : IsWhole (is_laid places y) first len
+  pub within : (i : ℕ) → i < 15 → slice_index y i ≢ 0 → (first ≤ i) × (i < first + len)
+  pub some : (i : ℕ) × (first ≤ i) × (i < first + len) × ((places i).free ≡ true)
+
+abbrev pub AreSmall : (ℕ → Place) → Type 0
+AreSmall places = (i : ℕ) → i < 15 → IsSmall (places i)
+
+-- a move has a stretch, and its play scores no more than the stretch adds up to
+pub record IsTallied (rules : Rules) (spot : Spot) (places : ℕ → Place) (y : List ℕ) : Type 0 where
+  pub first : ℕ
+  pub len : ℕ
+  pub lies : LiesOn places y first len
+  pub under : TellsUnder rules spot.board spot.dir spot.line y (tally rules places y first len)

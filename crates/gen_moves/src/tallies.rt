@@ -1,0 +1,112 @@
+//! What the tiles of a move score at the most, added up place by place.
+ghost use Rattle.std.specs.Prelude.{◌≡◌, ◌<◌, ◌≤◌, ◌+◌, ◌*◌, ◌==◌, ◌&&◌, ℕ, nat_le, not, if◌then◌else◌};
+ghost use Rattle.ref_play.specs.Scores.{points_on};
+ghost use Rattle.gen_moves.specs.LineTiles.{tile_of_entry};
+ghost use Rattle.gen_moves.specs.Bounds.{IsSmall, one_if, place_in};
+ghost use Rattle.gen_moves.specs.Tallies.{AreSmall, LiesOn, tally};
+
+use crate::places::Place;
+use crate::spots::tile_of;
+use ref_board::SIDE;
+use ref_play::{RACK, points_on};
+use ref_tiles::Rules;
+
+/// What the places of a stretch add up to.
+#[derive(Clone, Copy)]
+pub struct Tally {
+    /// The points of the letters of its word, with their premiums.
+    pub letters: u64,
+    /// The product of the word premiums.
+    pub word: u64,
+    /// What the cross words score.
+    pub crosses: u64,
+    /// The number of new tiles.
+    pub free: u64,
+}
+
+impl Tally {
+    /// That of no place.
+    fn none() -> Tally
+        ensures letters { result.letters ≡ 0 }
+        ensures word { result.word ≡ 1 }
+        ensures crosses { result.crosses ≡ 0 }
+        ensures free { result.free ≡ 0 }
+    {
+        Tally {
+            letters: 0,
+            word: 1,
+            crosses: 0,
+            free: 0,
+        }
+    }
+
+    /// That with one place more, on which lies an old tile, or a new one of so many points.
+    fn with(&self, place: &Place, points: u64) -> Tally
+        requires letters { self.now.letters ≤ 5544 }
+        requires word { self.now.word ≤ 4782969 }
+        requires crosses { self.now.crosses ≤ 2764944 }
+        requires free { self.now.free ≤ 14 }
+        requires place { IsSmall place.now }
+        requires points { points ≤ 99 }
+        ensures letters { result.letters ≡ self.now.letters + (place.now.old + place.now.letter * points) }
+        ensures word { result.word ≡ self.now.word * place.now.word }
+        ensures crosses { result.crosses ≡ self.now.crosses + (place.now.side + place.now.cross * points) }
+        ensures free { result.free ≡ self.now.free + one_if place.now.free }
+    {
+        Tally {
+            letters: self.letters + (place.old + place.letter * points),
+            word: self.word * place.word,
+            crosses: self.crosses + (place.side + place.cross * points),
+            free: self.free + u64::from(place.free),
+        }
+    }
+
+    /// What it comes to.
+    fn score(&self, bonus: u16) -> u64
+        requires letters { self.now.letters ≤ 5940 }
+        requires word { self.now.word ≤ 14348907 }
+        requires crosses { self.now.crosses ≤ 2962440 }
+        ensures { result ≡ self.now.letters * self.now.word + self.now.crosses + (if nat_le 7 self.now.free then bonus else 0) }
+    {
+        let on_top = if self.free >= RACK as u64 {
+            u64::from(bonus)
+        } else {
+            0
+        };
+        self.letters * self.word + self.crosses + on_top
+    }
+}
+
+/// The points of the new tile of an entry; a blank has none.
+fn points_of_entry(rules: &Rules, entry: u8) -> u64
+    ensures points { result ≡ points_on rules.now (tile_of_entry entry) }
+    ensures limit { result ≤ 99 }
+{
+    u64::from(points_on(rules, tile_of(entry)))
+}
+
+/// Whether a place has an old tile or a new one.
+fn is_laid(place: &Place, entry: u8) -> bool
+    ensures { result ≡ not (place.now.free && entry == 0) }
+{
+    !(place.free && entry == 0)
+}
+
+/// What the move of some entries scores at the most: what the stretch adds up to in which its tiles lie.
+pub fn tally_of(rules: &Rules, places: &[Place; SIDE], fresh: &[u8; SIDE]) -> u64
+    requires { AreSmall (place_in places.now) }
+    ensures { (first len : ℕ) → LiesOn (place_in places.now) fresh.now first len → result ≡ tally rules.now (place_in places.now) fresh.now first len }
+{
+    let mut tally = Tally::none();
+    for place in 0..SIDE {
+        if is_laid(&places[place], fresh[place]) {
+            tally = tally.with(&places[place], points_of_entry(rules, fresh[place]));
+        } else {
+            if tally.free > 0 {
+                return tally.score(rules.bonus);
+            }
+            tally = Tally::none();
+        }
+    }
+    tally.score(rules.bonus)
+}

@@ -1,0 +1,9 @@
+use Rattle.std.proofs.Common.{◌-◌, arith}
+use Rattle.lex_agree.proofs.Turned.{turned_same}
+use Rattle.lex_agree.proofs.kept.begin.Goals as goal
+
+pub returns-clause-steps : goal.returns-clause-steps
+returns-clause-steps c =
+    let some = c.if-kept-eq0.false in
+    turned_same c.args.file.now.bytes.now c.args.first c.args.front.now c.args.kept.now (c.args.kept.now.known - 1) c.common_letters.result c.requires
+    (omega arith) c.common_letters.ensures

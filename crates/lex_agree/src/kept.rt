@@ -1,0 +1,96 @@
+//! What stands behind a label and a front, kept for the next front that is turned over to the same label.
+ghost use Rattle.std.specs.Prelude.{◌≡◌, ◌∷◌, [], ◌<◌, ◌≤◌, length, take};
+ghost use Rattle.lex_file.specs.Files.{bytes_of};
+ghost use Rattle.lex_agree.specs.Walks.{IsStepAt, AreTurned, IsKept};
+
+use crate::firsts::common_letters;
+use crate::steps::{behind_label, follow};
+use lex_file::{LexFile, Node, Step};
+
+/// The most labels before a mark.
+pub const MOST_LABELS: usize = 15;
+
+/// The most labels before a mark, and one.
+const PLACES: usize = 16;
+
+/// The front that was turned over last to a label, and the steps behind that label and the first labels of the front.
+#[derive(Clone, Copy)]
+pub struct Kept {
+    front: [u8; MOST_LABELS],
+    known: usize,
+    steps: [Step<Node>; PLACES],
+}
+
+/// Where no front was turned over yet.
+pub fn none_kept(none: Step<Node>) -> Kept
+    ensures letters { length result.front ≡ 15 }
+    ensures room { length result.steps ≡ 16 }
+    ensures none { result.known ≡ 0 }
+{
+    Kept {
+        front: [0; MOST_LABELS],
+        known: 0,
+        steps: [none; PLACES],
+    }
+}
+
+/// What stands behind a label and a front: the walk goes on from where the front that was kept for that label goes another
+/// way.
+#[tactic(auto, using(crate::proofs::Turned::turned_kept))]
+pub fn walk_on(file: &LexFile<'_>, first: u8, front: &[u8], kept: &mut Kept) -> Step<Node>
+    requires few { length front.now < 15 }
+    requires kept { IsKept (bytes_of file.now) first kept.old }
+    ensures step { IsStepAt (bytes_of file.now) (first ∷ front.now) result }
+    ensures kept { IsKept (bytes_of file.now) first kept.new }
+{
+    let same = begin(file, first, front, kept);
+    turn_more(file, first, front, same, &mut kept.steps);
+    put_front(&mut kept.front, front);
+    kept.known = front.len() + 1;
+    kept.steps[front.len()]
+}
+
+/// The number of labels that a front has in common with the one that is kept. Where none is kept, the step behind the label
+/// alone is put there.
+#[tactic(auto, using(crate::proofs::Turned::turned_none, crate::proofs::Turned::turned_same))]
+fn begin(file: &LexFile<'_>, first: u8, front: &[u8], kept: &mut Kept) -> usize
+    requires { IsKept (bytes_of file.now) first kept.old }
+    ensures letters { length kept.new.front ≡ 15 }
+    ensures few { result ≤ length front.now }
+    ensures steps { AreTurned (bytes_of file.now) first front.now result kept.new.steps }
+{
+    if kept.known == 0 {
+        kept.steps[0] = behind_label(file, first);
+        return 0;
+    }
+    common_letters(&kept.front[..kept.known - 1], front)
+}
+
+/// Puts beside the steps behind a label and the first labels of a front, which are known, those to the others.
+#[tactic(auto, using(crate::proofs::Turned::turned_more))]
+fn turn_more(
+    file: &LexFile<'_>,
+    first: u8,
+    front: &[u8],
+    same: usize,
+    steps: &mut [Step<Node>; PLACES],
+)
+    requires few { length front.now < 15 }
+    requires same { same ≤ length front.now }
+    requires steps { AreTurned (bytes_of file.now) first front.now same steps.old }
+    ensures { AreTurned (bytes_of file.now) first front.now (length front.now) steps.new }
+{
+    for split in same..front.len() {
+        steps[split + 1] = follow(file, steps[split], front[split]);
+    }
+}
+
+/// Puts a front where the one before it was.
+fn put_front(labels: &mut [u8; MOST_LABELS], front: &[u8])
+    requires few { length front.now < 15 }
+    requires room { length labels.old ≡ 15 }
+    ensures room { length labels.new ≡ 15 }
+    ensures front { take (length front.now) labels.new ≡ front.now }
+{
+    labels[..front.len()].copy_from_slice(front);
+}
