@@ -6,7 +6,7 @@ use gcg_read::Seat;
 use std::alloc::{AllocError, Global};
 
 /// How a page looks, in light and in dark, at each width and on paper.
-const STYLE: &str = "\
+pub const STYLE: &str = "\
 :root{color-scheme:light dark;--back:#fff;--ink:#1c1c1c;--faint:#666;--line:#bbb;--tile:#f3dfae;--tile-ink:#231a05;--new:#b3400c;\
 --dl:#cfe6f5;--tl:#8fc1e3;--dw:#f7d5d3;--tw:#e9a09b;--good:#1c6b2c;--bad:#a11c1c;--open:#7a5a00}\n\
 @media(prefers-color-scheme:dark){:root{--back:#16181b;--ink:#e8e6e1;--faint:#a3a3a3;--line:#4a4d52;--tile:#d9c184;--tile-ink:#1a1403;\

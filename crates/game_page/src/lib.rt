@@ -8,6 +8,8 @@ mod banners;
 mod boards;
 mod feet;
 mod heads;
+mod indexes;
+mod names;
 mod pages;
 mod pieces;
 mod plays;
@@ -16,4 +18,6 @@ mod sheets;
 mod walks;
 
 pub use feet::Maker;
+pub use indexes::{IndexRow, push_index_end, push_index_head, push_index_row};
+pub use names::PageNames;
 pub use pages::push_page;
