@@ -7,6 +7,7 @@ use engine::{Case, Finding, case_line};
 use explain_lines::push_reason;
 use game_sheets::last_total;
 use gcg_read::Seat;
+use html_text::push_text;
 use std::alloc::{AllocError, Global};
 
 /// Appends a player's name and last written total.
@@ -55,15 +56,9 @@ pub fn push_banner(
     let line = case_line(alloc, case)?;
     let mut reason = Vec::new(alloc);
     push_reason(alloc, &mut reason, sheet.rules, sheet.pair.list(), case)?;
-    write(
-        alloc,
-        page,
-        &[
-            Piece::Markup(class_of(sheet.finding)),
-            Piece::Text(line.as_slice().trim_ascii_end()),
-            Piece::Markup("</strong>"),
-            Piece::Text(reason.as_slice().trim_ascii_end()),
-            Piece::Markup("</p>\n"),
-        ],
-    )
+    page.extend_from_slice(class_of(sheet.finding).as_bytes())?;
+    push_text(alloc, page, line.as_slice().trim_ascii_end())?;
+    page.extend_from_slice(b"</strong>")?;
+    push_text(alloc, page, reason.as_slice().trim_ascii_end())?;
+    page.extend_from_slice(b"</p>\n")
 }

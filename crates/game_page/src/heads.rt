@@ -50,7 +50,11 @@ pub fn push_name(
 ) -> Result<(), AllocError> {
     let player = sheet.record.players.of(seat);
     let full = player.full.as_bytes();
-    let name = if full.is_empty() { player.nick.as_bytes() } else { full };
+    let name = if full.is_empty() {
+        player.nick.as_bytes()
+    } else {
+        full
+    };
     write(alloc, page, &[Piece::Text(name)])
 }
 

@@ -2,6 +2,7 @@
 
 use crate::heads::STYLE;
 use crate::pieces::{Piece, write};
+use html_text::push_text;
 use percent_encoding::{NON_ALPHANUMERIC, utf8_percent_encode};
 use std::alloc::{AllocError, Global};
 
@@ -24,9 +25,13 @@ pub fn push_index_head(alloc: Global, page: &mut Vec<u8>) -> Result<(), AllocErr
         alloc,
         page,
         &[
-            Piece::Markup("<!DOCTYPE html>\n<html lang=\"en\">\n<head>\n<meta charset=\"utf-8\">\n<meta name=\"viewport\" content=\"width=device-width, initial-scale=1\">\n<title>Games</title>\n<style>\n"),
+            Piece::Markup(
+                "<!DOCTYPE html>\n<html lang=\"en\">\n<head>\n<meta charset=\"utf-8\">\n<meta name=\"viewport\" content=\"width=device-width, initial-scale=1\">\n<title>Games</title>\n<style>\n",
+            ),
             Piece::Markup(STYLE),
-            Piece::Markup("</style>\n</head>\n<body>\n<main>\n<h1>Games</h1>\n<table class=\"sheet\">\n<thead>\n<tr><th>Game</th><th>Verdict</th><th>Players</th></tr>\n</thead>\n<tbody>\n"),
+            Piece::Markup(
+                "</style>\n</head>\n<body>\n<main>\n<h1>Games</h1>\n<table class=\"sheet\">\n<thead>\n<tr><th>Game</th><th>Verdict</th><th>Players</th></tr>\n</thead>\n<tbody>\n",
+            ),
         ],
     )
 }
@@ -55,21 +60,15 @@ pub fn push_index_row(
 /// Appends the name of a game, as a link where it has a page.
 fn push_link(alloc: Global, page: &mut Vec<u8>, row: &IndexRow<'_>) -> Result<(), AllocError> {
     let Some(name) = row.page else {
-        return write(alloc, page, &[Piece::Text(row.game)]);
+        return push_text(alloc, page, row.game);
     };
     let mut address = String::new(alloc);
     utf8_percent_encode(name, NON_ALPHANUMERIC).append_to(&mut address)?;
-    write(
-        alloc,
-        page,
-        &[
-            Piece::Markup("<a href=\""),
-            Piece::Text(address.as_bytes()),
-            Piece::Markup("\">"),
-            Piece::Text(row.game),
-            Piece::Markup("</a>"),
-        ],
-    )
+    page.extend_from_slice(b"<a href=\"")?;
+    push_text(alloc, page, address.as_bytes())?;
+    page.extend_from_slice(b"\">")?;
+    push_text(alloc, page, row.game)?;
+    page.extend_from_slice(b"</a>")
 }
 
 /// Appends the end of the index.

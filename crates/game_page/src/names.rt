@@ -35,7 +35,8 @@ impl PageNames {
         for number in *first..u64::MAX {
             let numbered = numbered(alloc, stem, number)?;
             if self.taken.get(numbered.as_str()).is_none() {
-                self.taken.insert(String::from_str(alloc, stem)?, number + 1)?;
+                self.taken
+                    .insert(String::from_str(alloc, stem)?, number + 1)?;
                 return self.take(alloc, numbered);
             }
         }

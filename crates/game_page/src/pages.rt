@@ -39,14 +39,19 @@ fn push_board_at(
         rules: sheet.rules,
         board: &after.board,
         before: &before.board,
-        marked: if after.end <= place { squares_of(events, place) } else { None },
+        marked: if after.end <= place {
+            squares_of(events, place)
+        } else {
+            None
+        },
     };
     push_board(alloc, page, &picture)?;
     page.extend_from_slice(KEY.as_bytes())
 }
 
 /// What the signs of a board mean.
-const KEY: &str = "<p class=\"key\">TW triple word, DW double word, TL triple letter, DL double letter. A small, slanted letter is a blank. New tiles are framed.</p>\n";
+const KEY: &str =
+    "<p class=\"key\">TW triple word, DW double word, TL triple letter, DL double letter. A small, slanted letter is a blank. New tiles are framed.</p>\n";
 
 /// Appends the board at the end, or at the faulty line with its play marked.
 fn push_main_board(alloc: Global, page: &mut Vec<u8>, sheet: &Sheet<'_>) -> Result<(), AllocError> {
@@ -64,7 +69,12 @@ fn push_main_board(alloc: Global, page: &mut Vec<u8>, sheet: &Sheet<'_>) -> Resu
             Piece::Markup("</h2>\n"),
         ],
     )?;
-    push_board_at(alloc, page, sheet, place_of_line(events, line).unwrap_or(events.len()))
+    push_board_at(
+        alloc,
+        page,
+        sheet,
+        place_of_line(events, line).unwrap_or(events.len()),
+    )
 }
 
 /// Appends the page of a record that was read.
@@ -98,9 +108,14 @@ pub fn push_page(
     right: &mut Record,
     maker: &Maker<'_>,
 ) -> Result<(), AllocError> {
-    let Ok(Entry {
-        record, finding, ..
-    }) = &case.read else {
+    let Ok(
+        Entry {
+            record,
+            finding,
+            ..
+        },
+    ) = &case.read
+    else {
         return Ok(());
     };
     let _refused = correct(rules, &mut right.events, pair.list());

@@ -26,18 +26,29 @@ pub fn push_event(alloc: Global, page: &mut Vec<u8>, event: &Event) -> Result<()
         EventKind::Play { at, dir, word } => push_play(page, *at, *dir, word.as_slice()),
         EventKind::Pass => page.extend_from_slice(b"pass"),
         EventKind::Exchange(tiles) => {
-            write(alloc, page, &[Piece::Markup("exchange "), Piece::Tiles(tiles)])
+            write(
+                alloc,
+                page,
+                &[Piece::Markup("exchange "), Piece::Tiles(tiles)],
+            )
         }
         EventKind::ExchangeUnknown(number) => write(
             alloc,
             page,
-            &[Piece::Markup("exchange of "), Piece::Many(usize::from(*number))],
+            &[
+                Piece::Markup("exchange of "),
+                Piece::Many(usize::from(*number)),
+            ],
         ),
         EventKind::Withdraw => page.extend_from_slice(b"play taken back"),
         EventKind::Challenge => page.extend_from_slice(b"challenge bonus"),
         EventKind::Time => page.extend_from_slice(b"time penalty"),
         EventKind::LastRack(tiles) => {
-            write(alloc, page, &[Piece::Markup("last rack "), Piece::Tiles(tiles)])
+            write(
+                alloc,
+                page,
+                &[Piece::Markup("last rack "), Piece::Tiles(tiles)],
+            )
         }
     }
 }

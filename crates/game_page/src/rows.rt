@@ -29,10 +29,18 @@ fn push_written(
         alloc,
         page,
         &[
-            Piece::Markup(if is_faulty { "<tr class=\"fault\">" } else { "<tr>" }),
+            Piece::Markup(if is_faulty {
+                "<tr class=\"fault\">"
+            } else {
+                "<tr>"
+            }),
             Piece::Markup("<td data-name=\"Line\">"),
             Piece::Line(event.line),
-            Piece::Markup(if is_faulty { " <span class=\"wrong\">fault</span>" } else { "" }),
+            Piece::Markup(if is_faulty {
+                " <span class=\"wrong\">fault</span>"
+            } else {
+                ""
+            }),
             Piece::Markup("</td><td data-name=\"Player\">"),
             Piece::Text(sheet.record.players.of(event.player).nick.as_bytes()),
             Piece::Markup("</td><td data-name=\"Rack\">"),
@@ -65,10 +73,22 @@ fn push_right(
 ) -> Result<(), AllocError> {
     page.extend_from_slice(b"<td class=\"wrong\" data-name=\"Should be\">")?;
     if right.score != event.score {
-        write(alloc, page, &[Piece::Markup("score "), Piece::Points(right.score.value()), Piece::Markup(" ")])?;
+        write(
+            alloc,
+            page,
+            &[
+                Piece::Markup("score "),
+                Piece::Points(right.score.value()),
+                Piece::Markup(" "),
+            ],
+        )?;
     }
     if right.total != event.total {
-        write(alloc, page, &[Piece::Markup("total "), Piece::Points(right.total.value())])?;
+        write(
+            alloc,
+            page,
+            &[Piece::Markup("total "), Piece::Points(right.total.value())],
+        )?;
     }
     page.extend_from_slice(b"</td>")
 }
@@ -85,7 +105,11 @@ fn push_best_cells(
     let best = push_best(alloc, page, sheet, machine, right)?;
     page.extend_from_slice(b"</td><td class=\"p\" data-name=\"Points more\">")?;
     if let Some(best) = best {
-        write(alloc, page, &[Piece::Points(best.saturating_sub(right.score.value()))])?;
+        write(
+            alloc,
+            page,
+            &[Piece::Points(best.saturating_sub(right.score.value()))],
+        )?;
     }
     page.extend_from_slice(b"</td>")
 }
@@ -100,7 +124,7 @@ fn push_after(
 ) -> Result<(), AllocError> {
     let events = sheet.events();
     let before = lay_plays(events, place.min(events.len()));
-    let after = lay_plays(events, (place + 1).min(events.len()));
+    let after = lay_plays(events, place.saturating_add(1).min(events.len()));
     if after.end <= place {
         return Ok(());
     }
@@ -108,7 +132,9 @@ fn push_after(
         alloc,
         page,
         &[
-            Piece::Markup("<tr class=\"after\"><td colspan=\"10\"><details><summary>board after line "),
+            Piece::Markup(
+                "<tr class=\"after\"><td colspan=\"10\"><details><summary>board after line ",
+            ),
             Piece::Line(line),
             Piece::Markup("</summary>\n"),
         ],
@@ -132,14 +158,23 @@ fn push_row(
     stands: bool,
     place: usize,
 ) -> Result<bool, AllocError> {
-    let (Some(event), Some(right)) = (sheet.events().get(place), sheet.right.events.as_slice().get(place)) else {
+    let (Some(event), Some(right)) = (
+        sheet.events().get(place),
+        sheet.right.events.as_slice().get(place),
+    ) else {
         return Ok(false);
     };
     push_written(alloc, page, sheet, event)?;
     let mut taken = false;
     if stands {
         push_best_cells(alloc, page, sheet, machine, right)?;
-        taken = machine.step(right, sheet.right.events.as_slice().get(place + 1), sheet.pair.list()).is_ok();
+        taken = machine
+            .step(
+                right,
+                sheet.right.events.as_slice().get(place + 1),
+                sheet.pair.list(),
+            )
+            .is_ok();
     } else {
         page.extend_from_slice(b"<td></td><td></td>")?;
     }
