@@ -1,6 +1,6 @@
 //! What explains a case.
 
-use crate::boards::{Stretch, push_board};
+use crate::boards::push_board;
 use crate::lines::push_line;
 use crate::parts::{Part, say};
 use crate::racks::push_rack_fault;
@@ -10,6 +10,7 @@ use crate::scenes::Scene;
 use crate::sheets::Sheet;
 use crate::words::push_words;
 use engine::{Case, Finding, GameFault, case_line};
+use game_facts::Stretch;
 use game_board::{Laying, lay_plays, place_of_line};
 use game_turns::play_events;
 use gcg_read::{Event, EventKind, ReadFault};
@@ -50,6 +51,37 @@ pub fn push_explanation(
             push_verdict(alloc, text, case)?;
             push_place(alloc, text, &sheet, place)
         }
+    }
+}
+
+/// Appends the sentences that explain the verdict on a record, and nothing else.
+///
+/// It fails only where memory runs out.
+pub fn push_reason(
+    alloc: Global,
+    text: &mut Vec<u8>,
+    rules: &Rules,
+    list: &WordList,
+    case: &Case,
+) -> Result<(), AllocError> {
+    let bytes = case.text.as_slice();
+    let entry = match &case.read {
+        Ok(entry) => entry,
+        Err(fault) => return push_record_fault(alloc, text, bytes, fault.line, fault.why),
+    };
+    let sheet = Sheet {
+        rules,
+        list,
+        record: &entry.record,
+        finding: &entry.finding,
+        text: bytes,
+    };
+    match what_is_asked(&sheet, None) {
+        Asked::Missing | Asked::Whole => push_whole(text, &sheet),
+        Asked::At(place) => match sheet.events().get(place) {
+            Some(event) => push_judged(alloc, text, &sheet, event, place),
+            None => Ok(()),
+        },
     }
 }
 

@@ -23,5 +23,5 @@ mod tiles;
 mod totals;
 mod words;
 
-pub use cases::push_explanation;
+pub use cases::{push_explanation, push_reason};
 pub use exits::exit_of;

@@ -4,3 +4,4 @@ pub mod Texts
 pub mod Spots
 pub mod Totals
 pub mod Lines
+pub mod Stretches

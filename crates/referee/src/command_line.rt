@@ -1,7 +1,7 @@
 //! The command line: the commands that the program knows, and what one asks for.
 
 use crate::commands::{
-    ARCHIVE, AUDIT, BOARD, BUILD, CHECK, CONVERT, EXPLAIN, JUDGE, SHORT_VERSION, TIDY, TOP, VERSION,
+    ARCHIVE, AUDIT, BOARD, BUILD, CHECK, CONVERT, EXPLAIN, JUDGE, PAGE, SHORT_VERSION, TIDY, TOP, VERSION,
 };
 use crate::sources::STANDARD_INPUT;
 use clap::builder::ValueParser;
@@ -116,6 +116,11 @@ pub enum Request<'a> {
         files: GameFiles<'a>,
         line: Option<u32>,
     },
+    /// To write the page of a game to the file `out`.
+    Page {
+        files: GameFiles<'a>,
+        out: &'a str,
+    },
     /// To write the lexicon of a word list to the file `out`.
     Build {
         words: WordsFile<'a>,
@@ -188,6 +193,7 @@ fn command<'a>(alloc: Global) -> Result<Command<'a>, AllocError> {
         .subcommand(archive_command(alloc)?)?
         .subcommand(audit_command(alloc)?)?
         .subcommand(explain_command(alloc)?)?
+        .subcommand(page_command(alloc)?)?
         .subcommand(build_command(alloc)?)?
         .subcommand(check_command(alloc)?)?
         .subcommand(convert_command(alloc)?)?
@@ -275,6 +281,17 @@ fn explain_command<'a>(alloc: Global) -> Result<Command<'a>, AllocError> {
                     "the line of the record to be explained, counted from 1; without it the one that the verdict names",
                 ),
         )?
+        .arg(first_field_option(alloc))?
+        .arg(rules_option(alloc))
+}
+
+/// `page [--first-field] [--rules FILE] WORDS LEXICON GAME OUT`.
+fn page_command<'a>(alloc: Global) -> Result<Command<'a>, AllocError> {
+    PAGE.command(alloc)
+        .arg(name(alloc, "WORDS", "the word list; - is standard input"))?
+        .arg(name(alloc, "LEXICON", "the lexicon file of the words"))?
+        .arg(name(alloc, "GAME", "the GCG record; - is standard input"))?
+        .arg(name(alloc, "OUT", "the page to be written, or emptied first"))?
         .arg(first_field_option(alloc))?
         .arg(rules_option(alloc))
 }
@@ -465,6 +482,10 @@ fn small_request_of<'a>(command: &str, names: &ArgMatches<'a>) -> Option<Request
         "explain" => Some(Request::Explain {
             files: game_files(names)?,
             line: names.get_one::<u32>("LINE"),
+        }),
+        "page" => Some(Request::Page {
+            files: game_files(names)?,
+            out: names.get_str("OUT")?,
         }),
         "build" => Some(Request::Build {
             words: words_file(names)?,

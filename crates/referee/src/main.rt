@@ -12,6 +12,7 @@ mod explaining;
 mod files;
 mod games;
 mod inputs;
+mod paging;
 mod lexicons;
 mod names;
 mod progress;
