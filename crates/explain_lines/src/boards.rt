@@ -4,9 +4,40 @@ ghost use Rattle.std.specs.Prelude.{◌<◌};
 use crate::parts::{Part, say};
 use crate::sheets::Sheet;
 use game_board::square_mark;
-use game_facts::Stretch;
 use ref_board::{Board, Dir, SIDE, Square};
+use ref_tiles::Symbol;
 use std::alloc::AllocError;
+
+/// The squares that a play covers: so many of a line from a first one on.
+#[derive(Clone, Copy)]
+pub struct Stretch {
+    /// The first square.
+    at: Square,
+    /// The direction.
+    dir: Dir,
+    /// How many there are.
+    len: usize,
+}
+
+impl Stretch {
+    /// The squares of a text, as far as they are on the board.
+    pub fn of(at: Square, dir: Dir, word: &[Symbol]) -> Stretch {
+        Stretch {
+            at,
+            dir,
+            len: word.len().min(SIDE - at.place(dir)),
+        }
+    }
+
+    /// Whether a square is one of them.
+    pub fn has(&self, square: Square) -> bool {
+        let first = self.at.place(self.dir);
+        let place = square.place(self.dir);
+        square.line(self.dir) == self.at.line(self.dir)
+            && first <= place
+            && place - first < self.len
+    }
+}
 
 /// Whether a square is to be marked.
 fn is_marked(marked: &Option<Stretch>, square: Square) -> bool {

@@ -1,6 +1,6 @@
 //! What explains a case.
 
-use crate::boards::push_board;
+use crate::boards::{Stretch, push_board};
 use crate::lines::push_line;
 use crate::parts::{Part, say};
 use crate::racks::push_rack_fault;
@@ -10,7 +10,6 @@ use crate::scenes::Scene;
 use crate::sheets::Sheet;
 use crate::words::push_words;
 use engine::{Case, Finding, GameFault, case_line};
-use game_facts::Stretch;
 use game_board::{Laying, lay_plays, place_of_line};
 use game_turns::play_events;
 use gcg_read::{Event, EventKind, ReadFault};

@@ -4,4 +4,3 @@ pub mod Texts
 pub mod Spots
 pub mod Totals
 pub mod Lines
-pub mod Stretches

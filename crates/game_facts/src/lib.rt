@@ -5,7 +5,6 @@
 mod laws;
 mod lines;
 mod spots;
-mod stretches;
 mod texts;
 mod totals;
 mod words;
@@ -13,7 +12,6 @@ mod words;
 pub use laws::law_of_sums;
 pub use lines::line_of;
 pub use spots::{Spot, scoring_spots};
-pub use stretches::Stretch;
 pub use texts::{first_misfit, new_tiles};
 pub use totals::latest_with;
 pub use words::{ScoredWord, ScoredWords, WordSquare, scored_words};

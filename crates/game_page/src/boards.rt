@@ -2,7 +2,7 @@
 ghost use Rattle.std.specs.Prelude.{◌<◌};
 
 use crate::pieces::{Piece, write};
-use game_facts::Stretch;
+use explain_lines::Stretch;
 use ref_board::{Board, Dir, SIDE, Square};
 use ref_tiles::{Kind, Premium, Rules, Symbol, Tile};
 use std::alloc::{AllocError, Global};
