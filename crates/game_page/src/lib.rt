@@ -18,6 +18,6 @@ mod sheets;
 mod walks;
 
 pub use feet::Maker;
-pub use indexes::{IndexRow, push_index_end, push_index_head, push_index_row};
+pub use indexes::{IndexPlayer, IndexRow, push_index_end, push_index_head, push_index_row};
 pub use names::PageNames;
 pub use pages::push_page;

@@ -1,7 +1,8 @@
 //! The command line: the commands that the program knows, and what one asks for.
 
 use crate::commands::{
-    ARCHIVE, AUDIT, BOARD, BUILD, CHECK, CONVERT, EXPLAIN, JUDGE, PAGE, SHORT_VERSION, TIDY, TOP, VERSION,
+    ARCHIVE, AUDIT, BOARD, BUILD, CHECK, CONVERT, EXPLAIN, JUDGE, PAGE, SHORT_VERSION, TIDY, TOP,
+    VERSION,
 };
 use crate::sources::STANDARD_INPUT;
 use clap::builder::ValueParser;
@@ -92,6 +93,8 @@ pub struct Archive<'a> {
     pub names: ArchiveNames<'a>,
     /// Whether the lines are JSON objects.
     pub json: bool,
+    /// The folder for a page of each game, where pages are wanted.
+    pub pages: Option<&'a str>,
     /// Whether to show how many games are done.
     pub progress: Progressing,
 }
@@ -218,7 +221,7 @@ fn judge_command<'a>(alloc: Global) -> Result<Command<'a>, AllocError> {
         .arg(rules_option(alloc))
 }
 
-/// `archive [--first-field] [--rules FILE] [--names FILE] [--json] [--progress|--quiet] WORDS LEXICON [GAME...]`.
+/// `archive [--first-field] [--rules FILE] [--names FILE] [--json] [--pages FOLDER] [--progress|--quiet] WORDS LEXICON [GAME...]`.
 fn archive_command<'a>(alloc: Global) -> Result<Command<'a>, AllocError> {
     ARCHIVE
         .command(alloc)
@@ -239,6 +242,12 @@ fn archive_command<'a>(alloc: Global) -> Result<Command<'a>, AllocError> {
                 .help("the names of the records, one a line; - is standard input"),
         )?
         .arg(flag(alloc, "json", "write each line as a JSON object"))?
+        .arg(
+            Arg::new(alloc, "pages")
+                .long("pages")
+                .value_name("FOLDER")
+                .help("write a page of each game, and their index, to this folder"),
+        )?
         .arg(flag(
             alloc,
             "progress",
@@ -453,6 +462,7 @@ fn archive_of<'a>(
         lexicon,
         names: games,
         json: names.get_flag("json"),
+        pages: names.get_str("pages"),
         progress: wanted_progress(names),
     })))
 }

@@ -1,117 +1,19 @@
 //! `page`: the page of a game.
 
-use crate::command_line::{GameFiles, WordsFile};
-use crate::commands::PROGRAM;
-use crate::files::{create, open};
-use crate::inputs::{lexicon_of, refuse, write};
-use crate::sources::{Source, open_source, shown};
+use crate::command_line::GameFiles;
+use crate::digests::{digested_list, digested_rules, maker_of, open_digested};
+use crate::files::create;
+use crate::inputs::{Inputs, lexicon_of, refuse, write};
+use crate::sources::{open_source, shown};
 use devices::{FromRead, FromWrite, write_whole};
-use digesting::Digesting;
 use endings::{Exit, Trouble};
-use engine::{
-    Case, Decision, RunFault, case_line, open_case, pair_file, read_list, read_rules, record_from,
-};
+use engine::{Case, case_line, open_case, pair_file, record_from};
 use explain_lines::exit_of;
-use first_fields::FirstFields;
 use game_page::{Maker, push_page};
 use lex_check::Checked;
-use lex_list::WordList;
-use ref_tiles::{Rules, english_rules};
+use ref_tiles::Rules;
 use std::alloc::{AllocError, Global};
-use std::io::Read;
-use std::rt::{Files, Runtime};
-
-/// Rules, and the SHA-256 of their text where they have one.
-#[derive(Drop)]
-struct DigestedRules {
-    rules: Rules,
-    digest: Option<[u8; 32]>,
-}
-
-/// A word list, and the SHA-256 of its file.
-#[derive(Drop)]
-struct DigestedList {
-    list: WordList,
-    digest: [u8; 32],
-}
-
-/// The open files of a page.
-struct PageFiles<F, S> {
-    rules: Option<F>,
-    words: S,
-    lexicon: F,
-    game: S,
-}
-
-/// Opens the rules text where there is one, the word list, the lexicon and the record, in this order.
-fn open_files<'a, R: Runtime>(
-    rt: &R,
-    files: GameFiles<'a>,
-) -> Result<PageFiles<R::File, Source<R>>, Trouble<'a>> {
-    let rules = match files.rules {
-        None => None,
-        Some(name) => Some(open(rt, name)?),
-    };
-    Ok(PageFiles {
-        rules,
-        words: open_source(rt, files.words.name)?,
-        lexicon: open(rt, files.lexicon)?,
-        game: open_source(rt, files.game)?,
-    })
-}
-
-/// The rules of a text, the English ones where there is none, or the decision that the text states none.
-fn digested_rules<'a, F: Read + Drop>(
-    alloc: Global,
-    name: Option<&'a str>,
-    text: Option<F>,
-) -> Result<Result<DigestedRules, Decision>, Trouble<'a>> {
-    let Some(text) = text else {
-        return Ok(Ok(DigestedRules {
-            rules: english_rules(),
-            digest: None,
-        }));
-    };
-    let mut text = FromRead::new(Digesting::new(text));
-    match read_rules(alloc, &mut text) {
-        Ok(Ok(rules)) => Ok(Ok(DigestedRules {
-            rules,
-            digest: Some(text.into_inner().into_digest()),
-        })),
-        Ok(Err(decision)) => Ok(Err(decision)),
-        Err(fault) => Err(Trouble::of(fault, name.unwrap_or(""))),
-    }
-}
-
-/// The word list of a file, or the decision that it is none.
-fn digested_list<'a, F: Read + Drop>(
-    alloc: Global,
-    file: WordsFile<'a>,
-    words: F,
-) -> Result<Result<DigestedList, Decision>, Trouble<'a>> {
-    let words = Digesting::new(words);
-    if file.first_field {
-        let mut words = FromRead::new(FirstFields::new(words));
-        let read = read_list(alloc, &mut words);
-        return with_digest(file, read, words.into_inner().into_inner().into_digest());
-    }
-    let mut words = FromRead::new(words);
-    let read = read_list(alloc, &mut words);
-    with_digest(file, read, words.into_inner().into_digest())
-}
-
-/// What was read of a word list, with the digest of what was read.
-fn with_digest<'a>(
-    file: WordsFile<'a>,
-    read: Result<Result<WordList, Decision>, RunFault>,
-    digest: [u8; 32],
-) -> Result<Result<DigestedList, Decision>, Trouble<'a>> {
-    match read {
-        Ok(Ok(list)) => Ok(Ok(DigestedList { list, digest })),
-        Ok(Err(decision)) => Ok(Err(decision)),
-        Err(fault) => Err(Trouble::of(fault, shown(file.name))),
-    }
-}
+use std::rt::Runtime;
 
 /// Writes the page of a record to the file `out`, and the verdict line to standard output. Of a text that is no record there is no page,
 /// and `out` is not touched.
@@ -120,12 +22,13 @@ pub fn page<'a, R: Runtime + AllocGlobal>(
     files: GameFiles<'a>,
     out: &'a str,
 ) -> Result<Exit, Trouble<'a>> {
-    let PageFiles {
+    let inputs = open_digested(rt, files.rules, files.words, files.lexicon)?;
+    let game = open_source(rt, files.game)?;
+    let Inputs {
         rules,
         words,
         lexicon,
-        game,
-    } = open_files(rt, files)?;
+    } = inputs;
     let rules = match digested_rules(rt.alloc(), files.rules, rules)? {
         Ok(rules) => rules,
         Err(decision) => return refuse(rt, &decision),
@@ -140,12 +43,7 @@ pub fn page<'a, R: Runtime + AllocGlobal>(
         Ok(Err(decision)) => return refuse(rt, &decision),
         Err(_) => return Err(Trouble::NoMemory),
     };
-    let maker = Maker {
-        program: PROGRAM,
-        words: list.list.len(),
-        list: &list.digest,
-        rules: rules.digest.as_ref(),
-    };
+    let maker = maker_of(&rules, &list);
     let mut game = FromRead::new(game);
     match open_case(rt.alloc(), &rules.rules, &pair, &mut game) {
         Ok(case) => write_page(rt, &rules.rules, &pair, &case, &maker, out),
@@ -187,8 +85,21 @@ fn page_of(
     maker: &Maker<'_>,
 ) -> Result<Vec<u8>, AllocError> {
     let mut page = Vec::new(alloc);
-    if let Ok(mut right) = record_from(alloc, case.text.as_slice())? {
-        push_page(alloc, &mut page, rules, pair, case, &mut right, maker)?;
-    }
+    push_case(alloc, &mut page, rules, pair, case, maker)?;
     Ok(page)
+}
+
+/// Appends the page of a case, or nothing where its text is no record.
+pub fn push_case(
+    alloc: Global,
+    page: &mut Vec<u8>,
+    rules: &Rules,
+    pair: &Checked<'_>,
+    case: &Case,
+    maker: &Maker<'_>,
+) -> Result<(), AllocError> {
+    match record_from(alloc, case.text.as_slice())? {
+        Ok(mut right) => push_page(alloc, page, rules, pair, case, &mut right, maker),
+        Err(_) => Ok(()),
+    }
 }
