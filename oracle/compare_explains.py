@@ -1,96 +1,25 @@
 """Compares `referee explain` with the second judge, byte by byte: compare_explains.py PROGRAM CASES SEED
 
-Each case is a game that nobody dealt, or one that was dealt for real with mistakes of a director's day: a play that was written at another
-place or in the other direction, a total without a turn, a wrong score, a rack that was copied wrongly, a line that is missing or stands twice. The
-verdict is explained, and then one of the lines. At the end stands how often each fault was explained.
+Each case is a game that nobody dealt, or one that was dealt for real with mistakes of a director's day (`mistakes.py`). The verdict is
+explained, and then one of the lines. At the end stands how often each fault was explained.
 """
 import random
 import subprocess
 import sys
 import tempfile
 from collections import Counter
-from dataclasses import replace
 from pathlib import Path
 
 from answers import explained, status_of
-from compare_games import Maker, some_tiles
-from dealing import Dealer, likely, line
+from dealing import likely, line
 from lexicons import GAD2, build, convert
-from rules import ENGLISH, SIDE
+from mistakes import some_game
+from rules import ENGLISH
 from rules_texts import text_of
 from ruling import random_rules
 
 choose = random.choice
 MOST = 999_999
-
-
-def moved(event):
-    """A play that was written at another place, or in the other direction."""
-    if event.kind != "play":
-        return event
-    if likely(0.4):
-        return with_text(replace(event, direction=event.direction[::-1]))
-    at = tuple(max(0, min(SIDE - 1, it + random.randint(-2, 2))) for it in event.at)
-    return with_text(replace(event, at=at))
-
-
-def misspelt(event):
-    """A play with a wrong letter, a dot too many or a letter too few."""
-    if event.kind != "play":
-        return event
-    at = random.randrange(len(event.word))
-    word = event.word[:at] + choose([".", "A", "q", ""]) + event.word[at + 1 :]
-    return with_text(replace(event, word=word or "."))
-
-
-def with_text(event):
-    """The event with the text that its line has."""
-    row, column = str(event.at[0] + 1), chr(65 + event.at[1])
-    return replace(event, text=f"{row + column if event.direction == (0, 1) else column + row} {event.word}")
-
-
-def with_total_short(events, place):
-    """The events, of which one player's total lacks a turn from a place on."""
-    player = events[place].player
-    own = [it for it in events[: place + 1] if it.player == player]
-    short = choose(own).score
-    return [replace(it, total=it.total - short) if k >= place and it.player == player else it for k, it in enumerate(events)]
-
-
-def with_mistake(events):
-    """Events with one mistake."""
-    place, what = random.randrange(len(events)), random.random()
-    event = events[place]
-    if what < 0.15:
-        return with_total_short(events, place)
-    if what < 0.3:
-        return events[:place] + events[place + choose([1, 2]) :]
-    if what < 0.4:
-        return events[: place + 1] + events[place:]
-    change = {
-        0: lambda: moved(event),
-        1: lambda: misspelt(event),
-        2: lambda: replace(event, score=event.score + choose([-50, -2, -1, 1, 2, 10, 50])),
-        3: lambda: replace(event, rack=some_tiles(random.randint(1, 7))),
-        4: lambda: replace(event, player=1 - event.player),
-        5: lambda: replace(event, total=event.total + choose([-10, -1, 1, 100])),
-    }
-    return [*events[:place], change[random.randrange(6)](), *events[place + 1 :]]
-
-
-def some_game(rules):
-    """A game and the words of its list."""
-    if likely(0.5):
-        maker = Maker(choose([2, 6, 40]), rules)
-        events = maker.game()
-        listed = set(maker.listed)
-    else:
-        dealer = Dealer(rules, choose([6, 25, 40]), choose([(), ("known", "unknown")]), choose(["whole", "mixed", "none"]), 4)
-        events, _, listed = dealer.game()
-        listed = set(listed) - dealer.phonies
-    for _ in range(choose([0, 1, 1, 2]) if events else 0):
-        events = with_mistake(events) or events
-    return events, {word for word in listed if 2 <= len(word) <= SIDE}
 
 
 class Explaining:

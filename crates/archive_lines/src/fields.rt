@@ -1,6 +1,7 @@
 //! What a line says of a game.
 
 use crate::answers::{Answer, Ending, Unread};
+use crate::pages::PageField;
 use endings::Exit;
 use engine::{Entry, Finding, fault_text, last_total};
 use gcg_read::{Player, ReadFault, Record, Seat};
@@ -33,6 +34,9 @@ pub struct Fields<'a> {
     pub total2: Option<i32>,
     /// How many plays stand with a word that is not listed.
     pub unlisted: Option<usize>,
+    /// The page of the game; none where no pages are made, and then no line has the field.
+    #[serde(skip_serializing_if = "Option::is_none")]
+    pub page: Option<PageField>,
 }
 
 impl<'a> Fields<'a> {
@@ -50,6 +54,7 @@ impl<'a> Fields<'a> {
             player2: None,
             total2: None,
             unlisted: None,
+            page: None,
         }
     }
 
@@ -110,7 +115,11 @@ impl<'a> Fields<'a> {
 
     /// How the program ends where no other game has a greater status.
     pub fn exit(&self) -> Exit {
-        self.verdict.exit()
+        let exit = self.verdict.exit();
+        match &self.page {
+            None => exit,
+            Some(page) => exit.worse(page.exit()),
+        }
     }
 }
 

@@ -2,10 +2,12 @@
 
 use crate::escapes::push_escaped;
 use crate::fields::Fields;
+use crate::pages::PageField;
 use itoa::{Buffer, Integer};
 use std::alloc::AllocError;
 
-/// Appends a line: its fields in their order with a tab between two, `-` for what is none, and an LF.
+/// Appends a line: its fields in their order with a tab between two, `-` for what is none, and an LF. It has the field of the page only
+/// where pages are made.
 pub fn push_tab_line(line: &mut Vec<u8>, fields: &Fields<'_>) -> Result<(), AllocError> {
     push_escaped(line, fields.name.as_bytes())?;
     push_text(line, Some(fields.verdict.name()))?;
@@ -18,8 +20,17 @@ pub fn push_tab_line(line: &mut Vec<u8>, fields: &Fields<'_>) -> Result<(), Allo
     push_text(line, fields.player2.as_ref().map(|nick| nick.as_str()))?;
     push_number(line, fields.total2)?;
     push_number(line, fields.unlisted)?;
+    if let Some(page) = &fields.page {
+        push_page(line, page)?;
+    }
     line.push(b'\n')?;
     Ok(())
+}
+
+/// Appends a tab, and behind it what is said of a page.
+fn push_page(line: &mut Vec<u8>, page: &PageField) -> Result<(), AllocError> {
+    line.push(b'\t')?;
+    push_escaped(line, page.text().unwrap_or("-").as_bytes())
 }
 
 /// Appends a tab, and behind it a text or `-`.

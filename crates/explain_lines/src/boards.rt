@@ -30,7 +30,7 @@ impl Stretch {
     }
 
     /// Whether a square is one of them.
-    fn has(&self, square: Square) -> bool {
+    pub fn has(&self, square: Square) -> bool {
         let first = self.at.place(self.dir);
         let place = square.place(self.dir);
         square.line(self.dir) == self.at.line(self.dir)

@@ -53,6 +53,37 @@ pub fn push_explanation(
     }
 }
 
+/// Appends the sentences that explain the verdict on a record, and nothing else.
+///
+/// It fails only where memory runs out.
+pub fn push_reason(
+    alloc: Global,
+    text: &mut Vec<u8>,
+    rules: &Rules,
+    list: &WordList,
+    case: &Case,
+) -> Result<(), AllocError> {
+    let bytes = case.text.as_slice();
+    let entry = match &case.read {
+        Ok(entry) => entry,
+        Err(fault) => return push_record_fault(alloc, text, bytes, fault.line, fault.why),
+    };
+    let sheet = Sheet {
+        rules,
+        list,
+        record: &entry.record,
+        finding: &entry.finding,
+        text: bytes,
+    };
+    match what_is_asked(&sheet, None) {
+        Asked::Missing | Asked::Whole => push_whole(text, &sheet),
+        Asked::At(place) => match sheet.events().get(place) {
+            Some(event) => push_judged(alloc, text, &sheet, event, place),
+            None => Ok(()),
+        },
+    }
+}
+
 /// Appends the verdict line.
 fn push_verdict(alloc: Global, text: &mut Vec<u8>, case: &Case) -> Result<(), AllocError> {
     let line = case_line(alloc, case)?;

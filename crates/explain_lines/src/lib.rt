@@ -23,5 +23,6 @@ mod tiles;
 mod totals;
 mod words;
 
-pub use cases::push_explanation;
+pub use boards::Stretch;
+pub use cases::{push_explanation, push_reason};
 pub use exits::exit_of;

@@ -38,6 +38,14 @@ impl<R: Read + Drop> FirstFields<R> {
         }
     }
 
+    /// The inner reader, behind what was read of it.
+    pub fn into_inner(self) -> R
+        ensures { option_map (fields_from self.place) (R.remaining result) ≡ ⟦<FirstFields<R> as Read>⟧.remaining self }
+    {
+        let FirstFields { inner, .. } = self;
+        inner
+    }
+
     /// Reads a chunk once, and puts what is kept of it into the buffer.
     fn read_chunk(&mut self, chunk: &mut [u8], buf: &mut [u8]) -> Result<Chunk>
         requires { length chunk.old ≤ length buf.old }

@@ -24,7 +24,7 @@ use ref_tiles::{Counts, Rules};
 use std::alloc::AllocError;
 
 /// Whether the line of an event shows the rack of a turn, where this player is out, or none, before it.
-fn is_judged(kind: &EventKind, out: Option<Seat>) -> bool
+pub fn is_judged(kind: &EventKind, out: Option<Seat>) -> bool
     ensures { result ≡ is_judged out kind.now }
 {
     match kind {
@@ -36,7 +36,7 @@ fn is_judged(kind: &EventKind, out: Option<Seat>) -> bool
 }
 
 /// The rack that a line states, where it has as many tiles as its player holds.
-fn full_rack(machine: &Machine, event: &Event) -> Option<Counts>
+pub fn full_rack(machine: &Machine, event: &Event) -> Option<Counts>
     ensures { result ≡ full_rack (state_of machine.now) event.now }
 {
     let rack = event.rack?;

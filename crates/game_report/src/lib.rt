@@ -7,5 +7,6 @@ mod event_lines;
 mod replaying;
 mod top_plays;
 
+pub use best_plays::{full_rack, is_judged};
 pub use event_lines::push_event_lines;
 pub use top_plays::{MOST, best_lines, top_report};

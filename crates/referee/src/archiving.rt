@@ -1,16 +1,18 @@
 //! `archive`: many games by one word list and one lexicon, which are read once, and a line for each.
 
 use crate::command_line::{Archive, ArchiveNames, Progressing};
+use crate::digests::{digested_list, digested_rules, maker_of, open_digested};
 use crate::files::open;
-use crate::inputs::{Inputs, lexicon_of, list_of, open_inputs, refuse, rules_of, write};
+use crate::inputs::{Inputs, lexicon_of, refuse, write};
 use crate::names::{Given, Listed, Names};
+use crate::pages::{Pages, unread_by};
 use crate::progress::Progress;
-use crate::sources::{Source, Words, open_source, shown};
-use archive_lines::{Fields, Unread, push_json_line, push_tab_line};
+use crate::sources::{Source, open_source, shown};
+use archive_lines::{Fields, PageField, Unread, push_json_line, push_tab_line};
 use devices::FromRead;
 use either::Either;
 use endings::{Exit, Trouble};
-use engine::{RunFault, archive_entry, pair_file};
+use engine::{archive_entry, pair_file};
 use lex_check::Checked;
 use ref_tiles::Rules;
 use std::alloc::{AllocError, Global};
@@ -25,7 +27,7 @@ pub fn archive<'a, R: Runtime + AllocGlobal>(
     request: &Archive<'a>,
     watched: bool,
 ) -> Result<Exit, Trouble<'a>> {
-    let inputs = open_inputs(rt, request.rules, request.words, request.lexicon)?;
+    let inputs = open_digested(rt, request.rules, request.words, request.lexicon)?;
     let progress = Progress::new(match request.progress {
         Progressing::Shown => true,
         Progressing::Quiet => false,
@@ -64,7 +66,7 @@ fn buffered<'a, F: Read + Drop>(
 fn archive_by<'a, R: Runtime + AllocGlobal, N: Names + Drop>(
     rt: &R,
     request: &Archive<'a>,
-    inputs: Inputs<Words<R>, R::File>,
+    inputs: Inputs<Source<R>, R::File>,
     run: Run,
     names: N,
 ) -> Result<Exit, Trouble<'a>> {
@@ -73,20 +75,25 @@ fn archive_by<'a, R: Runtime + AllocGlobal, N: Names + Drop>(
         words,
         lexicon,
     } = inputs;
-    let rules = match rules_of(rt.alloc(), request.rules, rules)? {
+    let rules = match digested_rules(rt.alloc(), request.rules, rules)? {
         Ok(rules) => rules,
         Err(decision) => return refuse(rt, &decision),
     };
-    let list = match list_of(rt.alloc(), request.words.name, words)? {
+    let list = match digested_list(rt.alloc(), request.words, words)? {
         Ok(list) => list,
         Err(decision) => return refuse(rt, &decision),
     };
     let bytes = lexicon_of(rt.alloc(), request.lexicon, lexicon)?;
-    match pair_file(rt.alloc(), &list, &bytes) {
-        Ok(Ok(pair)) => go_through(rt, request, &rules, &pair, run, names),
-        Ok(Err(decision)) => refuse(rt, &decision),
-        Err(_) => Err(Trouble::NoMemory),
-    }
+    let pair = match pair_file(rt.alloc(), &list.list, &bytes) {
+        Ok(Ok(pair)) => pair,
+        Ok(Err(decision)) => return refuse(rt, &decision),
+        Err(_) => return Err(Trouble::NoMemory),
+    };
+    let pages = match request.pages {
+        None => None,
+        Some(folder) => Some(Pages::open(rt, folder, maker_of(&rules, &list))?),
+    };
+    go_through(rt, request, &rules.rules, &pair, pages, run, names)
 }
 
 /// Judges the games of these names, one after the other.
@@ -95,16 +102,18 @@ fn go_through<'a, R: Runtime + AllocGlobal, N: Names + Drop>(
     request: &Archive<'a>,
     rules: &Rules,
     pair: &Checked<'_>,
+    pages: Option<Pages<'a, '_>>,
     run: Run,
     names: N,
 ) -> Result<Exit, Trouble<'a>> {
+    let mut pages = pages;
     let mut run = run;
     let mut names = names;
     let mut name = Vec::new(rt.alloc());
     for _ in 0..u64::MAX {
         name.clear();
         match names.next_name(&mut name) {
-            Ok(true) => run.take_game(rt, rules, pair, &name)?,
+            Ok(true) => run.take_game(rt, rules, pair, &mut pages, &name)?,
             Ok(false) => break,
             Err(error) if error.kind() == io::ErrorKind::OutOfMemory => {
                 return Err(Trouble::NoMemory);
@@ -113,6 +122,9 @@ fn go_through<'a, R: Runtime + AllocGlobal, N: Names + Drop>(
         }
     }
     run.progress.end(rt);
+    if let Some(pages) = &mut pages {
+        pages.end(rt)?;
+    }
     Ok(run.worst)
 }
 
@@ -136,18 +148,22 @@ impl Run {
         rt: &R,
         rules: &Rules,
         pair: &Checked<'_>,
+        pages: &mut Option<Pages<'_, '_>>,
         name: &[u8],
     ) -> Result<(), Trouble<'a>> {
         if let Ok(name) = str::from_utf8(name) {
             let fields = match self.open_game(rt, name) {
-                Ok(game) => found(rt.alloc(), rules, pair, name, game),
+                Ok(game) => found(rt, rules, pair, pages, name, game),
                 Err(Trouble::NoMemory) => Fields::unread(name, Unread::NoMemory),
                 Err(_) => Fields::unread(name, Unread::CannotOpen),
             };
-            return self.tell(rt, &fields);
+            return self.tell(rt, pages, fields);
         }
         match String::from_utf8_lossy(rt.alloc(), name) {
-            Ok(shown) => self.tell(rt, &Fields::unread(shown.as_str(), Unread::CannotOpen)),
+            Ok(shown) => {
+                let fields = Fields::unread(shown.as_str(), Unread::CannotOpen);
+                self.tell(rt, pages, fields)
+            }
             Err(_) => Err(Trouble::NoMemory),
         }
     }
@@ -161,15 +177,24 @@ impl Run {
         }
     }
 
-    /// Writes the line of a game, or that there was no memory for it, and counts the game.
+    /// Writes the line of a game, or that there was no memory for it, adds its row to the index where pages are made, and counts the
+    /// game.
     fn tell<'a, R: Runtime + AllocGlobal>(
         &mut self,
         rt: &R,
-        fields: &Fields<'_>,
+        pages: &mut Option<Pages<'_, '_>>,
+        fields: Fields<'_>,
     ) -> Result<(), Trouble<'a>> {
+        let mut fields = fields;
+        if let Some(pages) = pages {
+            pages.add(rt.alloc(), &mut fields);
+        }
         let mut exit = fields.exit();
-        if self.make_line(rt.alloc(), fields).is_err() {
-            let unread = Fields::unread(fields.name, Unread::NoMemory);
+        if self.make_line(rt.alloc(), &fields).is_err() {
+            let mut unread = Fields::unread(fields.name, Unread::NoMemory);
+            if fields.page.is_some() {
+                unread.page = Some(PageField::NoMemory);
+            }
             exit = unread.exit();
             if self.make_line(rt.alloc(), &unread).is_err() {
                 return Err(Trouble::NoMemory);
@@ -192,24 +217,25 @@ impl Run {
     }
 }
 
-/// What is found of the open game of this name.
-fn found<'n, F: Read + Drop>(
-    alloc: Global,
+/// What is found of the open game of this name, whose page is written where pages are made.
+fn found<'n, R: Runtime + AllocGlobal, F: Read + Drop>(
+    rt: &R,
     rules: &Rules,
     pair: &Checked<'_>,
+    pages: &mut Option<Pages<'_, '_>>,
     name: &'n str,
     game: F,
 ) -> Fields<'n> {
+    if let Some(pages) = pages {
+        return pages.found(rt, rules, pair, name, game);
+    }
     let mut game = FromRead::new(game);
-    let entry = match archive_entry(alloc, rules, pair, &mut game) {
+    let entry = match archive_entry(rt.alloc(), rules, pair, &mut game) {
         Ok(Ok(entry)) => entry,
         Ok(Err(fault)) => return Fields::bad_record(name, &fault),
-        Err(RunFault::NoMemory) => return Fields::unread(name, Unread::NoMemory),
-        Err(RunFault::ReadFailed | RunFault::WriteFailed) => {
-            return Fields::unread(name, Unread::ReadFailed);
-        }
+        Err(fault) => return Fields::unread(name, unread_by(fault)),
     };
-    match Fields::of_entry(alloc, name, &entry) {
+    match Fields::of_entry(rt.alloc(), name, &entry) {
         Ok(fields) => fields,
         Err(_) => Fields::unread(name, Unread::NoMemory),
     }

@@ -1,7 +1,8 @@
 //! The command line: the commands that the program knows, and what one asks for.
 
 use crate::commands::{
-    ARCHIVE, AUDIT, BOARD, BUILD, CHECK, CONVERT, EXPLAIN, JUDGE, SHORT_VERSION, TIDY, TOP, VERSION,
+    ARCHIVE, AUDIT, BOARD, BUILD, CHECK, CONVERT, EXPLAIN, JUDGE, PAGE, SHORT_VERSION, TIDY, TOP,
+    VERSION,
 };
 use crate::sources::STANDARD_INPUT;
 use clap::builder::ValueParser;
@@ -92,6 +93,8 @@ pub struct Archive<'a> {
     pub names: ArchiveNames<'a>,
     /// Whether the lines are JSON objects.
     pub json: bool,
+    /// The folder for a page of each game, where pages are wanted.
+    pub pages: Option<&'a str>,
     /// Whether to show how many games are done.
     pub progress: Progressing,
 }
@@ -115,6 +118,11 @@ pub enum Request<'a> {
     Explain {
         files: GameFiles<'a>,
         line: Option<u32>,
+    },
+    /// To write the page of a game to the file `out`.
+    Page {
+        files: GameFiles<'a>,
+        out: &'a str,
     },
     /// To write the lexicon of a word list to the file `out`.
     Build {
@@ -188,6 +196,7 @@ fn command<'a>(alloc: Global) -> Result<Command<'a>, AllocError> {
         .subcommand(archive_command(alloc)?)?
         .subcommand(audit_command(alloc)?)?
         .subcommand(explain_command(alloc)?)?
+        .subcommand(page_command(alloc)?)?
         .subcommand(build_command(alloc)?)?
         .subcommand(check_command(alloc)?)?
         .subcommand(convert_command(alloc)?)?
@@ -212,7 +221,7 @@ fn judge_command<'a>(alloc: Global) -> Result<Command<'a>, AllocError> {
         .arg(rules_option(alloc))
 }
 
-/// `archive [--first-field] [--rules FILE] [--names FILE] [--json] [--progress|--quiet] WORDS LEXICON [GAME...]`.
+/// `archive [--first-field] [--rules FILE] [--names FILE] [--json] [--pages FOLDER] [--progress|--quiet] WORDS LEXICON [GAME...]`.
 fn archive_command<'a>(alloc: Global) -> Result<Command<'a>, AllocError> {
     ARCHIVE
         .command(alloc)
@@ -233,6 +242,12 @@ fn archive_command<'a>(alloc: Global) -> Result<Command<'a>, AllocError> {
                 .help("the names of the records, one a line; - is standard input"),
         )?
         .arg(flag(alloc, "json", "write each line as a JSON object"))?
+        .arg(
+            Arg::new(alloc, "pages")
+                .long("pages")
+                .value_name("FOLDER")
+                .help("write a page of each game, and their index, to this folder"),
+        )?
         .arg(flag(
             alloc,
             "progress",
@@ -275,6 +290,17 @@ fn explain_command<'a>(alloc: Global) -> Result<Command<'a>, AllocError> {
                     "the line of the record to be explained, counted from 1; without it the one that the verdict names",
                 ),
         )?
+        .arg(first_field_option(alloc))?
+        .arg(rules_option(alloc))
+}
+
+/// `page [--first-field] [--rules FILE] WORDS LEXICON GAME OUT`.
+fn page_command<'a>(alloc: Global) -> Result<Command<'a>, AllocError> {
+    PAGE.command(alloc)
+        .arg(name(alloc, "WORDS", "the word list; - is standard input"))?
+        .arg(name(alloc, "LEXICON", "the lexicon file of the words"))?
+        .arg(name(alloc, "GAME", "the GCG record; - is standard input"))?
+        .arg(name(alloc, "OUT", "the page to be written, or emptied first"))?
         .arg(first_field_option(alloc))?
         .arg(rules_option(alloc))
 }
@@ -436,6 +462,7 @@ fn archive_of<'a>(
         lexicon,
         names: games,
         json: names.get_flag("json"),
+        pages: names.get_str("pages"),
         progress: wanted_progress(names),
     })))
 }
@@ -465,6 +492,10 @@ fn small_request_of<'a>(command: &str, names: &ArgMatches<'a>) -> Option<Request
         "explain" => Some(Request::Explain {
             files: game_files(names)?,
             line: names.get_one::<u32>("LINE"),
+        }),
+        "page" => Some(Request::Page {
+            files: game_files(names)?,
+            out: names.get_str("OUT")?,
         }),
         "build" => Some(Request::Build {
             words: words_file(names)?,

@@ -12,6 +12,9 @@ lexicons: GAD1, GAD2";
 /// What `-V` prints behind the program's name.
 pub const SHORT_VERSION: &str = "1.0.0";
 
+/// The name and the version of the program.
+pub const PROGRAM: &str = "referee 1.0.0";
+
 /// What help says of a command.
 #[derive(Clone, Copy)]
 pub struct CommandText {
@@ -90,6 +93,22 @@ Exit status:
   1   illegal
   2   unsettled: every event stands, but no deal was found
   3   the rules text, the word list, the lexicon or the record is bad, or no event is on the line or after it
+  4   a file could not be read or written, or there was no memory
+  64  the command line is wrong",
+};
+
+/// `page`.
+pub const PAGE: CommandText = CommandText {
+    name: "page",
+    about: "Writes a game as a web page: its verdict, its board and its sheet",
+    behind: "Example:
+  referee page words.txt words.gad game.gcg game.html
+
+Exit status:
+  0   legal
+  1   illegal
+  2   unsettled: every event stands, but no deal was found
+  3   the rules text, the word list, the lexicon or the record is bad; then OUT is not touched
   4   a file could not be read or written, or there was no memory
   64  the command line is wrong",
 };

@@ -1,0 +1,53 @@
+//! What a line says of the page of a game.
+
+use endings::Exit;
+use serde::{Described, Serialize, Serializer};
+
+/// What a line says of the page of a game, where pages are made.
+#[derive(Drop)]
+pub enum PageField {
+    /// There is none, as of a file that is no record.
+    Missing,
+    /// The page is written, to the file of this name in the folder of the pages.
+    Written(String),
+    /// The file could not be opened or written.
+    CannotWrite,
+    /// Memory was refused.
+    NoMemory,
+}
+
+impl PageField {
+    /// The field as a line has it: a name with `.html` at its end, why there is none, or nothing where there is nothing to be shown.
+    pub fn text(&self) -> Option<&str> {
+        match self {
+            PageField::Missing => None,
+            PageField::Written(name) => Some(name.as_str()),
+            PageField::CannotWrite => Some("cannot write"),
+            PageField::NoMemory => Some("no memory"),
+        }
+    }
+
+    /// The name of the page, where it is written.
+    pub fn name(&self) -> Option<&str> {
+        match self {
+            PageField::Written(name) => Some(name.as_str()),
+            PageField::Missing | PageField::CannotWrite | PageField::NoMemory => None,
+        }
+    }
+
+    /// How the program ends where nothing else has a greater status.
+    pub fn exit(&self) -> Exit {
+        match self {
+            PageField::Missing | PageField::Written(_) => Exit::Fine,
+            PageField::CannotWrite | PageField::NoMemory => Exit::Broken,
+        }
+    }
+}
+
+impl Described for PageField {}
+
+impl Serialize for PageField {
+    fn serialize<S: Serializer>(&self, out: &mut S) -> Result<(), S::Error> {
+        self.text().serialize(out)
+    }
+}

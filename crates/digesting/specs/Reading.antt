@@ -1,0 +1,8 @@
+-- What a reader has handed out.
+use Rattle.std.specs.Prelude.{ℕ, List}
+use Rattle.sha2.specs.Hashers.{Holds256}
+use Rattle.sha2.specs.declared.Sha256.{Sha256}
+
+-- these bytes were handed out, one chunk behind the other
+abbrev pub HasHandedOut : Sha256 → List ℕ → Type 0
+HasHandedOut hasher bytes = Holds256 hasher bytes

@@ -1,0 +1,6 @@
+//! A reader that knows the SHA-256 of what it handed out.
+#![tactic(auto)]
+
+mod reading;
+
+pub use reading::Digesting;

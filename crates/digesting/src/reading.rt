@@ -1,0 +1,53 @@
+//! A reader that digests what it hands out.
+ghost use Rattle.std.specs.Prelude.{◌≡◌, [], ◌++◌, ℕ, List, take, IfOk, OnErr};
+ghost use Rattle.std.specs.Io.{ReadsAtMost};
+ghost use Rattle.std.specs.Io.KnownBytes.{ReadConsumes};
+ghost use Rattle.sha2.specs.Sha256.{sha256};
+ghost use Rattle.digesting.specs.Reading.{HasHandedOut};
+
+use sha2::{Digest, Sha256};
+use std::io::{Read, Result};
+
+/// A reader that hands out the bytes of another one, and digests them on the way.
+#[derive(Drop)]
+pub struct Digesting<R> {
+    inner: R,
+    hasher: Sha256,
+}
+
+impl<R: Read + Drop> Digesting<R> {
+    /// A reader of what `inner` has. Nothing was handed out yet.
+    pub fn new(inner: R) -> Digesting<R>
+        ensures reads { ⟦<Digesting<R> as Read>⟧.remaining result ≡ R.remaining inner }
+        ensures none { HasHandedOut result.hasher [] }
+    {
+        Digesting {
+            inner,
+            hasher: Sha256::new(),
+        }
+    }
+
+    /// The SHA-256 of the bytes that were handed out, as FIPS 180-4 has it.
+    pub fn into_digest(self) -> [u8; 32]
+        ensures { (bytes : List ℕ) → HasHandedOut self.hasher bytes → result ≡ sha256 bytes }
+    {
+        let Digesting { hasher, .. } = self;
+        hasher.finalize()
+    }
+}
+
+impl<R: Read + Drop> Read for Digesting<R> {
+    ghost remaining = { λ s. R.remaining s.inner };
+
+    fn read(&mut self, buf: &mut [u8]) -> Result<usize>
+        ensures bound { ReadsAtMost result buf.new }
+        ensures bytes { ReadConsumes (R.remaining self.old.inner) (R.remaining self.new.inner) result buf.new }
+        ensures digested { IfOk result (λ n. (bytes : List ℕ) → HasHandedOut self.old.hasher bytes
+            → HasHandedOut self.new.hasher (bytes ++ take n buf.new)) }
+        ensures refused { OnErr result (self.new.hasher ≡ self.old.hasher) }
+    {
+        let read = self.inner.read(buf)?;
+        self.hasher.update(&buf[..read]);
+        Ok(read)
+    }
+}

@@ -1,0 +1,143 @@
+//! A board as a table.
+ghost use Rattle.std.specs.Prelude.{◌<◌};
+
+use crate::pieces::{Piece, write};
+use explain_lines::Stretch;
+use ref_board::{Board, Dir, SIDE, Square};
+use ref_tiles::{Kind, Premium, Rules, Symbol, Tile};
+use std::alloc::{AllocError, Global};
+
+/// A board, and which of its squares are marked.
+#[derive(Clone, Copy)]
+pub struct Picture<'a> {
+    /// The rules, for points and premiums.
+    pub rules: &'a Rules,
+    /// The board.
+    pub board: &'a Board,
+    /// The board without its new tiles.
+    pub before: &'a Board,
+    /// The squares of a play that cannot be laid.
+    pub marked: Option<Stretch>,
+}
+
+/// The markup of an empty square.
+fn empty_square(premium: Premium, is_marked: bool) -> &'static str {
+    match (premium, is_marked) {
+        (Premium::Plain, false) => "<td></td>",
+        (Premium::Plain, true) => "<td class=\"m\"></td>",
+        (Premium::DoubleLetter, false) => "<td class=\"dl\">DL</td>",
+        (Premium::DoubleLetter, true) => "<td class=\"dl m\">DL</td>",
+        (Premium::TripleLetter, false) => "<td class=\"tl\">TL</td>",
+        (Premium::TripleLetter, true) => "<td class=\"tl m\">TL</td>",
+        (Premium::DoubleWord, false) => "<td class=\"dw\">DW</td>",
+        (Premium::DoubleWord, true) => "<td class=\"dw m\">DW</td>",
+        (Premium::TripleWord, false) => "<td class=\"tw\">TW</td>",
+        (Premium::TripleWord, true) => "<td class=\"tw m\">TW</td>",
+    }
+}
+
+/// The markup before the letter of a tile: blanks and marked tiles have classes of their own.
+fn tile_begin(kind: Kind, is_marked: bool) -> &'static str {
+    match (kind, is_marked) {
+        (Kind::Letter(_), false) => "<td class=\"t\">",
+        (Kind::Letter(_), true) => "<td class=\"t m\">",
+        (Kind::Blank, false) => "<td class=\"t b\">",
+        (Kind::Blank, true) => "<td class=\"t b m\">",
+    }
+}
+
+/// The letter that a tile shows: a capital for a letter tile and a small one for a blank.
+fn letter_of(tile: &Tile) -> u8 {
+    match tile.kind {
+        Kind::Letter(_) => Symbol::Letter(tile.shown).byte(),
+        Kind::Blank => Symbol::Blank(tile.shown).byte(),
+    }
+}
+
+/// Appends a tile, its letter and its points.
+fn push_tile(
+    alloc: Global,
+    page: &mut Vec<u8>,
+    rules: &Rules,
+    tile: &Tile,
+    is_marked: bool,
+) -> Result<(), AllocError> {
+    let letter = [letter_of(tile)];
+    write(
+        alloc,
+        page,
+        &[
+            Piece::Markup(tile_begin(tile.kind, is_marked)),
+            Piece::Text(&letter),
+            Piece::Markup("<sub>"),
+            Piece::Points(i32::from(rules.points_of(tile.kind))),
+            Piece::Markup("</sub></td>"),
+        ],
+    )
+}
+
+/// Whether a square has a new tile, or is one of a play that cannot be laid.
+fn is_marked(picture: &Picture<'_>, square: Square) -> bool {
+    match picture.marked {
+        Some(stretch) => stretch.has(square),
+        None => picture.board.at(square).is_some() && picture.before.at(square).is_none(),
+    }
+}
+
+/// Appends a square.
+fn push_square(
+    alloc: Global,
+    page: &mut Vec<u8>,
+    picture: &Picture<'_>,
+    square: Square,
+) -> Result<(), AllocError> {
+    let is_marked = is_marked(picture, square);
+    match picture.board.at(square) {
+        None => {
+            let premium = picture.rules.premium(square.number());
+            page.extend_from_slice(empty_square(premium, is_marked).as_bytes())
+        }
+        Some(tile) => push_tile(alloc, page, picture.rules, &tile, is_marked),
+    }
+}
+
+/// Appends a row, its number first.
+fn push_row(
+    alloc: Global,
+    page: &mut Vec<u8>,
+    picture: &Picture<'_>,
+    row: usize,
+) -> Result<(), AllocError>
+    requires { row < 15 }
+{
+    write(
+        alloc,
+        page,
+        &[
+            Piece::Markup("<tr><th>"),
+            Piece::Many(row + 1),
+            Piece::Markup("</th>"),
+        ],
+    )?;
+    for column in 0..SIDE {
+        let square = Square::on_line(Dir::Across, row, column);
+        push_square(alloc, page, picture, square)?;
+    }
+    page.extend_from_slice(b"</tr>\n")
+}
+
+/// Appends a board as a table: its columns A to O, its rows 1 to 15, each tile with its points, and each empty premium square with the
+/// first letters of its name.
+pub fn push_board(
+    alloc: Global,
+    page: &mut Vec<u8>,
+    picture: &Picture<'_>,
+) -> Result<(), AllocError> {
+    page.extend_from_slice(
+        b"<table class=\"board\">\n<tr><td></td><th>A</th><th>B</th><th>C</th><th>D</th><th>E</th><th>F</th><th>G</th><th>H</th><th>I</th><th>J</th><th>K</th><th>L</th><th>M</th><th>N</th><th>O</th></tr>\n",
+    )?;
+    for row in 0..SIDE {
+        push_row(alloc, page, picture, row)?;
+    }
+    page.extend_from_slice(b"</table>\n")
+}

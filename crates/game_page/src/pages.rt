@@ -1,0 +1,130 @@
+//! The page of a game.
+
+use crate::banners::push_banner;
+use crate::boards::{Picture, push_board};
+use crate::feet::{Maker, push_foot};
+use crate::heads::push_head;
+use crate::pieces::{Piece, write};
+use crate::rows::push_rows;
+use crate::sheets::Sheet;
+use engine::{Case, Entry};
+use explain_lines::Stretch;
+use game_board::{lay_plays, place_of_line};
+use game_sheets::correct;
+use gcg_read::{Event, EventKind, Record};
+use lex_check::Checked;
+use ref_tiles::Rules;
+use std::alloc::{AllocError, Global};
+
+/// The squares of a play that cannot be laid, where the event at a place is one.
+fn squares_of(events: &[Event], place: usize) -> Option<Stretch> {
+    match &events.get(place)?.kind {
+        EventKind::Play { at, dir, word } => Some(Stretch::of(*at, *dir, word.as_slice())),
+        _ => None,
+    }
+}
+
+/// Appends the board behind the events before a place, and behind the one at it where there is one: its new tiles are marked, or its
+/// squares where it cannot be laid.
+fn push_board_at(
+    alloc: Global,
+    page: &mut Vec<u8>,
+    sheet: &Sheet<'_>,
+    place: usize,
+) -> Result<(), AllocError> {
+    let events = sheet.events();
+    let before = lay_plays(events, place.min(events.len()));
+    let after = lay_plays(events, place.saturating_add(1).min(events.len()));
+    let picture = Picture {
+        rules: sheet.rules,
+        board: &after.board,
+        before: &before.board,
+        marked: if after.end <= place {
+            squares_of(events, place)
+        } else {
+            None
+        },
+    };
+    push_board(alloc, page, &picture)?;
+    page.extend_from_slice(KEY.as_bytes())
+}
+
+/// What the signs of a board mean.
+const KEY: &str =
+    "<p class=\"key\">TW triple word, DW double word, TL triple letter, DL double letter. A small, slanted letter is a blank. New tiles are framed.</p>\n";
+
+/// Appends the board at the end, or at the faulty line with its play marked.
+fn push_main_board(alloc: Global, page: &mut Vec<u8>, sheet: &Sheet<'_>) -> Result<(), AllocError> {
+    let events = sheet.events();
+    let Some(line) = sheet.faulty_line() else {
+        page.extend_from_slice(b"<h2>The board at the end</h2>\n")?;
+        return push_board_at(alloc, page, sheet, events.len());
+    };
+    write(
+        alloc,
+        page,
+        &[
+            Piece::Markup("<h2>The board at line "),
+            Piece::Line(line),
+            Piece::Markup("</h2>\n"),
+        ],
+    )?;
+    push_board_at(
+        alloc,
+        page,
+        sheet,
+        place_of_line(events, line).unwrap_or(events.len()),
+    )
+}
+
+/// Appends the page of a record that was read.
+fn push_sheet(
+    alloc: Global,
+    page: &mut Vec<u8>,
+    sheet: &Sheet<'_>,
+    case: &Case,
+    maker: &Maker<'_>,
+) -> Result<(), AllocError> {
+    push_head(alloc, page, sheet)?;
+    push_banner(alloc, page, sheet, case)?;
+    page.extend_from_slice(b"<main>\n")?;
+    push_main_board(alloc, page, sheet)?;
+    push_rows(alloc, page, sheet)?;
+    page.extend_from_slice(b"</main>\n")?;
+    push_foot(alloc, page, maker)?;
+    page.extend_from_slice(b"</body>\n</html>\n")
+}
+
+/// Appends the page of a game; `right` is the record once more, whose scores and totals are put right as far as the rules allow its
+/// events. Nothing where the text is no record.
+///
+/// It fails only where memory runs out.
+pub fn push_page(
+    alloc: Global,
+    page: &mut Vec<u8>,
+    rules: &Rules,
+    pair: &Checked<'_>,
+    case: &Case,
+    right: &mut Record,
+    maker: &Maker<'_>,
+) -> Result<(), AllocError> {
+    let Ok(
+        Entry {
+            record,
+            finding,
+            ..
+        },
+    ) = &case.read
+    else {
+        return Ok(());
+    };
+    let _refused = correct(rules, &mut right.events, pair.list());
+    let sheet = Sheet {
+        rules,
+        pair,
+        record,
+        right,
+        finding,
+    };
+    push_sheet(alloc, page, &sheet, case, maker)
+}

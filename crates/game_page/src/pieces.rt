@@ -1,0 +1,58 @@
+//! The pieces of a page.
+
+use gcg_write::tiles_text;
+use html_text::push_text;
+use itoa::{Buffer, Integer};
+use ref_tiles::Counts;
+use std::alloc::{AllocError, Global};
+
+/// A piece of a page.
+#[derive(Clone, Copy)]
+pub enum Piece<'a> {
+    /// Markup, or text without a sign that means something in markup. It stands in the program, so nothing of a record is such a piece.
+    Markup(&'static str),
+    /// Text of any origin.
+    Text(&'a [u8]),
+    /// A number of points.
+    Points(i32),
+    /// The number of a line.
+    Line(u32),
+    /// How many there are of something.
+    Many(usize),
+    /// Tiles, A to Z and then `?`.
+    Tiles(&'a Counts),
+}
+
+/// Appends pieces, one behind the other.
+pub fn write(alloc: Global, page: &mut Vec<u8>, pieces: &[Piece<'_>]) -> Result<(), AllocError> {
+    for piece in pieces {
+        push_piece(alloc, page, piece)?;
+    }
+    Ok(())
+}
+
+/// Appends a piece.
+fn push_piece(alloc: Global, page: &mut Vec<u8>, piece: &Piece<'_>) -> Result<(), AllocError> {
+    match piece {
+        Piece::Markup(markup) => page.extend_from_slice(markup.as_bytes()),
+        Piece::Text(text) => push_text(alloc, page, text),
+        Piece::Points(points) => push_number(page, *points),
+        Piece::Line(line) => push_number(page, *line),
+        Piece::Many(many) => push_number(page, *many),
+        Piece::Tiles(tiles) => push_tiles(page, tiles),
+    }
+}
+
+/// Appends a number.
+fn push_number<I: Integer>(page: &mut Vec<u8>, number: I) -> Result<(), AllocError> {
+    let mut buffer = Buffer::new();
+    page.extend_from_slice(buffer.format(number).as_bytes())
+}
+
+/// Appends tiles.
+fn push_tiles(page: &mut Vec<u8>, tiles: &Counts) -> Result<(), AllocError> {
+    match tiles_text(tiles, page) {
+        Ok(()) => Ok(()),
+        Err(_) => Err(AllocError),
+    }
+}

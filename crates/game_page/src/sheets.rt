@@ -1,0 +1,36 @@
+//! The sheet that a page shows.
+
+use engine::Finding;
+use gcg_read::{Event, Record};
+use lex_check::Checked;
+use ref_tiles::Rules;
+
+/// A record with its rules, its words, what is found of it and what it should be.
+#[derive(Clone, Copy)]
+pub struct Sheet<'a> {
+    /// The rules.
+    pub rules: &'a Rules,
+    /// The words and their lexicon.
+    pub pair: &'a Checked<'a>,
+    /// The record as it is written.
+    pub record: &'a Record,
+    /// The same record with the right scores and totals, as far as the rules allow its events.
+    pub right: &'a Record,
+    /// What is found of the record as it is written.
+    pub finding: &'a Finding,
+}
+
+impl<'a> Sheet<'a> {
+    /// The events as they are written.
+    pub fn events(&self) -> &'a [Event] {
+        self.record.events.as_slice()
+    }
+
+    /// The line of the fault, where there is one.
+    pub fn faulty_line(&self) -> Option<u32> {
+        match self.finding {
+            Finding::Illegal { line, .. } => Some(*line),
+            Finding::NoGame | Finding::Legal { .. } | Finding::Unsettled => None,
+        }
+    }
+}

@@ -1,0 +1,203 @@
+//! The pages of an archive: one for each game, and their index.
+
+use crate::paging::push_case;
+use archive_lines::{Fields, PageField, Unread};
+use devices::{FromRead, FromWrite, write_whole};
+use endings::Trouble;
+use engine::{Case, RunFault, open_case};
+use game_page::{
+    IndexPlayer, IndexRow, Maker, PageNames, push_index_end, push_index_head, push_index_row,
+};
+use lex_check::Checked;
+use ref_tiles::Rules;
+use std::alloc::{AllocError, Global};
+use std::fs;
+use std::io::{self, Read};
+use std::rt::Runtime;
+
+/// The file of the index in the folder.
+const INDEX: &str = "index.html";
+
+/// The pages of a run over many games: where they go, what they are made by, and their index so far.
+#[derive(Drop)]
+pub struct Pages<'a, 'm> {
+    folder: &'a str,
+    maker: Maker<'m>,
+    names: PageNames,
+    /// The page of the game that is being judged. The games share its memory.
+    page: Vec<u8>,
+    /// The index up to the last game that is done.
+    index: Vec<u8>,
+}
+
+impl<'a, 'm> Pages<'a, 'm> {
+    /// Pages in a folder, which is made where it is not there.
+    pub fn open<R: Runtime + AllocGlobal>(
+        rt: &R,
+        folder: &'a str,
+        maker: Maker<'m>,
+    ) -> Result<Pages<'a, 'm>, Trouble<'a>> {
+        match fs::create_dir_all(rt, folder) {
+            Ok(()) => {}
+            Err(error) if error.kind() == io::ErrorKind::OutOfMemory => {
+                return Err(Trouble::NoMemory);
+            }
+            Err(_) => return Err(Trouble::CannotOpen(folder)),
+        }
+        match Pages::empty(rt.alloc(), folder, maker) {
+            Ok(pages) => Ok(pages),
+            Err(_) => Err(Trouble::NoMemory),
+        }
+    }
+
+    /// Pages of no game yet.
+    fn empty(
+        alloc: Global,
+        folder: &'a str,
+        maker: Maker<'m>,
+    ) -> Result<Pages<'a, 'm>, AllocError> {
+        let mut index = Vec::new(alloc);
+        push_index_head(alloc, &mut index)?;
+        Ok(Pages {
+            folder,
+            maker,
+            names: PageNames::new(alloc)?,
+            page: Vec::new(alloc),
+            index,
+        })
+    }
+
+    /// Judges the open game of this name, and writes its page: what its line says.
+    pub fn found<'n, R: Runtime + AllocGlobal, F: Read + Drop>(
+        &mut self,
+        rt: &R,
+        rules: &Rules,
+        pair: &Checked<'_>,
+        name: &'n str,
+        game: F,
+    ) -> Fields<'n> {
+        let mut game = FromRead::new(game);
+        let case = match open_case(rt.alloc(), rules, pair, &mut game) {
+            Ok(case) => case,
+            Err(fault) => return Fields::unread(name, unread_by(fault)),
+        };
+        let Ok(mut fields) = fields_of(rt.alloc(), name, &case) else {
+            return Fields::unread(name, Unread::NoMemory);
+        };
+        fields.page = match self.write_page(rt, rules, pair, name, &case) {
+            Ok(page) => Some(page),
+            Err(_) => Some(PageField::NoMemory),
+        };
+        fields
+    }
+
+    /// Makes the page of a case and writes it, where its text is a record.
+    fn write_page<R: Runtime + AllocGlobal>(
+        &mut self,
+        rt: &R,
+        rules: &Rules,
+        pair: &Checked<'_>,
+        name: &str,
+        case: &Case,
+    ) -> Result<PageField, AllocError> {
+        if case.read.is_err() {
+            return Ok(PageField::Missing);
+        }
+        let alloc = rt.alloc();
+        self.page.clear();
+        push_case(alloc, &mut self.page, rules, pair, case, &self.maker)?;
+        let file = self.names.next_name(alloc, name)?;
+        let path = path_in(alloc, self.folder, file.as_str())?;
+        if put(rt, path.as_str(), self.page.as_slice())? {
+            Ok(PageField::Written(file))
+        } else {
+            Ok(PageField::CannotWrite)
+        }
+    }
+
+    /// Adds the row of a game to the index. Where there is no memory for it, the line of the game says so.
+    pub fn add(&mut self, alloc: Global, fields: &mut Fields<'_>) {
+        let before = self.index.len();
+        if push_index_row(alloc, &mut self.index, &row_of(fields)).is_err() {
+            self.index.truncate(before);
+            fields.page = Some(PageField::NoMemory);
+        }
+        if fields.page.is_none() {
+            fields.page = Some(PageField::Missing);
+        }
+    }
+
+    /// Writes the index.
+    pub fn end<R: Runtime + AllocGlobal>(&mut self, rt: &R) -> Result<(), Trouble<'a>> {
+        let (Ok(()), Ok(path)) = (
+            push_index_end(&mut self.index),
+            path_in(rt.alloc(), self.folder, INDEX),
+        ) else {
+            return Err(Trouble::NoMemory);
+        };
+        match put(rt, path.as_str(), self.index.as_slice()) {
+            Ok(true) => Ok(()),
+            Ok(false) => Err(Trouble::WriteFailed),
+            Err(_) => Err(Trouble::NoMemory),
+        }
+    }
+}
+
+/// Why a game is unread whose reading failed.
+pub fn unread_by(fault: RunFault) -> Unread {
+    match fault {
+        RunFault::NoMemory => Unread::NoMemory,
+        RunFault::ReadFailed | RunFault::WriteFailed => Unread::ReadFailed,
+    }
+}
+
+/// What the line of a case says of its game.
+fn fields_of<'n>(alloc: Global, name: &'n str, case: &Case) -> Result<Fields<'n>, AllocError> {
+    match &case.read {
+        Ok(entry) => Fields::of_entry(alloc, name, entry),
+        Err(fault) => Ok(Fields::bad_record(name, fault)),
+    }
+}
+
+/// What the index says of a game.
+fn row_of<'f>(fields: &'f Fields<'_>) -> IndexRow<'f> {
+    let fault = fields.fault.as_ref().map(|fault| fault.as_str());
+    IndexRow {
+        game: fields.name,
+        page: fields.page.as_ref().and_then(|page| page.name()),
+        answer: fields.verdict.name(),
+        line: fields.line,
+        why: match fields.ending {
+            Some(ending) => Some(ending.name()),
+            None => fault,
+        },
+        first: IndexPlayer {
+            nick: fields.player1.as_ref().map(|nick| nick.as_str()),
+            total: fields.total1,
+        },
+        second: IndexPlayer {
+            nick: fields.player2.as_ref().map(|nick| nick.as_str()),
+            total: fields.total2,
+        },
+    }
+}
+
+/// The path of a file in a folder.
+fn path_in(alloc: Global, folder: &str, file: &str) -> Result<String, AllocError> {
+    let mut path = String::from_str(alloc, folder)?;
+    path.push('/')?;
+    path.push_str(file)?;
+    Ok(path)
+}
+
+/// Writes bytes to the file of a path, and says whether it was done.
+fn put<R: Runtime>(rt: &R, path: &str, bytes: &[u8]) -> Result<bool, AllocError> {
+    match fs::create(rt, path) {
+        Ok(file) => {
+            let mut file = FromWrite::new(file);
+            Ok(write_whole(&mut file, bytes).is_ok())
+        }
+        Err(error) if error.kind() == io::ErrorKind::OutOfMemory => Err(AllocError),
+        Err(_) => Ok(false),
+    }
+}
