@@ -56,6 +56,8 @@ ROWS = [  # the command, the words, the record
     (["explain", "words", "lexicon", "game"], "WORD\n", WORD.replace("16 16", "18 18")),
     (["explain", "words", "lexicon", "game"], "AT\n", ">A: ?? - +0 0\n>B: ? - +0 0\n"),
     (["explain", "words", "lexicon", "game"], "AT\n", ">A: - +0 0\n>B: - +0 0\n>C: - +0 0\n"),
+    (["page", "words", "lexicon", "game", "out"], ON_WORD, TURNS),
+    (["page", "words", "lexicon", "game", "out"], "WORD\n", "#player1 A <b>\xe9\n" + WORD.replace("16 16", "18 18")),
     (["build", "words", "out"], "AT\n", ""),
     (["check", "words", "lexicon"], "AT\n", ""),
     (["convert", "gad2", "lexicon", "out"], "AT\n", ""),
@@ -63,17 +65,18 @@ ROWS = [  # the command, the words, the record
     (["tidy", "game"], "", UNTIDY),
     (["archive", "words", "lexicon", "game", "nowhere", "game"], ON_WORD, TURNS),
     (["archive", "--json", "--names", "names", "words", "lexicon"], "AT\n", ">A: Q -Q +0 0\n>B: - +0 0\n>A: Q - +0 0\n"),
+    (["archive", "--pages", "pages", "words", "lexicon", "game", "nowhere", "game"], ON_WORD, TURNS),
 ]
 
 
 def is_archive(ran, row):
-    """Whether lines are those of a row but for one game for which there was no memory; or those of the first games, where there was none for
-    a line at all."""
+    """Whether lines are those of a row but for one game for which, or for whose page, there was no memory; or those of the first games, where
+    there was none for a line at all, or of all games, where there was none for the index."""
     told, wanted = ran.stdout.splitlines(), row.stdout.splitlines()
     if (ran.returncode, ran.stderr) == (4, b"no memory\n"):
         return told == wanted[: len(told)]
     changed = [it for it, want in zip(told, wanted) if it != want]
-    return (ran.returncode, ran.stderr, len(told)) == (4, b"", len(wanted)) and len(changed) == 1 and b"unread" in changed[0] and b"no memory" in changed[0]
+    return (ran.returncode, ran.stderr, len(told)) == (4, b"", len(wanted)) and len(changed) == 1 and b"no memory" in changed[0]
 
 
 class Refuser:

@@ -8,18 +8,19 @@ _referee() {
         fi
     done
     case $command in
-        "") options="-h --help -V --version" values="judge archive audit explain build check convert top tidy board help" ;;
+        "") options="-h --help -V --version" values="judge archive audit explain page build check convert top tidy board help" ;;
         judge) options="--first-field --settle --rules -h --help" ;;
-        archive) options="--first-field --names --json --progress --quiet --rules -h --help" ;;
+        archive) options="--first-field --names --json --pages --progress --quiet --rules -h --help" ;;
         audit) options="--first-field --corrected --rules -h --help" ;;
         explain) options="--first-field --rules -h --help" ;;
+        page) options="--first-field --rules -h --help" ;;
         build) options="--first-field -h --help" ;;
         check) options="--first-field -h --help" ;;
         convert) options="-h --help" ;;
         top) options="--before --first-field --number --rules -h --help" ;;
         tidy) options="-h --help" ;;
         board) options="--before --rules -h --help" ;;
-        help) values="judge archive audit explain build check convert top tidy board help" ;;
+        help) values="judge archive audit explain page build check convert top tidy board help" ;;
     esac
     [[ $command != convert || ${COMP_WORDS[COMP_CWORD - 1]} != convert ]] || values="gad1 gad2"
     if [[ $word == -* ]]; then

@@ -2,7 +2,7 @@
 of it: fuzz.py PROGRAM SECONDS SEED
 
 Each round makes a game that was dealt for real, its list and its lexicon in either format, damages some of them, and runs `judge`,
-`audit`, `explain`, `check`, `build`, `convert`, `tidy`, `top` and `board` on them; some rounds judge by a rules text, which may be damaged too. Statuses, outputs
+`audit`, `explain`, `page`, `check`, `build`, `convert`, `tidy`, `top` and `board` on them; some rounds judge by a rules text, which may be damaged too. Statuses, outputs
 and the files of `build` and `convert` have to be those of the second judge.
 """
 import random
@@ -13,6 +13,7 @@ import time
 from collections import Counter
 from pathlib import Path
 
+import web
 from answers import audit_status, audited, boarded, built, checked, converted, error_of, explained, first_fields, judged, settled, status_of, topped, words_of
 from dealing import Dealer, likely, line, words_in_reach
 from lexicons import GAD2, build, convert
@@ -134,6 +135,19 @@ class Fuzzer:
         told = explained(words, lexicon, game, asked, first, text)
         self.compare(line_[1:], told, status_of(told))
 
+    def page(self, by, ways):
+        """`page` has to print the verdict line of one of some answers, and to write a page that can be read exactly where there is a record."""
+        self.out.unlink(missing_ok=True)
+        words = ["page", *by, self.words, self.lexicon, self.game, self.out]
+        ran = subprocess.run([self.program, *words], capture_output=True, check=False, timeout=60)
+        self.seen[f"page {ran.returncode}"] += 1
+        good = ran.stdout in {it.split(b"\n")[0] + b"\n" for it in ways} and ran.returncode == status_of(ran.stdout) and not ran.stderr
+        if self.out.exists():
+            web.read(self.out.read_bytes())
+        if not good or self.out.exists() != (ran.returncode in (0, 1, 2)):
+            self.differences += 1
+            print(*words, "status", ran.returncode, ran.stdout, ran.stderr, "for", ways[:2], self.game.read_bytes(), sep="\n  ")
+
     def round(self, words, lexicon, game, text):
         """One run of each command; a text is that of the rules to play by, None for none."""
         self.fielded = ["--first-field"] if likely(0.3) else []
@@ -146,7 +160,9 @@ class Fuzzer:
         by = [*self.fielded, *ruled]
         report = judged(words, lexicon, game, text)
         self.compare(["judge", *by, self.words, self.lexicon, self.game], report, status_of(report))
-        self.settle(by, settled(words, lexicon, game, text))
+        settlings = settled(words, lexicon, game, text)
+        self.settle(by, settlings)
+        self.page(by, settlings)
         self.audit(by, audited(words, lexicon, game, text))
         self.explain(by, words, lexicon, game, text)
         rack = choose(["A", "?E", "AEINRST"])

@@ -48,6 +48,7 @@ if [ -x "$program" ]; then
     part oracle/archive_scripts.py "$program" 30 "$seed"
     part oracle/compare_audits.py "$program" 60 "$seed"
     part oracle/compare_explains.py "$program" 60 "$seed"
+    part oracle/compare_pages.py "$program" 40 "$seed"
     part oracle/fuzz.py "$program" 60 "$seed"
 else
     failed=$((failed + 1))

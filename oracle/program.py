@@ -12,6 +12,9 @@ import subprocess
 import sys
 import tempfile
 from pathlib import Path
+from urllib.parse import unquote
+
+import web
 
 AT_FILE = bytes.fromhex("47414431 05000000 04000000 01000000 74000000 c0000000 61000000 01010000 d4010000")
 AT_IT_FILE = bytes.fromhex(
@@ -808,6 +811,7 @@ def archived(run):
     archived_names(run)
     archived_inputs(run)
     archived_lines(run)
+    archived_pages(run)
 
 
 def archived_names(run):
@@ -853,6 +857,53 @@ def archived_inputs(run):
     if os.path.exists("/dev/full"):
         run.row(["archive", "word", "word.gad", "nowhere", "line"], 4, error="write failed", stdout="/dev/full")
         run.row(["archive", "digit", "word.gad", "line"], 4, error="write failed", stdout="/dev/full")
+
+
+PAGED = [  # a game, its line but for its name and its page, the page, and the verdict and the totals in the index
+    ("line", "legal unfinished - - 1 A 16 - - 0", "line.html", ["legal: unfinished", "A", "16", "", ""]),
+    ("./line", "legal unfinished - - 1 A 16 - - 0", "line-2.html", ["legal: unfinished", "A", "16", "", ""]),
+    ("folder/../line", "legal unfinished - - 1 A 16 - - 0", "line-3.html", ["legal: unfinished", "A", "16", "", ""]),
+    ("index", "legal unfinished - - 1 A 16 - - 0", "index-2.html", ["legal: unfinished", "A", "16", "", ""]),
+    ("<b>&\"'.gcg", "legal unfinished - - 1 A 16 - - 0", "<b>&\"'.html", ["legal: unfinished", "A", "16", "", ""]),
+    ("turn", "illegal - 2 NotYourTurn 2 A 16 - - -", "turn.html", ["illegal line 2: NotYourTurn", "A", "16", "", ""]),
+    ("nothing", "no_game - - - 0 - - - - 0", "nothing.html", ["no game", "", "", "", ""]),
+    ("third", "bad_record - 3 ThirdPlayer - - - - - -", "-", ["bad record line 3: ThirdPlayer", "", "", "", ""]),
+    ("nowhere", "unread - - cannot_open - - - - - -", "-", ["unread: cannot open", "", "", "", ""]),
+    ("..", "unread - - read_failed - - - - - -", "-", ["unread: read failed", "", "", "", ""]),
+]
+
+
+def archived_pages(run):
+    """`archive --pages`: a page for each game that is read, no two of one name, and their index."""
+    pages, names = Path(run.folder, "pages/of/games"), [name for name, _, _, _ in PAGED]
+    for name in ("index", "<b>&\"'.gcg"):
+        Path(run.folder, name).write_text(WORD)
+    lines = ["\t".join([*told_of(name, text), page]) + "\n" for name, text, page, _ in PAGED]
+    for _ in range(2):
+        run.row(["archive", "--pages", "pages/of/games", "word", "word.gad", *names], 4, "".join(lines))
+    run.expect("the files of a folder", sorted(it.name for it in pages.iterdir()) == sorted(["index.html", *(page for _, _, page, _ in PAGED if page != "-")]))
+    for name, _, page, _ in PAGED:
+        if page != "-":
+            run.row(["page", "word", "word.gad", name, "out"], int(name == "turn"), None, wrote=(pages / page).read_bytes())
+    rows = web.read((pages / "index.html").read_bytes()).first("tbody").all("tr")
+    run.expect("the rows of the index", [[it.text() for it in row.all("td")] for row in rows] == [[name, *cells] for name, _, _, cells in PAGED])
+    links = [[unquote(it.attributes["href"]) for it in row.all("a")] for row in rows]
+    run.expect("the links of the index", links == [[page] if page != "-" else [] for _, _, page, _ in PAGED])
+    told = subprocess.run([run.program, "archive", "--json", "--pages", "pages", "word", "word.gad", *names], cwd=run.folder, capture_output=True, check=False)
+    objects = [json.loads(text) for text in told.stdout.decode().splitlines()]
+    run.expect("pages in JSON", all(list(it) == [*FIELDS, "page"] for it in objects) and [it["page"] or "-" for it in objects] == [page for _, _, page, _ in PAGED])
+    refused_pages(run)
+
+
+def refused_pages(run):
+    """Pages that cannot be written."""
+    legal = "legal\tunfinished\t-\t-\t1\tA\t16\t-\t-\t0"
+    run.row(["archive", "--pages", "line", "word", "word.gad", "line"], 4, error="cannot open line")
+    run.row(["archive", "--pages", "line/x", "word", "word.gad", "line"], 4, error="cannot open line/x")
+    Path(run.folder, "some/line.html").mkdir(parents=True)
+    run.row(["archive", "--pages", "some", "word", "word.gad", "line", "caf\u00e9"], 4, f"line\t{legal}\tcannot write\ncaf\u00e9\t{legal}\tcaf\u00e9.html\n")
+    Path(run.folder, "none/index.html").mkdir(parents=True)
+    run.row(["archive", "--pages", "none", "word", "word.gad", "line"], 4, f"line\t{legal}\tline.html\n", error="write failed")
 
 
 def archived_lines(run):
@@ -1002,6 +1053,54 @@ def explained(run):
         run.row(["explain", "word", "word.gad", "line"], 4, error="write failed", stdout="/dev/full")
 
 
+def paged(run):
+    """`page`: the verdict line, and what stands on the page."""
+    run.row(["build", "word", "word.gad"], 0)
+    out = Path(run.folder, "out")
+    for game, status, verdict in [("line", 0, "legal unfinished"), ("ends", 0, "legal complete"), ("nothing", 0, "legal unfinished"),
+                                  ("line-18", 1, "illegal line 1: WrongScore 16"), ("turn", 1, "illegal line 2: NotYourTurn")]:
+        run.row(["page", "word", "word.gad", game, "out"], status, f"{verdict}\n")
+        banner = web.read(out.read_bytes()).first("p", "verdict")
+        run.expect(f"the banner of {game}", banner.first("strong").text() == verdict and banner.attributes["class"] == f"verdict {verdict.split()[0]}")
+    rows = {
+        "line": ["1", "A", "AADEORW", "8E WORD", "16", "16", "8E WORD 16", "0", "", ""],
+        "line-18": ["1 fault", "A", "AADEORW", "8E WORD", "18", "18", "8E WORD 16", "0", "", "score 16 total 16"],
+        "line-17": ["1 fault", "A", "AADEORW", "8E WORD", "16", "17", "8E WORD 16", "0", "", "total 16"],
+    }
+    for game, cells in rows.items():
+        run.row(["page", "word", "word.gad", game, "out"], int(game != "line"), None)
+        row = web.read(out.read_bytes()).first("table", "sheet").first("tbody").first("tr")
+        found = [it.text().strip() for it in row.all("td")]
+        run.expect(f"the row of {game}", found == cells)
+    unread_pages(run, out)
+
+
+def unread_pages(run, out):
+    """Where `page` writes no page, and the page that is written again."""
+    out.write_bytes(b"as it was")
+    for words, status, told in [
+        (["word", "word.gad", "third"], 3, "bad record line 3: ThirdPlayer\n"),
+        (["word", "word.gad", "long-game"], 3, "bad record: TooLong\n"),
+        (["digit", "word.gad", "line"], 3, "bad word list line 2: BadLetter\n"),
+        (["--rules", "tiles.rules", "word", "word.gad", "line"], 3, "bad rules line 1: Unknown\n"),
+    ]:
+        run.row(["page", *words, "out"], status, told, wrote=b"as it was")
+    for place, words in enumerate([["nowhere", "word.gad", "line"], ["word", "nowhere", "line"], ["word", "word.gad", "nowhere"]]):
+        run.row(["page", *words, "out"], 4, error="cannot open nowhere", wrote=b"as it was")
+        words[place] = "folder"
+        run.row(["page", *words, "out"], 4, error="cannot read folder", wrote=b"as it was")
+    run.row(["page", "word", "word.gad", "line", "folder"], 4, error="cannot open folder")
+    run.row(["page", "many", "at.gad", "line", "out"], 4, error="no memory", wrote=b"as it was", room=1 << 23)
+    run.row(["page", "word", "word.gad", "-", "out"], 0, "legal unfinished\n", stdin=WORD)
+    page = out.read_bytes()
+    for words in (["-", "word.gad", "line"], ["word", "word.gad", "line"]):
+        run.row(["page", *words, "out"], 0, "legal unfinished\n", stdin="WORD\n", wrote=page)
+    run.row(["page", "-", "word.gad", "-", "out"], 64, error=None)
+    if os.path.exists("/dev/full"):
+        run.row(["page", "word", "word.gad", "line", "/dev/full"], 4, error="write failed")
+        run.row(["page", "word", "word.gad", "line", "out"], 4, error="write failed", stdout="/dev/full")
+
+
 def broken(run):
     """Status 4: files that cannot be opened, read or written, and want of memory."""
     run.row(["judge", "nowhere", "at.gad", "line"], 4, error="cannot open nowhere")
@@ -1040,7 +1139,7 @@ def helped(run):
     run.row(["-V"], 0, "referee 1.0.0\n")
     for words in (["help"], ["--help"], ["-h"], ["judge", "--help"], ["judge", "-h"], ["help", "help"]):
         run.row(words, 0, None)
-    for command in ("judge", "archive", "audit", "explain", "board", "build", "check", "convert", "top", "tidy"):
+    for command in ("judge", "archive", "audit", "explain", "page", "board", "build", "check", "convert", "top", "tidy"):
         run.row(["help", command], 0, None)
         run.row([command, "--help"], 0, None)
     if os.path.exists("/dev/full"):
@@ -1056,7 +1155,7 @@ def misused(run):
         run.row(["archive", "word", "word.gad", *words], 64, error=None)
     run.row(["archive", "word"], 64, error=None)
     run.row(["archive", "--settle", "word", "word.gad", "line"], 64, error=None)
-    for command, count in [("judge", 3), ("build", 2), ("check", 2), ("convert", 3), ("top", 4), ("tidy", 1), ("board", 1), ("audit", 3)]:
+    for command, count in [("judge", 3), ("build", 2), ("check", 2), ("convert", 3), ("top", 4), ("tidy", 1), ("board", 1), ("audit", 3), ("page", 4)]:
         for names in range(count):
             run.row([command, *["at"] * names], 64, error=None)
         run.row([command, *["at"] * (count + 1)], 64, error=None)
@@ -1070,7 +1169,7 @@ def main():
     with tempfile.TemporaryDirectory() as folder:
         files(folder)
         run = Runner(os.path.abspath(sys.argv[1]), folder)
-        for part in (judged, settled, built_and_checked, converted, topped, topped_before, ruled, tidied, boarded, widest, from_standard_input, fielded, archived, audited, explained, broken, helped, misused):
+        for part in (judged, settled, built_and_checked, converted, topped, topped_before, ruled, tidied, boarded, widest, from_standard_input, fielded, archived, audited, explained, paged, broken, helped, misused):
             part(run)
         if sys.argv[2:] == ["large"]:
             converted_large(run)

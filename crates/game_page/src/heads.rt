@@ -7,12 +7,12 @@ use std::alloc::{AllocError, Global};
 
 /// How a page looks, in light and in dark, at each width and on paper.
 pub const STYLE: &str = "\
-:root{color-scheme:light dark;--back:#fff;--ink:#1c1c1c;--faint:#666;--line:#bbb;--tile:#f3dfae;--tile-ink:#231a05;--new:#b3400c;\
+:root{color-scheme:light dark;--back:#fff;--ink:#1c1c1c;--faint:#666;--line:#bbb;--tile:#f3dfae;--blank:#fdf6e0;--tile-ink:#231a05;--new:#b3400c;\
 --dl:#cfe6f5;--tl:#8fc1e3;--dw:#f7d5d3;--tw:#e9a09b;--good:#1c6b2c;--bad:#a11c1c;--open:#7a5a00}\n\
-@media(prefers-color-scheme:dark){:root{--back:#16181b;--ink:#e8e6e1;--faint:#a3a3a3;--line:#4a4d52;--tile:#d9c184;--tile-ink:#1a1403;\
+@media(prefers-color-scheme:dark){:root{--back:#16181b;--ink:#e8e6e1;--faint:#a3a3a3;--line:#4a4d52;--tile:#d9c184;--blank:#f4ead0;--tile-ink:#1a1403;\
 --new:#ff8a4c;--dl:#24465c;--tl:#1d5f8c;--dw:#5c3230;--tw:#8c3a34;--good:#7fd18f;--bad:#ff8f86;--open:#e6c35c}}\n\
 *{box-sizing:border-box}\n\
-body{margin:0 auto;max-width:75rem;padding:1rem;background:var(--back);color:var(--ink);font:1rem/1.45 system-ui,sans-serif}\n\
+body{margin:0 auto;max-width:75rem;padding:1rem;background:var(--back);color:var(--ink);font:1rem/1.45 system-ui,sans-serif;overflow-wrap:break-word}\n\
 h1{font-size:1.5rem;margin:0}h2{font-size:1.1rem;margin:1.5rem 0 .5rem}\n\
 .result{margin:.2rem 0 1rem;font-size:1.1rem}\n\
 .verdict{border:2px solid;border-left-width:.6rem;padding:.5rem .8rem;white-space:pre-line}\n\
@@ -23,7 +23,7 @@ h1{font-size:1.5rem;margin:0}h2{font-size:1.1rem;margin:1.5rem 0 .5rem}\n\
 .dl{background:var(--dl)}.tl{background:var(--tl)}.dw{background:var(--dw)}.tw{background:var(--tw)}\n\
 .board .dl,.board .tl,.board .dw,.board .tw{font-size:.6em}\n\
 .board .t{background:var(--tile);color:var(--tile-ink);font-weight:600}\n\
-.board .b{font-style:italic;font-weight:400;text-decoration:underline dotted}\n\
+.board .b{background:var(--blank);font-style:italic;font-weight:400}\n\
 .board .m{outline:3px solid var(--new);outline-offset:-3px}\n\
 .board sub{font-size:.55em;font-weight:400;font-style:normal;vertical-align:-.35em;margin-left:.05em}\n\
 .sheet{border-collapse:collapse;width:100%}\n\
