@@ -2,7 +2,8 @@
 
 Each case is a game that nobody dealt, or one that was dealt for real with mistakes of a director's day (`mistakes.py`), some by players
 whose names are full of signs that mean something in HTML. The page is read strictly (`web.py`), and everything on it is compared with what
-the second judge says of the record: names, totals, verdict, reason, boards, rows and foot. The same game gives the same bytes.
+the second judge says of the record: names, totals, verdict, reason, boards, rows and foot. The same game gives the same bytes, and the page
+of a game of up to 30 events has less than 300 kB.
 """
 import random
 import subprocess
@@ -79,6 +80,7 @@ class Pages:
         self.expect(verdict in verdicts and ran.returncode == status_of(ran.stdout) and not ran.stderr, ran, verdicts[:3], game)
         if page is None or verdict not in verdicts:
             return self.expect(False, "no page", ran)
+        self.expect(len(events) > 30 or len(page) < 300_000, len(page), "bytes")
         told = differences(page, expected(verdict, players, events, lines, listed, rules, words, text))
         self.expect(not told, *told[:5], game.decode("latin-1"))
         return self.expect(self.run(by)[1] == page, "another page")

@@ -5,15 +5,15 @@ use std::alloc::{AllocError, Global};
 
 /// What a page was made by.
 #[derive(Clone, Copy)]
-pub struct Maker<'a> {
+pub struct Maker {
     /// The name and the version of the program.
     pub program: &'static str,
     /// How many words the list has.
     pub words: usize,
     /// The SHA-256 of the bytes of the list.
-    pub list: &'a [u8; 32],
+    pub list: [u8; 32],
     /// The SHA-256 of the bytes of the rules text; none for the rules of the English game.
-    pub rules: Option<&'a [u8; 32]>,
+    pub rules: Option<[u8; 32]>,
 }
 
 /// Appends a byte by two digits from 0 to f.
@@ -47,7 +47,7 @@ fn push_rules(page: &mut Vec<u8>, rules: Option<&[u8; 32]>) -> Result<(), AllocE
 }
 
 /// Appends the legend of the boards, and what the page was made by.
-pub fn push_foot(alloc: Global, page: &mut Vec<u8>, maker: &Maker<'_>) -> Result<(), AllocError> {
+pub fn push_foot(alloc: Global, page: &mut Vec<u8>, maker: &Maker) -> Result<(), AllocError> {
     write(
         alloc,
         page,
@@ -57,9 +57,9 @@ pub fn push_foot(alloc: Global, page: &mut Vec<u8>, maker: &Maker<'_>) -> Result
             Piece::Markup(" words, SHA-256 "),
         ],
     )?;
-    push_digest(page, maker.list)?;
+    push_digest(page, &maker.list)?;
     page.extend_from_slice(b". ")?;
-    push_rules(page, maker.rules)?;
+    push_rules(page, maker.rules.as_ref())?;
     write(
         alloc,
         page,

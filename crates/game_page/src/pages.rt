@@ -83,7 +83,7 @@ fn push_sheet(
     page: &mut Vec<u8>,
     sheet: &Sheet<'_>,
     case: &Case,
-    maker: &Maker<'_>,
+    maker: &Maker,
 ) -> Result<(), AllocError> {
     push_head(alloc, page, sheet)?;
     push_banner(alloc, page, sheet, case)?;
@@ -106,7 +106,7 @@ pub fn push_page(
     pair: &Checked<'_>,
     case: &Case,
     right: &mut Record,
-    maker: &Maker<'_>,
+    maker: &Maker,
 ) -> Result<(), AllocError> {
     let Ok(
         Entry {

@@ -13,6 +13,7 @@ use devices::FromRead;
 use either::Either;
 use endings::{Exit, Trouble};
 use engine::{archive_entry, pair_file};
+use game_page::Maker;
 use lex_check::Checked;
 use ref_tiles::Rules;
 use std::alloc::{AllocError, Global};
@@ -84,16 +85,12 @@ fn archive_by<'a, R: Runtime + AllocGlobal, N: Names + Drop>(
         Err(decision) => return refuse(rt, &decision),
     };
     let bytes = lexicon_of(rt.alloc(), request.lexicon, lexicon)?;
-    let pair = match pair_file(rt.alloc(), &list.list, &bytes) {
-        Ok(Ok(pair)) => pair,
-        Ok(Err(decision)) => return refuse(rt, &decision),
-        Err(_) => return Err(Trouble::NoMemory),
-    };
-    let pages = match request.pages {
-        None => None,
-        Some(folder) => Some(Pages::open(rt, folder, maker_of(&rules, &list))?),
-    };
-    go_through(rt, request, &rules.rules, &pair, pages, run, names)
+    let maker = maker_of(&rules, &list);
+    match pair_file(rt.alloc(), &list.list, &bytes) {
+        Ok(Ok(pair)) => go_through(rt, request, &rules.rules, &pair, maker, run, names),
+        Ok(Err(decision)) => refuse(rt, &decision),
+        Err(_) => Err(Trouble::NoMemory),
+    }
 }
 
 /// Judges the games of these names, one after the other.
@@ -102,11 +99,14 @@ fn go_through<'a, R: Runtime + AllocGlobal, N: Names + Drop>(
     request: &Archive<'a>,
     rules: &Rules,
     pair: &Checked<'_>,
-    pages: Option<Pages<'a, '_>>,
+    maker: Maker,
     run: Run,
     names: N,
 ) -> Result<Exit, Trouble<'a>> {
-    let mut pages = pages;
+    let mut pages = match request.pages {
+        None => None,
+        Some(folder) => Some(Pages::open(rt, folder, maker)?),
+    };
     let mut run = run;
     let mut names = names;
     let mut name = Vec::new(rt.alloc());
@@ -148,7 +148,7 @@ impl Run {
         rt: &R,
         rules: &Rules,
         pair: &Checked<'_>,
-        pages: &mut Option<Pages<'_, '_>>,
+        pages: &mut Option<Pages<'_>>,
         name: &[u8],
     ) -> Result<(), Trouble<'a>> {
         if let Ok(name) = str::from_utf8(name) {
@@ -182,7 +182,7 @@ impl Run {
     fn tell<'a, R: Runtime + AllocGlobal>(
         &mut self,
         rt: &R,
-        pages: &mut Option<Pages<'_, '_>>,
+        pages: &mut Option<Pages<'_>>,
         fields: Fields<'_>,
     ) -> Result<(), Trouble<'a>> {
         let mut fields = fields;
@@ -222,7 +222,7 @@ fn found<'n, R: Runtime + AllocGlobal, F: Read + Drop>(
     rt: &R,
     rules: &Rules,
     pair: &Checked<'_>,
-    pages: &mut Option<Pages<'_, '_>>,
+    pages: &mut Option<Pages<'_>>,
     name: &'n str,
     game: F,
 ) -> Fields<'n> {

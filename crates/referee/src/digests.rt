@@ -36,12 +36,12 @@ pub struct DigestedList {
 }
 
 /// What pages by these inputs are made by.
-pub fn maker_of<'m>(rules: &'m DigestedRules, list: &'m DigestedList) -> Maker<'m> {
+pub fn maker_of(rules: &DigestedRules, list: &DigestedList) -> Maker {
     Maker {
         program: PROGRAM,
         words: list.list.len(),
-        list: &list.digest,
-        rules: rules.digest.as_ref(),
+        list: list.digest,
+        rules: rules.digest,
     }
 }
 

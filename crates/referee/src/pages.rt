@@ -20,9 +20,9 @@ const INDEX: &str = "index.html";
 
 /// The pages of a run over many games: where they go, what they are made by, and their index so far.
 #[derive(Drop)]
-pub struct Pages<'a, 'm> {
+pub struct Pages<'a> {
     folder: &'a str,
-    maker: Maker<'m>,
+    maker: Maker,
     names: PageNames,
     /// The page of the game that is being judged. The games share its memory.
     page: Vec<u8>,
@@ -30,13 +30,13 @@ pub struct Pages<'a, 'm> {
     index: Vec<u8>,
 }
 
-impl<'a, 'm> Pages<'a, 'm> {
+impl<'a> Pages<'a> {
     /// Pages in a folder, which is made where it is not there.
     pub fn open<R: Runtime + AllocGlobal>(
         rt: &R,
         folder: &'a str,
-        maker: Maker<'m>,
-    ) -> Result<Pages<'a, 'm>, Trouble<'a>> {
+        maker: Maker,
+    ) -> Result<Pages<'a>, Trouble<'a>> {
         match fs::create_dir_all(rt, folder) {
             Ok(()) => {}
             Err(error) if error.kind() == io::ErrorKind::OutOfMemory => {
@@ -51,11 +51,7 @@ impl<'a, 'm> Pages<'a, 'm> {
     }
 
     /// Pages of no game yet.
-    fn empty(
-        alloc: Global,
-        folder: &'a str,
-        maker: Maker<'m>,
-    ) -> Result<Pages<'a, 'm>, AllocError> {
+    fn empty(alloc: Global, folder: &'a str, maker: Maker) -> Result<Pages<'a>, AllocError> {
         let mut index = Vec::new(alloc);
         push_index_head(alloc, &mut index)?;
         Ok(Pages {

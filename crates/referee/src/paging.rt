@@ -57,7 +57,7 @@ fn write_page<'a, R: Runtime + AllocGlobal>(
     rules: &Rules,
     pair: &Checked<'_>,
     case: &Case,
-    maker: &Maker<'_>,
+    maker: &Maker,
     out: &'a str,
 ) -> Result<Exit, Trouble<'a>> {
     let (Ok(page), Ok(line)) = (
@@ -82,7 +82,7 @@ fn page_of(
     rules: &Rules,
     pair: &Checked<'_>,
     case: &Case,
-    maker: &Maker<'_>,
+    maker: &Maker,
 ) -> Result<Vec<u8>, AllocError> {
     let mut page = Vec::new(alloc);
     push_case(alloc, &mut page, rules, pair, case, maker)?;
@@ -96,7 +96,7 @@ pub fn push_case(
     rules: &Rules,
     pair: &Checked<'_>,
     case: &Case,
-    maker: &Maker<'_>,
+    maker: &Maker,
 ) -> Result<(), AllocError> {
     match record_from(alloc, case.text.as_slice())? {
         Ok(mut right) => push_page(alloc, page, rules, pair, case, &mut right, maker),
