@@ -9,6 +9,7 @@ may also say of one game that there was no memory for it, and go on.
 A library that is loaded in front of the C library refuses the request, by malloc or realloc, that the variable REFUSE numbers.
 """
 import os
+import re
 import subprocess
 import sys
 import tempfile
@@ -69,10 +70,15 @@ ROWS = [  # the command, the words, the record
 ]
 
 
+def unnumbered(line):
+    """A line of an archive without the number in the name of its page: a page that there was no memory for takes no name."""
+    return re.sub(rb"(-\d+)?\.html$", b".html", line)
+
+
 def is_archive(ran, row):
     """Whether lines are those of a row but for one game for which, or for whose page, there was no memory; or those of the first games, where
     there was none for a line at all, or of all games, where there was none for the index."""
-    told, wanted = ran.stdout.splitlines(), row.stdout.splitlines()
+    told, wanted = ([unnumbered(it) for it in lines.splitlines()] for lines in (ran.stdout, row.stdout))
     if (ran.returncode, ran.stderr) == (4, b"no memory\n"):
         return told == wanted[: len(told)]
     changed = [it for it, want in zip(told, wanted) if it != want]
