@@ -42,6 +42,7 @@ if [ -x "$program" ]; then
     part oracle/compare_games.py "$program" 200 "$seed"
     part oracle/compare_deals.py "$program" 40 "$seed"
     part oracle/compare_lexicons.py "$program" 100 "$seed"
+    part oracle/flip_lexicons.py "$program" 2000 "$seed"
     part oracle/compare_tops.py "$program" 50 "$seed"
     part oracle/compare_rules.py "$program" 20 "$seed"
     part oracle/compare_archive.py "$program" 60 "$seed"

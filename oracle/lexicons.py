@@ -107,9 +107,10 @@ def arcs_fault(root, arcs):
     firsts = {n for n in range(1, len(arcs)) if n == 1 or arcs[n - 1] & 64}
     if root not in (firsts or {0}):
         return "Root"
+    own = 1
     for n in range(1, len(arcs)):
         word = arcs[n]
-        own = max(first for first in firsts if first <= n)
+        own = n if n in firsts else own
         if word & 31 > 26:
             return "Label"
         if n != own and word & 31 <= arcs[n - 1] & 31:
