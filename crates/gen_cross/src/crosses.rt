@@ -12,10 +12,7 @@ use crate::values::{nothing, value_of};
 use lex_file::PathLex;
 use ref_board::{Board, Dir, SIDE, Square};
 use ref_play::Play;
-use ref_tiles::Rules;
-
-/// How many squares the board has.
-pub const SQUARES: usize = SIDE * SIDE;
+use ref_tiles::{Rules, SQUARES};
 
 /// What a square is for a play of one direction.
 #[derive(Clone, Copy)]

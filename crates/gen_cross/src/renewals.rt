@@ -7,13 +7,13 @@ ghost use Rattle.lex_list.specs.RotatedPaths.{StandsFor};
 ghost use Rattle.gen_cross.specs.Values.{no_value, IsValue, AreValues};
 ghost use Rattle.gen_cross.specs.Changes.{DifferOn, AgreeBut, AgreeOff, AreWithin};
 
-use crate::crosses::{SQUARES, Value};
+use crate::crosses::Value;
 use crate::stretches::Stretch;
 use crate::values::value_of;
 use lex_file::PathLex;
 use ref_board::{Board, Dir, SIDE, Square};
 use ref_play::Placed;
-use ref_tiles::Rules;
+use ref_tiles::{Rules, SQUARES};
 
 /// Renews, for plays of a direction, the values that the tiles of a play of this direction decide, each on its own line
 /// across the play.

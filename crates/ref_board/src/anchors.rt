@@ -4,7 +4,8 @@ ghost use Rattle.ref_board.specs.Anchors.{follows_tile, precedes_tile, touches};
 
 use crate::boards::Board;
 use crate::directions::Dir;
-use crate::squares::{SIDE, Square};
+use crate::squares::Square;
+use ref_tiles::SIDE;
 
 /// Whether the square before this one on its line has a tile.
 pub fn follows_tile(board: &Board, dir: Dir, square: Square) -> bool

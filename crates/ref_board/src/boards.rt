@@ -6,12 +6,9 @@ ghost use Rattle.ref_board.specs.Runs.{IsRunThrough, IsFirstBack, IsEndOn};
 
 use crate::anchors::touches;
 use crate::directions::Dir;
-use crate::squares::{SIDE, Square};
-use ref_tiles::Tile;
+use crate::squares::Square;
+use ref_tiles::{SIDE, SQUARES, Tile};
 use std::marker::Model;
-
-/// How many squares the board has.
-const SQUARES: usize = 225;
 
 /// A board: which squares have a tile, and which tile.
 #[derive(Clone, Copy, Debug, PartialEq, Eq)]

@@ -9,4 +9,5 @@ mod squares;
 pub use anchors::{follows_tile, precedes_tile, touches};
 pub use boards::Board;
 pub use directions::Dir;
-pub use squares::{SIDE, Square};
+pub use ref_tiles::SIDE;
+pub use squares::Square;

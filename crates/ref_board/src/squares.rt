@@ -3,10 +3,8 @@ ghost use Rattle.std.specs.Prelude.{◌≡◌, ◌<◌, ◌/◌, ◌%◌, ◌↔
 ghost use Rattle.ref_board.specs.Lines.{square_in, square_at, line_of, place_of};
 
 use crate::directions::Dir;
+use ref_tiles::SIDE;
 use std::marker::Model;
-
-/// How many places a line of the board has: 15 rows of 15 columns.
-pub const SIDE: usize = 15;
 
 /// A square of the board. Contracts see its number, 15 times the row and the column, both from 0.
 #[derive(Clone, Copy, Debug, PartialEq, Eq, PartialOrd, Ord, Hash)]

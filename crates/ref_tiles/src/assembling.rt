@@ -8,10 +8,10 @@ use crate::counting::{Counts, KINDS};
 use crate::drafts::Draft;
 use crate::parts::{MAX_BONUS, RuleParts};
 use crate::premiums::Premium;
-use crate::rulebook::{Rules, SQUARES};
+use crate::rulebook::{Rules, SIDE, SQUARES};
 use crate::rules_faults::{RulesFault, RulesWhy};
 use crate::statements::{
-    BONUS, CHALLENGE_UNIT, EXCHANGE_MIN, Entry, FIRST_ROW, SIDE, TIME_STEP, ZERO_LIMIT,
+    BONUS, CHALLENGE_UNIT, EXCHANGE_MIN, Entry, FIRST_ROW, TIME_STEP, ZERO_LIMIT,
 };
 
 /// How many letters have points.

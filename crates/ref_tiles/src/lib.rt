@@ -26,7 +26,7 @@ pub use laws::law_of_symbols;
 pub use letters::Letter;
 pub use parts::RuleParts;
 pub use premiums::Premium;
-pub use rulebook::{Rules, SQUARES};
+pub use rulebook::{Rules, SIDE, SQUARES};
 pub use rules_faults::{RulesFault, RulesWhy};
 pub use rules_reading::MAX_RULES_BYTES;
 pub use symbols::Symbol;

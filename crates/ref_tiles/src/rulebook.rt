@@ -6,8 +6,11 @@ use crate::counting::Counts;
 use crate::kinds::Kind;
 use crate::premiums::Premium;
 
-/// How many squares a board has.
-pub const SQUARES: usize = 225;
+/// How many places a line of the board has: 15 rows of 15 columns.
+pub const SIDE: usize = 15;
+
+/// How many squares the board has.
+pub const SQUARES: usize = SIDE * SIDE;
 
 /// The rules that tournaments vary: the tile set, its points, the board and five numbers.
 ///

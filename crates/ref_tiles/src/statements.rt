@@ -6,11 +6,9 @@ ghost use Rattle.text_lines.specs.Fields.{fields_of};
 use crate::counting::KINDS;
 use crate::kinds::Kind;
 use crate::premiums::Premium;
+use crate::rulebook::SIDE;
 use crate::rules_faults::RulesWhy;
 use text_lines::{next_field, numeral};
-
-/// How many rows and columns a board has.
-pub const SIDE: usize = 15;
 
 /// How many digits a number of a rules text has at the most.
 const MAX_DIGITS: usize = 3;
