@@ -21,10 +21,26 @@ label_more words place label before here = rw add-one (rw before (by (has_bit (g
     by true = here
     by false = refl
 
-pub label_passed : (words : List ℕ) (place label : ℕ) → labels_fault words place label ≡ None → has_bit (get_or words place 0) label ≡ false
-    → labels_fault words place (label + 1) ≡ None
+label_passed : (words : List ℕ) (place label : ℕ) → labels_fault words place label ≡ None → has_bit (get_or words place 0) label ≡ false
+    → labels_fault words place (suc label) ≡ None
 unfolding labels_fault
-label_passed words place label before no_bit = rw add-one (rw (before, no_bit) refl)
+label_passed words place label before no_bit = rw (before, no_bit) refl
+
+-- numbers that are no labels of a node have no fault
+pub labels_passed : (words : List ℕ) (place from next : ℕ) → labels_fault words place from ≡ None → from ≤ next
+    → ((label : ℕ) → from ≤ label → label < next → has_bit (get_or words place 0) label ≡ false) → labels_fault words place next ≡ None
+labels_passed words place from zero before le clear = let same : from ≡ zero = omega arith in subst (λ (n : ℕ). labels_fault words place n ≡ None) same before
+labels_passed words place from (suc next) before le clear =
+    elim (cases_lt from (suc next)) [
+      | inl less ↦
+          label_passed words place next (labels_passed words place from next before (omega arith) (λ label low lt. clear label low (omega arith)))
+          (clear next (omega arith) (omega arith))
+      | inr after ↦ let same : from ≡ suc next = omega arith in subst (λ (n : ℕ). labels_fault words place n ≡ None) same before
+    ]
+
+pub labels_end : (words : List ℕ) (place from : ℕ) → labels_fault words place from ≡ None → from ≤ 27
+    → ((label : ℕ) → from ≤ label → label < 27 → has_bit (get_or words place 0) label ≡ false) → labels_fault words place 27 ≡ None
+labels_end words place from = labels_passed words place from 27
 
 fault_at : (words : List ℕ) (place label : ℕ) (fault : FileFault) → labels_fault words place label ≡ None → has_bit (get_or words place 0) label ≡ true
     → label_fault words place label ≡ Some fault → labels_fault words place (suc label) ≡ Some fault

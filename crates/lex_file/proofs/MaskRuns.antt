@@ -168,8 +168,17 @@ set_there (suc width) n lt = set_step n (n % 2) (count_trailing_zeros width (n /
 bit_behind : (word label i : ℕ) → bit_at (word / 2 ^ label) i ≡ bit_at word (label + i)
 bit_behind word label i = ap (λ (n : ℕ). n % 2) (div-div-eq-div-mul word (2 ^ label) (2 ^ i) ∙ ap (λ (n : ℕ). word / n) (sym (pow-add 2 label i)))
 
-lacks_before : (word label i : ℕ) → i < count_trailing_zeros 32 (word / 2 ^ label) → has_bit word (label + i) ≡ false
-lacks_before word label i lt = let none = sym (bit_behind word label i) ∙ clear_below 32 (word / 2 ^ label) i lt in rw none refl
+lacks_at : (word label i : ℕ) → i < count_trailing_zeros 32 (word / 2 ^ label) → has_bit word (label + i) ≡ false
+lacks_at word label i lt = let none = sym (bit_behind word label i) ∙ clear_below 32 (word / 2 ^ label) i lt in rw none refl
+
+-- no bit of a word lies between a place and the next bit from there on
+pub lacks_before : (word from label : ℕ) → from ≤ label → label < from + count_trailing_zeros 32 (word / 2 ^ from) → has_bit word label ≡ false
+lacks_before word from label le lt =
+    let same : from + (label - from) ≡ label = omega arith in
+    subst (λ (n : ℕ). has_bit word n ≡ false) same (lacks_at word from (label - from) (omega arith))
+
+pub lacks_all : (word from label : ℕ) → 27 ≤ from + count_trailing_zeros 32 (word / 2 ^ from) → from ≤ label → label < 27 → has_bit word label ≡ false
+lacks_all word from label past le lt = lacks_before word from label le (omega arith)
 
 pub has_next : (word label : ℕ) → label + count_trailing_zeros 32 (word / 2 ^ label) < 27 → has_bit word (label + count_trailing_zeros 32 (word / 2 ^ label)) ≡ true
 has_next word label lt =
@@ -187,19 +196,22 @@ over_clear words place label (suc count) le clear =
     ∙ subst (λ (n : ℕ). arc_from label (arcs_among words place (label + count) (27 - (label + count))) ≡ arc_from label (arcs_among words place n (27 - n))) same
     (further_from words place label (label + count) (omega arith) (clear count (omega arith)))
 
-pub next_from : (words : List ℕ) (node label : ℕ) → 0 < node → label + count_trailing_zeros 32 (get_or words (node - 1) 0 / 2 ^ label) < 27
-    → arc_from label (mask_node words node) ≡ Some (mask_arc words (node - 1) (label + count_trailing_zeros 32 (get_or words (node - 1) 0 / 2 ^ label)))
-next_from words node label some lt =
-    let next = count_trailing_zeros 32 (get_or words (node - 1) 0 / 2 ^ label) in
+pub next_from : (words : List ℕ) (node label next : ℕ) → 0 < node → has_bit (get_or words (node - 1) 0) next ≡ true → label ≤ next → next < 27
+    → ((l : ℕ) → label ≤ l → l < next → has_bit (get_or words (node - 1) 0) l ≡ false)
+    → arc_from label (mask_node words node) ≡ Some (mask_arc words (node - 1) next)
+next_from words node label next some has le lt clear =
+    let same : label + (next - label) ≡ next = omega arith in
     starts_from words node label some
-    ∙ over_clear words (node - 1) label next (omega arith) (lacks_before (get_or words (node - 1) 0) label)
-    ∙ here_from words (node - 1) label (label + next) (omega arith) lt (has_next (get_or words (node - 1) 0) label lt)
+    ∙ over_clear words (node - 1) label (next - label) (omega arith) (λ i few. clear (label + i) (omega arith) (omega arith))
+    ∙ subst (λ (n : ℕ). arc_from label (arcs_among words (node - 1) n (27 - n)) ≡ Some (mask_arc words (node - 1) next)) (sym same)
+    (here_from words (node - 1) label next le lt has)
 
-pub none_from : (words : List ℕ) (node label : ℕ) → 0 < node → label < 27 → 27 ≤ label + count_trailing_zeros 32 (get_or words (node - 1) 0 / 2 ^ label)
+pub none_from : (words : List ℕ) (node label : ℕ) → 0 < node → label < 27
+    → ((l : ℕ) → label ≤ l → l < 27 → has_bit (get_or words (node - 1) 0) l ≡ false)
     → arc_from label (mask_node words node) ≡ None
-none_from words node label some low le =
+none_from words node label some low clear =
     starts_from words node label some
-    ∙ over_clear words (node - 1) label (27 - label) (omega arith) (λ i lt. lacks_before (get_or words (node - 1) 0) label i (omega arith))
+    ∙ over_clear words (node - 1) label (27 - label) (omega arith) (λ i few. clear (label + i) (omega arith) (omega arith))
     ∙ past_from words (node - 1) label (label + (27 - label)) (omega arith)
 
 pub over_from : (words : List ℕ) (node label : ℕ) → 27 ≤ label → arc_from label (mask_node words node) ≡ None

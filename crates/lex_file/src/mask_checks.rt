@@ -9,8 +9,7 @@ ghost use Rattle.lex_file.specs.Shapes.{mask_header_fault};
 
 use crate::faults::FileFault;
 use crate::formats::{HEADER_BYTES, MAX_BODY_WORDS};
-use crate::lexicons::LABELS;
-use crate::masks::{has_bit, is_marked, is_mask_node, label_count, mask_arc};
+use crate::masks::{is_marked, is_mask_node, label_count, label_from, mask_arc};
 use crate::reading::{word_at, word_count};
 
 /// Looks for the first fault of a header.
@@ -81,16 +80,16 @@ fn accepts_labels(labels: u32, accepts: u32) -> bool
 }
 
 /// Looks for the first fault of the labels of the node at a place, in rising order.
-#[tactic(auto, using(crate::proofs::MaskChecks::labels_none, crate::proofs::MaskChecks::label_more, crate::proofs::MaskChecks::label_passed))]
+#[tactic(auto, using(crate::proofs::MaskChecks::labels_none, crate::proofs::MaskChecks::label_more, crate::proofs::MaskChecks::labels_passed, crate::proofs::MaskChecks::labels_end))]
 fn check_labels(body: &[u8], place: usize) -> Result<(), FileFault>
     requires { IsInside (words_in body.now) place }
     ensures { Refuses result (labels_fault (words_in body.now) place 27) }
 {
     let labels = word_at(body, place);
-    for label in 0..LABELS {
-        if has_bit(labels, label) {
-            check_label(body, place, label)?;
-        }
+    let mut from = 0;
+    while let Some(label) = label_from(labels, from) {
+        check_label(body, place, label)?;
+        from = label + 1;
     }
     Ok(())
 }

@@ -1,5 +1,5 @@
 //! The nodes of a GAD2 file: label words, accept words and targets.
-ghost use Rattle.std.specs.Prelude.{◌≡◌, ◌<◌, ◌≤◌, ◌*◌, true, length, slice_index};
+ghost use Rattle.std.specs.Prelude.{◌≡◌, ◌<◌, ◌≤◌, ◌*◌, ℕ, true, false, length, slice_index, IfSome, IfNone};
 ghost use Rattle.lex_file.specs.FileWords.{words_in};
 ghost use Rattle.lex_file.specs.Arcs.{arc_with, arc_from};
 ghost use Rattle.lex_file.specs.Formats.{most_body_words};
@@ -40,6 +40,24 @@ pub fn label_count(word: u32) -> usize
     ensures few { result ≤ 27 }
 {
     labels_below(LABELS, word) as usize
+}
+
+/// The first label of a label word that is this one or a higher one.
+#[tactic(auto, using(crate::proofs::MaskRuns::has_next, crate::proofs::MaskRuns::lacks_before, crate::proofs::MaskRuns::lacks_all))]
+#[inline(always)]
+pub fn label_from(word: u32, from: u8) -> Option<u8>
+    requires { from ≤ 27 }
+    ensures none { IfNone result ((label : ℕ) → from ≤ label → label < 27 → has_bit word label ≡ false) }
+    ensures some { IfSome result (λ label. has_bit word label ≡ true) }
+    ensures reached { IfSome result (λ label. from ≤ label) }
+    ensures limit { IfSome result (λ label. label < 27) }
+    ensures passed { IfSome result (λ next. (label : ℕ) → from ≤ label → label < next → has_bit word label ≡ false) }
+{
+    let label = from + (word >> from).trailing_zeros() as u8;
+    if label >= LABELS {
+        return None;
+    }
+    Some(label)
 }
 
 /// Whether a number names a node.
@@ -86,7 +104,7 @@ pub fn arc_with_mask(body: &[u8], node: u32, label: u8) -> Option<Arc>
 }
 
 /// The first arc of a node whose label is this one or a higher one.
-#[tactic(auto, using(crate::proofs::MaskRuns::room_at, crate::proofs::MaskRuns::has_next, crate::proofs::MaskRuns::next_from, crate::proofs::MaskRuns::none_from, crate::proofs::MaskRuns::over_from))]
+#[tactic(auto, using(crate::proofs::MaskRuns::room_at, crate::proofs::MaskRuns::next_from, crate::proofs::MaskRuns::none_from, crate::proofs::MaskRuns::over_from))]
 pub fn arc_from_mask(body: &[u8], node: u32, label: u8) -> Option<Arc>
     requires { HasRoom (words_in body.now) node }
     ensures { result ≡ arc_from label (mask_node (words_in body.now) node) }
@@ -95,10 +113,9 @@ pub fn arc_from_mask(body: &[u8], node: u32, label: u8) -> Option<Arc>
         return None;
     }
     let place = node as usize - 1;
-    let next = label + (word_at(body, place) >> label).trailing_zeros() as u8;
-    if next >= LABELS {
+    let Some(next) = label_from(word_at(body, place), label) else {
         return None;
-    }
+    };
     Some(mask_arc(body, place, next))
 }
 
