@@ -20,7 +20,8 @@ use Rattle.gen_cross.proofs.CrossLaws.{score_of_tile}
 use Rattle.gen_line.specs.declared.cells.Cell.{Cell}
 use Rattle.gen_line.specs.declared.cells.Cell.TheVariants.{Old, Free}
 use Rattle.gen_line.specs.Cells.{cell_at, is_anchor_cell, is_full, full_on}
-use Rattle.gen_line.specs.Model.{zeros, owes}
+use Rattle.gen_line.specs.Model.{zeros}
+use Rattle.gen_line.proofs.Tests.{owes}
 use Rattle.gen_line.specs.Walk.{Every, add_all, anchor_moves}
 use Rattle.gen_line.proofs.Anchors.{anchor_old, anchor_not}
 use Rattle.gen_line.proofs.Reaching.{anchor_owes, anchor_reach}

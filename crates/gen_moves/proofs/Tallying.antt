@@ -7,7 +7,7 @@ use Rattle.ref_play.proofs.ScoreLemmas.{factor_limit}
 use Rattle.gen_moves.specs.declared.places.Place.{Place}
 use Rattle.gen_moves.specs.declared.tallies.Tally.{Tally}
 use Rattle.gen_moves.specs.Bounds.{total, times, one_if, free_count, IsSmall}
-use Rattle.gen_moves.specs.Tallies.{points_at, is_laid, letter_sum, cross_sum, tally, IsTally, LiesOn}
+use Rattle.gen_moves.specs.Tallies.{points_at, is_laid, letter_sum, cross_sum, tally, LiesOn}
 use Rattle.gen_moves.proofs.Longest.{one_or_none, total-inside}
 use Rattle.std.specs.Prelude.{◌^◌}
 
@@ -36,6 +36,13 @@ small_more n p t more place small one low letters word crosses free =
     let g = small.free in
     let h = one_or_none place.free in
     record { letters = omega arith; word = omega arith; crosses = omega arith; free = omega arith }
+
+-- the sums and products of a stretch
+pub record IsTally (rules : Rules) (places : ℕ → Place) (y : List ℕ) (first len : ℕ) (t : Tally) : Type 0 where
+  pub letters : t.letters ≡ total (letter_sum rules places y) first len
+  pub word : t.word ≡ times (λ i. (places i).word) first len
+  pub crosses : t.crosses ≡ total (cross_sum rules places y) first len
+  pub free : t.free ≡ free_count places first len
 
 -- ---- the stretch of a move, up to a place
 pub record TallyAt (rules : Rules) (places : ℕ → Place) (y : List ℕ) (first len at : ℕ) (t : Tally) : Type 0 where

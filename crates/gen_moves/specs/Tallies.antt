@@ -5,7 +5,6 @@ use Rattle.ref_board.specs.Runs.{IsWhole}
 use Rattle.ref_play.specs.Scores.{points_on}
 use Rattle.gen_moves.specs.declared.places.Place.{Place}
 use Rattle.gen_moves.specs.declared.spots.Spot.{Spot}
-use Rattle.gen_moves.specs.declared.tallies.Tally.{Tally}
 use Rattle.gen_moves.specs.LineTiles.{tile_of_entry}
 use Rattle.gen_moves.specs.Bounds.{total, times, free_count, IsSmall, TellsUnder}
 
@@ -30,13 +29,6 @@ tally rules places y first len =
     total (letter_sum rules places y) first len * times (λ i. (places i).word) first len
     + total (cross_sum rules places y) first len
     + (if nat_le 7 (free_count places first len) then rules.bonus else 0)
-
--- the sums and products of a stretch
-pub record IsTally (rules : Rules) (places : ℕ → Place) (y : List ℕ) (first len : ℕ) (t : Tally) : Type 0 where
-  pub letters : t.letters ≡ total (letter_sum rules places y) first len
-  pub word : t.word ≡ times (λ i. (places i).word) first len
-  pub crosses : t.crosses ≡ total (cross_sum rules places y) first len
-  pub free : t.free ≡ free_count places first len
 
 -- the new tiles of a line lie in one whole stretch of it, and there is one
 pub record LiesOn (places : ℕ → Place) (y : List ℕ) (first len : ℕ) : Type 0 where

@@ -34,10 +34,6 @@ PlayIs spot y (Some play) =
 abbrev pub spot_of : List (Option Tile) → Dir → ℕ → Spot
 spot_of board d line = record { board = board; dir = d; line = line }
 
--- the same lines for both directions
-abbrev pub same_cells : List (List Cell) → Dir → ℕ → List Cell
-same_cells lines d line = slice_index_or lines line []
-
 -- the lines of both
 abbrev pub both_cells : List (List Cell) → List (List Cell) → Dir → ℕ → List Cell
 both_cells across down Across line = slice_index_or across line []
