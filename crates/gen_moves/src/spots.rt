@@ -1,5 +1,5 @@
 //! Where the tiles of a move are laid.
-ghost use Rattle.std.specs.Prelude.{◌≡◌, ◌<◌, ◌≤◌, length};
+ghost use Rattle.std.specs.Prelude.{◌≡◌, ◌<◌};
 ghost use Rattle.ref_play.specs.Legality.{IsLegal};
 ghost use Rattle.ref_play.specs.Directions.{is_wanted, RunsAlong};
 ghost use Rattle.gen_moves.specs.LineTiles.{tile_of_entry, tiles_of};

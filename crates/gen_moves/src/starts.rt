@@ -1,5 +1,5 @@
 //! The places of a board from which plays are looked for, those that can score most first.
-ghost use Rattle.std.specs.Prelude.{◌≡◌, ◌<◌, ℕ, length};
+ghost use Rattle.std.specs.Prelude.{◌<◌};
 ghost use Rattle.std.specs.List.Sorted.{IsPermutation};
 ghost use Rattle.gen_moves.specs.Starts.{IsStartOf, AreStarts};
 
