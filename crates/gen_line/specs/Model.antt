@@ -1,5 +1,7 @@
 -- The moves of one line through one anchor, as a list. A language is a test on strings of labels.
 use Rattle.std.specs.Prelude.{ℕ, zero, suc, ◌+◌, ◌-◌, ◌&&◌, nat_lt, Bool, true, false, List, [], ◌∷◌, ◌++◌, length, map, take, drop, slice_index, slice_index_or, slice_set, if◌then◌else◌}
+use Rattle.ref_tiles.specs.declared.rulebook.TheConstants.{SIDE}
+use Rattle.gen_line.specs.declared.takers.TheConstants.{ENTRIES}
 use Rattle.gen_line.specs.declared.cells.Cell.{Cell}
 use Rattle.gen_line.specs.declared.cells.Cell.TheVariants.{Old, Free}
 use Rattle.gen_line.specs.declared.cells.Open.{Open}
@@ -11,6 +13,10 @@ use Rattle.gen_line.specs.Moves.{back}
 abbrev pub join_range : {A : Type 0} → (ℕ → List A) → ℕ → ℕ → List A
 join_range f from zero = []
 join_range f from (suc n) = join_range f from n ++ f (from + n)
+
+-- the lists of all entries that put down a tile, joined
+abbrev pub all_entries : {A : Type 0} → (ℕ → List A) → List A
+all_entries f = join_range f 1 (ENTRIES - 1)
 
 abbrev pub zeros : ℕ → List ℕ
 zeros zero = []
@@ -40,7 +46,7 @@ one_try m rack f e = if may m rack e then map (λ os. e ∷ os) (f e) else []
 
 -- one entry after the other
 unfoldable pub tries : Open → List ℕ → (ℕ → List (List ℕ)) → List (List ℕ)
-tries m rack f = join_range (one_try m rack f) 1 52
+tries m rack f = all_entries (one_try m rack f)
 
 abbrev pub leaf : Bool → ℕ → List (List ℕ)
 leaf ok n = if ok then zeros n ∷ [] else []
@@ -90,4 +96,4 @@ unwalk h (e ∷ os) = back (take h os) (e ∷ drop h os)
 
 -- the moves of a line: those of its anchors
 unfoldable pub line_moves : (List ℕ → Bool) → List Cell → List ℕ → List (List ℕ)
-line_moves g line rack = join_range (λ h. map (unwalk h) (cell_moves g line h rack (cell_at line h))) 0 15
+line_moves g line rack = join_range (λ h. map (unwalk h) (cell_moves g line h rack (cell_at line h))) 0 SIDE

@@ -1,11 +1,12 @@
 -- What the walk over a line gives to a sink.
 use Rattle.std.specs.Prelude.{◌≡◌, ℕ, zero, suc, ◌+◌, ◌-◌, ◌*◌, ◌==◌, Bool, List, [], ◌∷◌, ◌++◌, map, drop, slice_set, Result, Ok, Err, if◌then◌else◌}
+use Rattle.ref_tiles.specs.declared.rulebook.TheConstants.{SIDE}
 use Rattle.gen_line.specs.declared.cells.Cell.{Cell}
 use Rattle.gen_line.specs.declared.cells.Cell.TheVariants.{Old, Free}
 use Rattle.gen_line.specs.declared.cells.Open.{Open}
 use Rattle.gen_line.specs.Entries.{label_of}
 use Rattle.gen_line.specs.Cells.{cell_at}
-use Rattle.gen_line.specs.Model.{right, left, turn, after, may, less, one_try, join_range, left_of, zeros}
+use Rattle.gen_line.specs.Model.{right, left, turn, after, may, less, one_try, all_entries, left_of, zeros}
 
 -- a line with the entries of the places walked
 abbrev pub put : List ℕ → ℕ → ℕ → List ℕ
@@ -19,6 +20,10 @@ unfoldable pub finish_left : ℕ → ℕ → List ℕ → List ℕ → List ℕ
 finish_left h zero fresh os = finish_right (h + 1) fresh os
 finish_left h (suc k) fresh [] = fresh
 finish_left h (suc k) fresh (e ∷ os) = finish_left h k (put fresh k e) os
+
+-- both entries of a label, the tile of its letter and then a blank, by what each gives
+abbrev pub of_label : {A : Type 0} → (ℕ → List A) → ℕ → List A
+of_label f label = f (2 * label - 1) ++ f (2 * label)
 
 -- what the walk gives
 abbrev pub gives_right : (List ℕ → Bool) → List Cell → ℕ → List ℕ → List ℕ → List (List ℕ)
@@ -36,10 +41,10 @@ gives_try_right g line place m fresh rack e = if may m rack e then gives_right g
 
 -- both entries of a label
 abbrev pub gives_letter_right : (List ℕ → Bool) → List Cell → ℕ → Open → List ℕ → List ℕ → ℕ → List (List ℕ)
-gives_letter_right g line place m fresh rack label = gives_try_right g line place m fresh rack (2 * label - 1) ++ gives_try_right g line place m fresh rack (2 * label)
+gives_letter_right g line place m fresh rack label = of_label (gives_try_right g line place m fresh rack) label
 
 unfoldable pub gives_tries_right : (List ℕ → Bool) → List Cell → ℕ → Open → List ℕ → List ℕ → List (List ℕ)
-gives_tries_right g line place m fresh rack = join_range (gives_one_right g line place m fresh rack) 1 52
+gives_tries_right g line place m fresh rack = all_entries (gives_one_right g line place m fresh rack)
 
 abbrev pub gives_leaf : Bool → List ℕ → List (List ℕ)
 gives_leaf ok fresh = if ok then fresh ∷ [] else []
@@ -60,10 +65,10 @@ unfoldable pub gives_try_left : (List ℕ → Bool) → List Cell → ℕ → �
 gives_try_left g line h k m fresh rack e = if may m rack e then gives_left g line h k (slice_set fresh k e) (less rack e) else []
 
 abbrev pub gives_letter_left : (List ℕ → Bool) → List Cell → ℕ → ℕ → Open → List ℕ → List ℕ → ℕ → List (List ℕ)
-gives_letter_left g line h k m fresh rack label = gives_try_left g line h k m fresh rack (2 * label - 1) ++ gives_try_left g line h k m fresh rack (2 * label)
+gives_letter_left g line h k m fresh rack label = of_label (gives_try_left g line h k m fresh rack) label
 
 unfoldable pub gives_tries_left : (List ℕ → Bool) → List Cell → ℕ → ℕ → Open → List ℕ → List ℕ → List (List ℕ)
-gives_tries_left g line h k m fresh rack = join_range (gives_one_left g line h k m fresh rack) 1 52
+gives_tries_left g line h k m fresh rack = all_entries (gives_one_left g line h k m fresh rack)
 
 abbrev pub gives_cell : (List ℕ → Bool) → List Cell → ℕ → List ℕ → List ℕ → Cell → List (List ℕ)
 gives_cell g line h fresh rack (Old a) = []
@@ -75,7 +80,7 @@ gives_anchor g line fresh rack h = gives_cell g line h fresh rack (cell_at line 
 
 -- the moves of a line of which a place is the first anchor covered
 abbrev pub anchor_moves : (List ℕ → Bool) → List Cell → List ℕ → ℕ → List (List ℕ)
-anchor_moves g line rack h = gives_anchor g line (zeros 15) rack h
+anchor_moves g line rack h = gives_anchor g line (zeros SIDE) rack h
 
 -- ---- sinks
 
@@ -94,6 +99,15 @@ abbrev pub Took : {I X U E : Type 0} → (I → X → I) → I → List X → I 
 Took add old xs new (Ok u) = new ≡ add_all add old xs
 Took add old xs new (Err e) = Front add old xs new
 
+-- each of some things is as a test says
 abbrev pub Every : {X : Type 0} → (X → Type 0) → List X → Type 0
 Every P [] = Unit {0}
 Every P (x ∷ xs) = P x × Every P xs
+
+-- A sink may be given some moves: whoever gives them can take each for what the sink was made for.
+abbrev pub MayGive : {P S X : Type 0} → (P → X → Type 0) → (S → P) → S → List X → Type 0
+MayGive can_take made_for sink moves = Every (can_take (made_for sink)) moves
+
+-- A sink was given some moves, or, where it refused, a front of them: it has what it had, with what is told of each.
+abbrev pub Gave : {P I S X U E : Type 0} → (P → I → X → I) → (S → P) → (S → I) → S → List X → S → Result U E → Type 0
+Gave tell made_for items old moves new result = Took (tell (made_for old)) (items old) moves (items new) result

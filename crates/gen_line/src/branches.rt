@@ -3,7 +3,7 @@ ghost use Rattle.std.specs.Prelude.{◌≡◌, ◌<◌, ◌≤◌, ◌+◌, ℕ,
 ghost use Rattle.lex_file.specs.Lexicons.{NoTail};
 ghost use Rattle.lex_file.specs.Walking.{IsOpen, strings};
 
-use lex_file::{Onward, PathLex, Step};
+use lex_file::{LABELS, Onward, PathLex, Step};
 
 /// The label between the two parts of a rotated word: the lowest of all.
 const MARK: u8 = 0;
@@ -43,7 +43,7 @@ pub fn next_letter<L: PathLex>(
     ensures none { IfNone result ((label : ℕ) → from ≤ label → NoTail (L.tail lex.now) node label) }
     ensures reached { IfSome result (λ on. from ≤ on.branch.label) }
     ensures passed { IfSome result (λ on. (label : ℕ) → from ≤ label → label < on.branch.label → NoTail (L.tail lex.now) node label) }
-    ensures label { IfSome result (λ on. on.branch.label < 27) }
+    ensures label { IfSome result (λ on. on.branch.label < LABELS) }
     ensures some { IfSome result (λ on. (t : List ℕ)
         → L.tail lex.now node (on.branch.label ∷ t) ≡ strings (L.tail lex.now) on.branch.step t) }
     ensures open { IfSome result (λ on. IsOpen (L.is_node lex.now) on.branch.step.next) }

@@ -4,8 +4,12 @@ ghost use Rattle.gen_line.specs.Entries.{letter_of, kind_of};
 ghost use Rattle.gen_line.specs.Model.{may, less};
 
 use crate::cells::Open;
+use crate::takers::ENTRIES;
 use ref_board::SIDE;
 use ref_tiles::KINDS;
+
+/// The kind of blanks.
+const BLANK: u8 = KINDS as u8 - 1;
 
 /// The tiles of a walk. What an entry says is told at [`crate::Taker`].
 #[derive(Clone, Copy)]
@@ -32,7 +36,7 @@ fn kind(entry: u8) -> u8
     ensures { result ≡ kind_of entry }
 {
     if (entry - 1) % 2 == 1 {
-        26
+        BLANK
     } else {
         letter(entry)
     }
@@ -55,7 +59,7 @@ impl Tiles {
     #[inline(always)]
     pub fn allow(&self, free: &Open, entry: u8) -> bool
         requires low { 0 < entry }
-        requires high { entry < 53 }
+        requires high { entry < ENTRIES }
         ensures { result ≡ may free.now self.now.rack entry }
     {
         self.rack[usize::from(kind(entry))] > 0 && free.mask[usize::from(letter(entry))]
@@ -64,9 +68,9 @@ impl Tiles {
     /// The tiles once a new one was put on a place.
     #[inline(always)]
     pub fn with(&self, place: usize, entry: u8) -> Tiles
-        requires place { place < 15 }
+        requires place { place < SIDE }
         requires low { 0 < entry }
-        requires high { entry < 53 }
+        requires high { entry < ENTRIES }
         requires left { 0 < slice_index self.now.rack (kind_of entry) }
         ensures fresh { result.fresh ≡ slice_set self.now.fresh place entry }
         ensures rack { result.rack ≡ less self.now.rack entry }
