@@ -43,8 +43,7 @@ impl<L: PathLex, T> LineWalk<'_, L, T> {
         requires can { MayGive (T.can_take self.now.taker.now) T.made_for sink.old (gives_leaf is_move tiles.now.fresh) }
         ensures made_for { T.made_for sink.new ≡ T.made_for sink.old }
         ensures took { Gave (T.tell self.now.taker.now) T.made_for T.items sink.old
-            (gives_leaf is_move tiles.now.fresh)
-            sink.new result }
+            (gives_leaf is_move tiles.now.fresh) sink.new result }
         ensures steady { T.grows ≡ false → IsOk result }
     {
         if is_move {
@@ -67,11 +66,10 @@ impl<L: PathLex, T> LineWalk<'_, L, T> {
         requires node { IsOpen (L.is_node self.now.lex.now) at.next }
         requires place { place ≤ SIDE }
         requires can { MayGive (T.can_take self.now.taker.now) T.made_for sink.old
-            (gives_right (strings (L.tail self.now.lex.now) at) self.now.line.now place tiles.now.fresh tiles.now.rack) }
+            (gives_right (strings (L.tail self.now.lex.now) at) self.now.line.now place tiles.now) }
         ensures made_for { T.made_for sink.new ≡ T.made_for sink.old }
         ensures took { Gave (T.tell self.now.taker.now) T.made_for T.items sink.old
-            (gives_right (strings (L.tail self.now.lex.now) at) self.now.line.now place tiles.now.fresh tiles.now.rack)
-            sink.new result }
+            (gives_right (strings (L.tail self.now.lex.now) at) self.now.line.now place tiles.now) sink.new result }
         ensures steady { T.grows ≡ false → IsOk result }
     {
         if place == self.line.len() {
@@ -105,11 +103,10 @@ impl<L: PathLex, T> LineWalk<'_, L, T> {
         requires node { IsOpen (L.is_node self.now.lex.now) at.next }
         requires place { place < SIDE }
         requires can { MayGive (T.can_take self.now.taker.now) T.made_for sink.old
-            (gives_tries_right (strings (L.tail self.now.lex.now) at) self.now.line.now place free.now tiles.now.fresh tiles.now.rack) }
+            (gives_tries_right (strings (L.tail self.now.lex.now) at) self.now.line.now place free.now tiles.now) }
         ensures made_for { T.made_for sink.new ≡ T.made_for sink.old }
         ensures took { Gave (T.tell self.now.taker.now) T.made_for T.items sink.old
-            (gives_tries_right (strings (L.tail self.now.lex.now) at) self.now.line.now place free.now tiles.now.fresh tiles.now.rack)
-            sink.new result }
+            (gives_tries_right (strings (L.tail self.now.lex.now) at) self.now.line.now place free.now tiles.now) sink.new result }
         ensures steady { T.grows ≡ false → IsOk result }
     {
         if tiles.left() == 0 {
@@ -149,11 +146,10 @@ impl<L: PathLex, T> LineWalk<'_, L, T> {
         requires low { 0 < label }
         requires high { label < LABELS }
         requires can { MayGive (T.can_take self.now.taker.now) T.made_for sink.old
-            (gives_letter_right (strings (L.tail self.now.lex.now) next) self.now.line.now place free.now tiles.now.fresh tiles.now.rack label) }
+            (gives_letter_right (strings (L.tail self.now.lex.now) next) self.now.line.now place free.now tiles.now label) }
         ensures made_for { T.made_for sink.new ≡ T.made_for sink.old }
         ensures took { Gave (T.tell self.now.taker.now) T.made_for T.items sink.old
-            (gives_letter_right (strings (L.tail self.now.lex.now) next) self.now.line.now place free.now tiles.now.fresh tiles.now.rack label)
-            sink.new result }
+            (gives_letter_right (strings (L.tail self.now.lex.now) next) self.now.line.now place free.now tiles.now label) sink.new result }
         ensures steady { T.grows ≡ false → IsOk result }
     {
         self.one_right(next, place, free, 2 * label - 1, tiles, sink)?;
@@ -179,11 +175,10 @@ impl<L: PathLex, T> LineWalk<'_, L, T> {
         requires low { 0 < entry }
         requires high { entry < ENTRIES }
         requires can { MayGive (T.can_take self.now.taker.now) T.made_for sink.old
-            (gives_try_right (strings (L.tail self.now.lex.now) next) self.now.line.now place free.now tiles.now.fresh tiles.now.rack entry) }
+            (gives_try_right (strings (L.tail self.now.lex.now) next) self.now.line.now place free.now tiles.now entry) }
         ensures made_for { T.made_for sink.new ≡ T.made_for sink.old }
         ensures took { Gave (T.tell self.now.taker.now) T.made_for T.items sink.old
-            (gives_try_right (strings (L.tail self.now.lex.now) next) self.now.line.now place free.now tiles.now.fresh tiles.now.rack entry)
-            sink.new result }
+            (gives_try_right (strings (L.tail self.now.lex.now) next) self.now.line.now place free.now tiles.now entry) sink.new result }
         ensures steady { T.grows ≡ false → IsOk result }
     {
         if tiles.allow(free, entry) {
@@ -201,11 +196,10 @@ impl<L: PathLex, T> LineWalk<'_, L, T> {
         requires node { IsOpen (L.is_node self.now.lex.now) at.next }
         requires anchor { self.now.anchor < SIDE }
         requires can { MayGive (T.can_take self.now.taker.now) T.made_for sink.old
-            (gives_turn (strings (L.tail self.now.lex.now) at) self.now.line.now self.now.anchor tiles.now.fresh tiles.now.rack) }
+            (gives_turn (strings (L.tail self.now.lex.now) at) self.now.line.now self.now.anchor tiles.now) }
         ensures made_for { T.made_for sink.new ≡ T.made_for sink.old }
         ensures took { Gave (T.tell self.now.taker.now) T.made_for T.items sink.old
-            (gives_turn (strings (L.tail self.now.lex.now) at) self.now.line.now self.now.anchor tiles.now.fresh tiles.now.rack)
-            sink.new result }
+            (gives_turn (strings (L.tail self.now.lex.now) at) self.now.line.now self.now.anchor tiles.now) sink.new result }
         ensures steady { T.grows ≡ false → IsOk result }
     {
         self.offer(ends_at(self.line, self.anchor + 1, at.accepts), tiles, sink)?;
@@ -236,11 +230,10 @@ impl<L: PathLex, T> LineWalk<'_, L, T> {
         requires anchor { self.now.anchor < SIDE }
         requires places { places ≤ self.now.anchor }
         requires can { MayGive (T.can_take self.now.taker.now) T.made_for sink.old
-            (gives_left (strings (L.tail self.now.lex.now) at) self.now.line.now self.now.anchor places tiles.now.fresh tiles.now.rack) }
+            (gives_left (strings (L.tail self.now.lex.now) at) self.now.line.now self.now.anchor places tiles.now) }
         ensures made_for { T.made_for sink.new ≡ T.made_for sink.old }
         ensures took { Gave (T.tell self.now.taker.now) T.made_for T.items sink.old
-            (gives_left (strings (L.tail self.now.lex.now) at) self.now.line.now self.now.anchor places tiles.now.fresh tiles.now.rack)
-            sink.new result }
+            (gives_left (strings (L.tail self.now.lex.now) at) self.now.line.now self.now.anchor places tiles.now) sink.new result }
         ensures steady { T.grows ≡ false → IsOk result }
     {
         if places == 0 {
@@ -278,11 +271,10 @@ impl<L: PathLex, T> LineWalk<'_, L, T> {
         requires anchor { self.now.anchor < SIDE }
         requires place { place ≤ self.now.anchor }
         requires can { MayGive (T.can_take self.now.taker.now) T.made_for sink.old
-            (gives_tries_left (strings (L.tail self.now.lex.now) at) self.now.line.now self.now.anchor
-            place free.now tiles.now.fresh tiles.now.rack) }
+            (gives_tries_left (strings (L.tail self.now.lex.now) at) self.now.line.now self.now.anchor place free.now tiles.now) }
         ensures made_for { T.made_for sink.new ≡ T.made_for sink.old }
         ensures took { Gave (T.tell self.now.taker.now) T.made_for T.items sink.old
-            (gives_tries_left (strings (L.tail self.now.lex.now) at) self.now.line.now self.now.anchor place free.now tiles.now.fresh tiles.now.rack)
+            (gives_tries_left (strings (L.tail self.now.lex.now) at) self.now.line.now self.now.anchor place free.now tiles.now)
             sink.new result }
         ensures steady { T.grows ≡ false → IsOk result }
     {
@@ -324,12 +316,10 @@ impl<L: PathLex, T> LineWalk<'_, L, T> {
         requires low { 0 < label }
         requires high { label < LABELS }
         requires can { MayGive (T.can_take self.now.taker.now) T.made_for sink.old
-            (gives_letter_left (strings (L.tail self.now.lex.now) next) self.now.line.now self.now.anchor
-            place free.now tiles.now.fresh tiles.now.rack label) }
+            (gives_letter_left (strings (L.tail self.now.lex.now) next) self.now.line.now self.now.anchor place free.now tiles.now label) }
         ensures made_for { T.made_for sink.new ≡ T.made_for sink.old }
         ensures took { Gave (T.tell self.now.taker.now) T.made_for T.items sink.old
-            (gives_letter_left (strings (L.tail self.now.lex.now) next) self.now.line.now self.now.anchor
-            place free.now tiles.now.fresh tiles.now.rack label)
+            (gives_letter_left (strings (L.tail self.now.lex.now) next) self.now.line.now self.now.anchor place free.now tiles.now label)
             sink.new result }
         ensures steady { T.grows ≡ false → IsOk result }
     {
@@ -357,12 +347,10 @@ impl<L: PathLex, T> LineWalk<'_, L, T> {
         requires low { 0 < entry }
         requires high { entry < ENTRIES }
         requires can { MayGive (T.can_take self.now.taker.now) T.made_for sink.old
-            (gives_try_left (strings (L.tail self.now.lex.now) next) self.now.line.now self.now.anchor
-            place free.now tiles.now.fresh tiles.now.rack entry) }
+            (gives_try_left (strings (L.tail self.now.lex.now) next) self.now.line.now self.now.anchor place free.now tiles.now entry) }
         ensures made_for { T.made_for sink.new ≡ T.made_for sink.old }
         ensures took { Gave (T.tell self.now.taker.now) T.made_for T.items sink.old
-            (gives_try_left (strings (L.tail self.now.lex.now) next) self.now.line.now self.now.anchor
-            place free.now tiles.now.fresh tiles.now.rack entry)
+            (gives_try_left (strings (L.tail self.now.lex.now) next) self.now.line.now self.now.anchor place free.now tiles.now entry)
             sink.new result }
         ensures steady { T.grows ≡ false → IsOk result }
     {
@@ -378,11 +366,10 @@ impl<L: PathLex, T> LineWalk<'_, L, T> {
         T: Taker<S>,
         requires anchor { self.now.anchor < SIDE }
         requires can { MayGive (T.can_take self.now.taker.now) T.made_for sink.old
-            (gives_anchor (L.language self.now.lex.now) self.now.line.now tiles.now.fresh tiles.now.rack self.now.anchor) }
+            (gives_anchor (L.language self.now.lex.now) self.now.line.now tiles.now self.now.anchor) }
         ensures made_for { T.made_for sink.new ≡ T.made_for sink.old }
         ensures took { Gave (T.tell self.now.taker.now) T.made_for T.items sink.old
-            (gives_anchor (L.language self.now.lex.now) self.now.line.now tiles.now.fresh tiles.now.rack self.now.anchor)
-            sink.new result }
+            (gives_anchor (L.language self.now.lex.now) self.now.line.now tiles.now self.now.anchor) sink.new result }
         ensures steady { T.grows ≡ false → IsOk result }
     {
         match &self.line[self.anchor] {
@@ -422,8 +409,7 @@ pub fn walk_anchor<L: PathLex, S, T: Taker<S>>(
         (anchor_moves (L.language lex.now) line.now rack.now anchor) }
     ensures made_for { T.made_for sink.new ≡ T.made_for sink.old }
     ensures took { Gave (T.tell taker.now) T.made_for T.items sink.old
-        (anchor_moves (L.language lex.now) line.now rack.now anchor)
-        sink.new result }
+        (anchor_moves (L.language lex.now) line.now rack.now anchor) sink.new result }
     ensures steady { T.grows ≡ false → IsOk result }
 {
     let tiles = Tiles {
