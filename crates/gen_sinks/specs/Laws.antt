@@ -12,12 +12,12 @@ AddedAreFirst =
     (n : ℕ) (rules : Rules) (words : List (List ℕ)) (board : List (Option Tile)) (rack : List ℕ) (all : List Given) → length board ≡ SQUARES
     → AreAll rules words board rack all → AreFirst n (ranks_before board) all (fold (add_top n (ranks_before board)) [] all)
 
--- and the same ones in whatever order they come
+-- and the same ones in whatever order they come, and whatever was kept before
 abbrev pub OrderIsNoMatter : Type 0
 OrderIsNoMatter =
-    (n : ℕ) (rules : Rules) (words : List (List ℕ)) (board : List (Option Tile)) (rack : List ℕ) (all more : List Given) → length board ≡ SQUARES
+    (n : ℕ) (rules : Rules) (words : List (List ℕ)) (board : List (Option Tile)) (rack : List ℕ) (kept all more : List Given) → length board ≡ SQUARES
     → AreAll rules words board rack all → AreAll rules words board rack more
-    → fold (add_top n (ranks_before board)) [] all ≡ fold (add_top n (ranks_before board)) [] more
+    → fold (add_top n (ranks_before board)) kept all ≡ fold (add_top n (ranks_before board)) kept more
 
 -- the first so many of the same plays are the same list
 abbrev pub FirstAreOne : Type 0
