@@ -1,5 +1,5 @@
 -- The moves of one line through one anchor, as a list. A language is a test on strings of labels.
-use Rattle.std.specs.Prelude.{ℕ, zero, suc, ◌+◌, ◌-◌, ◌&&◌, nat_lt, Bool, true, false, List, [], ◌∷◌, ◌++◌, length, map, take, drop, slice_index, slice_index_or, slice_set, if◌then◌else◌}
+use Rattle.std.specs.Prelude.{ℕ, zero, suc, ◌+◌, ◌-◌, ◌*◌, ◌&&◌, ◌||◌, nat_lt, Bool, true, false, List, [], ◌∷◌, ◌++◌, length, map, take, drop, slice_index, slice_index_or, slice_set, if◌then◌else◌}
 use Rattle.ref_tiles.specs.declared.rulebook.TheConstants.{SIDE}
 use Rattle.gen_line.specs.declared.takers.TheConstants.{ENTRIES}
 use Rattle.gen_line.specs.declared.cells.Cell.{Cell}
@@ -34,6 +34,10 @@ longer g (b ∷ t) = g (b ∷ t)
 -- whether a square and the rack allow an entry
 unfoldable pub may : Open → List ℕ → ℕ → Bool
 may m rack e = slice_index_or m.mask (letter_of e) false && nat_lt 0 (slice_index rack (kind_of e))
+
+-- whether a square and the rack allow some entry that shows the letter of a label: a tile of the letter, or a blank
+unfoldable pub shows : Open → List ℕ → ℕ → Bool
+shows m rack label = may m rack (2 * label - 1) || may m rack (2 * label)
 
 -- the rack without the tile of an entry
 unfoldable pub less : List ℕ → ℕ → List ℕ

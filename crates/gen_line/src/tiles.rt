@@ -1,10 +1,11 @@
 //! Tiles of a rack as they are laid: letters, and blanks as letters.
 ghost use Rattle.std.specs.Prelude.{◌≡◌, ◌<◌, slice_index, slice_set, sum};
 ghost use Rattle.gen_line.specs.Entries.{letter_of, kind_of};
-ghost use Rattle.gen_line.specs.Model.{may, less};
+ghost use Rattle.gen_line.specs.Model.{may, shows, less};
 
 use crate::cells::Open;
 use crate::takers::ENTRIES;
+use lex_file::LABELS;
 use ref_board::SIDE;
 use ref_tiles::KINDS;
 
@@ -65,6 +66,17 @@ impl Tiles {
         self.rack[usize::from(kind(entry))] > 0 && free.mask[usize::from(letter(entry))]
     }
 
+    /// Whether a square and the rack allow some new tile that shows the letter of a label.
+    #[tactic(auto, unfolding(crate::specs::Model::shows))]
+    #[inline(always)]
+    pub fn allow_label(&self, free: &Open, label: u8) -> bool
+        requires low { 0 < label }
+        requires high { label < LABELS }
+        ensures { result ≡ shows free.now self.now.rack label }
+    {
+        self.allow(free, 2 * label - 1) || self.allow(free, 2 * label)
+    }
+
     /// The tiles once a new one was put on a place.
     #[inline(always)]
     pub fn with(&self, place: usize, entry: u8) -> Tiles
@@ -75,10 +87,9 @@ impl Tiles {
         ensures fresh { result.fresh ≡ slice_set self.now.fresh place entry }
         ensures rack { result.rack ≡ less self.now.rack entry }
     {
-        let mut fresh = self.fresh;
-        fresh[place] = entry;
-        let mut rack = self.rack;
-        rack[usize::from(kind(entry))] -= 1;
-        Tiles { fresh, rack }
+        let mut tiles = *self;
+        tiles.fresh[place] = entry;
+        tiles.rack[usize::from(kind(entry))] -= 1;
+        tiles
     }
 }

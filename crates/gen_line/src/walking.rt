@@ -117,7 +117,7 @@ impl<L: PathLex, T> LineWalk<'_, L, T> {
         };
         let mut from = 1;
         let mut rest = self.lex.rest(node);
-        while let Some(on) = next_letter(self.lex, node, from, rest) {
+        while let Some(on) = next_letter(self.lex, node, from, rest, free, tiles) {
             let Branch { label, step } = on.branch;
             self.letter_right(step, place, free, label, tiles, sink)?;
             from = label + 1;
@@ -286,7 +286,7 @@ impl<L: PathLex, T> LineWalk<'_, L, T> {
         };
         let mut from = 1;
         let mut rest = self.lex.rest(node);
-        while let Some(on) = next_letter(self.lex, node, from, rest) {
+        while let Some(on) = next_letter(self.lex, node, from, rest, free, tiles) {
             let Branch { label, step } = on.branch;
             self.letter_left(step, place, free, label, tiles, sink)?;
             from = label + 1;
