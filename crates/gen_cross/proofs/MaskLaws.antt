@@ -23,8 +23,13 @@ use Rattle.ref_play.proofs.LineLaws.{place_of-square_at, square_at-of, line_belo
 use Rattle.ref_play.proofs.FormedRuns.{run_through, no_run_through}
 use Rattle.gen_cross.specs.Values.{IsMask}
 use Rattle.gen_cross.specs.CrossRuns.{IsRunWith}
-use Rattle.gen_cross.specs.Paths.{label_of_tile, label_on, down, labels_down, path_at}
+use Rattle.gen_cross.specs.Paths.{label_of_tile, label_on, down, labels_down}
 use Rattle.gen_cross.proofs.Backwards.{down_agree, down_parts, down_listed}
+
+-- the labels behind a place, up to just before `end`, then a new one, then those before the place, down to `first`
+abbrev pub path_at : List (Option Tile) → Dir → ℕ → ℕ → ℕ → ℕ → ℕ → List ℕ
+path_at board d line first place end label =
+    labels_down board d line (place + 1) (end - (place + 1)) ++ label ∷ labels_down board d line first (place - first)
 
 pub along_place : (d : Dir) (start k : ℕ) → along d start k ≡ square_at d (line_of d start) (place_of d start + k)
 along_place Across start k = omega arith

@@ -1,5 +1,6 @@
 -- Changes of a board: a tile put on an empty square, the tile of a square lifted, or the tiles of a play put or lifted.
 use Rattle.std.specs.Prelude.{◌≡◌, ℕ, ◌<◌, ◌≤◌, true, false, List, length, Option, Some, None, Contains}
+use Rattle.ref_tiles.specs.declared.rulebook.TheConstants.{SIDE}
 use Rattle.ref_tiles.specs.declared.tiles.Tile.{Tile}
 use Rattle.ref_board.specs.declared.directions.Dir.{Dir}
 use Rattle.ref_board.specs.Lines.{line_of, place_of, square_at, other_dir}
@@ -31,12 +32,12 @@ crossing d square place = square_at (other_dir d) (line_of (other_dir d) square)
 -- two boards have the same tiles across a play through a square, but for one square
 abbrev pub AgreeBut : Dir → ℕ → ℕ → List (Option Tile) → List (Option Tile) → Type 0
 AgreeBut d changed square a b =
-    (place : ℕ) → place < 15 → (crossing d square place ≡ changed → ⊥) → tile_at a (crossing d square place) ≡ tile_at b (crossing d square place)
+    (place : ℕ) → place < SIDE → (crossing d square place ≡ changed → ⊥) → tile_at a (crossing d square place) ≡ tile_at b (crossing d square place)
 
 -- the same, but for the places of a line from one up to just before another
 abbrev pub AgreeOff : Dir → ℕ → ℕ → ℕ → ℕ → List (Option Tile) → List (Option Tile) → Type 0
 AgreeOff d line first end square a b =
-    (place : ℕ) → place < 15 → (line_of (other_dir d) square ≡ line → first ≤ place → place < end → ⊥)
+    (place : ℕ) → place < SIDE → (line_of (other_dir d) square ≡ line → first ≤ place → place < end → ⊥)
     → tile_at a (crossing d square place) ≡ tile_at b (crossing d square place)
 
 -- the tiles of a placement lie on a stretch of a line

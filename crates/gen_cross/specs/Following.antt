@@ -1,5 +1,6 @@
 -- Boards and cross-sets that follow one another, one put, lift or play after another.
 use Rattle.std.specs.Prelude.{◌≡◌, ◌⊎◌, ℕ, ◌<◌, false, List, [], ◌∷◌, Option, slice_index_or}
+use Rattle.ref_tiles.specs.declared.rulebook.TheConstants.{SQUARES}
 use Rattle.ref_tiles.specs.declared.letters.Letter.{Letter}
 use Rattle.ref_tiles.specs.declared.tiles.Tile.{Tile}
 use Rattle.ref_tiles.specs.declared.rulebook.Rules.{Rules}
@@ -36,7 +37,7 @@ last_of first (next ∷ rest) = last_of next rest
 -- all 450 values are the same: the answer for each letter, and the points beside
 abbrev pub AreSame : Cross → Cross → Type 0
 AreSame a b =
-    (d : Dir) (square : ℕ) → square < 225
+    (d : Dir) (square : ℕ) → square < SQUARES
     → ((letter : Letter) → slice_index_or (value_at a d square).mask letter.index false ≡ slice_index_or (value_at b d square).mask letter.index false)
     × ((value_at a d square).side ≡ (value_at b d square).side)
 

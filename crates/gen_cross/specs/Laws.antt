@@ -1,5 +1,6 @@
 -- Laws: the values of a cross that is right tell what any new tile makes across a play.
 use Rattle.std.specs.Prelude.{◌≡◌, ◌↔◌, ℕ, ◌+◌, ◌*◌, ◌<◌, ◌==◌, true, false, List, length, All, Option, None, Contains, slice_index_or, if◌then◌else◌}
+use Rattle.ref_tiles.specs.declared.rulebook.TheConstants.{SQUARES}
 use Rattle.ref_tiles.specs.declared.tiles.Tile.{Tile}
 use Rattle.ref_tiles.specs.declared.rulebook.Rules.{Rules}
 use Rattle.ref_tiles.specs.Rulebook.{points_of, premium_at, letter_factor, word_factor}
@@ -13,8 +14,8 @@ use Rattle.gen_cross.specs.Values.{value_at, IsRight}
 -- a mask has the letter that a tile shows exactly where the tile's cross words are listed, whether it is a blank or not
 abbrev pub MasksTellWords : Type 0
 MasksTellWords =
-    (rules : Rules) (words : List (List ℕ)) (board : List (Option Tile)) (cross : Cross) → length board ≡ 225 → IsRight rules words board cross
-    → (d : Dir) (square : ℕ) (tile : Tile) → square < 225 → tile_at board square ≡ None
+    (rules : Rules) (words : List (List ℕ)) (board : List (Option Tile)) (cross : Cross) → length board ≡ SQUARES → IsRight rules words board cross
+    → (d : Dir) (square : ℕ) (tile : Tile) → square < SQUARES → tile_at board square ≡ None
     → (slice_index_or (value_at cross d square).mask tile.shown.index false ≡ true) ↔ All (Contains words) (cross_words (other_dir d) board square tile)
 
 -- what a tile scores across a play, by the side score of its square: nothing where it makes no run of two tiles
@@ -26,6 +27,6 @@ score_by rules cross d board square tile =
 -- which is what the rules give
 abbrev pub SidesTellScores : Type 0
 SidesTellScores =
-    (rules : Rules) (words : List (List ℕ)) (board : List (Option Tile)) (cross : Cross) → length board ≡ 225 → IsRight rules words board cross
-    → (d : Dir) (square : ℕ) (tile : Tile) → square < 225 → tile_at board square ≡ None
+    (rules : Rules) (words : List (List ℕ)) (board : List (Option Tile)) (cross : Cross) → length board ≡ SQUARES → IsRight rules words board cross
+    → (d : Dir) (square : ℕ) (tile : Tile) → square < SQUARES → tile_at board square ≡ None
     → cross_score rules (other_dir d) board square tile ≡ score_by rules cross d board square tile

@@ -1,6 +1,6 @@
 -- The path of a word across a play, read backwards: the labels behind an empty square of the line, the label that is put
 -- there, and the labels before it.
-use Rattle.std.specs.Prelude.{ℕ, zero, suc, ◌+◌, ◌-◌, List, [], ◌∷◌, ◌++◌, Option, Some, None}
+use Rattle.std.specs.Prelude.{ℕ, zero, suc, ◌+◌, ◌-◌, List, [], ◌∷◌, Option, Some, None}
 use Rattle.ref_tiles.specs.declared.tiles.Tile.{Tile}
 use Rattle.ref_board.specs.declared.directions.Dir.{Dir}
 use Rattle.ref_board.specs.Lines.{square_at}
@@ -23,10 +23,6 @@ down f first (suc n) = f (first + n) ∷ down f first n
 -- the labels of successive places of a line, the last place first
 unfoldable pub labels_down : List (Option Tile) → Dir → ℕ → ℕ → ℕ → List ℕ
 labels_down board d line first n = down (λ place. label_on board (square_at d line place)) first n
-
--- the labels behind a place, up to just before `end`, then a new one, then those before the place, down to `first`
-abbrev pub path_at : List (Option Tile) → Dir → ℕ → ℕ → ℕ → ℕ → ℕ → List ℕ
-path_at board d line first place end label = labels_down board d line (place + 1) (end - (place + 1)) ++ label ∷ labels_down board d line first (place - first)
 
 -- the labels of a stretch, read backwards
 abbrev pub labels_of : List (Option Tile) → Stretch → List ℕ

@@ -1,6 +1,7 @@
 -- Cross values: for each direction of play and each square, the letters that may be put there and the points beside.
 use Rattle.std.specs.Prelude.{◌≡◌, ◌↔◌, ℕ, ◌<◌, Bool, true, false, List, All, replicate, slice_index_or, sum_by, Option, None}
 use Rattle.std.specs.List.{Contains}
+use Rattle.ref_tiles.specs.declared.rulebook.TheConstants.{SQUARES}
 use Rattle.ref_tiles.specs.declared.tiles.Tile.{Tile}
 use Rattle.ref_tiles.specs.declared.letters.Letter.{Letter}
 use Rattle.ref_tiles.specs.declared.rulebook.Rules.{Rules}
@@ -35,7 +36,7 @@ pub record IsValue (rules : Rules) (words : List (List ℕ)) (d : Dir) (board : 
 
 -- the values of all squares for a play of a direction
 abbrev pub AreValues : Rules → List (List ℕ) → Dir → List (Option Tile) → List Value → Type 0
-AreValues rules words d board values = (square : ℕ) → square < 225 → IsValue rules words d board square (slice_index_or values square no_value)
+AreValues rules words d board values = (square : ℕ) → square < SQUARES → IsValue rules words d board square (slice_index_or values square no_value)
 
 -- the value of a square for a direction
 abbrev pub value_at : Cross → Dir → ℕ → Value
@@ -44,8 +45,8 @@ value_at cross Down square = slice_index_or cross.down square no_value
 
 -- all values are those of the board
 abbrev pub IsRight : Rules → List (List ℕ) → List (Option Tile) → Cross → Type 0
-IsRight rules words board cross = (d : Dir) (square : ℕ) → square < 225 → IsValue rules words d board square (value_at cross d square)
+IsRight rules words board cross = (d : Dir) (square : ℕ) → square < SQUARES → IsValue rules words d board square (value_at cross d square)
 
 -- a cross has the masks of a board
 abbrev pub HasMasks : List (List ℕ) → List (Option Tile) → Cross → Type 0
-HasMasks words board cross = (d : Dir) (square : ℕ) → square < 225 → tile_at board square ≡ None → IsMask words d board square (value_at cross d square).mask
+HasMasks words board cross = (d : Dir) (square : ℕ) → square < SQUARES → tile_at board square ≡ None → IsMask words d board square (value_at cross d square).mask

@@ -86,7 +86,7 @@ fn renew_stretch<L: PathLex>(
     requires across { stretch.now.dir ≡ other_dir dir }
     requires some { stretch.now.first < stretch.now.end }
     ensures { (words : List (List ℕ)) (before : List (Option Tile)) (other : ℕ) → StandsFor (L.language lex.now) words
-        → length before ≡ length board.now → other < 225
+        → length before ≡ length board.now → other < SQUARES
         → AgreeOff dir stretch.now.line stretch.now.first stretch.now.end other before board.now
         → IsValue rules.now words dir before other (slice_index_or values.old other no_value)
         → IsValue rules.now words dir board.now other (slice_index_or values.new other no_value) }
@@ -115,7 +115,7 @@ pub fn renew_beside<L: PathLex>(
     values: &mut [Value; SQUARES],
 )
     ensures near { (words : List (List ℕ)) (before : List (Option Tile)) (other : ℕ) → StandsFor (L.language lex.now) words
-        → length before ≡ length board.now → other < 225
+        → length before ≡ length board.now → other < SQUARES
         → AgreeBut dir square other before board.now
         → IsValue rules.now words dir before other (slice_index_or values.old other no_value)
         → IsValue rules.now words dir board.now other (slice_index_or values.new other no_value) }
@@ -156,7 +156,7 @@ fn renew_value<L: PathLex>(
     square: Square,
     values: &mut [Value; SQUARES],
 )
-    ensures value { (words : List (List ℕ)) → StandsFor (L.language lex.now) words → (other : ℕ) → other < 225
+    ensures value { (words : List (List ℕ)) → StandsFor (L.language lex.now) words → (other : ℕ) → other < SQUARES
         → ((other ≡ square → ⊥) → IsValue rules.now words dir board.now other (slice_index_or values.old other no_value))
         → IsValue rules.now words dir board.now other (slice_index_or values.new other no_value) }
     ensures others { (other : ℕ) → (other ≡ square → ⊥)

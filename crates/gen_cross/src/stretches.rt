@@ -1,5 +1,6 @@
 //! Successive places of a line.
 ghost use Rattle.std.specs.Prelude.{◌<◌, ◌≤◌};
+ghost use Rattle.ref_tiles.specs.declared.rulebook.TheConstants.{SIDE};
 
 use ref_board::Dir;
 
@@ -10,7 +11,7 @@ pub struct Stretch {
     pub line: usize,
     pub first: usize,
     pub end: usize,
-    pub ghost on_board: { line < 15 },
+    pub ghost on_board: { line < SIDE },
     pub ghost order: { first ≤ end },
-    pub ghost inside: { end ≤ 15 },
+    pub ghost inside: { end ≤ SIDE },
 }

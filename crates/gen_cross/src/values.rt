@@ -9,7 +9,7 @@ ghost use Rattle.gen_cross.specs.CrossRuns.{IsRunWith};
 use crate::crosses::Value;
 use crate::masks::{LETTERS, mask_of};
 use lex_file::PathLex;
-use ref_board::{Board, Dir, Square};
+use ref_board::{Board, Dir, SIDE, Square};
 use ref_play::{Run, along, points_on};
 use ref_tiles::Rules;
 
@@ -70,7 +70,7 @@ fn run_with(board: &Board, dir: Dir, square: Square) -> Run
 
 /// The points of the tiles that lie on a run; an empty square has none.
 fn side_of(rules: &Rules, board: &Board, run: &Run) -> u16
-    requires { place_of run.now.dir run.now.start + run.now.len ≤ 15 }
+    requires { place_of run.now.dir run.now.start + run.now.len ≤ SIDE }
     ensures { result ≡ old_points rules.now board.now run.now }
 {
     let mut points = 0;

@@ -4,11 +4,12 @@ use Rattle.std.proofs.lemmas.List.{length-drop}
 use Rattle.gen_line.specs.declared.cells.Cell.{Cell}
 use Rattle.gen_line.specs.declared.cells.Cell.TheVariants.{Old, Free}
 use Rattle.gen_line.specs.declared.cells.Open.{Open}
+use Rattle.gen_line.specs.declared.tiles.Tiles.{Tiles}
 use Rattle.gen_line.specs.Entries.{label_of}
 use Rattle.gen_line.specs.Cells.{cell_at}
 use Rattle.gen_line.specs.Model.{join_range, zeros, after, longer, may, less, one_try, tries, leaf, right, starts_free, turn, left, left_of, rest_of_anchor, cell_moves, unwalk, line_moves}
 use Rattle.lex_file.specs.Walking.{strings}
-use Rattle.gen_line.specs.Walk.{finish_left, gives_one_left, gives_tries_left, gives_cell, gives_anchor, Every}
+use Rattle.gen_line.specs.Walk.{finish_left, gives_one_left, gives_tries_left, gives_cell, gives_anchor, none_put, Every}
 use Rattle.gen_line.proofs.Walks.{map-join, join-same}
 use Rattle.gen_line.proofs.LeftWalks.{tries_left-same, length-left_of}
 use Rattle.gen_line.proofs.Anchoring.{walk_written}
@@ -91,7 +92,7 @@ map-alike P f k [] h same = refl
 map-alike P f k (x ∷ xs) h same = rw (same x h.0, map-alike P f k xs h.1 same) refl
 
 anchor_given : (g : List ℕ → Bool) (line : List Cell) (rack : List ℕ) (h : ℕ) (m : Open) → length line ≡ 15 → h < 15
-    → gives_tries_left g line h h m (zeros 15) rack ≡ map (unwalk h) (tries m rack (rest_of_anchor g line h rack))
+    → gives_tries_left g line h h m (none_put rack) ≡ map (unwalk h) (tries m rack (rest_of_anchor g line h rack))
 unfolding gives_tries_left gives_one_left tries
 anchor_given g line rack h m size inside =
     let cs : List Cell = drop (h + 1) line in
@@ -104,37 +105,37 @@ anchor_given g line rack h m size inside =
     (λ x long. walk_written h x inside long)
 
 pub cell_given : (g : List ℕ → Bool) (line : List Cell) (rack : List ℕ) (h : ℕ) (c : Cell) → length line ≡ 15 → h < 15
-    → gives_cell g line h (zeros 15) rack c ≡ map (unwalk h) (cell_moves g line h rack c)
+    → gives_cell g line h (none_put rack) c ≡ map (unwalk h) (cell_moves g line h rack c)
 cell_given g line rack h (Old a) size inside = refl
 cell_given g line rack h (Free m) size inside =
-    elim m.anchor as (λ b. (if b then gives_tries_left g line h h m (zeros 15) rack else []) ≡ map (unwalk h) (if b then tries m rack (rest_of_anchor g line h rack) else []))
+    elim m.anchor as (λ b. (if b then gives_tries_left g line h h m (none_put rack) else []) ≡ map (unwalk h) (if b then tries m rack (rest_of_anchor g line h rack) else []))
     [ true ↦ anchor_given g line rack h m size inside | false ↦ refl ]
 
-pub all_given : (g : List ℕ → Bool) (line : List Cell) (rack : List ℕ) → length line ≡ 15 → join_range (gives_anchor g line (replicate 15 0) rack) 0 15 ≡ line_moves g line rack
+pub all_given : (g : List ℕ → Bool) (line : List Cell) (rack : List ℕ) → length line ≡ 15 → join_range (gives_anchor g line (record { fresh = replicate 15 0; rack = rack })) 0 15 ≡ line_moves g line rack
 unfolding gives_anchor line_moves
 all_given g line rack size =
-    join-same (gives_anchor g line (zeros 15) rack) (λ h. map (unwalk h) (cell_moves g line h rack (cell_at line h))) 0 15
+    join-same (gives_anchor g line (none_put rack)) (λ h. map (unwalk h) (cell_moves g line h rack (cell_at line h))) 0 15
     (λ h low high. cell_given g line rack h (cell_at line h) size (omega arith))
 
 -- ---- what one place gives, by its cell
 
-pub anchor_old : (g : List ℕ → Bool) (line : List Cell) (fresh rack : List ℕ) (h a : ℕ) → cell_at line h ≡ Old a → gives_anchor g line fresh rack h ≡ []
+pub anchor_old : (g : List ℕ → Bool) (line : List Cell) (tiles : Tiles) (h a : ℕ) → cell_at line h ≡ Old a → gives_anchor g line tiles h ≡ []
 unfolding gives_anchor
-anchor_old g line fresh rack h a e = ap (gives_cell g line h fresh rack) e
+anchor_old g line tiles h a e = ap (gives_cell g line h tiles) e
 
-pub anchor_not : (g : List ℕ → Bool) (line : List Cell) (fresh rack : List ℕ) (h : ℕ) (m : Open) → cell_at line h ≡ Free m → m.anchor ≡ false → gives_anchor g line fresh rack h ≡ []
+pub anchor_not : (g : List ℕ → Bool) (line : List Cell) (tiles : Tiles) (h : ℕ) (m : Open) → cell_at line h ≡ Free m → m.anchor ≡ false → gives_anchor g line tiles h ≡ []
 unfolding gives_anchor
-anchor_not g line fresh rack h m e not =
-    ap (gives_cell g line h fresh rack) e ∙ ap (λ b. if b then gives_tries_left g line h h m fresh rack else []) not
+anchor_not g line tiles h m e not =
+    ap (gives_cell g line h tiles) e ∙ ap (λ b. if b then gives_tries_left g line h h m tiles else []) not
 
-anchor_is : (g : List ℕ → Bool) (line : List Cell) (fresh rack : List ℕ) (h : ℕ) (m : Open) → cell_at line h ≡ Free m → m.anchor ≡ true → gives_anchor g line fresh rack h ≡ gives_tries_left g line h h m fresh rack
+anchor_is : (g : List ℕ → Bool) (line : List Cell) (tiles : Tiles) (h : ℕ) (m : Open) → cell_at line h ≡ Free m → m.anchor ≡ true → gives_anchor g line tiles h ≡ gives_tries_left g line h h m tiles
 unfolding gives_anchor
-anchor_is g line fresh rack h m e anchor =
-    ap (gives_cell g line h fresh rack) e ∙ ap (λ b. if b then gives_tries_left g line h h m fresh rack else []) anchor
+anchor_is g line tiles h m e anchor =
+    ap (gives_cell g line h tiles) e ∙ ap (λ b. if b then gives_tries_left g line h h m tiles else []) anchor
 
 -- the walk from the root is that of the whole lexicon
-pub start_same : {N : Type 0} (tail : N → List ℕ → Bool) (root : N) (g : List ℕ → Bool) (line : List Cell) (h : ℕ) (m : Open) (fresh rack : List ℕ) → ((t : List ℕ) → tail root t ≡ g t) → cell_at line h ≡ Free m → m.anchor ≡ true
-    → gives_anchor g line fresh rack h ≡ gives_tries_left (strings tail (record { accepts = false; next = Some root })) line h h m fresh rack
-start_same tail root g line h m fresh rack same e anchor =
-    anchor_is g line fresh rack h m e anchor
-    ∙ sym (tries_left-same (strings tail (record { accepts = false; next = Some root })) g line h h m fresh rack (λ a t. same (a ∷ t)))
+pub start_same : {N : Type 0} (tail : N → List ℕ → Bool) (root : N) (g : List ℕ → Bool) (line : List Cell) (h : ℕ) (m : Open) (tiles : Tiles) → ((t : List ℕ) → tail root t ≡ g t) → cell_at line h ≡ Free m → m.anchor ≡ true
+    → gives_anchor g line tiles h ≡ gives_tries_left (strings tail (record { accepts = false; next = Some root })) line h h m tiles
+start_same tail root g line h m tiles same e anchor =
+    anchor_is g line tiles h m e anchor
+    ∙ sym (tries_left-same (strings tail (record { accepts = false; next = Some root })) g line h h m tiles (λ a t. same (a ∷ t)))

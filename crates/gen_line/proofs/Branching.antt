@@ -1,5 +1,5 @@
 -- The labels with which strings of a lexicon go on, each once: the entries of the labels between give nothing.
-use Rattle.std.proofs.Common.{◌≡◌, ℕ, zero, suc, ◌+◌, ◌-◌, ◌*◌, ◌<◌, ◌≤◌, Bool, true, false, IsTrue, List, [], ◌∷◌, ◌++◌, Option, Some, None, slice_set, refl, sym, ap, ◌∙◌, append-nil, append_assoc, arith, ⊎_elim, if◌then◌else◌}
+use Rattle.std.proofs.Common.{◌≡◌, ℕ, zero, suc, ◌+◌, ◌-◌, ◌*◌, ◌<◌, ◌≤◌, Bool, true, false, ◌||◌, IsTrue, List, [], ◌∷◌, ◌++◌, Option, Some, None, slice_set, refl, sym, ap, ◌∙◌, append-nil, append_assoc, arith, ⊎_elim, if◌then◌else◌}
 use Rattle.std.specs.Prelude.{IsSome}
 use Rattle.std.specs.List.{list_all}
 use Rattle.std.proofs.lemmas.Bool.{cases_eq, and_parts, ltb-true, false≢true}
@@ -8,9 +8,10 @@ use Rattle.lex_file.specs.Lexicons.{is_label, NextGives}
 use Rattle.lex_file.specs.Walking.{next_strings, strings, IsOpen}
 use Rattle.gen_line.specs.declared.cells.Cell.{Cell}
 use Rattle.gen_line.specs.declared.cells.Open.{Open}
+use Rattle.gen_line.specs.declared.tiles.Tiles.{Tiles}
 use Rattle.gen_line.specs.Entries.{label_of}
-use Rattle.gen_line.specs.Model.{join_range, after, may, less}
-use Rattle.gen_line.specs.Walk.{gives_right, gives_one_right, gives_try_right, gives_letter_right, gives_left, gives_one_left, gives_try_left, gives_letter_left, Every, Front, add_all}
+use Rattle.gen_line.specs.Model.{join_range, after, may, shows, less}
+use Rattle.gen_line.specs.Walk.{gives_right, gives_one_right, gives_try_right, gives_letter_right, gives_left, gives_one_left, gives_try_left, gives_letter_left, with_tile, Every, Front, add_all}
 use Rattle.gen_line.proofs.Sinks.{every-left, every-right, every-same, add_all-append, front-more, front-less, front-same}
 use Rattle.gen_line.proofs.Walks.{gives_one_right-no, one_right-dead, one_right-goes}
 use Rattle.gen_line.proofs.LeftWalks.{gives_one_left-no, one_left-dead, one_left-goes}
@@ -60,40 +61,76 @@ join-skip f n (suc m) le none =
     ∙ join-skip f n m (omega arith) (λ e low high. none e low (omega arith)))
     (cases_eq n (suc m))
 
--- of labels between two
-pub skip_right : (g : List ℕ → Bool) (line : List Cell) (place : ℕ) (m : Open) (fresh rack : List ℕ) (from to : ℕ) → 1 ≤ from → from ≤ to
-    → ((label : ℕ) → from ≤ label → label < to → (t : List ℕ) → after g label t ≡ false)
-    → join_range (gives_one_right g line place m fresh rack) 1 (2 * (to - 1)) ≡ join_range (gives_one_right g line place m fresh rack) 1 (2 * (from - 1))
-skip_right g line place m fresh rack from to low le none =
-    join-skip (gives_one_right g line place m fresh rack) (2 * (from - 1)) (2 * (to - 1)) (omega arith)
-    (λ e above below. one_right-dead g line place m fresh rack e (label_of e) refl (none (label_of e) (omega arith) (omega arith)))
+or_first : (a b : Bool) → a ≡ true → (a || b) ≡ true
+or_first true b e = refl
+or_first false b e = absurd (false≢true e)
 
-pub skip_left : (g : List ℕ → Bool) (line : List Cell) (h k : ℕ) (m : Open) (fresh rack : List ℕ) (from to : ℕ) → 1 ≤ from → from ≤ to
-    → ((label : ℕ) → from ≤ label → label < to → (t : List ℕ) → after g label t ≡ false)
-    → join_range (gives_one_left g line h k m fresh rack) 1 (2 * (to - 1)) ≡ join_range (gives_one_left g line h k m fresh rack) 1 (2 * (from - 1))
-skip_left g line h k m fresh rack from to low le none =
-    join-skip (gives_one_left g line h k m fresh rack) (2 * (from - 1)) (2 * (to - 1)) (omega arith)
-    (λ e above below. one_left-dead g line h k m fresh rack e (label_of e) refl (none (label_of e) (omega arith) (omega arith)))
+or_second : (a b : Bool) → b ≡ true → (a || b) ≡ true
+or_second true b e = refl
+or_second false b e = e
+
+-- an entry that is allowed is one of its label
+shows-of : (m : Open) (rack : List ℕ) (e : ℕ) → 0 < e → may m rack e ≡ true → shows m rack (label_of e) ≡ true
+unfolding shows
+shows-of m rack e some allowed =
+    ⊎_elim
+    (λ (same : e ≡ 2 * label_of e). or_second (may m rack (2 * label_of e - 1)) (may m rack (2 * label_of e)) (ap (may m rack) (sym same) ∙ allowed))
+    (λ (ne : e ≡ 2 * label_of e → ⊥).
+    let same : 2 * label_of e - 1 ≡ e = omega arith in
+    or_first (may m rack (2 * label_of e - 1)) (may m rack (2 * label_of e)) (ap (may m rack) same ∙ allowed))
+    (cases_eq e (2 * label_of e))
+
+-- of a label that no string goes on with, or that nothing allows
+idle_right : (g : List ℕ → Bool) (line : List Cell) (place : ℕ) (m : Open) (tiles : Tiles) (e : ℕ) → 0 < e
+    → (shows m tiles.rack (label_of e) ≡ true → (t : List ℕ) → after g (label_of e) t ≡ false) → gives_one_right g line place m tiles e ≡ []
+idle_right g line place m tiles e some none = by (may m tiles.rack e) refl
+  where
+    by : (b : Bool) → may m tiles.rack e ≡ b → gives_one_right g line place m tiles e ≡ []
+    by true allowed = one_right-dead g line place m tiles e (label_of e) refl (none (shows-of m tiles.rack e some allowed))
+    by false refused = gives_one_right-no g line place m tiles e refused
+
+idle_left : (g : List ℕ → Bool) (line : List Cell) (h k : ℕ) (m : Open) (tiles : Tiles) (e : ℕ) → 0 < e
+    → (shows m tiles.rack (label_of e) ≡ true → (t : List ℕ) → after g (label_of e) t ≡ false) → gives_one_left g line h k m tiles e ≡ []
+idle_left g line h k m tiles e some none = by (may m tiles.rack e) refl
+  where
+    by : (b : Bool) → may m tiles.rack e ≡ b → gives_one_left g line h k m tiles e ≡ []
+    by true allowed = one_left-dead g line h k m tiles e (label_of e) refl (none (shows-of m tiles.rack e some allowed))
+    by false refused = gives_one_left-no g line h k m tiles e refused
+
+-- of labels between two
+pub skip_right : (g : List ℕ → Bool) (line : List Cell) (place : ℕ) (m : Open) (tiles : Tiles) (from to : ℕ) → 1 ≤ from → from ≤ to
+    → ((label : ℕ) → from ≤ label → label < to → shows m tiles.rack label ≡ true → (t : List ℕ) → after g label t ≡ false)
+    → join_range (gives_one_right g line place m tiles) 1 (2 * (to - 1)) ≡ join_range (gives_one_right g line place m tiles) 1 (2 * (from - 1))
+skip_right g line place m tiles from to low le none =
+    join-skip (gives_one_right g line place m tiles) (2 * (from - 1)) (2 * (to - 1)) (omega arith)
+    (λ e above below. idle_right g line place m tiles e (omega arith) (none (label_of e) (omega arith) (omega arith)))
+
+pub skip_left : (g : List ℕ → Bool) (line : List Cell) (h k : ℕ) (m : Open) (tiles : Tiles) (from to : ℕ) → 1 ≤ from → from ≤ to
+    → ((label : ℕ) → from ≤ label → label < to → shows m tiles.rack label ≡ true → (t : List ℕ) → after g label t ≡ false)
+    → join_range (gives_one_left g line h k m tiles) 1 (2 * (to - 1)) ≡ join_range (gives_one_left g line h k m tiles) 1 (2 * (from - 1))
+skip_left g line h k m tiles from to low le none =
+    join-skip (gives_one_left g line h k m tiles) (2 * (from - 1)) (2 * (to - 1)) (omega arith)
+    (λ e above below. idle_left g line h k m tiles e (omega arith) (none (label_of e) (omega arith) (omega arith)))
 
 -- ---- the entries of a label
 
-one_right-is : (g next : List ℕ → Bool) (line : List Cell) (place : ℕ) (m : Open) (fresh rack : List ℕ) (e label : ℕ) → 0 < e → label ≡ label_of e → ((t : List ℕ) → after g label t ≡ next t)
-    → gives_one_right g line place m fresh rack e ≡ gives_try_right next line place m fresh rack e
+one_right-is : (g next : List ℕ → Bool) (line : List Cell) (place : ℕ) (m : Open) (tiles : Tiles) (e label : ℕ) → 0 < e → label ≡ label_of e → ((t : List ℕ) → after g label t ≡ next t)
+    → gives_one_right g line place m tiles e ≡ gives_try_right next line place m tiles e
 unfolding gives_try_right
-one_right-is g next line place m fresh rack e label some is goes = by (may m rack e) refl
+one_right-is g next line place m tiles e label some is goes = by (may m tiles.rack e) refl
   where
-    by : (b : Bool) → may m rack e ≡ b → gives_one_right g line place m fresh rack e ≡ gives_try_right next line place m fresh rack e
-    by true h = one_right-goes g next line place m fresh rack e label (slice_set fresh place e) (less rack e) some h is goes refl refl ∙ sym (ap (λ (b : Bool). if b then gives_right next line (place + 1) (slice_set fresh place e) (less rack e) else []) h)
-    by false h = gives_one_right-no g line place m fresh rack e h ∙ sym (ap (λ (b : Bool). if b then gives_right next line (place + 1) (slice_set fresh place e) (less rack e) else []) h)
+    by : (b : Bool) → may m tiles.rack e ≡ b → gives_one_right g line place m tiles e ≡ gives_try_right next line place m tiles e
+    by true h = one_right-goes g next line place m tiles e label some h is goes ∙ sym (ap (λ (b : Bool). if b then gives_right next line (place + 1) (with_tile tiles place e) else []) h)
+    by false h = gives_one_right-no g line place m tiles e h ∙ sym (ap (λ (b : Bool). if b then gives_right next line (place + 1) (with_tile tiles place e) else []) h)
 
-one_left-is : (g next : List ℕ → Bool) (line : List Cell) (h k : ℕ) (m : Open) (fresh rack : List ℕ) (e label : ℕ) → 0 < e → label ≡ label_of e → ((t : List ℕ) → after g label t ≡ next t)
-    → gives_one_left g line h k m fresh rack e ≡ gives_try_left next line h k m fresh rack e
+one_left-is : (g next : List ℕ → Bool) (line : List Cell) (h k : ℕ) (m : Open) (tiles : Tiles) (e label : ℕ) → 0 < e → label ≡ label_of e → ((t : List ℕ) → after g label t ≡ next t)
+    → gives_one_left g line h k m tiles e ≡ gives_try_left next line h k m tiles e
 unfolding gives_try_left
-one_left-is g next line h k m fresh rack e label some is goes = by (may m rack e) refl
+one_left-is g next line h k m tiles e label some is goes = by (may m tiles.rack e) refl
   where
-    by : (b : Bool) → may m rack e ≡ b → gives_one_left g line h k m fresh rack e ≡ gives_try_left next line h k m fresh rack e
-    by true a = one_left-goes g next line h k m fresh rack e label (slice_set fresh k e) (less rack e) some a is goes refl refl ∙ sym (ap (λ (b : Bool). if b then gives_left next line h k (slice_set fresh k e) (less rack e) else []) a)
-    by false a = gives_one_left-no g line h k m fresh rack e a ∙ sym (ap (λ (b : Bool). if b then gives_left next line h k (slice_set fresh k e) (less rack e) else []) a)
+    by : (b : Bool) → may m tiles.rack e ≡ b → gives_one_left g line h k m tiles e ≡ gives_try_left next line h k m tiles e
+    by true a = one_left-goes g next line h k m tiles e label some a is goes ∙ sym (ap (λ (b : Bool). if b then gives_left next line h k (with_tile tiles k e) else []) a)
+    by false a = gives_one_left-no g line h k m tiles e a ∙ sym (ap (λ (b : Bool). if b then gives_left next line h k (with_tile tiles k e) else []) a)
 
 -- two entries more
 join-two : {A : Type 0} (f : ℕ → List A) (label : ℕ) (xs ys : List A) → 0 < label → f (2 * label - 1) ≡ xs → f (2 * label) ≡ ys
@@ -109,25 +146,25 @@ join-two f label xs ys some a b =
     ∙ append_assoc (join_range f 1 n) xs ys
 
 -- the labels up to one that goes on, and it
-pub more_right : (g next : List ℕ → Bool) (line : List Cell) (place : ℕ) (m : Open) (fresh rack : List ℕ) (from label : ℕ) → 1 ≤ from → from ≤ label
-    → ((between : ℕ) → from ≤ between → between < label → (t : List ℕ) → after g between t ≡ false) → ((t : List ℕ) → after g label t ≡ next t)
-    → join_range (gives_one_right g line place m fresh rack) 1 (2 * (label + 1 - 1))
-    ≡ join_range (gives_one_right g line place m fresh rack) 1 (2 * (from - 1)) ++ gives_letter_right next line place m fresh rack label
-more_right g next line place m fresh rack from label low le none goes =
-    join-two (gives_one_right g line place m fresh rack) label (gives_try_right next line place m fresh rack (2 * label - 1)) (gives_try_right next line place m fresh rack (2 * label)) (omega arith)
-    (one_right-is g next line place m fresh rack (2 * label - 1) label (omega arith) (omega arith) goes)
-    (one_right-is g next line place m fresh rack (2 * label) label (omega arith) (omega arith) goes)
-    ∙ ap (λ xs. xs ++ gives_letter_right next line place m fresh rack label) (skip_right g line place m fresh rack from label low le none)
+pub more_right : (g next : List ℕ → Bool) (line : List Cell) (place : ℕ) (m : Open) (tiles : Tiles) (from label : ℕ) → 1 ≤ from → from ≤ label
+    → ((between : ℕ) → from ≤ between → between < label → shows m tiles.rack between ≡ true → (t : List ℕ) → after g between t ≡ false) → ((t : List ℕ) → after g label t ≡ next t)
+    → join_range (gives_one_right g line place m tiles) 1 (2 * (label + 1 - 1))
+    ≡ join_range (gives_one_right g line place m tiles) 1 (2 * (from - 1)) ++ gives_letter_right next line place m tiles label
+more_right g next line place m tiles from label low le none goes =
+    join-two (gives_one_right g line place m tiles) label (gives_try_right next line place m tiles (2 * label - 1)) (gives_try_right next line place m tiles (2 * label)) (omega arith)
+    (one_right-is g next line place m tiles (2 * label - 1) label (omega arith) (omega arith) goes)
+    (one_right-is g next line place m tiles (2 * label) label (omega arith) (omega arith) goes)
+    ∙ ap (λ xs. xs ++ gives_letter_right next line place m tiles label) (skip_right g line place m tiles from label low le none)
 
-pub more_left : (g next : List ℕ → Bool) (line : List Cell) (h k : ℕ) (m : Open) (fresh rack : List ℕ) (from label : ℕ) → 1 ≤ from → from ≤ label
-    → ((between : ℕ) → from ≤ between → between < label → (t : List ℕ) → after g between t ≡ false) → ((t : List ℕ) → after g label t ≡ next t)
-    → join_range (gives_one_left g line h k m fresh rack) 1 (2 * (label + 1 - 1))
-    ≡ join_range (gives_one_left g line h k m fresh rack) 1 (2 * (from - 1)) ++ gives_letter_left next line h k m fresh rack label
-more_left g next line h k m fresh rack from label low le none goes =
-    join-two (gives_one_left g line h k m fresh rack) label (gives_try_left next line h k m fresh rack (2 * label - 1)) (gives_try_left next line h k m fresh rack (2 * label)) (omega arith)
-    (one_left-is g next line h k m fresh rack (2 * label - 1) label (omega arith) (omega arith) goes)
-    (one_left-is g next line h k m fresh rack (2 * label) label (omega arith) (omega arith) goes)
-    ∙ ap (λ xs. xs ++ gives_letter_left next line h k m fresh rack label) (skip_left g line h k m fresh rack from label low le none)
+pub more_left : (g next : List ℕ → Bool) (line : List Cell) (h k : ℕ) (m : Open) (tiles : Tiles) (from label : ℕ) → 1 ≤ from → from ≤ label
+    → ((between : ℕ) → from ≤ between → between < label → shows m tiles.rack between ≡ true → (t : List ℕ) → after g between t ≡ false) → ((t : List ℕ) → after g label t ≡ next t)
+    → join_range (gives_one_left g line h k m tiles) 1 (2 * (label + 1 - 1))
+    ≡ join_range (gives_one_left g line h k m tiles) 1 (2 * (from - 1)) ++ gives_letter_left next line h k m tiles label
+more_left g next line h k m tiles from label low le none goes =
+    join-two (gives_one_left g line h k m tiles) label (gives_try_left next line h k m tiles (2 * label - 1)) (gives_try_left next line h k m tiles (2 * label)) (omega arith)
+    (one_left-is g next line h k m tiles (2 * label - 1) label (omega arith) (omega arith) goes)
+    (one_left-is g next line h k m tiles (2 * label) label (omega arith) (omega arith) goes)
+    ∙ ap (λ xs. xs ++ gives_letter_left next line h k m tiles label) (skip_left g line h k m tiles from label low le none)
 
 -- ---- the loop over the labels
 
@@ -169,70 +206,72 @@ labels-every P f label from ys some few parts all =
     (every-same P (join_range f 1 52) (join_range f 1 (2 * (label + 1 - 1)) ++ front.0) front.1 all)))
 
 -- no label from one on: all were taken
-pub all_right : (g : List ℕ → Bool) (line : List Cell) (place : ℕ) (m : Open) (fresh rack : List ℕ) (from : ℕ) → 1 ≤ from → from ≤ 27
-    → ((label : ℕ) → from ≤ label → (t : List ℕ) → after g label t ≡ false)
-    → join_range (gives_one_right g line place m fresh rack) 1 52 ≡ join_range (gives_one_right g line place m fresh rack) 1 (2 * (from - 1))
-all_right g line place m fresh rack from low few none = skip_right g line place m fresh rack from 27 low few (λ label le lt. none label le)
+pub all_right : (g : List ℕ → Bool) (line : List Cell) (place : ℕ) (m : Open) (tiles : Tiles) (from : ℕ) → 1 ≤ from → from ≤ 27
+    → ((label : ℕ) → from ≤ label → shows m tiles.rack label ≡ true → (t : List ℕ) → after g label t ≡ false)
+    → join_range (gives_one_right g line place m tiles) 1 52 ≡ join_range (gives_one_right g line place m tiles) 1 (2 * (from - 1))
+all_right g line place m tiles from low few none = skip_right g line place m tiles from 27 low few (λ label le lt. none label le)
 
-pub all_left : (g : List ℕ → Bool) (line : List Cell) (h k : ℕ) (m : Open) (fresh rack : List ℕ) (from : ℕ) → 1 ≤ from → from ≤ 27
-    → ((label : ℕ) → from ≤ label → (t : List ℕ) → after g label t ≡ false)
-    → join_range (gives_one_left g line h k m fresh rack) 1 52 ≡ join_range (gives_one_left g line h k m fresh rack) 1 (2 * (from - 1))
-all_left g line h k m fresh rack from low few none = skip_left g line h k m fresh rack from 27 low few (λ label le lt. none label le)
+pub all_left : (g : List ℕ → Bool) (line : List Cell) (h k : ℕ) (m : Open) (tiles : Tiles) (from : ℕ) → 1 ≤ from → from ≤ 27
+    → ((label : ℕ) → from ≤ label → shows m tiles.rack label ≡ true → (t : List ℕ) → after g label t ≡ false)
+    → join_range (gives_one_left g line h k m tiles) 1 52 ≡ join_range (gives_one_left g line h k m tiles) 1 (2 * (from - 1))
+all_left g line h k m tiles from low few none = skip_left g line h k m tiles from 27 low few (λ label le lt. none label le)
 
 -- ---- one entry
 
-pub try_right-yes : (g : List ℕ → Bool) (line : List Cell) (place : ℕ) (m : Open) (fresh rack : List ℕ) (e : ℕ) (put left : List ℕ) → may m rack e ≡ true → put ≡ slice_set fresh place e → left ≡ less rack e
-    → gives_try_right g line place m fresh rack e ≡ gives_right g line (place + 1) put left
+pub try_right-yes : (g : List ℕ → Bool) (line : List Cell) (place : ℕ) (m : Open) (tiles : Tiles) (e : ℕ) (onward : Tiles) → may m tiles.rack e ≡ true → onward.fresh ≡ slice_set tiles.fresh place e → onward.rack ≡ less tiles.rack e
+    → gives_try_right g line place m tiles e ≡ gives_right g line (place + 1) onward
 unfolding gives_try_right
-try_right-yes g line place m fresh rack e put left allowed is has =
-    ap (λ (b : Bool). if b then gives_right g line (place + 1) (slice_set fresh place e) (less rack e) else []) allowed
-    ∙ ap (λ y. gives_right g line (place + 1) y (less rack e)) (sym is) ∙ ap (λ r. gives_right g line (place + 1) put r) (sym has)
+try_right-yes g line place m tiles e onward allowed is has =
+    ap (λ (b : Bool). if b then gives_right g line (place + 1) (with_tile tiles place e) else []) allowed
+    ∙ ap (λ y. gives_right g line (place + 1) (record { fresh = y; rack = less tiles.rack e })) (sym is)
+    ∙ ap (λ r. gives_right g line (place + 1) (record { fresh = onward.fresh; rack = r })) (sym has)
 
-pub try_right-no : (g : List ℕ → Bool) (line : List Cell) (place : ℕ) (m : Open) (fresh rack : List ℕ) (e : ℕ) → may m rack e ≡ false → gives_try_right g line place m fresh rack e ≡ []
+pub try_right-no : (g : List ℕ → Bool) (line : List Cell) (place : ℕ) (m : Open) (tiles : Tiles) (e : ℕ) → may m tiles.rack e ≡ false → gives_try_right g line place m tiles e ≡ []
 unfolding gives_try_right
-try_right-no g line place m fresh rack e refused = ap (λ (b : Bool). if b then gives_right g line (place + 1) (slice_set fresh place e) (less rack e) else []) refused
+try_right-no g line place m tiles e refused = ap (λ (b : Bool). if b then gives_right g line (place + 1) (with_tile tiles place e) else []) refused
 
-pub try_left-yes : (g : List ℕ → Bool) (line : List Cell) (h k : ℕ) (m : Open) (fresh rack : List ℕ) (e : ℕ) (put left : List ℕ) → may m rack e ≡ true → put ≡ slice_set fresh k e → left ≡ less rack e
-    → gives_try_left g line h k m fresh rack e ≡ gives_left g line h k put left
+pub try_left-yes : (g : List ℕ → Bool) (line : List Cell) (h k : ℕ) (m : Open) (tiles : Tiles) (e : ℕ) (onward : Tiles) → may m tiles.rack e ≡ true → onward.fresh ≡ slice_set tiles.fresh k e → onward.rack ≡ less tiles.rack e
+    → gives_try_left g line h k m tiles e ≡ gives_left g line h k onward
 unfolding gives_try_left
-try_left-yes g line h k m fresh rack e put left allowed is has =
-    ap (λ (b : Bool). if b then gives_left g line h k (slice_set fresh k e) (less rack e) else []) allowed
-    ∙ ap (λ y. gives_left g line h k y (less rack e)) (sym is) ∙ ap (λ r. gives_left g line h k put r) (sym has)
+try_left-yes g line h k m tiles e onward allowed is has =
+    ap (λ (b : Bool). if b then gives_left g line h k (with_tile tiles k e) else []) allowed
+    ∙ ap (λ y. gives_left g line h k (record { fresh = y; rack = less tiles.rack e })) (sym is)
+    ∙ ap (λ r. gives_left g line h k (record { fresh = onward.fresh; rack = r })) (sym has)
 
-pub try_left-no : (g : List ℕ → Bool) (line : List Cell) (h k : ℕ) (m : Open) (fresh rack : List ℕ) (e : ℕ) → may m rack e ≡ false → gives_try_left g line h k m fresh rack e ≡ []
+pub try_left-no : (g : List ℕ → Bool) (line : List Cell) (h k : ℕ) (m : Open) (tiles : Tiles) (e : ℕ) → may m tiles.rack e ≡ false → gives_try_left g line h k m tiles e ≡ []
 unfolding gives_try_left
-try_left-no g line h k m fresh rack e refused = ap (λ (b : Bool). if b then gives_left g line h k (slice_set fresh k e) (less rack e) else []) refused
+try_left-no g line h k m tiles e refused = ap (λ (b : Bool). if b then gives_left g line h k (with_tile tiles k e) else []) refused
 
 -- ---- at a node, to the right
 
-pub goes_right : {N : Type 0} (tail : N → List ℕ → Bool) (at : Step N) (node : N) (line : List Cell) (place : ℕ) (m : Open) (fresh rack : List ℕ) (from label : ℕ) (step : Step N)
+pub goes_right : {N : Type 0} (tail : N → List ℕ → Bool) (at : Step N) (node : N) (line : List Cell) (place : ℕ) (m : Open) (tiles : Tiles) (from label : ℕ) (step : Step N)
     → at.next ≡ Some node → 1 ≤ from → from ≤ label
-    → ((between : ℕ) → from ≤ between → between < label → (t : List ℕ) → tail node (between ∷ t) ≡ false) → ((t : List ℕ) → tail node (label ∷ t) ≡ strings tail step t)
-    → join_range (gives_one_right (strings tail at) line place m fresh rack) 1 (2 * (label + 1 - 1))
-    ≡ join_range (gives_one_right (strings tail at) line place m fresh rack) 1 (2 * (from - 1)) ++ gives_letter_right (strings tail step) line place m fresh rack label
-goes_right tail at node line place m fresh rack from label step e low le none goes =
-    more_right (strings tail at) (strings tail step) line place m fresh rack from label low le
-    (λ between a b t. after_step tail at node e between t ∙ none between a b t) (λ t. after_step tail at node e label t ∙ goes t)
+    → ((between : ℕ) → from ≤ between → between < label → shows m tiles.rack between ≡ true → (t : List ℕ) → tail node (between ∷ t) ≡ false) → ((t : List ℕ) → tail node (label ∷ t) ≡ strings tail step t)
+    → join_range (gives_one_right (strings tail at) line place m tiles) 1 (2 * (label + 1 - 1))
+    ≡ join_range (gives_one_right (strings tail at) line place m tiles) 1 (2 * (from - 1)) ++ gives_letter_right (strings tail step) line place m tiles label
+goes_right tail at node line place m tiles from label step e low le none goes =
+    more_right (strings tail at) (strings tail step) line place m tiles from label low le
+    (λ between a b shown t. after_step tail at node e between t ∙ none between a b shown t) (λ t. after_step tail at node e label t ∙ goes t)
 
-pub ends_right : {N : Type 0} (tail : N → List ℕ → Bool) (at : Step N) (node : N) (line : List Cell) (place : ℕ) (m : Open) (fresh rack : List ℕ) (from : ℕ)
-    → at.next ≡ Some node → 1 ≤ from → from ≤ 27 → ((label : ℕ) → from ≤ label → (t : List ℕ) → tail node (label ∷ t) ≡ false)
-    → join_range (gives_one_right (strings tail at) line place m fresh rack) 1 52 ≡ join_range (gives_one_right (strings tail at) line place m fresh rack) 1 (2 * (from - 1))
-ends_right tail at node line place m fresh rack from e low few none =
-    all_right (strings tail at) line place m fresh rack from low few (λ label le t. after_step tail at node e label t ∙ none label le t)
+pub ends_right : {N : Type 0} (tail : N → List ℕ → Bool) (at : Step N) (node : N) (line : List Cell) (place : ℕ) (m : Open) (tiles : Tiles) (from : ℕ)
+    → at.next ≡ Some node → 1 ≤ from → from ≤ 27 → ((label : ℕ) → from ≤ label → shows m tiles.rack label ≡ true → (t : List ℕ) → tail node (label ∷ t) ≡ false)
+    → join_range (gives_one_right (strings tail at) line place m tiles) 1 52 ≡ join_range (gives_one_right (strings tail at) line place m tiles) 1 (2 * (from - 1))
+ends_right tail at node line place m tiles from e low few none =
+    all_right (strings tail at) line place m tiles from low few (λ label le shown t. after_step tail at node e label t ∙ none label le shown t)
 
 -- ---- at a node, to the left
 
-pub goes_left : {N : Type 0} (tail : N → List ℕ → Bool) (at : Step N) (node : N) (line : List Cell) (h k : ℕ) (m : Open) (fresh rack : List ℕ) (from label : ℕ) (step : Step N)
+pub goes_left : {N : Type 0} (tail : N → List ℕ → Bool) (at : Step N) (node : N) (line : List Cell) (h k : ℕ) (m : Open) (tiles : Tiles) (from label : ℕ) (step : Step N)
     → at.next ≡ Some node → 1 ≤ from → from ≤ label
-    → ((between : ℕ) → from ≤ between → between < label → (t : List ℕ) → tail node (between ∷ t) ≡ false) → ((t : List ℕ) → tail node (label ∷ t) ≡ strings tail step t)
-    → join_range (gives_one_left (strings tail at) line h k m fresh rack) 1 (2 * (label + 1 - 1))
-    ≡ join_range (gives_one_left (strings tail at) line h k m fresh rack) 1 (2 * (from - 1)) ++ gives_letter_left (strings tail step) line h k m fresh rack label
-goes_left tail at node line h k m fresh rack from label step e low le none goes =
-    more_left (strings tail at) (strings tail step) line h k m fresh rack from label low le
-    (λ between a b t. after_step tail at node e between t ∙ none between a b t) (λ t. after_step tail at node e label t ∙ goes t)
+    → ((between : ℕ) → from ≤ between → between < label → shows m tiles.rack between ≡ true → (t : List ℕ) → tail node (between ∷ t) ≡ false) → ((t : List ℕ) → tail node (label ∷ t) ≡ strings tail step t)
+    → join_range (gives_one_left (strings tail at) line h k m tiles) 1 (2 * (label + 1 - 1))
+    ≡ join_range (gives_one_left (strings tail at) line h k m tiles) 1 (2 * (from - 1)) ++ gives_letter_left (strings tail step) line h k m tiles label
+goes_left tail at node line h k m tiles from label step e low le none goes =
+    more_left (strings tail at) (strings tail step) line h k m tiles from label low le
+    (λ between a b shown t. after_step tail at node e between t ∙ none between a b shown t) (λ t. after_step tail at node e label t ∙ goes t)
 
-pub ends_left : {N : Type 0} (tail : N → List ℕ → Bool) (at : Step N) (node : N) (line : List Cell) (h k : ℕ) (m : Open) (fresh rack : List ℕ) (from : ℕ)
-    → at.next ≡ Some node → 1 ≤ from → from ≤ 27 → ((label : ℕ) → from ≤ label → (t : List ℕ) → tail node (label ∷ t) ≡ false)
-    → join_range (gives_one_left (strings tail at) line h k m fresh rack) 1 52 ≡ join_range (gives_one_left (strings tail at) line h k m fresh rack) 1 (2 * (from - 1))
-ends_left tail at node line h k m fresh rack from e low few none =
-    all_left (strings tail at) line h k m fresh rack from low few (λ label le t. after_step tail at node e label t ∙ none label le t)
+pub ends_left : {N : Type 0} (tail : N → List ℕ → Bool) (at : Step N) (node : N) (line : List Cell) (h k : ℕ) (m : Open) (tiles : Tiles) (from : ℕ)
+    → at.next ≡ Some node → 1 ≤ from → from ≤ 27 → ((label : ℕ) → from ≤ label → shows m tiles.rack label ≡ true → (t : List ℕ) → tail node (label ∷ t) ≡ false)
+    → join_range (gives_one_left (strings tail at) line h k m tiles) 1 52 ≡ join_range (gives_one_left (strings tail at) line h k m tiles) 1 (2 * (from - 1))
+ends_left tail at node line h k m tiles from e low few none =
+    all_left (strings tail at) line h k m tiles from low few (λ label le shown t. after_step tail at node e label t ∙ none label le shown t)

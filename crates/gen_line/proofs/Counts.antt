@@ -8,7 +8,8 @@ use Rattle.gen_line.specs.declared.cells.Cell.{Cell}
 use Rattle.gen_line.specs.declared.cells.Cell.TheVariants.{Old, Free}
 use Rattle.gen_line.specs.declared.cells.Open.{Open}
 use Rattle.gen_line.specs.Entries.{label_of}
-use Rattle.gen_line.specs.Model.{same, join_range, zeros, after, longer, may, less, one_try, tries, leaf, right, starts_free, turn, left, fits_right, fits_turn, behind_zeros, fits_left, tally, once, Each}
+use Rattle.gen_line.specs.Model.{join_range, zeros, after, longer, may, less, one_try, tries, leaf, right, starts_free, turn, left}
+use Rattle.gen_line.proofs.Tests.{same, fits_right, fits_turn, behind_zeros, fits_left, tally, once, Each}
 
 -- ---- tallies
 

@@ -6,7 +6,8 @@ use Rattle.gen_line.specs.declared.cells.Cell.{Cell}
 use Rattle.gen_line.specs.declared.cells.Cell.TheVariants.{Old, Free}
 use Rattle.gen_line.specs.Cells.{cell_at, cell_ok, full_on}
 use Rattle.gen_line.specs.Moves.{IsMove, AreSplits, back, marked}
-use Rattle.gen_line.specs.Model.{same, right, turn, left, tries, may, less, left_of, line_moves}
+use Rattle.gen_line.specs.Model.{right, turn, left, tries, may, less, left_of, line_moves}
+use Rattle.gen_line.proofs.Tests.{same}
 use Rattle.gen_line.proofs.Joins.{rack_ok-uses}
 use Rattle.gen_line.proofs.Lines.{back-size}
 

@@ -4,7 +4,8 @@ use Rattle.std.proofs.Common.{◌≡◌, ℕ, zero, suc, ◌+◌, ◌-◌, ◌<�
 use Rattle.std.proofs.lemmas.Bool.{cases_eq, cases_Bool, ne_eqb, eq-eqb, ltb-true, lt-ltb, cases_lt, and_parts, and_from, or_cases, or_left, or_right, false_from_ne_true, false≢true}
 use Rattle.std.proofs.lemmas.List.{get_or-set_same, get_or-set_other, get_or_past}
 use Rattle.gen_line.specs.Entries.{kind_of, uses}
-use Rattle.gen_line.specs.Model.{same, join_range, less, tally, once, Each}
+use Rattle.gen_line.specs.Model.{join_range, less}
+use Rattle.gen_line.proofs.Tests.{same, tally, once, Each}
 use Rattle.gen_line.specs.Walk.{Every}
 use Rattle.gen_line.proofs.Meaning.{rack_ok}
 use Rattle.gen_line.proofs.Counts.{tally-append, tally-map, tally-and, once-or, once-and}

@@ -5,11 +5,12 @@ use Rattle.lex_file.specs.declared.lexicons.Step.{Step}
 use Rattle.gen_line.specs.declared.cells.Cell.{Cell}
 use Rattle.gen_line.specs.declared.cells.Cell.TheVariants.{Old, Free}
 use Rattle.gen_line.specs.declared.cells.Open.{Open}
+use Rattle.gen_line.specs.declared.tiles.Tiles.{Tiles}
 use Rattle.gen_line.specs.Entries.{label_of}
 use Rattle.gen_line.specs.Cells.{cell_at}
 use Rattle.gen_line.specs.Model.{join_range, zeros, after, longer, may, less, one_try, tries, starts_free, leaf, right, turn, left, left_of}
 use Rattle.lex_file.specs.Walking.{next_strings, strings}
-use Rattle.gen_line.specs.Walk.{finish_right, finish_left, gives_right, gives_leaf, gives_turn, gives_left, one_left_of, gives_one_left, gives_tries_left}
+use Rattle.gen_line.specs.Walk.{finish_right, finish_left, gives_right, gives_leaf, gives_turn, gives_left, one_left_of, gives_one_left, gives_tries_left, with_tile}
 use Rattle.gen_line.proofs.Walks.{map-join, join-none, join-same, one_try-none, one_try-same, tries-none, tries-same, leaf-none, right-never, right-alike, right-same, leaf-lines, map-same, put-some}
 
 -- ---- the turn
@@ -39,34 +40,34 @@ turn-alike g f cs rack same =
     ∙ ap (λ xs. leaf (starts_free cs && f []) (length cs) ++ xs)
     (right-alike (longer (after g 0)) (longer (after f 0)) cs rack (longer-alike (after g 0) (after f 0) (λ t. same (0 ∷ t))))
 
-pub turn-parts : (g : List ℕ → Bool) (line : List Cell) (h : ℕ) (fresh rack : List ℕ) (ends : Bool) → ends ≡ (starts_free (drop (h + 1) line) && g []) → gives_turn g line h fresh rack ≡ gives_leaf ends fresh ++ gives_right (longer (after g 0)) line (h + 1) fresh rack
+pub turn-parts : (g : List ℕ → Bool) (line : List Cell) (h : ℕ) (tiles : Tiles) (ends : Bool) → ends ≡ (starts_free (drop (h + 1) line) && g []) → gives_turn g line h tiles ≡ gives_leaf ends tiles.fresh ++ gives_right (longer (after g 0)) line (h + 1) tiles
 unfolding turn
-turn-parts g line h fresh rack ends e =
+turn-parts g line h tiles ends e =
     let cs : List Cell = drop (h + 1) line in
-    map-append (finish_right (h + 1) fresh) (leaf (starts_free cs && g []) (length cs)) (right (longer (after g 0)) cs rack)
-    ∙ ap (λ xs. xs ++ gives_right (longer (after g 0)) line (h + 1) fresh rack) (leaf-lines (starts_free cs && g []) (length cs) (h + 1) fresh)
-    ∙ ap (λ b. gives_leaf b fresh ++ gives_right (longer (after g 0)) line (h + 1) fresh rack) (sym e)
+    map-append (finish_right (h + 1) tiles.fresh) (leaf (starts_free cs && g []) (length cs)) (right (longer (after g 0)) cs tiles.rack)
+    ∙ ap (λ xs. xs ++ gives_right (longer (after g 0)) line (h + 1) tiles) (leaf-lines (starts_free cs && g []) (length cs) (h + 1) tiles.fresh)
+    ∙ ap (λ b. gives_leaf b tiles.fresh ++ gives_right (longer (after g 0)) line (h + 1) tiles) (sym e)
 
 -- behind the mark, without the empty string
 behind_mark : {N : Type 0} (tail : N → List ℕ → Bool) (g : List ℕ → Bool) (s on : Step N) → on.accepts ≡ false → on.next ≡ s.next → ((t : List ℕ) → after g 0 t ≡ strings tail s t) → (t : List ℕ) → longer (after g 0) t ≡ strings tail on t
 behind_mark tail g s on none next same [] = sym none
 behind_mark tail g s on none next same (b ∷ t) = same (b ∷ t) ∙ ap (λ n. next_strings tail n (b ∷ t)) (sym next)
 
-pub turn-goes : {N : Type 0} (tail : N → List ℕ → Bool) (g : List ℕ → Bool) (s on : Step N) (line : List Cell) (h : ℕ) (fresh rack : List ℕ) (ends : Bool) → on.accepts ≡ false → on.next ≡ s.next → ((t : List ℕ) → after g 0 t ≡ strings tail s t)
-    → ends ≡ (starts_free (drop (h + 1) line) && g []) → gives_turn g line h fresh rack ≡ gives_leaf ends fresh ++ gives_right (strings tail on) line (h + 1) fresh rack
-turn-goes tail g s on line h fresh rack ends none next same e =
-    turn-parts g line h fresh rack ends e
-    ∙ ap (λ xs. gives_leaf ends fresh ++ xs)
-    (right-same (longer (after g 0)) (strings tail on) line (h + 1) fresh rack (behind_mark tail g s on none next same))
+pub turn-goes : {N : Type 0} (tail : N → List ℕ → Bool) (g : List ℕ → Bool) (s on : Step N) (line : List Cell) (h : ℕ) (tiles : Tiles) (ends : Bool) → on.accepts ≡ false → on.next ≡ s.next → ((t : List ℕ) → after g 0 t ≡ strings tail s t)
+    → ends ≡ (starts_free (drop (h + 1) line) && g []) → gives_turn g line h tiles ≡ gives_leaf ends tiles.fresh ++ gives_right (strings tail on) line (h + 1) tiles
+turn-goes tail g s on line h tiles ends none next same e =
+    turn-parts g line h tiles ends e
+    ∙ ap (λ xs. gives_leaf ends tiles.fresh ++ xs)
+    (right-same (longer (after g 0)) (strings tail on) line (h + 1) tiles (behind_mark tail g s on none next same))
 
 append-none : {A : Type 0} (xs ys : List A) → ys ≡ [] → xs ++ ys ≡ xs
 append-none xs ys e = ap (λ zs. xs ++ zs) e ∙ append-nil xs
 
-pub turn-dead : (g : List ℕ → Bool) (line : List Cell) (h : ℕ) (fresh rack : List ℕ) (ends : Bool) → ((t : List ℕ) → after g 0 t ≡ false) → ends ≡ (starts_free (drop (h + 1) line) && g []) → gives_turn g line h fresh rack ≡ gives_leaf ends fresh
-turn-dead g line h fresh rack ends none e =
-    turn-parts g line h fresh rack ends e
-    ∙ append-none (gives_leaf ends fresh) (gives_right (longer (after g 0)) line (h + 1) fresh rack)
-    (ap (map (finish_right (h + 1) fresh)) (right-never (longer (after g 0)) (drop (h + 1) line) rack (longer-never (after g 0) none)))
+pub turn-dead : (g : List ℕ → Bool) (line : List Cell) (h : ℕ) (tiles : Tiles) (ends : Bool) → ((t : List ℕ) → after g 0 t ≡ false) → ends ≡ (starts_free (drop (h + 1) line) && g []) → gives_turn g line h tiles ≡ gives_leaf ends tiles.fresh
+turn-dead g line h tiles ends none e =
+    turn-parts g line h tiles ends e
+    ∙ append-none (gives_leaf ends tiles.fresh) (gives_right (longer (after g 0)) line (h + 1) tiles)
+    (ap (map (finish_right (h + 1) tiles.fresh)) (right-never (longer (after g 0)) (drop (h + 1) line) tiles.rack (longer-never (after g 0) none)))
 
 -- ---- to the left
 
@@ -90,8 +91,8 @@ left-alike g f (Free m ∷ ls) cs rack same =
     (tries-same m rack (λ e. left (after g (label_of e)) ls cs (less rack e)) (λ e. left (after f (label_of e)) ls cs (less rack e))
     (λ e. left-alike (after g (label_of e)) (after f (label_of e)) ls cs (less rack e) (λ t. same (label_of e ∷ t))))
 
-left-same : (g f : List ℕ → Bool) (line : List Cell) (h k : ℕ) (fresh rack : List ℕ) → ((t : List ℕ) → g t ≡ f t) → gives_left g line h k fresh rack ≡ gives_left f line h k fresh rack
-left-same g f line h k fresh rack same = ap (map (finish_left h k fresh)) (left-alike g f (left_of line k) (drop (h + 1) line) rack same)
+left-same : (g f : List ℕ → Bool) (line : List Cell) (h k : ℕ) (tiles : Tiles) → ((t : List ℕ) → g t ≡ f t) → gives_left g line h k tiles ≡ gives_left f line h k tiles
+left-same g f line h k tiles same = ap (map (finish_left h k tiles.fresh)) (left-alike g f (left_of line k) (drop (h + 1) line) tiles.rack same)
 
 pub length-left_of : (line : List Cell) (k : ℕ) → length (left_of line k) ≡ k
 unfolding left_of
@@ -104,102 +105,100 @@ unfolding finish_left
 finish_left-zeros h zero fresh os = refl
 finish_left-zeros h (suc k) fresh os = finish_left-zeros h k fresh os
 
-pub gives_left-none : (g : List ℕ → Bool) (line : List Cell) (h places : ℕ) (fresh rack : List ℕ) → places ≡ 0 → gives_left g line h places fresh rack ≡ gives_turn g line h fresh rack
+pub gives_left-none : (g : List ℕ → Bool) (line : List Cell) (h places : ℕ) (tiles : Tiles) → places ≡ 0 → gives_left g line h places tiles ≡ gives_turn g line h tiles
 unfolding left left_of finish_left
-gives_left-none g line h places fresh rack e = ap (λ k. gives_left g line h k fresh rack) e
+gives_left-none g line h places tiles e = ap (λ k. gives_left g line h k tiles) e
 
-left-old : (g : List ℕ → Bool) (line : List Cell) (h k a : ℕ) (fresh rack : List ℕ) → cell_at line k ≡ Old a → gives_left g line h (suc k) fresh rack ≡ gives_left (after g a) line h k fresh rack
+left-old : (g : List ℕ → Bool) (line : List Cell) (h k a : ℕ) (tiles : Tiles) → cell_at line k ≡ Old a → gives_left g line h (suc k) tiles ≡ gives_left (after g a) line h k tiles
 unfolding left left_of finish_left
-left-old g line h k a fresh rack e =
-    ap (λ c. map (finish_left h (suc k) fresh) (left g (c ∷ left_of line k) (drop (h + 1) line) rack)) e
-    ∙ map-same (finish_left h (suc k) fresh) (λ os. 0 ∷ os) (finish_left h k fresh) (left (after g a) (left_of line k) (drop (h + 1) line) rack) (λ os. refl)
+left-old g line h k a tiles e =
+    ap (λ c. map (finish_left h (suc k) tiles.fresh) (left g (c ∷ left_of line k) (drop (h + 1) line) tiles.rack)) e
+    ∙ map-same (finish_left h (suc k) tiles.fresh) (λ os. 0 ∷ os) (finish_left h k tiles.fresh) (left (after g a) (left_of line k) (drop (h + 1) line) tiles.rack) (λ os. refl)
 
-left-free : (g : List ℕ → Bool) (line : List Cell) (h k : ℕ) (m : Open) (fresh rack : List ℕ) → cell_at line k ≡ Free m → gives_left g line h (suc k) fresh rack ≡ gives_turn g line h fresh rack ++ (if m.anchor then [] else gives_tries_left g line h k m fresh rack)
+left-free : (g : List ℕ → Bool) (line : List Cell) (h k : ℕ) (m : Open) (tiles : Tiles) → cell_at line k ≡ Free m → gives_left g line h (suc k) tiles ≡ gives_turn g line h tiles ++ (if m.anchor then [] else gives_tries_left g line h k m tiles)
 unfolding left left_of gives_tries_left gives_one_left tries finish_left
-left-free g line h k m fresh rack e =
+left-free g line h k m tiles e =
     let cs : List Cell = drop (h + 1) line in
     let ls : List Cell = left_of line k in
-    let tried : List (List ℕ) = join_range (one_try m rack (one_left_of g line h k rack)) 1 52 in
-    let written : List ℕ → List ℕ = finish_left h (suc k) fresh in
-    let turned : map written (map (λ os. zeros (suc (length ls)) ++ os) (turn g cs rack)) ≡ gives_turn g line h fresh rack =
-    map-same written (λ os. zeros (suc (length ls)) ++ os) (finish_right (h + 1) fresh) (turn g cs rack)
-    (λ os. ap (λ n. finish_left h k fresh (zeros n ++ os)) (length-left_of line k) ∙ finish_left-zeros h k fresh os) in
-    let chosen : (b : Bool) → map written (if b then [] else tried) ≡ (if b then [] else gives_tries_left g line h k m fresh rack) =
-    elim [ true ↦ refl | false ↦ map-join written (one_try m rack (one_left_of g line h k rack)) 1 52 ] in
-    ap (λ c. map written (left g (c ∷ ls) cs rack)) e
-    ∙ map-append written (map (λ os. zeros (suc (length ls)) ++ os) (turn g cs rack)) (if m.anchor then [] else tried)
+    let tried : List (List ℕ) = join_range (one_try m tiles.rack (one_left_of g line h k tiles.rack)) 1 52 in
+    let written : List ℕ → List ℕ = finish_left h (suc k) tiles.fresh in
+    let turned : map written (map (λ os. zeros (suc (length ls)) ++ os) (turn g cs tiles.rack)) ≡ gives_turn g line h tiles =
+    map-same written (λ os. zeros (suc (length ls)) ++ os) (finish_right (h + 1) tiles.fresh) (turn g cs tiles.rack)
+    (λ os. ap (λ n. finish_left h k tiles.fresh (zeros n ++ os)) (length-left_of line k) ∙ finish_left-zeros h k tiles.fresh os) in
+    let chosen : (b : Bool) → map written (if b then [] else tried) ≡ (if b then [] else gives_tries_left g line h k m tiles) =
+    elim [ true ↦ refl | false ↦ map-join written (one_try m tiles.rack (one_left_of g line h k tiles.rack)) 1 52 ] in
+    ap (λ c. map written (left g (c ∷ ls) cs tiles.rack)) e
+    ∙ map-append written (map (λ os. zeros (suc (length ls)) ++ os) (turn g cs tiles.rack)) (if m.anchor then [] else tried)
     ∙ ap (λ xs. xs ++ map written (if m.anchor then [] else tried)) turned
-    ∙ ap (λ xs. gives_turn g line h fresh rack ++ xs) (chosen m.anchor)
+    ∙ ap (λ xs. gives_turn g line h tiles ++ xs) (chosen m.anchor)
 
-pub left-old-goes : (g f : List ℕ → Bool) (line : List Cell) (h places a : ℕ) (fresh rack : List ℕ) → 0 < places → cell_at line (places - 1) ≡ Old a → ((t : List ℕ) → after g a t ≡ f t) → gives_left g line h places fresh rack ≡ gives_left f line h (places - 1) fresh rack
-left-old-goes g f line h places a fresh rack some e same =
+pub left-old-goes : (g f : List ℕ → Bool) (line : List Cell) (h places a : ℕ) (tiles : Tiles) → 0 < places → cell_at line (places - 1) ≡ Old a → ((t : List ℕ) → after g a t ≡ f t) → gives_left g line h places tiles ≡ gives_left f line h (places - 1) tiles
+left-old-goes g f line h places a tiles some e same =
     let at : places ≡ suc (places - 1) = omega arith in
-    ap (λ n. gives_left g line h n fresh rack) at ∙ left-old g line h (places - 1) a fresh rack e
-    ∙ left-same (after g a) f line h (places - 1) fresh rack same
+    ap (λ n. gives_left g line h n tiles) at ∙ left-old g line h (places - 1) a tiles e
+    ∙ left-same (after g a) f line h (places - 1) tiles same
 
-pub left-old-dead : (g : List ℕ → Bool) (line : List Cell) (h places a : ℕ) (fresh rack : List ℕ) → 0 < places → cell_at line (places - 1) ≡ Old a → ((t : List ℕ) → after g a t ≡ false) → gives_left g line h places fresh rack ≡ []
-left-old-dead g line h places a fresh rack some e none =
+pub left-old-dead : (g : List ℕ → Bool) (line : List Cell) (h places a : ℕ) (tiles : Tiles) → 0 < places → cell_at line (places - 1) ≡ Old a → ((t : List ℕ) → after g a t ≡ false) → gives_left g line h places tiles ≡ []
+left-old-dead g line h places a tiles some e none =
     let at : places ≡ suc (places - 1) = omega arith in
-    ap (λ n. gives_left g line h n fresh rack) at ∙ left-old g line h (places - 1) a fresh rack e
-    ∙ ap (map (finish_left h (places - 1) fresh)) (left-never (after g a) (left_of line (places - 1)) (drop (h + 1) line) rack none)
+    ap (λ n. gives_left g line h n tiles) at ∙ left-old g line h (places - 1) a tiles e
+    ∙ ap (map (finish_left h (places - 1) tiles.fresh)) (left-never (after g a) (left_of line (places - 1)) (drop (h + 1) line) tiles.rack none)
 
-pub gives_left-free : (g : List ℕ → Bool) (line : List Cell) (h places : ℕ) (m : Open) (fresh rack : List ℕ) → 0 < places → cell_at line (places - 1) ≡ Free m → gives_left g line h places fresh rack ≡ gives_turn g line h fresh rack ++ (if m.anchor then [] else gives_tries_left g line h (places - 1) m fresh rack)
-gives_left-free g line h places m fresh rack some e =
+pub gives_left-free : (g : List ℕ → Bool) (line : List Cell) (h places : ℕ) (m : Open) (tiles : Tiles) → 0 < places → cell_at line (places - 1) ≡ Free m → gives_left g line h places tiles ≡ gives_turn g line h tiles ++ (if m.anchor then [] else gives_tries_left g line h (places - 1) m tiles)
+gives_left-free g line h places m tiles some e =
     let at : places ≡ suc (places - 1) = omega arith in
-    ap (λ n. gives_left g line h n fresh rack) at ∙ left-free g line h (places - 1) m fresh rack e
+    ap (λ n. gives_left g line h n tiles) at ∙ left-free g line h (places - 1) m tiles e
 
-pub gives_left-stop : (g : List ℕ → Bool) (line : List Cell) (h places : ℕ) (m : Open) (fresh rack : List ℕ) → 0 < places → cell_at line (places - 1) ≡ Free m → m.anchor ≡ true → gives_left g line h places fresh rack ≡ gives_turn g line h fresh rack
-gives_left-stop g line h places m fresh rack some e stops =
-    gives_left-free g line h places m fresh rack some e
-    ∙ append-none (gives_turn g line h fresh rack) (if m.anchor then [] else gives_tries_left g line h (places - 1) m fresh rack)
-    (ap (λ b. if b then [] else gives_tries_left g line h (places - 1) m fresh rack) stops)
+pub gives_left-stop : (g : List ℕ → Bool) (line : List Cell) (h places : ℕ) (m : Open) (tiles : Tiles) → 0 < places → cell_at line (places - 1) ≡ Free m → m.anchor ≡ true → gives_left g line h places tiles ≡ gives_turn g line h tiles
+gives_left-stop g line h places m tiles some e stops =
+    gives_left-free g line h places m tiles some e
+    ∙ append-none (gives_turn g line h tiles) (if m.anchor then [] else gives_tries_left g line h (places - 1) m tiles)
+    (ap (λ b. if b then [] else gives_tries_left g line h (places - 1) m tiles) stops)
 
-pub gives_left-go : (g : List ℕ → Bool) (line : List Cell) (h places : ℕ) (m : Open) (fresh rack : List ℕ) → 0 < places → cell_at line (places - 1) ≡ Free m → m.anchor ≡ false → gives_left g line h places fresh rack ≡ gives_turn g line h fresh rack ++ gives_tries_left g line h (places - 1) m fresh rack
-gives_left-go g line h places m fresh rack some e goes =
-    gives_left-free g line h places m fresh rack some e
-    ∙ ap (λ b. gives_turn g line h fresh rack ++ (if b then [] else gives_tries_left g line h (places - 1) m fresh rack)) goes
+pub gives_left-go : (g : List ℕ → Bool) (line : List Cell) (h places : ℕ) (m : Open) (tiles : Tiles) → 0 < places → cell_at line (places - 1) ≡ Free m → m.anchor ≡ false → gives_left g line h places tiles ≡ gives_turn g line h tiles ++ gives_tries_left g line h (places - 1) m tiles
+gives_left-go g line h places m tiles some e goes =
+    gives_left-free g line h places m tiles some e
+    ∙ ap (λ b. gives_turn g line h tiles ++ (if b then [] else gives_tries_left g line h (places - 1) m tiles)) goes
 
 -- ---- one entry
 
-pub gives_one_left-no : (g : List ℕ → Bool) (line : List Cell) (h k : ℕ) (m : Open) (fresh rack : List ℕ) (e : ℕ) → may m rack e ≡ false → gives_one_left g line h k m fresh rack e ≡ []
+pub gives_one_left-no : (g : List ℕ → Bool) (line : List Cell) (h k : ℕ) (m : Open) (tiles : Tiles) (e : ℕ) → may m tiles.rack e ≡ false → gives_one_left g line h k m tiles e ≡ []
 unfolding gives_one_left
-gives_one_left-no g line h k m fresh rack e refused =
-    ap (λ b. map (finish_left h (suc k) fresh) (if b then map (λ os. e ∷ os) (one_left_of g line h k rack e) else [])) refused
+gives_one_left-no g line h k m tiles e refused =
+    ap (λ b. map (finish_left h (suc k) tiles.fresh) (if b then map (λ os. e ∷ os) (one_left_of g line h k tiles.rack e) else [])) refused
 
-pub one_left-dead : (g : List ℕ → Bool) (line : List Cell) (h k : ℕ) (m : Open) (fresh rack : List ℕ) (e label : ℕ) → label ≡ label_of e → ((t : List ℕ) → after g label t ≡ false) → gives_one_left g line h k m fresh rack e ≡ []
+pub one_left-dead : (g : List ℕ → Bool) (line : List Cell) (h k : ℕ) (m : Open) (tiles : Tiles) (e label : ℕ) → label ≡ label_of e → ((t : List ℕ) → after g label t ≡ false) → gives_one_left g line h k m tiles e ≡ []
 unfolding gives_one_left
-one_left-dead g line h k m fresh rack e label same none =
-    ap (map (finish_left h (suc k) fresh))
-    (one_try-none m rack (one_left_of g line h k rack) e
-    (left-never (after g (label_of e)) (left_of line k) (drop (h + 1) line) (less rack e) (subst (λ l. (t : List ℕ) → after g l t ≡ false) same none)))
+one_left-dead g line h k m tiles e label same none =
+    ap (map (finish_left h (suc k) tiles.fresh))
+    (one_try-none m tiles.rack (one_left_of g line h k tiles.rack) e
+    (left-never (after g (label_of e)) (left_of line k) (drop (h + 1) line) (less tiles.rack e) (subst (λ l. (t : List ℕ) → after g l t ≡ false) same none)))
 
-pub one_left-goes : (g f : List ℕ → Bool) (line : List Cell) (h k : ℕ) (m : Open) (fresh rack : List ℕ) (e label : ℕ) (fresh_then rack_then : List ℕ) → 0 < e → may m rack e ≡ true → label ≡ label_of e
-    → ((t : List ℕ) → after g label t ≡ f t) → fresh_then ≡ slice_set fresh k e → rack_then ≡ less rack e → gives_one_left g line h k m fresh rack e ≡ gives_left f line h k fresh_then rack_then
+pub one_left-goes : (g f : List ℕ → Bool) (line : List Cell) (h k : ℕ) (m : Open) (tiles : Tiles) (e label : ℕ) → 0 < e → may m tiles.rack e ≡ true → label ≡ label_of e
+    → ((t : List ℕ) → after g label t ≡ f t) → gives_one_left g line h k m tiles e ≡ gives_left f line h k (with_tile tiles k e)
 unfolding gives_one_left finish_left
-one_left-goes g f line h k m fresh rack e label fresh_then rack_then some allowed same goes put_down left_over =
-    ap (λ b. map (finish_left h (suc k) fresh) (if b then map (λ os. e ∷ os) (one_left_of g line h k rack e) else [])) allowed
-    ∙ map-same (finish_left h (suc k) fresh) (λ os. e ∷ os) (finish_left h k (slice_set fresh k e)) (one_left_of g line h k rack e)
-    (λ os. ap (λ y. finish_left h k y os) (put-some fresh k e some))
-    ∙ left-same (after g (label_of e)) f line h k (slice_set fresh k e) (less rack e) (subst (λ l. (t : List ℕ) → after g l t ≡ f t) same goes)
-    ∙ ap (λ y. gives_left f line h k y (less rack e)) (sym put_down)
-    ∙ ap (λ r. gives_left f line h k fresh_then r) (sym left_over)
+one_left-goes g f line h k m tiles e label some allowed same goes =
+    ap (λ b. map (finish_left h (suc k) tiles.fresh) (if b then map (λ os. e ∷ os) (one_left_of g line h k tiles.rack e) else [])) allowed
+    ∙ map-same (finish_left h (suc k) tiles.fresh) (λ os. e ∷ os) (finish_left h k (slice_set tiles.fresh k e)) (one_left_of g line h k tiles.rack e)
+    (λ os. ap (λ y. finish_left h k y os) (put-some tiles.fresh k e some))
+    ∙ left-same (after g (label_of e)) f line h k (with_tile tiles k e) (subst (λ l. (t : List ℕ) → after g l t ≡ f t) same goes)
 
 -- the entries, one after the other
-pub tries_left-is : (g : List ℕ → Bool) (line : List Cell) (h k : ℕ) (m : Open) (fresh rack : List ℕ) → gives_tries_left g line h k m fresh rack ≡ join_range (gives_one_left g line h k m fresh rack) 1 52
+pub tries_left-is : (g : List ℕ → Bool) (line : List Cell) (h k : ℕ) (m : Open) (tiles : Tiles) → gives_tries_left g line h k m tiles ≡ join_range (gives_one_left g line h k m tiles) 1 52
 unfolding gives_tries_left
-tries_left-is g line h k m fresh rack = refl
+tries_left-is g line h k m tiles = refl
 
 -- no string goes on: no entry is tried
-pub tries_left-dead : (g : List ℕ → Bool) (line : List Cell) (h k : ℕ) (m : Open) (fresh rack : List ℕ) → ((a : ℕ) (t : List ℕ) → after g a t ≡ false) → gives_tries_left g line h k m fresh rack ≡ []
+pub tries_left-dead : (g : List ℕ → Bool) (line : List Cell) (h k : ℕ) (m : Open) (tiles : Tiles) → ((a : ℕ) (t : List ℕ) → after g a t ≡ false) → gives_tries_left g line h k m tiles ≡ []
 unfolding gives_tries_left
-tries_left-dead g line h k m fresh rack none =
-    join-none (gives_one_left g line h k m fresh rack) 1 52 (λ e. one_left-dead g line h k m fresh rack e (label_of e) refl (none (label_of e)))
+tries_left-dead g line h k m tiles none =
+    join-none (gives_one_left g line h k m tiles) 1 52 (λ e. one_left-dead g line h k m tiles e (label_of e) refl (none (label_of e)))
 
 -- tests that agree on the strings that are not empty are tried alike
-pub tries_left-same : (g f : List ℕ → Bool) (line : List Cell) (h k : ℕ) (m : Open) (fresh rack : List ℕ) → ((a : ℕ) (t : List ℕ) → after g a t ≡ after f a t) → gives_tries_left g line h k m fresh rack ≡ gives_tries_left f line h k m fresh rack
+pub tries_left-same : (g f : List ℕ → Bool) (line : List Cell) (h k : ℕ) (m : Open) (tiles : Tiles) → ((a : ℕ) (t : List ℕ) → after g a t ≡ after f a t) → gives_tries_left g line h k m tiles ≡ gives_tries_left f line h k m tiles
 unfolding gives_tries_left gives_one_left
-tries_left-same g f line h k m fresh rack same =
-    join-same (gives_one_left g line h k m fresh rack) (gives_one_left f line h k m fresh rack) 1 52
-    (λ e low high. ap (map (finish_left h (suc k) fresh))
-    (one_try-same m rack (one_left_of g line h k rack) (one_left_of f line h k rack) e
-    (left-alike (after g (label_of e)) (after f (label_of e)) (left_of line k) (drop (h + 1) line) (less rack e) (same (label_of e)))))
+tries_left-same g f line h k m tiles same =
+    join-same (gives_one_left g line h k m tiles) (gives_one_left f line h k m tiles) 1 52
+    (λ e low high. ap (map (finish_left h (suc k) tiles.fresh))
+    (one_try-same m tiles.rack (one_left_of g line h k tiles.rack) (one_left_of f line h k tiles.rack) e
+    (left-alike (after g (label_of e)) (after f (label_of e)) (left_of line k) (drop (h + 1) line) (less tiles.rack e) (same (label_of e)))))

@@ -1,3 +1,4 @@
+pub mod Tests
 pub mod Meaning
 pub mod Counts
 pub mod Joins

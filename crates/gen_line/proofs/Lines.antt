@@ -8,7 +8,8 @@ use Rattle.gen_line.specs.declared.cells.Cell.TheVariants.{Old, Free}
 use Rattle.gen_line.specs.Entries.{label_of}
 use Rattle.gen_line.specs.Cells.{cell_at}
 use Rattle.gen_line.specs.Moves.{back}
-use Rattle.gen_line.specs.Model.{same, after, may, less, tries, fits_turn, behind_zeros, fits_left, tally, once, Each, left_of, rest_of_anchor, cell_moves, cell_fits, unwalk, left_entries, walk, line_moves, owes}
+use Rattle.gen_line.specs.Model.{after, may, less, tries, left_of, rest_of_anchor, cell_moves, unwalk, line_moves}
+use Rattle.gen_line.proofs.Tests.{same, fits_turn, behind_zeros, fits_left, tally, once, Each, cell_fits, left_entries, walk, owes}
 use Rattle.gen_line.proofs.Meaning.{shape, rack_ok, no_bar, at_anchor}
 use Rattle.gen_line.proofs.Counts.{tries-nil, tries-each, each-left, same-true}
 use Rattle.gen_line.proofs.Joins.{same-self, any_of, each-join, each-map}

@@ -4,7 +4,8 @@ use Rattle.gen_line.specs.declared.cells.Cell.{Cell}
 use Rattle.gen_line.specs.declared.cells.Cell.TheVariants.{Old, Free}
 use Rattle.gen_line.specs.declared.cells.Open.{Open}
 use Rattle.gen_line.specs.Entries.{letter_of, label_of, kind_of}
-use Rattle.gen_line.specs.Model.{same, zeros, less}
+use Rattle.gen_line.specs.Model.{zeros, less}
+use Rattle.gen_line.proofs.Tests.{same}
 
 -- the labels of the filled squares, up to the first that is not
 abbrev pub word : List Cell → List ℕ → List ℕ

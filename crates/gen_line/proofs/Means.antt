@@ -6,7 +6,8 @@ use Rattle.gen_line.specs.declared.cells.Cell.{Cell}
 use Rattle.gen_line.specs.declared.cells.Cell.TheVariants.{Old, Free}
 use Rattle.gen_line.specs.Entries.{letter_of, label_of, kind_of}
 use Rattle.gen_line.specs.Moves.{marked}
-use Rattle.gen_line.specs.Model.{same, zeros, after, longer, may, less, starts_free, fits_right, fits_turn, behind_zeros, fits_left}
+use Rattle.gen_line.specs.Model.{zeros, after, longer, may, less, starts_free}
+use Rattle.gen_line.proofs.Tests.{same, fits_right, fits_turn, behind_zeros, fits_left}
 use Rattle.gen_line.proofs.Meaning.{word, shape, rack_ok, rack_after, no_bar, at_anchor}
 
 -- no tile is taken for no entries

@@ -10,7 +10,8 @@ use Rattle.gen_line.specs.declared.cells.Open.{Open}
 use Rattle.gen_line.specs.Entries.{letter_of, label_of, kind_of}
 use Rattle.gen_line.specs.Cells.{cell_at, is_full, cell_ok, is_anchor_cell, full_on, labels}
 use Rattle.gen_line.specs.Moves.{IsMove, Labelled, marked, AreSplits}
-use Rattle.gen_line.specs.Model.{after, may, less, left_of, left_entries, walk, fits_left, cell_fits, owes}
+use Rattle.gen_line.specs.Model.{after, may, less, left_of}
+use Rattle.gen_line.proofs.Tests.{left_entries, walk, fits_left, cell_fits, owes}
 use Rattle.gen_line.proofs.Meaning.{word, shape, rack_ok, rack_after, no_bar, at_anchor}
 use Rattle.gen_line.proofs.Joins.{rack_ok-uses, uses-rack_ok}
 use Rattle.gen_line.proofs.Means.{fits_left-means}

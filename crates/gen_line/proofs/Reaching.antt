@@ -7,7 +7,8 @@ use Rattle.gen_line.specs.declared.cells.Open.{Open}
 use Rattle.gen_line.specs.Entries.{letter_of}
 use Rattle.gen_line.specs.Cells.{cell_at, is_full, is_anchor_cell}
 use Rattle.gen_line.specs.Moves.{IsMove, Labelled, AreSplits}
-use Rattle.gen_line.specs.Model.{left_of, left_entries, cell_moves, unwalk, owes}
+use Rattle.gen_line.specs.Model.{left_of, cell_moves, unwalk}
+use Rattle.gen_line.proofs.Tests.{left_entries, owes}
 use Rattle.gen_line.specs.Walk.{gives_anchor, anchor_moves, Every}
 use Rattle.gen_line.proofs.Meaning.{no_bar, at_anchor}
 use Rattle.gen_line.proofs.Joins.{every-each}

@@ -6,7 +6,8 @@ use Rattle.gen_line.specs.declared.cells.Cell.TheVariants.{Old, Free}
 use Rattle.gen_line.specs.declared.cells.Open.{Open}
 use Rattle.gen_line.specs.Entries.{letter_of, label_of}
 use Rattle.gen_line.specs.Cells.{cell_at, is_full, label_at, cell_ok}
-use Rattle.gen_line.specs.Model.{same, zeros}
+use Rattle.gen_line.specs.Model.{zeros}
+use Rattle.gen_line.proofs.Tests.{same}
 use Rattle.gen_line.proofs.Meaning.{word, shape}
 
 -- the labels of the first n places

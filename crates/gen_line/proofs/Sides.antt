@@ -11,7 +11,8 @@ use Rattle.gen_line.specs.declared.cells.Open.{Open}
 use Rattle.gen_line.specs.Entries.{label_of, kind_of, uses}
 use Rattle.gen_line.specs.Cells.{cell_at, label_at, labels}
 use Rattle.gen_line.specs.Moves.{Labelled, back}
-use Rattle.gen_line.specs.Model.{less, left_of, left_entries, walk}
+use Rattle.gen_line.specs.Model.{less, left_of}
+use Rattle.gen_line.proofs.Tests.{left_entries, walk}
 use Rattle.gen_line.proofs.Meaning.{rack_ok, rack_after}
 use Rattle.gen_line.proofs.Shaping.{spelt}
 

@@ -8,11 +8,12 @@ use Rattle.lex_file.specs.declared.lexicons.Step.{Step}
 use Rattle.gen_line.specs.declared.cells.Cell.{Cell}
 use Rattle.gen_line.specs.declared.cells.Cell.TheVariants.{Old, Free}
 use Rattle.gen_line.specs.declared.cells.Open.{Open}
+use Rattle.gen_line.specs.declared.tiles.Tiles.{Tiles}
 use Rattle.gen_line.specs.Entries.{letter_of, label_of, kind_of}
 use Rattle.gen_line.specs.Cells.{cell_at}
 use Rattle.gen_line.specs.Model.{join_range, zeros, after, may, less, one_try, tries, leaf, right}
 use Rattle.lex_file.specs.Walking.{next_strings, strings}
-use Rattle.gen_line.specs.Walk.{put, finish_right, gives_right, one_right_of, gives_one_right, gives_tries_right, gives_leaf}
+use Rattle.gen_line.specs.Walk.{put, finish_right, gives_right, one_right_of, gives_one_right, gives_tries_right, gives_leaf, with_tile}
 
 -- ---- joins
 
@@ -70,8 +71,8 @@ right-alike g h (Free m ∷ cs) rack same =
     (tries-same m rack (λ e. right (after g (label_of e)) cs (less rack e)) (λ e. right (after h (label_of e)) cs (less rack e))
     (λ e. right-alike (after g (label_of e)) (after h (label_of e)) cs (less rack e) (λ t. same (label_of e ∷ t))))
 
-pub right-same : (g h : List ℕ → Bool) (line : List Cell) (place : ℕ) (fresh rack : List ℕ) → ((t : List ℕ) → g t ≡ h t) → gives_right g line place fresh rack ≡ gives_right h line place fresh rack
-right-same g h line place fresh rack same = ap (map (finish_right place fresh)) (right-alike g h (drop place line) rack same)
+pub right-same : (g h : List ℕ → Bool) (line : List Cell) (place : ℕ) (tiles : Tiles) → ((t : List ℕ) → g t ≡ h t) → gives_right g line place tiles ≡ gives_right h line place tiles
+right-same g h line place tiles same = ap (map (finish_right place tiles.fresh)) (right-alike g h (drop place line) tiles.rack same)
 
 -- ---- what is written
 
@@ -97,62 +98,60 @@ cells-at line place c inside e = cells-from line place inside ∙ ap (λ x. x �
 
 -- ---- to the right
 
-pub gives_right-end : (g : List ℕ → Bool) (line : List Cell) (place : ℕ) (fresh rack : List ℕ) → length line ≤ place → gives_right g line place fresh rack ≡ gives_leaf (g []) fresh
+pub gives_right-end : (g : List ℕ → Bool) (line : List Cell) (place : ℕ) (tiles : Tiles) → length line ≤ place → gives_right g line place tiles ≡ gives_leaf (g []) tiles.fresh
 unfolding right
-gives_right-end g line place fresh rack past =
-    ap (λ cs. map (finish_right place fresh) (right g cs rack)) (drop_all place line past) ∙ leaf-lines (g []) 0 place fresh
+gives_right-end g line place tiles past =
+    ap (λ cs. map (finish_right place tiles.fresh) (right g cs tiles.rack)) (drop_all place line past) ∙ leaf-lines (g []) 0 place tiles.fresh
 
-gives_right-old : (g : List ℕ → Bool) (line : List Cell) (place a : ℕ) (fresh rack : List ℕ) → place < length line → cell_at line place ≡ Old a → gives_right g line place fresh rack ≡ gives_right (after g a) line (place + 1) fresh rack
+gives_right-old : (g : List ℕ → Bool) (line : List Cell) (place a : ℕ) (tiles : Tiles) → place < length line → cell_at line place ≡ Old a → gives_right g line place tiles ≡ gives_right (after g a) line (place + 1) tiles
 unfolding right finish_right
-gives_right-old g line place a fresh rack inside e =
-    ap (λ cs. map (finish_right place fresh) (right g cs rack)) (cells-at line place (Old a) inside e)
-    ∙ map-same (finish_right place fresh) (λ os. 0 ∷ os) (finish_right (place + 1) fresh) (right (after g a) (drop (place + 1) line) rack) (λ os. refl)
+gives_right-old g line place a tiles inside e =
+    ap (λ cs. map (finish_right place tiles.fresh) (right g cs tiles.rack)) (cells-at line place (Old a) inside e)
+    ∙ map-same (finish_right place tiles.fresh) (λ os. 0 ∷ os) (finish_right (place + 1) tiles.fresh) (right (after g a) (drop (place + 1) line) tiles.rack) (λ os. refl)
 
-pub gives_right-free : (g : List ℕ → Bool) (line : List Cell) (place : ℕ) (m : Open) (fresh rack : List ℕ) → place < length line → cell_at line place ≡ Free m → gives_right g line place fresh rack ≡ gives_leaf (g []) fresh ++ gives_tries_right g line place m fresh rack
+pub gives_right-free : (g : List ℕ → Bool) (line : List Cell) (place : ℕ) (m : Open) (tiles : Tiles) → place < length line → cell_at line place ≡ Free m → gives_right g line place tiles ≡ gives_leaf (g []) tiles.fresh ++ gives_tries_right g line place m tiles
 unfolding right gives_tries_right gives_one_right tries
-gives_right-free g line place m fresh rack inside e =
+gives_right-free g line place m tiles inside e =
     let behind : List Cell = drop (place + 1) line in
-    ap (λ cs. map (finish_right place fresh) (right g cs rack)) (cells-at line place (Free m) inside e)
-    ∙ map-append (finish_right place fresh) (leaf (g []) (suc (length behind))) (join_range (one_try m rack (one_right_of g line place rack)) 1 52)
-    ∙ ap (λ xs. xs ++ map (finish_right place fresh) (join_range (one_try m rack (one_right_of g line place rack)) 1 52)) (leaf-lines (g []) (suc (length behind)) place fresh)
-    ∙ ap (λ xs. gives_leaf (g []) fresh ++ xs) (map-join (finish_right place fresh) (one_try m rack (one_right_of g line place rack)) 1 52)
+    ap (λ cs. map (finish_right place tiles.fresh) (right g cs tiles.rack)) (cells-at line place (Free m) inside e)
+    ∙ map-append (finish_right place tiles.fresh) (leaf (g []) (suc (length behind))) (join_range (one_try m tiles.rack (one_right_of g line place tiles.rack)) 1 52)
+    ∙ ap (λ xs. xs ++ map (finish_right place tiles.fresh) (join_range (one_try m tiles.rack (one_right_of g line place tiles.rack)) 1 52)) (leaf-lines (g []) (suc (length behind)) place tiles.fresh)
+    ∙ ap (λ xs. gives_leaf (g []) tiles.fresh ++ xs) (map-join (finish_right place tiles.fresh) (one_try m tiles.rack (one_right_of g line place tiles.rack)) 1 52)
 
-pub right-old-dead : (g : List ℕ → Bool) (line : List Cell) (place a : ℕ) (fresh rack : List ℕ) → place < length line → cell_at line place ≡ Old a → ((t : List ℕ) → after g a t ≡ false) → gives_right g line place fresh rack ≡ []
-right-old-dead g line place a fresh rack inside e none =
-    gives_right-old g line place a fresh rack inside e ∙ ap (map (finish_right (place + 1) fresh)) (right-never (after g a) (drop (place + 1) line) rack none)
+pub right-old-dead : (g : List ℕ → Bool) (line : List Cell) (place a : ℕ) (tiles : Tiles) → place < length line → cell_at line place ≡ Old a → ((t : List ℕ) → after g a t ≡ false) → gives_right g line place tiles ≡ []
+right-old-dead g line place a tiles inside e none =
+    gives_right-old g line place a tiles inside e ∙ ap (map (finish_right (place + 1) tiles.fresh)) (right-never (after g a) (drop (place + 1) line) tiles.rack none)
 
-pub right-old-goes : (g k : List ℕ → Bool) (line : List Cell) (place a : ℕ) (fresh rack : List ℕ) → place < length line → cell_at line place ≡ Old a → ((t : List ℕ) → after g a t ≡ k t) → gives_right g line place fresh rack ≡ gives_right k line (place + 1) fresh rack
-right-old-goes g k line place a fresh rack inside e same =
-    gives_right-old g line place a fresh rack inside e ∙ right-same (after g a) k line (place + 1) fresh rack same
+pub right-old-goes : (g k : List ℕ → Bool) (line : List Cell) (place a : ℕ) (tiles : Tiles) → place < length line → cell_at line place ≡ Old a → ((t : List ℕ) → after g a t ≡ k t) → gives_right g line place tiles ≡ gives_right k line (place + 1) tiles
+right-old-goes g k line place a tiles inside e same =
+    gives_right-old g line place a tiles inside e ∙ right-same (after g a) k line (place + 1) tiles same
 
 -- ---- one entry
 
-pub gives_one_right-no : (g : List ℕ → Bool) (line : List Cell) (place : ℕ) (m : Open) (fresh rack : List ℕ) (e : ℕ) → may m rack e ≡ false → gives_one_right g line place m fresh rack e ≡ []
+pub gives_one_right-no : (g : List ℕ → Bool) (line : List Cell) (place : ℕ) (m : Open) (tiles : Tiles) (e : ℕ) → may m tiles.rack e ≡ false → gives_one_right g line place m tiles e ≡ []
 unfolding gives_one_right
-gives_one_right-no g line place m fresh rack e refused =
-    ap (λ b. map (finish_right place fresh) (if b then map (λ os. e ∷ os) (one_right_of g line place rack e) else [])) refused
+gives_one_right-no g line place m tiles e refused =
+    ap (λ b. map (finish_right place tiles.fresh) (if b then map (λ os. e ∷ os) (one_right_of g line place tiles.rack e) else [])) refused
 
-pub one_right-dead : (g : List ℕ → Bool) (line : List Cell) (place : ℕ) (m : Open) (fresh rack : List ℕ) (e label : ℕ) → label ≡ label_of e → ((t : List ℕ) → after g label t ≡ false) → gives_one_right g line place m fresh rack e ≡ []
+pub one_right-dead : (g : List ℕ → Bool) (line : List Cell) (place : ℕ) (m : Open) (tiles : Tiles) (e label : ℕ) → label ≡ label_of e → ((t : List ℕ) → after g label t ≡ false) → gives_one_right g line place m tiles e ≡ []
 unfolding gives_one_right
-one_right-dead g line place m fresh rack e label same none =
-    ap (map (finish_right place fresh))
-    (one_try-none m rack (one_right_of g line place rack) e
-    (right-never (after g (label_of e)) (drop (place + 1) line) (less rack e) (subst (λ l. (t : List ℕ) → after g l t ≡ false) same none)))
+one_right-dead g line place m tiles e label same none =
+    ap (map (finish_right place tiles.fresh))
+    (one_try-none m tiles.rack (one_right_of g line place tiles.rack) e
+    (right-never (after g (label_of e)) (drop (place + 1) line) (less tiles.rack e) (subst (λ l. (t : List ℕ) → after g l t ≡ false) same none)))
 
 -- an entry that is put down is written
 pub put-some : (fresh : List ℕ) (place e : ℕ) → 0 < e → put fresh place e ≡ slice_set fresh place e
 put-some fresh place e some = ap (λ b. if b then fresh else slice_set fresh place e) (ne_eqb e 0 (omega arith))
 
-pub one_right-goes : (g h : List ℕ → Bool) (line : List Cell) (place : ℕ) (m : Open) (fresh rack : List ℕ) (e label : ℕ) (fresh_then rack_then : List ℕ) → 0 < e → may m rack e ≡ true → label ≡ label_of e
-    → ((t : List ℕ) → after g label t ≡ h t) → fresh_then ≡ slice_set fresh place e → rack_then ≡ less rack e → gives_one_right g line place m fresh rack e ≡ gives_right h line (place + 1) fresh_then rack_then
+pub one_right-goes : (g h : List ℕ → Bool) (line : List Cell) (place : ℕ) (m : Open) (tiles : Tiles) (e label : ℕ) → 0 < e → may m tiles.rack e ≡ true → label ≡ label_of e
+    → ((t : List ℕ) → after g label t ≡ h t) → gives_one_right g line place m tiles e ≡ gives_right h line (place + 1) (with_tile tiles place e)
 unfolding gives_one_right finish_right
-one_right-goes g h line place m fresh rack e label fresh_then rack_then some allowed same goes put_down left_over =
-    ap (λ b. map (finish_right place fresh) (if b then map (λ os. e ∷ os) (one_right_of g line place rack e) else [])) allowed
-    ∙ map-same (finish_right place fresh) (λ os. e ∷ os) (finish_right (place + 1) (slice_set fresh place e)) (one_right_of g line place rack e)
-    (λ os. ap (λ y. finish_right (place + 1) y os) (put-some fresh place e some))
-    ∙ right-same (after g (label_of e)) h line (place + 1) (slice_set fresh place e) (less rack e) (subst (λ l. (t : List ℕ) → after g l t ≡ h t) same goes)
-    ∙ ap (λ y. gives_right h line (place + 1) y (less rack e)) (sym put_down)
-    ∙ ap (λ r. gives_right h line (place + 1) fresh_then r) (sym left_over)
+one_right-goes g h line place m tiles e label some allowed same goes =
+    ap (λ b. map (finish_right place tiles.fresh) (if b then map (λ os. e ∷ os) (one_right_of g line place tiles.rack e) else [])) allowed
+    ∙ map-same (finish_right place tiles.fresh) (λ os. e ∷ os) (finish_right (place + 1) (slice_set tiles.fresh place e)) (one_right_of g line place tiles.rack e)
+    (λ os. ap (λ y. finish_right (place + 1) y os) (put-some tiles.fresh place e some))
+    ∙ right-same (after g (label_of e)) h line (place + 1) (with_tile tiles place e) (subst (λ l. (t : List ℕ) → after g l t ≡ h t) same goes)
 
 -- the rack has the tile of an entry that is allowed
 pub may-left : (m : Open) (rack : List ℕ) (e : ℕ) → may m rack e ≡ true → 0 < get_or rack (kind_of e) 0
@@ -182,15 +181,15 @@ may-nowhere m rack e kind same none =
     no_tile ∙ may-by m rack e kind false same no_tile
 
 -- the entries, one after the other
-pub tries_right-is : (g : List ℕ → Bool) (line : List Cell) (place : ℕ) (m : Open) (fresh rack : List ℕ) → gives_tries_right g line place m fresh rack ≡ join_range (gives_one_right g line place m fresh rack) 1 52
+pub tries_right-is : (g : List ℕ → Bool) (line : List Cell) (place : ℕ) (m : Open) (tiles : Tiles) → gives_tries_right g line place m tiles ≡ join_range (gives_one_right g line place m tiles) 1 52
 unfolding gives_tries_right
-tries_right-is g line place m fresh rack = refl
+tries_right-is g line place m tiles = refl
 
 -- no string goes on: no entry is tried
-pub tries_right-dead : (g : List ℕ → Bool) (line : List Cell) (place : ℕ) (m : Open) (fresh rack : List ℕ) → ((a : ℕ) (t : List ℕ) → after g a t ≡ false) → gives_tries_right g line place m fresh rack ≡ []
+pub tries_right-dead : (g : List ℕ → Bool) (line : List Cell) (place : ℕ) (m : Open) (tiles : Tiles) → ((a : ℕ) (t : List ℕ) → after g a t ≡ false) → gives_tries_right g line place m tiles ≡ []
 unfolding gives_tries_right
-tries_right-dead g line place m fresh rack none =
-    join-none (gives_one_right g line place m fresh rack) 1 52 (λ e. one_right-dead g line place m fresh rack e (label_of e) refl (none (label_of e)))
+tries_right-dead g line place m tiles none =
+    join-none (gives_one_right g line place m tiles) 1 52 (λ e. one_right-dead g line place m tiles e (label_of e) refl (none (label_of e)))
 
 none_next : {N : Type 0} (tail : N → List ℕ → Bool) (next : Option N) → is_some next ≡ false → (a : ℕ) (t : List ℕ) → next_strings tail next (a ∷ t) ≡ false
 none_next tail None ends a t = refl

@@ -1,5 +1,6 @@
 -- A line of cells with an entry for each place.
 use Rattle.std.specs.Prelude.{ℕ, zero, suc, ◌+◌, ◌==◌, ◌&&◌, ◌||◌, not, nat_lt, Bool, true, false, List, [], ◌∷◌, slice_index, slice_index_or}
+use Rattle.gen_line.specs.declared.takers.TheConstants.{ENTRIES}
 use Rattle.gen_line.specs.declared.cells.Cell.{Cell}
 use Rattle.gen_line.specs.declared.cells.Cell.TheVariants.{Old, Free}
 use Rattle.gen_line.specs.Entries.{letter_of, label_of}
@@ -21,7 +22,7 @@ label_at (Free m) e = label_of e
 -- whether a cell allows an entry: no new tile on an old one, and on a free cell the letters of its mask
 abbrev pub cell_ok : Cell → ℕ → Bool
 cell_ok (Old a) e = e == 0
-cell_ok (Free m) e = (e == 0) || (nat_lt e 53 && slice_index_or m.mask (letter_of e) false)
+cell_ok (Free m) e = (e == 0) || (nat_lt e ENTRIES && slice_index_or m.mask (letter_of e) false)
 
 abbrev pub is_anchor_cell : Cell → Bool
 is_anchor_cell (Old a) = false

@@ -1,6 +1,7 @@
 -- Laws: the walk over a line gives its moves.
 use Rattle.std.specs.Prelude.{◌≡◌, ◌≢◌, ◌↔◌, ℕ, Bool, List, length, Contains}
 use Rattle.std.specs.List.{AllPairs}
+use Rattle.ref_tiles.specs.declared.rulebook.TheConstants.{SIDE}
 use Rattle.gen_line.specs.declared.cells.Cell.{Cell}
 use Rattle.gen_line.specs.Moves.{IsMove, Labelled, AreSplits}
 use Rattle.gen_line.specs.Model.{line_moves}
@@ -13,4 +14,4 @@ GivesTheMoves =
 
 -- and over any lexicon it gives none of them twice
 abbrev pub GivesNoneTwice : Type 0
-GivesNoneTwice = (g : List ℕ → Bool) (line : List Cell) (rack : List ℕ) → length line ≡ 15 → AllPairs (λ a b. a ≢ b) (line_moves g line rack)
+GivesNoneTwice = (g : List ℕ → Bool) (line : List Cell) (rack : List ℕ) → length line ≡ SIDE → AllPairs (λ a b. a ≢ b) (line_moves g line rack)

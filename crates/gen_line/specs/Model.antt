@@ -1,5 +1,7 @@
--- The moves of one line through one anchor, as a list and as a test. A language is a test on strings of labels.
-use Rattle.std.specs.Prelude.{◌≡◌, ℕ, zero, suc, ◌+◌, ◌-◌, ◌==◌, ◌&&◌, ◌||◌, not, nat_lt, Bool, true, false, List, [], ◌∷◌, ◌++◌, length, map, take, drop, slice_index, slice_index_or, slice_set, if◌then◌else◌}
+-- The moves of one line through one anchor, as a list. A language is a test on strings of labels.
+use Rattle.std.specs.Prelude.{ℕ, zero, suc, ◌+◌, ◌-◌, ◌*◌, ◌&&◌, ◌||◌, nat_lt, Bool, true, false, List, [], ◌∷◌, ◌++◌, length, map, take, drop, slice_index, slice_index_or, slice_set, if◌then◌else◌}
+use Rattle.ref_tiles.specs.declared.rulebook.TheConstants.{SIDE}
+use Rattle.gen_line.specs.declared.takers.TheConstants.{ENTRIES}
 use Rattle.gen_line.specs.declared.cells.Cell.{Cell}
 use Rattle.gen_line.specs.declared.cells.Cell.TheVariants.{Old, Free}
 use Rattle.gen_line.specs.declared.cells.Open.{Open}
@@ -7,17 +9,14 @@ use Rattle.gen_line.specs.Entries.{letter_of, label_of, kind_of}
 use Rattle.gen_line.specs.Cells.{cell_at}
 use Rattle.gen_line.specs.Moves.{back}
 
--- two lists of numbers are the same
-abbrev pub same : List ℕ → List ℕ → Bool
-same [] [] = true
-same [] (b ∷ t) = false
-same (a ∷ s) [] = false
-same (a ∷ s) (b ∷ t) = (a == b) && same s t
-
 -- the lists of successive numbers, joined
 abbrev pub join_range : {A : Type 0} → (ℕ → List A) → ℕ → ℕ → List A
 join_range f from zero = []
 join_range f from (suc n) = join_range f from n ++ f (from + n)
+
+-- the lists of all entries that put down a tile, joined
+abbrev pub all_entries : {A : Type 0} → (ℕ → List A) → List A
+all_entries f = join_range f 1 (ENTRIES - 1)
 
 abbrev pub zeros : ℕ → List ℕ
 zeros zero = []
@@ -36,6 +35,10 @@ longer g (b ∷ t) = g (b ∷ t)
 unfoldable pub may : Open → List ℕ → ℕ → Bool
 may m rack e = slice_index_or m.mask (letter_of e) false && nat_lt 0 (slice_index rack (kind_of e))
 
+-- whether a square and the rack allow some entry that shows the letter of a label: a tile of the letter, or a blank
+unfoldable pub shows : Open → List ℕ → ℕ → Bool
+shows m rack label = may m rack (2 * label - 1) || may m rack (2 * label)
+
 -- the rack without the tile of an entry
 unfoldable pub less : List ℕ → ℕ → List ℕ
 less rack e = slice_set rack (kind_of e) (slice_index rack (kind_of e) - 1)
@@ -47,7 +50,7 @@ one_try m rack f e = if may m rack e then map (λ os. e ∷ os) (f e) else []
 
 -- one entry after the other
 unfoldable pub tries : Open → List ℕ → (ℕ → List (List ℕ)) → List (List ℕ)
-tries m rack f = join_range (one_try m rack f) 1 52
+tries m rack f = all_entries (one_try m rack f)
 
 abbrev pub leaf : Bool → ℕ → List (List ℕ)
 leaf ok n = if ok then zeros n ∷ [] else []
@@ -75,47 +78,6 @@ left g (Free m ∷ ls) cs rack =
     map (λ os. zeros (suc (length ls)) ++ os) (turn g cs rack)
     ++ (if m.anchor then [] else tries m rack (λ e. left (after g (label_of e)) ls cs (less rack e)))
 
--- ---- the tests
-
-unfoldable pub fits_right : (List ℕ → Bool) → List Cell → List ℕ → List ℕ → Bool
-fits_right g [] rack [] = g []
-fits_right g [] rack (e ∷ os) = false
-fits_right g (Old a ∷ cs) rack [] = false
-fits_right g (Old a ∷ cs) rack (e ∷ os) = (e == 0) && fits_right (after g a) cs rack os
-fits_right g (Free m ∷ cs) rack [] = false
-fits_right g (Free m ∷ cs) rack (e ∷ os) =
-    if e == 0 then g [] && same os (zeros (length cs))
-    else (nat_lt e 53 && may m rack e) && fits_right (after g (label_of e)) cs (less rack e) os
-
-unfoldable pub fits_turn : (List ℕ → Bool) → List Cell → List ℕ → List ℕ → Bool
-fits_turn g cs rack os = ((starts_free cs && g []) && same os (zeros (length cs))) || fits_right (longer (after g 0)) cs rack os
-
-abbrev pub behind_zeros : ℕ → (List ℕ → Bool) → List ℕ → Bool
-behind_zeros zero f os = f os
-behind_zeros (suc n) f [] = false
-behind_zeros (suc n) f (e ∷ os) = (e == 0) && behind_zeros n f os
-
-unfoldable pub fits_left : (List ℕ → Bool) → List Cell → List Cell → List ℕ → List ℕ → Bool
-fits_left g [] cs rack os = fits_turn g cs rack os
-fits_left g (Old a ∷ ls) cs rack [] = false
-fits_left g (Old a ∷ ls) cs rack (e ∷ os) = (e == 0) && fits_left (after g a) ls cs rack os
-fits_left g (Free m ∷ ls) cs rack [] = false
-fits_left g (Free m ∷ ls) cs rack (e ∷ os) =
-    if e == 0 then behind_zeros (length ls) (fits_turn g cs rack) os
-    else (not m.anchor && (nat_lt e 53 && may m rack e)) && fits_left (after g (label_of e)) ls cs (less rack e) os
-
--- how often a test holds
-abbrev pub tally : {X : Type 0} → (X → Bool) → List X → ℕ
-tally q [] = 0
-tally q (x ∷ xs) = (if q x then 1 else 0) + tally q xs
-
-abbrev pub once : Bool → ℕ
-once b = if b then 1 else 0
-
--- each thing of the set once, and no other
-abbrev pub Each : (List ℕ → Bool) → List (List ℕ) → Type 0
-Each f xs = (x : List ℕ) → tally (same x) xs ≡ once (f x)
-
 -- ---- the whole line
 
 -- the cells to the left of a place, nearest first
@@ -131,28 +93,11 @@ abbrev pub cell_moves : (List ℕ → Bool) → List Cell → ℕ → List ℕ �
 cell_moves g line h rack (Old a) = []
 cell_moves g line h rack (Free m) = if m.anchor then tries m rack (rest_of_anchor g line h rack) else []
 
-unfoldable pub cell_fits : (List ℕ → Bool) → List Cell → ℕ → List ℕ → Cell → List ℕ → Bool
-cell_fits g line h rack (Old a) x = false
-cell_fits g line h rack (Free m) [] = false
-cell_fits g line h rack (Free m) (e ∷ os) =
-    (m.anchor && (not (e == 0) && (nat_lt e 53 && may m rack e))) && fits_left (after g (label_of e)) (left_of line h) (drop (h + 1) line) (less rack e) os
-
 -- from the order of the walk to that of the places, and back
 abbrev pub unwalk : ℕ → List ℕ → List ℕ
 unwalk h [] = []
 unwalk h (e ∷ os) = back (take h os) (e ∷ drop h os)
 
-unfoldable pub left_entries : List ℕ → ℕ → List ℕ
-left_entries y zero = []
-left_entries y (suc k) = slice_index y k ∷ left_entries y k
-
-abbrev pub walk : ℕ → List ℕ → List ℕ
-walk h y = slice_index y h ∷ (left_entries y h ++ drop (h + 1) y)
-
 -- the moves of a line: those of its anchors
 unfoldable pub line_moves : (List ℕ → Bool) → List Cell → List ℕ → List (List ℕ)
-line_moves g line rack = join_range (λ h. map (unwalk h) (cell_moves g line h rack (cell_at line h))) 0 15
-
--- what the anchor at h owes
-abbrev pub owes : (List ℕ → Bool) → List Cell → List ℕ → ℕ → List ℕ → Bool
-owes g line rack h y = (length y == 15) && cell_fits g line h rack (cell_at line h) (walk h y)
+line_moves g line rack = join_range (λ h. map (unwalk h) (cell_moves g line h rack (cell_at line h))) 0 SIDE

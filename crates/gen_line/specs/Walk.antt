@@ -1,11 +1,13 @@
 -- What the walk over a line gives to a sink.
 use Rattle.std.specs.Prelude.{◌≡◌, ℕ, zero, suc, ◌+◌, ◌-◌, ◌*◌, ◌==◌, Bool, List, [], ◌∷◌, ◌++◌, map, drop, slice_set, Result, Ok, Err, if◌then◌else◌}
+use Rattle.ref_tiles.specs.declared.rulebook.TheConstants.{SIDE}
 use Rattle.gen_line.specs.declared.cells.Cell.{Cell}
 use Rattle.gen_line.specs.declared.cells.Cell.TheVariants.{Old, Free}
 use Rattle.gen_line.specs.declared.cells.Open.{Open}
+use Rattle.gen_line.specs.declared.tiles.Tiles.{Tiles}
 use Rattle.gen_line.specs.Entries.{label_of}
 use Rattle.gen_line.specs.Cells.{cell_at}
-use Rattle.gen_line.specs.Model.{right, left, turn, after, may, less, one_try, join_range, left_of, zeros}
+use Rattle.gen_line.specs.Model.{right, left, turn, after, may, less, one_try, all_entries, left_of, zeros}
 
 -- a line with the entries of the places walked
 abbrev pub put : List ℕ → ℕ → ℕ → List ℕ
@@ -20,62 +22,75 @@ finish_left h zero fresh os = finish_right (h + 1) fresh os
 finish_left h (suc k) fresh [] = fresh
 finish_left h (suc k) fresh (e ∷ os) = finish_left h k (put fresh k e) os
 
--- what the walk gives
-abbrev pub gives_right : (List ℕ → Bool) → List Cell → ℕ → List ℕ → List ℕ → List (List ℕ)
-gives_right g line place fresh rack = map (finish_right place fresh) (right g (drop place line) rack)
+-- both entries of a label, the tile of its letter and then a blank, by what each gives
+abbrev pub of_label : {A : Type 0} → (ℕ → List A) → ℕ → List A
+of_label f label = f (2 * label - 1) ++ f (2 * label)
+
+-- the tiles of a walk once a new one was put on a place
+abbrev pub with_tile : Tiles → ℕ → ℕ → Tiles
+with_tile tiles place e = record { fresh = slice_set tiles.fresh place e; rack = less tiles.rack e }
+
+-- the tiles of a walk that begins
+abbrev pub none_put : List ℕ → Tiles
+none_put rack = record { fresh = zeros SIDE; rack = rack }
+
+-- the line as it lies, where it is a move
+abbrev pub gives_leaf : Bool → List ℕ → List (List ℕ)
+gives_leaf ok fresh = if ok then fresh ∷ [] else []
+
+-- ---- to the right: from a place on, with one entry there, with an entry whose label the language is behind, with both entries of such a
+-- label, and with each entry
+abbrev pub gives_right : (List ℕ → Bool) → List Cell → ℕ → Tiles → List (List ℕ)
+gives_right g line place tiles = map (finish_right place tiles.fresh) (right g (drop place line) tiles.rack)
 
 abbrev pub one_right_of : (List ℕ → Bool) → List Cell → ℕ → List ℕ → ℕ → List (List ℕ)
 one_right_of g line place rack e = right (after g (label_of e)) (drop (place + 1) line) (less rack e)
 
-unfoldable pub gives_one_right : (List ℕ → Bool) → List Cell → ℕ → Open → List ℕ → List ℕ → ℕ → List (List ℕ)
-gives_one_right g line place m fresh rack e = map (finish_right place fresh) (one_try m rack (one_right_of g line place rack) e)
+unfoldable pub gives_one_right : (List ℕ → Bool) → List Cell → ℕ → Open → Tiles → ℕ → List (List ℕ)
+gives_one_right g line place m tiles e = map (finish_right place tiles.fresh) (one_try m tiles.rack (one_right_of g line place tiles.rack) e)
 
--- an entry whose label the language is behind, where the square and the rack allow it
-unfoldable pub gives_try_right : (List ℕ → Bool) → List Cell → ℕ → Open → List ℕ → List ℕ → ℕ → List (List ℕ)
-gives_try_right g line place m fresh rack e = if may m rack e then gives_right g line (place + 1) (slice_set fresh place e) (less rack e) else []
+unfoldable pub gives_try_right : (List ℕ → Bool) → List Cell → ℕ → Open → Tiles → ℕ → List (List ℕ)
+gives_try_right g line place m tiles e = if may m tiles.rack e then gives_right g line (place + 1) (with_tile tiles place e) else []
 
--- both entries of a label
-abbrev pub gives_letter_right : (List ℕ → Bool) → List Cell → ℕ → Open → List ℕ → List ℕ → ℕ → List (List ℕ)
-gives_letter_right g line place m fresh rack label = gives_try_right g line place m fresh rack (2 * label - 1) ++ gives_try_right g line place m fresh rack (2 * label)
+abbrev pub gives_letter_right : (List ℕ → Bool) → List Cell → ℕ → Open → Tiles → ℕ → List (List ℕ)
+gives_letter_right g line place m tiles label = of_label (gives_try_right g line place m tiles) label
 
-unfoldable pub gives_tries_right : (List ℕ → Bool) → List Cell → ℕ → Open → List ℕ → List ℕ → List (List ℕ)
-gives_tries_right g line place m fresh rack = join_range (gives_one_right g line place m fresh rack) 1 52
+unfoldable pub gives_tries_right : (List ℕ → Bool) → List Cell → ℕ → Open → Tiles → List (List ℕ)
+gives_tries_right g line place m tiles = all_entries (gives_one_right g line place m tiles)
 
-abbrev pub gives_leaf : Bool → List ℕ → List (List ℕ)
-gives_leaf ok fresh = if ok then fresh ∷ [] else []
+-- ---- to the left of an anchor h, where k places are before what was walked: the turn to the right, and the same of a place k
+abbrev pub gives_turn : (List ℕ → Bool) → List Cell → ℕ → Tiles → List (List ℕ)
+gives_turn g line h tiles = map (finish_right (h + 1) tiles.fresh) (turn g (drop (h + 1) line) tiles.rack)
 
-abbrev pub gives_turn : (List ℕ → Bool) → List Cell → ℕ → List ℕ → List ℕ → List (List ℕ)
-gives_turn g line h fresh rack = map (finish_right (h + 1) fresh) (turn g (drop (h + 1) line) rack)
-
-abbrev pub gives_left : (List ℕ → Bool) → List Cell → ℕ → ℕ → List ℕ → List ℕ → List (List ℕ)
-gives_left g line h k fresh rack = map (finish_left h k fresh) (left g (left_of line k) (drop (h + 1) line) rack)
+abbrev pub gives_left : (List ℕ → Bool) → List Cell → ℕ → ℕ → Tiles → List (List ℕ)
+gives_left g line h k tiles = map (finish_left h k tiles.fresh) (left g (left_of line k) (drop (h + 1) line) tiles.rack)
 
 abbrev pub one_left_of : (List ℕ → Bool) → List Cell → ℕ → ℕ → List ℕ → ℕ → List (List ℕ)
 one_left_of g line h k rack e = left (after g (label_of e)) (left_of line k) (drop (h + 1) line) (less rack e)
 
-unfoldable pub gives_one_left : (List ℕ → Bool) → List Cell → ℕ → ℕ → Open → List ℕ → List ℕ → ℕ → List (List ℕ)
-gives_one_left g line h k m fresh rack e = map (finish_left h (suc k) fresh) (one_try m rack (one_left_of g line h k rack) e)
+unfoldable pub gives_one_left : (List ℕ → Bool) → List Cell → ℕ → ℕ → Open → Tiles → ℕ → List (List ℕ)
+gives_one_left g line h k m tiles e = map (finish_left h (suc k) tiles.fresh) (one_try m tiles.rack (one_left_of g line h k tiles.rack) e)
 
-unfoldable pub gives_try_left : (List ℕ → Bool) → List Cell → ℕ → ℕ → Open → List ℕ → List ℕ → ℕ → List (List ℕ)
-gives_try_left g line h k m fresh rack e = if may m rack e then gives_left g line h k (slice_set fresh k e) (less rack e) else []
+unfoldable pub gives_try_left : (List ℕ → Bool) → List Cell → ℕ → ℕ → Open → Tiles → ℕ → List (List ℕ)
+gives_try_left g line h k m tiles e = if may m tiles.rack e then gives_left g line h k (with_tile tiles k e) else []
 
-abbrev pub gives_letter_left : (List ℕ → Bool) → List Cell → ℕ → ℕ → Open → List ℕ → List ℕ → ℕ → List (List ℕ)
-gives_letter_left g line h k m fresh rack label = gives_try_left g line h k m fresh rack (2 * label - 1) ++ gives_try_left g line h k m fresh rack (2 * label)
+abbrev pub gives_letter_left : (List ℕ → Bool) → List Cell → ℕ → ℕ → Open → Tiles → ℕ → List (List ℕ)
+gives_letter_left g line h k m tiles label = of_label (gives_try_left g line h k m tiles) label
 
-unfoldable pub gives_tries_left : (List ℕ → Bool) → List Cell → ℕ → ℕ → Open → List ℕ → List ℕ → List (List ℕ)
-gives_tries_left g line h k m fresh rack = join_range (gives_one_left g line h k m fresh rack) 1 52
+unfoldable pub gives_tries_left : (List ℕ → Bool) → List Cell → ℕ → ℕ → Open → Tiles → List (List ℕ)
+gives_tries_left g line h k m tiles = all_entries (gives_one_left g line h k m tiles)
 
-abbrev pub gives_cell : (List ℕ → Bool) → List Cell → ℕ → List ℕ → List ℕ → Cell → List (List ℕ)
-gives_cell g line h fresh rack (Old a) = []
-gives_cell g line h fresh rack (Free m) = if m.anchor then gives_tries_left g line h h m fresh rack else []
+-- ---- what the walk from one place gives: its anchor is the first place walked
+abbrev pub gives_cell : (List ℕ → Bool) → List Cell → ℕ → Tiles → Cell → List (List ℕ)
+gives_cell g line h tiles (Old a) = []
+gives_cell g line h tiles (Free m) = if m.anchor then gives_tries_left g line h h m tiles else []
 
--- what the walk from one place gives: its anchor is the first place walked
-unfoldable pub gives_anchor : (List ℕ → Bool) → List Cell → List ℕ → List ℕ → ℕ → List (List ℕ)
-gives_anchor g line fresh rack h = gives_cell g line h fresh rack (cell_at line h)
+unfoldable pub gives_anchor : (List ℕ → Bool) → List Cell → Tiles → ℕ → List (List ℕ)
+gives_anchor g line tiles h = gives_cell g line h tiles (cell_at line h)
 
 -- the moves of a line of which a place is the first anchor covered
 abbrev pub anchor_moves : (List ℕ → Bool) → List Cell → List ℕ → ℕ → List (List ℕ)
-anchor_moves g line rack h = gives_anchor g line (zeros 15) rack h
+anchor_moves g line rack h = gives_anchor g line (none_put rack) h
 
 -- ---- sinks
 
@@ -94,6 +109,15 @@ abbrev pub Took : {I X U E : Type 0} → (I → X → I) → I → List X → I 
 Took add old xs new (Ok u) = new ≡ add_all add old xs
 Took add old xs new (Err e) = Front add old xs new
 
+-- each of some things is as a test says
 abbrev pub Every : {X : Type 0} → (X → Type 0) → List X → Type 0
 Every P [] = Unit {0}
 Every P (x ∷ xs) = P x × Every P xs
+
+-- A sink may be given some moves: whoever gives them can take each for what the sink was made for.
+abbrev pub MayGive : {P S X : Type 0} → (P → X → Type 0) → (S → P) → S → List X → Type 0
+MayGive can_take made_for sink moves = Every (can_take (made_for sink)) moves
+
+-- A sink was given some moves, or, where it refused, a front of them: it has what it had, with what is told of each.
+abbrev pub Gave : {P I S X U E : Type 0} → (P → I → X → I) → (S → P) → (S → I) → S → List X → S → Result U E → Type 0
+Gave tell made_for items old moves new result = Took (tell (made_for old)) (items old) moves (items new) result

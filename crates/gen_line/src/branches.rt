@@ -1,9 +1,12 @@
 //! The mark and the letters with which the strings of a lexicon go on, one after another.
-ghost use Rattle.std.specs.Prelude.{◌≡◌, ◌<◌, ◌≤◌, ◌+◌, ℕ, List, ◌∷◌, false, IfNone, IfSome};
+ghost use Rattle.std.specs.Prelude.{◌≡◌, ◌<◌, ◌≤◌, ◌+◌, ℕ, List, ◌∷◌, true, false, IfNone, IfSome};
 ghost use Rattle.lex_file.specs.Lexicons.{NoTail};
 ghost use Rattle.lex_file.specs.Walking.{IsOpen, strings};
+ghost use Rattle.gen_line.specs.Model.{shows};
 
-use lex_file::{Onward, PathLex, Step};
+use crate::cells::Open;
+use crate::tiles::Tiles;
+use lex_file::{LABELS, Onward, PathLex, Step};
 
 /// The label between the two parts of a rotated word: the lowest of all.
 const MARK: u8 = 0;
@@ -29,28 +32,38 @@ pub fn behind_mark<L: PathLex>(lex: &L, at: Step<L::Node>) -> Option<Step<L::Nod
     None
 }
 
-/// The first label from `from` on with which some tail of a node begins, what stands behind it, and what is left of the node
-/// behind that label.
+/// The first label from `from` on with which some tail of a node begins and which a square and the rack allow, what stands behind
+/// it, and what is left of the node behind that label.
 #[inline(always)]
 pub fn next_letter<L: PathLex>(
     lex: &L,
     node: L::Node,
     from: u8,
     rest: L::Rest,
+    free: &Open,
+    tiles: &Tiles,
 ) -> Option<Onward<L::Node, L::Rest>>
     requires node { L.is_node lex.now node }
+    requires low { 0 < from }
+    requires high { from ≤ LABELS }
     requires rest { L.is_rest lex.now node from rest }
-    ensures none { IfNone result ((label : ℕ) → from ≤ label → NoTail (L.tail lex.now) node label) }
+    ensures none { IfNone result ((label : ℕ) → from ≤ label → shows free.now tiles.now.rack label ≡ true → NoTail (L.tail lex.now) node label) }
     ensures reached { IfSome result (λ on. from ≤ on.branch.label) }
-    ensures passed { IfSome result (λ on. (label : ℕ) → from ≤ label → label < on.branch.label → NoTail (L.tail lex.now) node label) }
-    ensures label { IfSome result (λ on. on.branch.label < 27) }
+    ensures passed { IfSome result (λ on. (label : ℕ) → from ≤ label → label < on.branch.label → shows free.now tiles.now.rack label ≡ true → NoTail (L.tail lex.now) node label) }
+    ensures label { IfSome result (λ on. on.branch.label < LABELS) }
     ensures some { IfSome result (λ on. (t : List ℕ)
         → L.tail lex.now node (on.branch.label ∷ t) ≡ strings (L.tail lex.now) on.branch.step t) }
     ensures open { IfSome result (λ on. IsOpen (L.is_node lex.now) on.branch.step.next) }
     ensures rest { IfSome result (λ on. L.is_rest lex.now node (on.branch.label + 1) on.rest) }
 {
-    let Some(on) = lex.branch_on(node, from, rest) else {
-        return None;
-    };
-    Some(on)
+    let mut next = from;
+    let mut left = rest;
+    while let Some(on) = lex.branch_on(node, next, left) {
+        if tiles.allow_label(free, on.branch.label) {
+            return Some(on);
+        }
+        next = on.branch.label + 1;
+        left = on.rest;
+    }
+    None
 }

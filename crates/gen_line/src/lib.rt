@@ -18,5 +18,5 @@ mod walking;
 
 pub use cells::{Cell, Open};
 pub use laws::law_of_line_moves;
-pub use takers::Taker;
+pub use takers::{ENTRIES, Taker};
 pub use walking::walk_anchor;

@@ -1,9 +1,12 @@
 //! What takes the moves of a line, one by one.
 ghost use Rattle.std.specs.Prelude.{◌≡◌, List, [], ◌∷◌, ℕ, Bool, false, IsOk};
-ghost use Rattle.gen_line.specs.Walk.{Took};
+ghost use Rattle.gen_line.specs.Walk.{Gave};
 
 use ref_board::SIDE;
 use std::alloc::AllocError as NoMemory;
+
+/// How many entries there are: none, and for each letter a tile of it and a blank that shows it.
+pub const ENTRIES: u8 = 53;
 
 /// What takes the moves of a line: it makes of each what a sink keeps, and gives it to the sink.
 ///
@@ -39,6 +42,6 @@ pub trait Taker<S> {
     fn take(&self, fresh: &[u8; SIDE], sink: &mut S) -> Result<(), NoMemory>
         requires { can_take self.now (made_for sink.old) fresh.now }
         ensures made_for { made_for sink.new ≡ made_for sink.old }
-        ensures took { Took (tell self.now (made_for sink.old)) (items sink.old) (fresh.now ∷ []) (items sink.new) result }
+        ensures took { Gave (tell self.now) made_for items sink.old (fresh.now ∷ []) sink.new result }
         ensures steady { grows ≡ false → IsOk result };
 }

@@ -1,11 +1,16 @@
 //! Tiles of a rack as they are laid: letters, and blanks as letters.
 ghost use Rattle.std.specs.Prelude.{◌≡◌, ◌<◌, slice_index, slice_set, sum};
 ghost use Rattle.gen_line.specs.Entries.{letter_of, kind_of};
-ghost use Rattle.gen_line.specs.Model.{may, less};
+ghost use Rattle.gen_line.specs.Model.{may, shows, less};
 
 use crate::cells::Open;
+use crate::takers::ENTRIES;
+use lex_file::LABELS;
 use ref_board::SIDE;
 use ref_tiles::KINDS;
+
+/// The kind of blanks.
+const BLANK: u8 = KINDS as u8 - 1;
 
 /// The tiles of a walk. What an entry says is told at [`crate::Taker`].
 #[derive(Clone, Copy)]
@@ -32,7 +37,7 @@ fn kind(entry: u8) -> u8
     ensures { result ≡ kind_of entry }
 {
     if (entry - 1) % 2 == 1 {
-        26
+        BLANK
     } else {
         letter(entry)
     }
@@ -55,26 +60,36 @@ impl Tiles {
     #[inline(always)]
     pub fn allow(&self, free: &Open, entry: u8) -> bool
         requires low { 0 < entry }
-        requires high { entry < 53 }
+        requires high { entry < ENTRIES }
         ensures { result ≡ may free.now self.now.rack entry }
     {
         self.rack[usize::from(kind(entry))] > 0 && free.mask[usize::from(letter(entry))]
     }
 
+    /// Whether a square and the rack allow some new tile that shows the letter of a label.
+    #[tactic(auto, unfolding(crate::specs::Model::shows))]
+    #[inline(always)]
+    pub fn allow_label(&self, free: &Open, label: u8) -> bool
+        requires low { 0 < label }
+        requires high { label < LABELS }
+        ensures { result ≡ shows free.now self.now.rack label }
+    {
+        self.allow(free, 2 * label - 1) || self.allow(free, 2 * label)
+    }
+
     /// The tiles once a new one was put on a place.
     #[inline(always)]
     pub fn with(&self, place: usize, entry: u8) -> Tiles
-        requires place { place < 15 }
+        requires place { place < SIDE }
         requires low { 0 < entry }
-        requires high { entry < 53 }
+        requires high { entry < ENTRIES }
         requires left { 0 < slice_index self.now.rack (kind_of entry) }
         ensures fresh { result.fresh ≡ slice_set self.now.fresh place entry }
         ensures rack { result.rack ≡ less self.now.rack entry }
     {
-        let mut fresh = self.fresh;
-        fresh[place] = entry;
-        let mut rack = self.rack;
-        rack[usize::from(kind(entry))] -= 1;
-        Tiles { fresh, rack }
+        let mut tiles = *self;
+        tiles.fresh[place] = entry;
+        tiles.rack[usize::from(kind(entry))] -= 1;
+        tiles
     }
 }

@@ -1,14 +1,15 @@
 //! The walk over one line from one of its anchors: to the left, and then to the right.
 ghost use Rattle.std.specs.Prelude.{◌≡◌, ◌<◌, ◌≤◌, ◌+◌, ◌&&◌, ℕ, List, false, IsOk, drop, length};
+ghost use Rattle.ref_tiles.specs.declared.rulebook.TheConstants.{SIDE};
 ghost use Rattle.gen_line.specs.Model.{starts_free};
 ghost use Rattle.lex_file.specs.Walking.{IsOpen, strings};
-ghost use Rattle.gen_line.specs.Walk.{Took, Every, gives_leaf, gives_right, gives_tries_right, gives_letter_right, gives_try_right, gives_turn, gives_left, gives_tries_left, gives_letter_left, gives_try_left, gives_anchor, anchor_moves};
+ghost use Rattle.gen_line.specs.Walk.{MayGive, Gave, gives_leaf, gives_right, gives_tries_right, gives_letter_right, gives_try_right, gives_turn, gives_left, gives_tries_left, gives_letter_left, gives_try_left, gives_anchor, anchor_moves};
 
 use crate::branches::{behind_mark, next_letter};
 use crate::cells::{Cell, Open};
-use crate::takers::Taker;
+use crate::takers::{ENTRIES, Taker};
 use crate::tiles::Tiles;
-use lex_file::{Branch, PathLex, Step, advance};
+use lex_file::{Branch, LABELS, PathLex, Step, advance};
 use ref_board::SIDE;
 use ref_tiles::KINDS;
 use std::alloc::AllocError as NoMemory;
@@ -20,7 +21,7 @@ pub struct LineWalk<'a, L, T> {
     pub line: &'a [Cell; SIDE],
     pub anchor: usize,
     pub taker: &'a T,
-    ghost size: { length line.now ≡ 15 },
+    ghost size: { length line.now ≡ SIDE },
 }
 
 /// Whether what a lexicon accepts may end before a place: no old tile lies there.
@@ -39,11 +40,10 @@ impl<L: PathLex, T> LineWalk<'_, L, T> {
     fn offer<S>(&self, is_move: bool, tiles: &Tiles, sink: &mut S) -> Result<(), NoMemory>
     where
         T: Taker<S>,
-        requires can { Every (T.can_take self.now.taker.now (T.made_for sink.old)) (gives_leaf is_move tiles.now.fresh) }
+        requires can { MayGive (T.can_take self.now.taker.now) T.made_for sink.old (gives_leaf is_move tiles.now.fresh) }
         ensures made_for { T.made_for sink.new ≡ T.made_for sink.old }
-        ensures took { Took (T.tell self.now.taker.now (T.made_for sink.old)) (T.items sink.old)
-            (gives_leaf is_move tiles.now.fresh)
-            (T.items sink.new) result }
+        ensures took { Gave (T.tell self.now.taker.now) T.made_for T.items sink.old
+            (gives_leaf is_move tiles.now.fresh) sink.new result }
         ensures steady { T.grows ≡ false → IsOk result }
     {
         if is_move {
@@ -64,13 +64,12 @@ impl<L: PathLex, T> LineWalk<'_, L, T> {
     where
         T: Taker<S>,
         requires node { IsOpen (L.is_node self.now.lex.now) at.next }
-        requires place { place ≤ 15 }
-        requires can { Every (T.can_take self.now.taker.now (T.made_for sink.old))
-            (gives_right (strings (L.tail self.now.lex.now) at) self.now.line.now place tiles.now.fresh tiles.now.rack) }
+        requires place { place ≤ SIDE }
+        requires can { MayGive (T.can_take self.now.taker.now) T.made_for sink.old
+            (gives_right (strings (L.tail self.now.lex.now) at) self.now.line.now place tiles.now) }
         ensures made_for { T.made_for sink.new ≡ T.made_for sink.old }
-        ensures took { Took (T.tell self.now.taker.now (T.made_for sink.old)) (T.items sink.old)
-            (gives_right (strings (L.tail self.now.lex.now) at) self.now.line.now place tiles.now.fresh tiles.now.rack)
-            (T.items sink.new) result }
+        ensures took { Gave (T.tell self.now.taker.now) T.made_for T.items sink.old
+            (gives_right (strings (L.tail self.now.lex.now) at) self.now.line.now place tiles.now) sink.new result }
         ensures steady { T.grows ≡ false → IsOk result }
     {
         if place == self.line.len() {
@@ -102,13 +101,12 @@ impl<L: PathLex, T> LineWalk<'_, L, T> {
     where
         T: Taker<S>,
         requires node { IsOpen (L.is_node self.now.lex.now) at.next }
-        requires place { place < 15 }
-        requires can { Every (T.can_take self.now.taker.now (T.made_for sink.old))
-            (gives_tries_right (strings (L.tail self.now.lex.now) at) self.now.line.now place free.now tiles.now.fresh tiles.now.rack) }
+        requires place { place < SIDE }
+        requires can { MayGive (T.can_take self.now.taker.now) T.made_for sink.old
+            (gives_tries_right (strings (L.tail self.now.lex.now) at) self.now.line.now place free.now tiles.now) }
         ensures made_for { T.made_for sink.new ≡ T.made_for sink.old }
-        ensures took { Took (T.tell self.now.taker.now (T.made_for sink.old)) (T.items sink.old)
-            (gives_tries_right (strings (L.tail self.now.lex.now) at) self.now.line.now place free.now tiles.now.fresh tiles.now.rack)
-            (T.items sink.new) result }
+        ensures took { Gave (T.tell self.now.taker.now) T.made_for T.items sink.old
+            (gives_tries_right (strings (L.tail self.now.lex.now) at) self.now.line.now place free.now tiles.now) sink.new result }
         ensures steady { T.grows ≡ false → IsOk result }
     {
         if tiles.left() == 0 {
@@ -119,7 +117,7 @@ impl<L: PathLex, T> LineWalk<'_, L, T> {
         };
         let mut from = 1;
         let mut rest = self.lex.rest(node);
-        while let Some(on) = next_letter(self.lex, node, from, rest) {
+        while let Some(on) = next_letter(self.lex, node, from, rest, free, tiles) {
             let Branch { label, step } = on.branch;
             self.letter_right(step, place, free, label, tiles, sink)?;
             from = label + 1;
@@ -144,15 +142,14 @@ impl<L: PathLex, T> LineWalk<'_, L, T> {
     where
         T: Taker<S>,
         requires node { IsOpen (L.is_node self.now.lex.now) next.next }
-        requires place { place < 15 }
+        requires place { place < SIDE }
         requires low { 0 < label }
-        requires high { label < 27 }
-        requires can { Every (T.can_take self.now.taker.now (T.made_for sink.old))
-            (gives_letter_right (strings (L.tail self.now.lex.now) next) self.now.line.now place free.now tiles.now.fresh tiles.now.rack label) }
+        requires high { label < LABELS }
+        requires can { MayGive (T.can_take self.now.taker.now) T.made_for sink.old
+            (gives_letter_right (strings (L.tail self.now.lex.now) next) self.now.line.now place free.now tiles.now label) }
         ensures made_for { T.made_for sink.new ≡ T.made_for sink.old }
-        ensures took { Took (T.tell self.now.taker.now (T.made_for sink.old)) (T.items sink.old)
-            (gives_letter_right (strings (L.tail self.now.lex.now) next) self.now.line.now place free.now tiles.now.fresh tiles.now.rack label)
-            (T.items sink.new) result }
+        ensures took { Gave (T.tell self.now.taker.now) T.made_for T.items sink.old
+            (gives_letter_right (strings (L.tail self.now.lex.now) next) self.now.line.now place free.now tiles.now label) sink.new result }
         ensures steady { T.grows ≡ false → IsOk result }
     {
         self.one_right(next, place, free, 2 * label - 1, tiles, sink)?;
@@ -174,15 +171,14 @@ impl<L: PathLex, T> LineWalk<'_, L, T> {
     where
         T: Taker<S>,
         requires node { IsOpen (L.is_node self.now.lex.now) next.next }
-        requires place { place < 15 }
+        requires place { place < SIDE }
         requires low { 0 < entry }
-        requires high { entry < 53 }
-        requires can { Every (T.can_take self.now.taker.now (T.made_for sink.old))
-            (gives_try_right (strings (L.tail self.now.lex.now) next) self.now.line.now place free.now tiles.now.fresh tiles.now.rack entry) }
+        requires high { entry < ENTRIES }
+        requires can { MayGive (T.can_take self.now.taker.now) T.made_for sink.old
+            (gives_try_right (strings (L.tail self.now.lex.now) next) self.now.line.now place free.now tiles.now entry) }
         ensures made_for { T.made_for sink.new ≡ T.made_for sink.old }
-        ensures took { Took (T.tell self.now.taker.now (T.made_for sink.old)) (T.items sink.old)
-            (gives_try_right (strings (L.tail self.now.lex.now) next) self.now.line.now place free.now tiles.now.fresh tiles.now.rack entry)
-            (T.items sink.new) result }
+        ensures took { Gave (T.tell self.now.taker.now) T.made_for T.items sink.old
+            (gives_try_right (strings (L.tail self.now.lex.now) next) self.now.line.now place free.now tiles.now entry) sink.new result }
         ensures steady { T.grows ≡ false → IsOk result }
     {
         if tiles.allow(free, entry) {
@@ -198,13 +194,12 @@ impl<L: PathLex, T> LineWalk<'_, L, T> {
     where
         T: Taker<S>,
         requires node { IsOpen (L.is_node self.now.lex.now) at.next }
-        requires anchor { self.now.anchor < 15 }
-        requires can { Every (T.can_take self.now.taker.now (T.made_for sink.old))
-            (gives_turn (strings (L.tail self.now.lex.now) at) self.now.line.now self.now.anchor tiles.now.fresh tiles.now.rack) }
+        requires anchor { self.now.anchor < SIDE }
+        requires can { MayGive (T.can_take self.now.taker.now) T.made_for sink.old
+            (gives_turn (strings (L.tail self.now.lex.now) at) self.now.line.now self.now.anchor tiles.now) }
         ensures made_for { T.made_for sink.new ≡ T.made_for sink.old }
-        ensures took { Took (T.tell self.now.taker.now (T.made_for sink.old)) (T.items sink.old)
-            (gives_turn (strings (L.tail self.now.lex.now) at) self.now.line.now self.now.anchor tiles.now.fresh tiles.now.rack)
-            (T.items sink.new) result }
+        ensures took { Gave (T.tell self.now.taker.now) T.made_for T.items sink.old
+            (gives_turn (strings (L.tail self.now.lex.now) at) self.now.line.now self.now.anchor tiles.now) sink.new result }
         ensures steady { T.grows ≡ false → IsOk result }
     {
         self.offer(ends_at(self.line, self.anchor + 1, at.accepts), tiles, sink)?;
@@ -232,14 +227,13 @@ impl<L: PathLex, T> LineWalk<'_, L, T> {
     where
         T: Taker<S>,
         requires node { IsOpen (L.is_node self.now.lex.now) at.next }
-        requires anchor { self.now.anchor < 15 }
+        requires anchor { self.now.anchor < SIDE }
         requires places { places ≤ self.now.anchor }
-        requires can { Every (T.can_take self.now.taker.now (T.made_for sink.old))
-            (gives_left (strings (L.tail self.now.lex.now) at) self.now.line.now self.now.anchor places tiles.now.fresh tiles.now.rack) }
+        requires can { MayGive (T.can_take self.now.taker.now) T.made_for sink.old
+            (gives_left (strings (L.tail self.now.lex.now) at) self.now.line.now self.now.anchor places tiles.now) }
         ensures made_for { T.made_for sink.new ≡ T.made_for sink.old }
-        ensures took { Took (T.tell self.now.taker.now (T.made_for sink.old)) (T.items sink.old)
-            (gives_left (strings (L.tail self.now.lex.now) at) self.now.line.now self.now.anchor places tiles.now.fresh tiles.now.rack)
-            (T.items sink.new) result }
+        ensures took { Gave (T.tell self.now.taker.now) T.made_for T.items sink.old
+            (gives_left (strings (L.tail self.now.lex.now) at) self.now.line.now self.now.anchor places tiles.now) sink.new result }
         ensures steady { T.grows ≡ false → IsOk result }
     {
         if places == 0 {
@@ -274,15 +268,14 @@ impl<L: PathLex, T> LineWalk<'_, L, T> {
     where
         T: Taker<S>,
         requires node { IsOpen (L.is_node self.now.lex.now) at.next }
-        requires anchor { self.now.anchor < 15 }
+        requires anchor { self.now.anchor < SIDE }
         requires place { place ≤ self.now.anchor }
-        requires can { Every (T.can_take self.now.taker.now (T.made_for sink.old))
-            (gives_tries_left (strings (L.tail self.now.lex.now) at) self.now.line.now self.now.anchor
-            place free.now tiles.now.fresh tiles.now.rack) }
+        requires can { MayGive (T.can_take self.now.taker.now) T.made_for sink.old
+            (gives_tries_left (strings (L.tail self.now.lex.now) at) self.now.line.now self.now.anchor place free.now tiles.now) }
         ensures made_for { T.made_for sink.new ≡ T.made_for sink.old }
-        ensures took { Took (T.tell self.now.taker.now (T.made_for sink.old)) (T.items sink.old)
-            (gives_tries_left (strings (L.tail self.now.lex.now) at) self.now.line.now self.now.anchor place free.now tiles.now.fresh tiles.now.rack)
-            (T.items sink.new) result }
+        ensures took { Gave (T.tell self.now.taker.now) T.made_for T.items sink.old
+            (gives_tries_left (strings (L.tail self.now.lex.now) at) self.now.line.now self.now.anchor place free.now tiles.now)
+            sink.new result }
         ensures steady { T.grows ≡ false → IsOk result }
     {
         if tiles.left() == 0 {
@@ -293,7 +286,7 @@ impl<L: PathLex, T> LineWalk<'_, L, T> {
         };
         let mut from = 1;
         let mut rest = self.lex.rest(node);
-        while let Some(on) = next_letter(self.lex, node, from, rest) {
+        while let Some(on) = next_letter(self.lex, node, from, rest, free, tiles) {
             let Branch { label, step } = on.branch;
             self.letter_left(step, place, free, label, tiles, sink)?;
             from = label + 1;
@@ -318,18 +311,16 @@ impl<L: PathLex, T> LineWalk<'_, L, T> {
     where
         T: Taker<S>,
         requires node { IsOpen (L.is_node self.now.lex.now) next.next }
-        requires anchor { self.now.anchor < 15 }
+        requires anchor { self.now.anchor < SIDE }
         requires place { place ≤ self.now.anchor }
         requires low { 0 < label }
-        requires high { label < 27 }
-        requires can { Every (T.can_take self.now.taker.now (T.made_for sink.old))
-            (gives_letter_left (strings (L.tail self.now.lex.now) next) self.now.line.now self.now.anchor
-            place free.now tiles.now.fresh tiles.now.rack label) }
+        requires high { label < LABELS }
+        requires can { MayGive (T.can_take self.now.taker.now) T.made_for sink.old
+            (gives_letter_left (strings (L.tail self.now.lex.now) next) self.now.line.now self.now.anchor place free.now tiles.now label) }
         ensures made_for { T.made_for sink.new ≡ T.made_for sink.old }
-        ensures took { Took (T.tell self.now.taker.now (T.made_for sink.old)) (T.items sink.old)
-            (gives_letter_left (strings (L.tail self.now.lex.now) next) self.now.line.now self.now.anchor
-            place free.now tiles.now.fresh tiles.now.rack label)
-            (T.items sink.new) result }
+        ensures took { Gave (T.tell self.now.taker.now) T.made_for T.items sink.old
+            (gives_letter_left (strings (L.tail self.now.lex.now) next) self.now.line.now self.now.anchor place free.now tiles.now label)
+            sink.new result }
         ensures steady { T.grows ≡ false → IsOk result }
     {
         self.one_left(next, place, free, 2 * label - 1, tiles, sink)?;
@@ -351,18 +342,16 @@ impl<L: PathLex, T> LineWalk<'_, L, T> {
     where
         T: Taker<S>,
         requires node { IsOpen (L.is_node self.now.lex.now) next.next }
-        requires anchor { self.now.anchor < 15 }
+        requires anchor { self.now.anchor < SIDE }
         requires place { place ≤ self.now.anchor }
         requires low { 0 < entry }
-        requires high { entry < 53 }
-        requires can { Every (T.can_take self.now.taker.now (T.made_for sink.old))
-            (gives_try_left (strings (L.tail self.now.lex.now) next) self.now.line.now self.now.anchor
-            place free.now tiles.now.fresh tiles.now.rack entry) }
+        requires high { entry < ENTRIES }
+        requires can { MayGive (T.can_take self.now.taker.now) T.made_for sink.old
+            (gives_try_left (strings (L.tail self.now.lex.now) next) self.now.line.now self.now.anchor place free.now tiles.now entry) }
         ensures made_for { T.made_for sink.new ≡ T.made_for sink.old }
-        ensures took { Took (T.tell self.now.taker.now (T.made_for sink.old)) (T.items sink.old)
-            (gives_try_left (strings (L.tail self.now.lex.now) next) self.now.line.now self.now.anchor
-            place free.now tiles.now.fresh tiles.now.rack entry)
-            (T.items sink.new) result }
+        ensures took { Gave (T.tell self.now.taker.now) T.made_for T.items sink.old
+            (gives_try_left (strings (L.tail self.now.lex.now) next) self.now.line.now self.now.anchor place free.now tiles.now entry)
+            sink.new result }
         ensures steady { T.grows ≡ false → IsOk result }
     {
         if tiles.allow(free, entry) {
@@ -375,13 +364,12 @@ impl<L: PathLex, T> LineWalk<'_, L, T> {
     fn from_anchor<S>(&self, tiles: &Tiles, sink: &mut S) -> Result<(), NoMemory>
     where
         T: Taker<S>,
-        requires anchor { self.now.anchor < 15 }
-        requires can { Every (T.can_take self.now.taker.now (T.made_for sink.old))
-            (gives_anchor (L.language self.now.lex.now) self.now.line.now tiles.now.fresh tiles.now.rack self.now.anchor) }
+        requires anchor { self.now.anchor < SIDE }
+        requires can { MayGive (T.can_take self.now.taker.now) T.made_for sink.old
+            (gives_anchor (L.language self.now.lex.now) self.now.line.now tiles.now self.now.anchor) }
         ensures made_for { T.made_for sink.new ≡ T.made_for sink.old }
-        ensures took { Took (T.tell self.now.taker.now (T.made_for sink.old)) (T.items sink.old)
-            (gives_anchor (L.language self.now.lex.now) self.now.line.now tiles.now.fresh tiles.now.rack self.now.anchor)
-            (T.items sink.new) result }
+        ensures took { Gave (T.tell self.now.taker.now) T.made_for T.items sink.old
+            (gives_anchor (L.language self.now.lex.now) self.now.line.now tiles.now self.now.anchor) sink.new result }
         ensures steady { T.grows ≡ false → IsOk result }
     {
         match &self.line[self.anchor] {
@@ -416,13 +404,12 @@ pub fn walk_anchor<L: PathLex, S, T: Taker<S>>(
     taker: &T,
     sink: &mut S,
 ) -> Result<(), NoMemory>
-    requires anchor { anchor < 15 }
-    requires can { Every (T.can_take taker.now (T.made_for sink.old))
+    requires anchor { anchor < SIDE }
+    requires can { MayGive (T.can_take taker.now) T.made_for sink.old
         (anchor_moves (L.language lex.now) line.now rack.now anchor) }
     ensures made_for { T.made_for sink.new ≡ T.made_for sink.old }
-    ensures took { Took (T.tell taker.now (T.made_for sink.old)) (T.items sink.old)
-        (anchor_moves (L.language lex.now) line.now rack.now anchor)
-        (T.items sink.new) result }
+    ensures took { Gave (T.tell taker.now) T.made_for T.items sink.old
+        (anchor_moves (L.language lex.now) line.now rack.now anchor) sink.new result }
     ensures steady { T.grows ≡ false → IsOk result }
 {
     let tiles = Tiles {

@@ -1,6 +1,6 @@
 -- What the moves of the lines of a board put down, and what is told of them, in one list.
 use Rattle.std.proofs.Common.{◌≡◌, ℕ, zero, suc, ◌+◌, ◌<◌, ◌≤◌, Bool, true, List, [], ◌∷◌, ◌++◌, length, refl, sym, ap, ◌∙◌, subst, arith, Option, Result, Ok, Err}
-use Rattle.std.specs.Prelude.{Contains}
+use Rattle.std.specs.Prelude.{Contains, slice_index_or}
 use Rattle.std.specs.List.{flat_map, range_with_len}
 use Rattle.std.proofs.lemmas.List.{append-nil}
 use Rattle.std.proofs.lemmas.List.Concat.{flat_map-append}
@@ -24,10 +24,14 @@ use Rattle.gen_line.proofs.Sinks.{add_all-append, front-less, took-more, range-m
 use Rattle.gen_moves.specs.declared.spots.Spot.{Spot}
 use Rattle.gen_moves.specs.Findings.{told, given_along, given_by}
 use Rattle.gen_moves.specs.Laws.{Setting}
-use Rattle.gen_moves.specs.Telling.{IsFit, tell, spot_of, same_cells, both_cells}
+use Rattle.gen_moves.specs.Telling.{IsFit, tell, spot_of, both_cells}
 use Rattle.gen_moves.proofs.MovePlaces.{put_by, covers_anchor, main_run}
 use Rattle.gen_moves.proofs.Moving.{move_candidate}
 use Rattle.gen_moves.proofs.Gathering.{tiles_is, line_move}
+
+-- the same lines for both directions
+abbrev pub same_cells : List (List Cell) → Dir → ℕ → List Cell
+same_cells lines d line = slice_index_or lines line []
 
 -- ---- what a line's move puts down
 -- a play in one stretch of a line runs along it

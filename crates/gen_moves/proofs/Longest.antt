@@ -152,11 +152,16 @@ reach_stop places first n at s is sum seven free len inside few =
     (cases_lt n len)
 
 -- ---- small numbers
-pub word_room : (n word : ℕ) → n < 15 → word ≤ 3 ^ n → word ≤ 4782969
-word_room n word few le = let most : 3 ^ n ≤ 4782969 = pow-le-pow_right {n = 3} (omega arith) {i = n} {j = 14} (omega arith) in omega arith
-
-pub word_most : (n word : ℕ) → n ≤ 15 → word ≤ 3 ^ n → word ≤ 14348907
-word_most n word few le = let most : 3 ^ n ≤ 14348907 = pow-le-pow_right {n = 3} (omega arith) {i = n} {j = 15} few in omega arith
+pub sum_up : (n m : ℕ) (s : Sum) → n ≤ m → IsSmallSum n s → IsSmallSum m s
+sum_up n m s le small =
+    let most : 3 ^ n ≤ 3 ^ m = pow-le-pow_right {n = 3} (omega arith) {i = n} {j = m} le in
+    let a = small.old in
+    let b = small.word in
+    let c = small.side in
+    let d = small.free in
+    let e = small.letters in
+    let f = small.crosses in
+    record { old = omega arith; word = omega arith; side = omega arith; free = omega arith; letters = omega arith; crosses = omega arith; letter = small.letter; cross = small.cross }
 
 pub small_more : (n : ℕ) (s more : Sum) (p : Place) → IsSmallSum n s → IsSmall p → more.old ≡ s.old + p.old → more.word ≡ s.word * p.word → more.side ≡ s.side + p.side
     → more.free ≡ s.free + one_if p.free → more.letters ≡ s.letters + (p.letter - 1) → more.crosses ≡ s.crosses + p.cross → more.letter ≤ 3 → more.cross ≤ 9 → IsSmallSum (n + 1) more

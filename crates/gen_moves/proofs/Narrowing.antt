@@ -10,7 +10,7 @@ use Rattle.gen_line.specs.Cells.{cell_at}
 use Rattle.gen_line.specs.Entries.{letter_of, label_of, kind_of}
 use Rattle.gen_line.specs.Model.{after, longer, may, less, one_try, right, turn, left, left_of, zeros}
 use Rattle.gen_line.specs.Moves.{AreSplits, back, marked}
-use Rattle.gen_line.specs.Walk.{gives_one_left, gives_tries_left, gives_cell, gives_anchor, anchor_moves, one_left_of, finish_left}
+use Rattle.gen_line.specs.Walk.{gives_one_left, gives_tries_left, gives_cell, gives_anchor, anchor_moves, none_put, one_left_of, finish_left}
 use Rattle.gen_line.proofs.Walks.{right-never, tries-none, join-same}
 use Rattle.gen_moves.specs.Narrowing.{olds, IsSpelt, IsNarrower}
 
@@ -177,11 +177,11 @@ module _ (g : List ℕ → Bool) (line : List Cell) (spelt : IsSpelt g line) (h 
   same_moves rack is =
       let size = spelt.labels.size in
       let there : cell_at line_then h ≡ Free narrower = get_or-set_same line h (Free narrower) (Old 0) (omega arith) in
-      ap (gives_cell g line_then h (zeros 15) rack) there
+      ap (gives_cell g line_then h (none_put rack)) there
       ∙ ap (λ (xs : List (List ℕ)). if m.anchor then xs else [])
-      (join-same (gives_one_left g line_then h h narrower (zeros 15) rack) (gives_one_left g line h h m (zeros 15) rack) 1 52
+      (join-same (gives_one_left g line_then h h narrower (none_put rack)) (gives_one_left g line h h m (none_put rack)) 1 52
       (λ e low high. ap (map (finish_left h (suc h) (zeros 15))) (same_try rack e low (omega arith))))
-      ∙ sym (ap (gives_cell g line h (zeros 15) rack) is)
+      ∙ sym (ap (gives_cell g line h (none_put rack)) is)
 
 -- ---- by places of the line
 pub olds-old : (line : List Cell) (place a : ℕ) → place < length line → cell_at line place ≡ Old a → drop place line ≡ Old a ∷ drop (place + 1) line

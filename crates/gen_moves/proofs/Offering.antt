@@ -20,8 +20,8 @@ use Rattle.gen_cross.proofs.CrossLaws.{score_of_tile}
 use Rattle.gen_line.specs.declared.cells.Cell.{Cell}
 use Rattle.gen_line.specs.declared.cells.Cell.TheVariants.{Old, Free}
 use Rattle.gen_line.specs.Cells.{cell_at, is_anchor_cell, is_full, full_on}
-use Rattle.gen_line.specs.Model.{zeros, owes}
-use Rattle.gen_line.specs.Walk.{Every, add_all, anchor_moves}
+use Rattle.gen_line.proofs.Tests.{owes}
+use Rattle.gen_line.specs.Walk.{Every, add_all, anchor_moves, none_put}
 use Rattle.gen_line.proofs.Anchors.{anchor_old, anchor_not}
 use Rattle.gen_line.proofs.Reaching.{anchor_owes, anchor_reach}
 use Rattle.gen_line.proofs.Sinks.{all-still}
@@ -163,5 +163,5 @@ pub no_offers : (P : List ℕ → Type 0) (g : List ℕ → Bool) (cells : List 
 no_offers P g cells rack h none = by (cell_at cells h) refl none
   where
     by : (c : Cell) → cell_at cells h ≡ c → is_anchor_cell c ≡ false → Every P (anchor_moves g cells rack h)
-    by (Old a) is not_one = subst (Every P) (sym (anchor_old g cells (zeros 15) rack h a is)) tt
-    by (Free m) is not_one = subst (Every P) (sym (anchor_not g cells (zeros 15) rack h m is not_one)) tt
+    by (Old a) is not_one = subst (Every P) (sym (anchor_old g cells (none_put rack) h a is)) tt
+    by (Free m) is not_one = subst (Every P) (sym (anchor_not g cells (none_put rack) h m is not_one)) tt

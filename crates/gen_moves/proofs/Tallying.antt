@@ -7,16 +7,19 @@ use Rattle.ref_play.proofs.ScoreLemmas.{factor_limit}
 use Rattle.gen_moves.specs.declared.places.Place.{Place}
 use Rattle.gen_moves.specs.declared.tallies.Tally.{Tally}
 use Rattle.gen_moves.specs.Bounds.{total, times, one_if, free_count, IsSmall}
-use Rattle.gen_moves.specs.Tallies.{points_at, is_laid, letter_sum, cross_sum, tally, IsTally, LiesOn}
+use Rattle.gen_moves.specs.Tallies.{points_at, is_laid, letter_sum, cross_sum, tally, IsSmallTally, LiesOn}
 use Rattle.gen_moves.proofs.Longest.{one_or_none, total-inside}
 use Rattle.std.specs.Prelude.{◌^◌}
 
 -- ---- small numbers
-pub record IsSmallTally (len : ℕ) (t : Tally) : Type 0 where
-  pub letters : t.letters ≤ 396 * len
-  pub word : t.word ≤ 3 ^ len
-  pub crosses : t.crosses ≤ 197496 * len
-  pub free : t.free ≤ len
+pub tally_up : (n m : ℕ) (t : Tally) → n ≤ m → IsSmallTally n t → IsSmallTally m t
+tally_up n m t le small =
+    let most : 3 ^ n ≤ 3 ^ m = pow-le-pow_right {n = 3} (omega arith) {i = n} {j = m} le in
+    let a = small.letters in
+    let b = small.word in
+    let c = small.crosses in
+    let d = small.free in
+    record { letters = omega arith; word = omega arith; crosses = omega arith; free = omega arith }
 
 pub small_none : (len : ℕ) (t : Tally) → t.letters ≡ 0 → t.word ≡ 1 → t.crosses ≡ 0 → t.free ≡ 0 → IsSmallTally len t
 small_none len t letters word crosses free =
@@ -36,6 +39,13 @@ small_more n p t more place small one low letters word crosses free =
     let g = small.free in
     let h = one_or_none place.free in
     record { letters = omega arith; word = omega arith; crosses = omega arith; free = omega arith }
+
+-- the sums and products of a stretch
+pub record IsTally (rules : Rules) (places : ℕ → Place) (y : List ℕ) (first len : ℕ) (t : Tally) : Type 0 where
+  pub letters : t.letters ≡ total (letter_sum rules places y) first len
+  pub word : t.word ≡ times (λ i. (places i).word) first len
+  pub crosses : t.crosses ≡ total (cross_sum rules places y) first len
+  pub free : t.free ≡ free_count places first len
 
 -- ---- the stretch of a move, up to a place
 pub record TallyAt (rules : Rules) (places : ℕ → Place) (y : List ℕ) (first len at : ℕ) (t : Tally) : Type 0 where

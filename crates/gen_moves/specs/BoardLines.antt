@@ -1,5 +1,6 @@
 -- The lines of a board, as cells for the walk.
 use Rattle.std.specs.Prelude.{◌≡◌, ◌↔◌, ℕ, ◌+◌, ◌<◌, true, List, length, Option, Some, None}
+use Rattle.ref_tiles.specs.declared.rulebook.TheConstants.{SIDE}
 use Rattle.ref_tiles.specs.declared.tiles.Tile.{Tile}
 use Rattle.ref_board.specs.declared.directions.Dir.{Dir}
 use Rattle.ref_board.specs.Lines.{square_at}
@@ -18,7 +19,7 @@ pub record IsCellOf (words : List (List ℕ)) (d : Dir) (board : List (Option Ti
 
 -- the cells of a line of the board
 pub record IsLineOf (words : List (List ℕ)) (d : Dir) (board : List (Option Tile)) (line : ℕ) (cells : List Cell) : Type 0 where
-  pub size : length cells ≡ 15
-  pub old : (i : ℕ) (tile : Tile) → i < 15 → tile_at board (square_at d line i) ≡ Some tile → cell_at cells i ≡ Old (tile.shown.index + 1)
-  pub free : (i : ℕ) → i < 15 → tile_at board (square_at d line i) ≡ None
+  pub size : length cells ≡ SIDE
+  pub old : (i : ℕ) (tile : Tile) → i < SIDE → tile_at board (square_at d line i) ≡ Some tile → cell_at cells i ≡ Old (tile.shown.index + 1)
+  pub free : (i : ℕ) → i < SIDE → tile_at board (square_at d line i) ≡ None
       → (m : Open) × (cell_at cells i ≡ Free m) × ((m.anchor ≡ true) ↔ IsAnchor board (square_at d line i)) × IsMask words d board (square_at d line i) m.mask

@@ -1,5 +1,6 @@
 -- Upper bounds of the scores of the plays of a stretch, by what each of its places adds and the points of the rack.
 use Rattle.std.specs.Prelude.{◌≡◌, ℕ, zero, suc, ◌+◌, ◌-◌, ◌*◌, ◌^◌, ◌<◌, ◌≤◌, ◌≤ℤ◌, pos, Bool, true, false, ◌==◌, nat_le, List, Option, None, IsSome, slice_index, slice_index_or, if◌then◌else◌}
+use Rattle.ref_tiles.specs.declared.rulebook.TheConstants.{SIDE, SQUARES}
 use Rattle.ref_tiles.specs.declared.tiles.Tile.{Tile}
 use Rattle.ref_tiles.specs.declared.rulebook.Rules.{Rules}
 use Rattle.ref_tiles.specs.Rulebook.{points_of, premium_at, letter_factor, word_factor}
@@ -90,13 +91,13 @@ pub record IsWithin (bonus points ones : ℕ) (places : ℕ → Place) (first le
 
 -- a number that no play passes whose stretch begins at a place
 abbrev pub IsBoundFrom : ℕ → ℕ → ℕ → (ℕ → Place) → ℕ → ℕ → Type 0
-IsBoundFrom bonus points ones places first bound = (len : ℕ) → first + len ≤ 15 → free_count places first len ≤ 7 → IsWithin bonus points ones places first len bound
+IsBoundFrom bonus points ones places first bound = (len : ℕ) → first + len ≤ SIDE → free_count places first len ≤ 7 → IsWithin bonus points ones places first len bound
 
 -- a number that no play of an anchor passes: its stretch has the anchor, and none before it
 abbrev pub IsAnchorBound : ℕ → ℕ → ℕ → List Cell → (ℕ → Place) → ℕ → ℕ → Type 0
 IsAnchorBound bonus points ones cells places h bound =
     (first : ℕ) → first ≤ h → ((i : ℕ) → first ≤ i → i < h → is_anchor_cell (cell_at cells i) ≡ false)
-    → (len : ℕ) → h < first + len → first + len ≤ 15 → free_count places first len ≤ 7 → IsWithin bonus points ones places first len bound
+    → (len : ℕ) → h < first + len → first + len ≤ SIDE → free_count places first len ≤ 7 → IsWithin bonus points ones places first len bound
 
 -- the sums and products of a stretch
 pub record IsSum (places : ℕ → Place) (first len : ℕ) (sum : Sum) : Type 0 where
@@ -109,7 +110,8 @@ pub record IsSum (places : ℕ → Place) (first len : ℕ) (sum : Sum) : Type 0
   pub letter : (i : ℕ) → first ≤ i → i < first + len → (places i).free ≡ true → (places i).letter ≤ sum.letter
   pub cross : (i : ℕ) → first ≤ i → i < first + len → (places i).free ≡ true → (places i).cross ≤ sum.cross
 
--- numbers that stay small
+-- What a place has at the most: the rules give a tile 99 points and a premium the factor three at the most, a cross word counts a new tile
+-- by a letter and a word premium, and old tiles of 65,535 points by a word premium.
 pub record IsSmall (p : Place) : Type 0 where
   pub old : p.old ≤ 99
   pub letter : p.letter ≤ 3
@@ -118,6 +120,7 @@ pub record IsSmall (p : Place) : Type 0 where
   pub side : p.side ≤ 196605
   pub cross : p.cross ≤ 9
 
+-- what so many places add up to at the most, so that no number runs over
 pub record IsSmallSum (len : ℕ) (sum : Sum) : Type 0 where
   pub old : sum.old ≤ 99 * len
   pub word : sum.word ≤ 3 ^ len
@@ -130,12 +133,12 @@ pub record IsSmallSum (len : ℕ) (sum : Sum) : Type 0 where
 
 -- the places of a line of the board
 abbrev pub ArePlaces : Rules → Dir → List (Option Tile) → ℕ → (ℕ → Place) → Type 0
-ArePlaces rules d board line places = (i : ℕ) → i < 15 → IsPlaceOf rules d board (square_at d line i) (places i)
+ArePlaces rules d board line places = (i : ℕ) → i < SIDE → IsPlaceOf rules d board (square_at d line i) (places i)
 
 -- no tile scores more across a play than by the side score of its square
 abbrev pub HasScores : Rules → List (Option Tile) → Cross → Type 0
 HasScores rules board cross =
-    (d : Dir) (square : ℕ) (t : Tile) → square < 225 → tile_at board square ≡ None
+    (d : Dir) (square : ℕ) (t : Tile) → square < SQUARES → tile_at board square ≡ None
     → cross_score rules (other_dir d) board square t ≤ ((value_at cross d square).side + points_of rules t.kind * letter_factor (premium_at rules square)) * word_factor (premium_at rules square)
 
 -- each play that a move tells scores so much at the most
@@ -149,4 +152,4 @@ IsOffer rules points ones board d line cells places h y = (bound : ℕ) → IsAn
 -- which holds of all moves of a line
 abbrev pub AreOffers : Rules → ℕ → ℕ → List (Option Tile) → (List ℕ → Bool) → List Cell → List ℕ → Dir → ℕ → Type 0
 AreOffers rules points ones board g cells rack d line =
-    (places : ℕ → Place) → ArePlaces rules d board line places → (h : ℕ) → h < 15 → Every (IsOffer rules points ones board d line cells places h) (anchor_moves g cells rack h)
+    (places : ℕ → Place) → ArePlaces rules d board line places → (h : ℕ) → h < SIDE → Every (IsOffer rules points ones board d line cells places h) (anchor_moves g cells rack h)

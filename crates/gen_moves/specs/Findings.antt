@@ -1,6 +1,7 @@
 -- What a whole board gives, line by line, in both directions.
 use Rattle.std.specs.Prelude.{ℕ, Bool, List, [], ◌∷◌, ◌++◌, Option, pos, if◌then◌else◌}
 use Rattle.std.specs.List.{flat_map, range_with_len}
+use Rattle.ref_tiles.specs.declared.rulebook.TheConstants.{SIDE}
 use Rattle.ref_tiles.specs.declared.tiles.Tile.{Tile}
 use Rattle.ref_tiles.specs.declared.rulebook.Rules.{Rules}
 use Rattle.ref_board.specs.declared.directions.Dir.{Dir}
@@ -23,7 +24,7 @@ given_on rules board g cells rack d line = flat_map (told rules board d line) (l
 
 -- what all lines of a direction give
 abbrev pub given_along : Rules → List (Option Tile) → (List ℕ → Bool) → (Dir → ℕ → List Cell) → List ℕ → Dir → List Given
-given_along rules board g cells rack d = flat_map (given_on rules board g cells rack d) (range_with_len 0 15)
+given_along rules board g cells rack d = flat_map (given_on rules board g cells rack d) (range_with_len 0 SIDE)
 
 -- what a board gives
 unfoldable pub given_by : Rules → List (Option Tile) → (List ℕ → Bool) → (Dir → ℕ → List Cell) → List ℕ → List Given

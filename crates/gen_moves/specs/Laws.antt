@@ -1,5 +1,7 @@
 -- Laws: the moves of the lines of a board are the candidates.
 use Rattle.std.specs.Prelude.{◌≡◌, ◌↔◌, ℕ, ◌<◌, ◌≤◌, Bool, true, List, length, map, Option, All, Contains}
+use Rattle.ref_tiles.specs.declared.rulebook.TheConstants.{SIDE, SQUARES}
+use Rattle.gen_line.specs.declared.takers.TheConstants.{ENTRIES}
 use Rattle.lex_list.specs.RotatedPaths.{letter_of}
 use Rattle.ref_tiles.specs.declared.tiles.Tile.{Tile}
 use Rattle.ref_tiles.specs.declared.rulebook.Rules.{Rules}
@@ -25,7 +27,7 @@ AreLong words = (word : List ℕ) → Contains words word → 2 ≤ length word
 
 -- an entry for each place of a line
 abbrev pub AreEntries : List ℕ → Type 0
-AreEntries y = (length y ≡ 15) × All (λ e. e < 53) y
+AreEntries y = (length y ≡ SIDE) × All (λ e. e < ENTRIES) y
 
 -- a candidate whose tiles lie in one whole stretch of a line, of two places or more
 pub record IsCandidateOn (words : List (List ℕ)) (d : Dir) (board : List (Option Tile)) (rack : List ℕ) (ps : List Placed) (line first len : ℕ) : Type 0 where
@@ -37,20 +39,20 @@ pub record IsCandidateOn (words : List (List ℕ)) (d : Dir) (board : List (Opti
 abbrev pub MovesAreCandidates : Type 0
 MovesAreCandidates =
     (words : List (List ℕ)) (d : Dir) (board : List (Option Tile)) (line : ℕ) (cells : List Cell) (listed : List ℕ → Bool) (rack y : List ℕ) (first len : ℕ)
-    → length board ≡ 225 → line < 15 → IsLineOf words d board line cells → TellsWords listed words → AreLong words → length (tiles_of d line y) ≤ 7
+    → length board ≡ SQUARES → line < SIDE → IsLineOf words d board line cells → TellsWords listed words → AreLong words → length (tiles_of d line y) ≤ 7
     → IsMove listed cells rack y first len ↔ (AreEntries y × IsCandidateOn words d board rack (tiles_of d line y) line first len)
 
 -- and each candidate on a line is what the entries of a move put down
 abbrev pub CandidatesAreMoves : Type 0
 CandidatesAreMoves =
     (words : List (List ℕ)) (d : Dir) (board : List (Option Tile)) (line : ℕ) (cells : List Cell) (listed : List ℕ → Bool) (rack : List ℕ) (ps : List Placed) (first len : ℕ)
-    → length board ≡ 225 → line < 15 → IsLineOf words d board line cells → TellsWords listed words → IsCandidateOn words d board rack ps line first len
+    → length board ≡ SQUARES → line < SIDE → IsLineOf words d board line cells → TellsWords listed words → IsCandidateOn words d board rack ps line first len
     → IsMove listed cells rack (entries_of d line ps) first len × (tiles_of d line (entries_of d line ps) ≡ ps)
 
 -- the lines of a board, a list of words, its test and that of the paths of its splits
 pub record Setting (words : List (List ℕ)) (board : List (Option Tile)) (g listed : List ℕ → Bool) (cells : Dir → ℕ → List Cell) : Type 0 where
-  pub size : length board ≡ 225
-  pub lines : (d : Dir) (line : ℕ) → line < 15 → IsLineOf words d board line (cells d line)
+  pub size : length board ≡ SQUARES
+  pub lines : (d : Dir) (line : ℕ) → line < SIDE → IsLineOf words d board line (cells d line)
   pub splits : AreSplits g listed
   pub told : TellsWords listed words
   pub long : AreLong words

@@ -2,6 +2,7 @@
 use Rattle.std.specs.Prelude.{ℕ, ◌+◌, ◌*◌, ◌==◌, Bool, true, false, List, map, slice_index, Option, Some, None, if◌then◌else◌}
 use Rattle.std.specs.List.{flat_map, range_with_len}
 use Rattle.std.specs.Option.{option_map}
+use Rattle.ref_tiles.specs.declared.rulebook.TheConstants.{SIDE}
 use Rattle.ref_tiles.specs.declared.tiles.Tile.{Tile}
 use Rattle.ref_tiles.specs.declared.letters.Letter.{Letter}
 use Rattle.ref_tiles.specs.declared.kinds.Kind.{Kind}
@@ -35,8 +36,8 @@ entry_of (Some t) = 1 + 2 * t.shown.index + blank_part t.kind
 
 -- the placement that entries make on a line
 unfoldable pub tiles_of : Dir → ℕ → List ℕ → List Placed
-tiles_of d line y = flat_map (λ i. placed_on (square_at d line i) (tile_of_entry (slice_index y i))) (range_with_len 0 15)
+tiles_of d line y = flat_map (λ i. placed_on (square_at d line i) (tile_of_entry (slice_index y i))) (range_with_len 0 SIDE)
 
 -- the entries of a placement on a line
 unfoldable pub entries_of : Dir → ℕ → List Placed → List ℕ
-entries_of d line ps = map (λ i. entry_of (tile_in ps (square_at d line i))) (range_with_len 0 15)
+entries_of d line ps = map (λ i. entry_of (tile_in ps (square_at d line i))) (range_with_len 0 SIDE)

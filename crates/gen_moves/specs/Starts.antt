@@ -1,6 +1,8 @@
 -- The places of a board from which plays are looked for, and what each gives.
 use Rattle.std.specs.Prelude.{◌≡◌, ℕ, ◌/◌, ◌%◌, ◌<◌, nat_lt, Bool, List, [], slice_index, slice_index_or, Option, if◌then◌else◌}
 use Rattle.std.specs.List.{flat_map}
+use Rattle.ref_tiles.specs.declared.rulebook.TheConstants.{SIDE, SQUARES}
+use Rattle.gen_moves.specs.declared.starts.TheConstants.{STARTS}
 use Rattle.ref_tiles.specs.declared.tiles.Tile.{Tile}
 use Rattle.ref_tiles.specs.declared.rulebook.Rules.{Rules}
 use Rattle.ref_board.specs.declared.directions.Dir.{Dir}
@@ -19,7 +21,7 @@ use Rattle.gen_moves.specs.Narrowing.{IsSpelt}
 
 -- the direction of a numbered place: those of the lines across come first
 abbrev pub dir_of : ℕ → Dir
-dir_of k = if nat_lt k 225 then Across else Down
+dir_of k = if nat_lt k SQUARES then Across else Down
 
 -- the bound of a place, by those of the lines of its direction
 abbrev pub bound_in : List (List ℕ) → ℕ → ℕ → ℕ
@@ -28,12 +30,12 @@ bound_in bounds line place = slice_index (slice_index_or bounds line []) place
 -- the place of a number, with its bound
 pub record IsStartOf (across down : List (List ℕ)) (k : ℕ) (s : Start) : Type 0 where
   pub dir : s.dir ≡ dir_of k
-  pub line : s.line ≡ k / 15 % 15
-  pub place : s.place ≡ k % 15
-  pub bound : s.bound ≡ bound_in (if nat_lt k 225 then across else down) (k / 15 % 15) (k % 15)
+  pub line : s.line ≡ k / SIDE % SIDE
+  pub place : s.place ≡ k % SIDE
+  pub bound : s.bound ≡ bound_in (if nat_lt k SQUARES then across else down) (k / SIDE % SIDE) (k % SIDE)
 
 abbrev pub AreStarts : List (List ℕ) → List (List ℕ) → List Start → Type 0
-AreStarts across down starts = (k : ℕ) (d : Start) → k < 450 → IsStartOf across down k (slice_index_or starts k d)
+AreStarts across down starts = (k : ℕ) (d : Start) → k < STARTS → IsStartOf across down k (slice_index_or starts k d)
 
 -- what a place of a line gives: the plays of the moves of which it is the first anchor covered
 abbrev pub given_at : Rules → List (Option Tile) → (List ℕ → Bool) → (Dir → ℕ → List Cell) → List ℕ → Dir → ℕ → ℕ → List Given
@@ -54,8 +56,8 @@ GoesAlong board Down given = GoesDown board given
 -- what is known of a start: its place is on the board, its moves are plays, none of them passes its bound nor what its stretch adds up
 -- to, and the lexicon has the paths of words
 pub record IsGood (rules : Rules) (board : List (Option Tile)) (g : List ℕ → Bool) (cells : Dir → ℕ → List Cell) (rack : List ℕ) (s : Start) : Type 0 where
-  pub line : s.line < 15
-  pub place : s.place < 15
+  pub line : s.line < SIDE
+  pub place : s.place < SIDE
   pub fits : Every (IsFit (spot_of board s.dir s.line)) (anchor_moves g (cells s.dir s.line) rack s.place)
   pub under : AreUnder rules board g (cells s.dir s.line) rack s.dir s.line s.place s.bound
   pub tallied : (places : ℕ → Place) → ArePlaces rules s.dir board s.line places → Every (IsTallied rules (spot_of board s.dir s.line) places) (anchor_moves g (cells s.dir s.line) rack s.place)

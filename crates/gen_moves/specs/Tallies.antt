@@ -1,5 +1,6 @@
 -- What a move of a line scores at the most, by what each place of its stretch adds.
-use Rattle.std.specs.Prelude.{◌≡◌, ◌≢◌, ℕ, ◌+◌, ◌*◌, ◌<◌, ◌≤◌, ◌==◌, ◌&&◌, not, nat_le, Bool, true, List, slice_index, if◌then◌else◌}
+use Rattle.std.specs.Prelude.{◌≡◌, ◌≢◌, ℕ, ◌+◌, ◌*◌, ◌^◌, ◌<◌, ◌≤◌, ◌==◌, ◌&&◌, not, nat_le, Bool, true, List, slice_index, if◌then◌else◌}
+use Rattle.ref_tiles.specs.declared.rulebook.TheConstants.{SIDE}
 use Rattle.ref_tiles.specs.declared.rulebook.Rules.{Rules}
 use Rattle.ref_board.specs.Runs.{IsWhole}
 use Rattle.ref_play.specs.Scores.{points_on}
@@ -31,21 +32,22 @@ tally rules places y first len =
     + total (cross_sum rules places y) first len
     + (if nat_le 7 (free_count places first len) then rules.bonus else 0)
 
--- the sums and products of a stretch
-pub record IsTally (rules : Rules) (places : ℕ → Place) (y : List ℕ) (first len : ℕ) (t : Tally) : Type 0 where
-  pub letters : t.letters ≡ total (letter_sum rules places y) first len
-  pub word : t.word ≡ times (λ i. (places i).word) first len
-  pub crosses : t.crosses ≡ total (cross_sum rules places y) first len
-  pub free : t.free ≡ free_count places first len
+-- What so many places add up to at the most, so that no number runs over: by a place as it is at the most (IsSmall), with the 99 points
+-- that a tile has at the most. An old tile of the word counts once, a new one once for each time of its letter premium.
+pub record IsSmallTally (len : ℕ) (t : Tally) : Type 0 where
+  pub letters : t.letters ≤ (99 + 3 * 99) * len
+  pub word : t.word ≤ 3 ^ len
+  pub crosses : t.crosses ≤ (196605 + 9 * 99) * len
+  pub free : t.free ≤ len
 
 -- the new tiles of a line lie in one whole stretch of it, and there is one
 pub record LiesOn (places : ℕ → Place) (y : List ℕ) (first len : ℕ) : Type 0 where
   pub whole : IsWhole (is_laid places y) first len
-  pub within : (i : ℕ) → i < 15 → slice_index y i ≢ 0 → (first ≤ i) × (i < first + len)
+  pub within : (i : ℕ) → i < SIDE → slice_index y i ≢ 0 → (first ≤ i) × (i < first + len)
   pub some : (i : ℕ) × (first ≤ i) × (i < first + len) × ((places i).free ≡ true)
 
 abbrev pub AreSmall : (ℕ → Place) → Type 0
-AreSmall places = (i : ℕ) → i < 15 → IsSmall (places i)
+AreSmall places = (i : ℕ) → i < SIDE → IsSmall (places i)
 
 -- a move has a stretch, and its play scores no more than the stretch adds up to
 pub record IsTallied (rules : Rules) (spot : Spot) (places : ℕ → Place) (y : List ℕ) : Type 0 where

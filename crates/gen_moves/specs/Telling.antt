@@ -1,5 +1,6 @@
 -- What the moves of a line tell a sink, and the lines of a whole board.
 use Rattle.std.specs.Prelude.{◌≡◌, ℕ, ◌<◌, ◌≤◌, true, false, List, [], length, slice_index_or, Option, Some, None}
+use Rattle.ref_tiles.specs.declared.rulebook.TheConstants.{SIDE}
 use Rattle.ref_tiles.specs.declared.tiles.Tile.{Tile}
 use Rattle.ref_tiles.specs.declared.rulebook.Rules.{Rules}
 use Rattle.ref_board.specs.declared.directions.Dir.{Dir}
@@ -17,7 +18,7 @@ use Rattle.gen_moves.specs.Findings.{told}
 -- these entries put down a tile, and where they are not too many a legal play with its run along the line
 abbrev pub IsFit : Spot → List ℕ → Type 0
 IsFit spot y =
-    (spot.line < 15) × ((1 ≤ length (tiles_of spot.dir spot.line y))
+    (spot.line < SIDE) × ((1 ≤ length (tiles_of spot.dir spot.line y))
     × (length (tiles_of spot.dir spot.line y) ≤ 7 → IsLegal spot.board (tiles_of spot.dir spot.line y) × RunsAlong spot.dir spot.board (tiles_of spot.dir spot.line y)))
 
 -- a sink's items after the entries of a line are told to it
@@ -33,10 +34,6 @@ PlayIs spot y (Some play) =
 -- ---- the lines of a board, one direction after the other
 abbrev pub spot_of : List (Option Tile) → Dir → ℕ → Spot
 spot_of board d line = record { board = board; dir = d; line = line }
-
--- the same lines for both directions
-abbrev pub same_cells : List (List Cell) → Dir → ℕ → List Cell
-same_cells lines d line = slice_index_or lines line []
 
 -- the lines of both
 abbrev pub both_cells : List (List Cell) → List (List Cell) → Dir → ℕ → List Cell

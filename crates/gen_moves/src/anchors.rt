@@ -30,8 +30,8 @@ fn anchor_bound(
     ones: u64,
     bonus: u64,
 ) -> u64
-    requires anchor { anchor < 15 }
-    requires small { (i : ℕ) → i < 15 → IsSmall (place_in places.now i) }
+    requires anchor { anchor < SIDE }
+    requires small { (i : ℕ) → i < SIDE → IsSmall (place_in places.now i) }
     requires points { points ≤ 2000000 }
     requires ones { ones ≤ 2000000 }
     requires bonus { bonus ≤ 65535 }
@@ -64,11 +64,11 @@ fn anchor_bounds(
     ones: u64,
     bonus: u64,
 ) -> [u64; SIDE]
-    requires small { (i : ℕ) → i < 15 → IsSmall (place_in places.now i) }
+    requires small { (i : ℕ) → i < SIDE → IsSmall (place_in places.now i) }
     requires points { points ≤ 2000000 }
     requires ones { ones ≤ 2000000 }
     requires bonus { bonus ≤ 65535 }
-    ensures { (h : ℕ) → h < 15 → is_anchor_cell (cell_at cells.now h) ≡ true
+    ensures { (h : ℕ) → h < SIDE → is_anchor_cell (cell_at cells.now h) ≡ true
         → IsAnchorBound bonus points ones cells.now (place_in places.now) h (slice_index result h) }
 {
     let mut bounds = [0; SIDE];
@@ -91,12 +91,12 @@ fn line_bounds(
     points: u64,
     ones: u64,
 ) -> [u64; SIDE]
-    requires line { line < 15 }
+    requires line { line < SIDE }
     requires points { points ≤ 2000000 }
     requires ones { ones ≤ 2000000 }
     requires scores { HasScores rules.now board.now cross.now }
     ensures { (g : List ℕ → Bool) (rack : List ℕ) → AreOffers rules.now points ones board.now g cells.now rack dir line
-        → (h : ℕ) → h < 15 → AreUnder rules.now board.now g cells.now rack dir line h (slice_index result h) }
+        → (h : ℕ) → h < SIDE → AreUnder rules.now board.now g cells.now rack dir line h (slice_index result h) }
 {
     let places = line_places(rules, board, cross, dir, line);
     anchor_bounds(cells, &places, points, ones, rules.bonus as u64)
@@ -115,9 +115,9 @@ pub fn all_bounds(
     requires points { points ≤ 2000000 }
     requires ones { ones ≤ 2000000 }
     requires scores { HasScores rules.now board.now cross.now }
-    ensures { (line : ℕ) → line < 15 → (g : List ℕ → Bool) (rack : List ℕ)
+    ensures { (line : ℕ) → line < SIDE → (g : List ℕ → Bool) (rack : List ℕ)
         → AreOffers rules.now points ones board.now g (slice_index_or lines.now line []) rack dir line
-        → (h : ℕ) → h < 15 → AreUnder rules.now board.now g (slice_index_or lines.now line []) rack dir line h (bound_in result line h) }
+        → (h : ℕ) → h < SIDE → AreUnder rules.now board.now g (slice_index_or lines.now line []) rack dir line h (bound_in result line h) }
 {
     let mut bounds = [[0; SIDE]; SIDE];
     for line in 0..SIDE {
@@ -143,7 +143,7 @@ fn points_of_tiles(number: u8, points: u8) -> u64
 
 /// What the points of the tiles of a rack are above one for each tile.
 pub fn points_of_rack(rules: &Rules, rack: &[u8; KINDS]) -> u64
-    ensures points { result ≡ rack_points rules.now rack.now 27 }
+    ensures points { result ≡ rack_points rules.now rack.now KINDS }
     ensures limit { result ≤ 2000000 }
 {
     let mut points = 0;
@@ -162,7 +162,7 @@ fn one_for(points: u8) -> u8
 
 /// How many tiles of a rack have points.
 pub fn tiles_with_points(rules: &Rules, rack: &[u8; KINDS]) -> u64
-    ensures ones { result ≡ rack_ones rules.now rack.now 27 }
+    ensures ones { result ≡ rack_ones rules.now rack.now KINDS }
     ensures limit { result ≤ 2000000 }
 {
     let mut ones = 0;

@@ -20,7 +20,7 @@ fn back_over<L: PathLex>(
     place: usize,
 ) -> Option<Step<L::Node>>
     requires node { IsOpen (L.is_node lex.now) at.next }
-    requires place { place ≤ 15 }
+    requires place { place ≤ SIDE }
     ensures none { IfNone result ((t : List ℕ) → strings (L.tail lex.now) at (back (olds (drop place cells.now)) t) ≡ false) }
     ensures some { IfSome result (λ s. (t : List ℕ)
         → strings (L.tail lex.now) at (back (olds (drop place cells.now)) t) ≡ strings (L.tail lex.now) s t) }
@@ -65,7 +65,7 @@ fn letters_before<L: PathLex>(
     place: usize,
     allowed: &[bool; LETTERS],
 ) -> [bool; LETTERS]
-    requires { place ≤ 15 }
+    requires { place ≤ SIDE }
     ensures { IsNarrower (λ t. L.language lex.now (back (olds (drop place cells.now)) t)) allowed.now result }
 {
     let whole = Step {
@@ -81,7 +81,7 @@ fn letters_before<L: PathLex>(
 /// A line for the moves of an anchor. Where old tiles follow the anchor, it allows there those letters alone that some word
 /// has right before them; the moves are the same.
 pub fn narrowed<L: PathLex>(lex: &L, cells: &[Cell; SIDE], anchor: usize) -> [Cell; SIDE]
-    requires { anchor < 15 }
+    requires { anchor < SIDE }
     ensures { IsSpelt (L.language lex.now) cells.now → (rack : List ℕ)
         → anchor_moves (L.language lex.now) result rack anchor ≡ anchor_moves (L.language lex.now) cells.now rack anchor }
 {

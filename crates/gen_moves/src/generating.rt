@@ -33,7 +33,7 @@ fn cells_of<'a>(
     dir: Dir,
     line: usize,
 ) -> &'a [Cell; SIDE]
-    requires { line < 15 }
+    requires { line < SIDE }
     ensures { result.now ≡ both_cells across.now down.now dir line }
 {
     match dir {

@@ -22,7 +22,7 @@ fn cell_of(board: &Board, cross: &Cross, dir: Dir, square: Square) -> Cell
 
 /// The cells of a line.
 fn line_cells(board: &Board, cross: &Cross, dir: Dir, line: usize) -> [Cell; SIDE]
-    requires { line < 15 }
+    requires { line < SIDE }
     ensures { (words : List (List ℕ)) → HasMasks words board.now cross.now → IsLineOf words dir board.now line result }
 {
     let mut cells = [Cell::Old(0); SIDE];
@@ -35,7 +35,7 @@ fn line_cells(board: &Board, cross: &Cross, dir: Dir, line: usize) -> [Cell; SID
 /// The cells of all lines of a direction.
 pub fn all_cells(board: &Board, cross: &Cross, dir: Dir) -> [[Cell; SIDE]; SIDE]
     ensures { (words : List (List ℕ)) → HasMasks words board.now cross.now
-        → (line : ℕ) → line < 15 → IsLineOf words dir board.now line (slice_index_or result line []) }
+        → (line : ℕ) → line < SIDE → IsLineOf words dir board.now line (slice_index_or result line []) }
 {
     let mut lines = [[Cell::Old(0); SIDE]; SIDE];
     for line in 0..SIDE {

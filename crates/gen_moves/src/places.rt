@@ -77,9 +77,9 @@ pub fn line_places(
     dir: Dir,
     line: usize,
 ) -> [Place; SIDE]
-    requires { line < 15 }
+    requires { line < SIDE }
     ensures places { HasScores rules.now board.now cross.now → ArePlaces rules.now dir board.now line (place_in result) }
-    ensures small { (i : ℕ) → i < 15 → IsSmall (place_in result i) }
+    ensures small { (i : ℕ) → i < SIDE → IsSmall (place_in result i) }
 {
     let mut places = [Place {
         free: true,

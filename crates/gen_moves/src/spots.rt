@@ -1,5 +1,5 @@
 //! Where the tiles of a move are laid.
-ghost use Rattle.std.specs.Prelude.{◌≡◌, ◌<◌, ◌≤◌, length};
+ghost use Rattle.std.specs.Prelude.{◌≡◌, ◌<◌};
 ghost use Rattle.ref_play.specs.Legality.{IsLegal};
 ghost use Rattle.ref_play.specs.Directions.{is_wanted, RunsAlong};
 ghost use Rattle.gen_moves.specs.LineTiles.{tile_of_entry, tiles_of};
@@ -39,7 +39,7 @@ pub fn tile_of(entry: u8) -> Option<Tile>
 impl Spot {
     /// The tiles that some entries put down.
     fn tiles_of(&self, entries: &[u8; SIDE]) -> ArrayVec<Placed, SIDE>
-        requires { self.now.line < 15 }
+        requires { self.now.line < SIDE }
         ensures { result.items ≡ tiles_of self.now.dir self.now.line entries.now }
     {
         let mut tiles = ArrayVec::new();

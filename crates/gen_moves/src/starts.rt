@@ -1,5 +1,5 @@
 //! The places of a board from which plays are looked for, those that can score most first.
-ghost use Rattle.std.specs.Prelude.{◌≡◌, ◌<◌, ℕ, length};
+ghost use Rattle.std.specs.Prelude.{◌<◌};
 ghost use Rattle.std.specs.List.Sorted.{IsPermutation};
 ghost use Rattle.gen_moves.specs.Starts.{IsStartOf, AreStarts};
 
@@ -23,7 +23,7 @@ pub struct Start {
 
 /// The place of a number: those of the lines across come first.
 fn start_of(across: &[[u64; SIDE]; SIDE], down: &[[u64; SIDE]; SIDE], number: usize) -> Start
-    requires { number < 450 }
+    requires { number < STARTS }
     ensures { IsStartOf across.now down.now number result }
 {
     let line = number / SIDE % SIDE;

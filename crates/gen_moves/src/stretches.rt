@@ -63,14 +63,7 @@ impl Sum {
 
     /// The sum with one place more.
     fn with(&self, place: &Place) -> Sum
-        requires old { self.now.old ≤ 1386 }
-        requires word { self.now.word ≤ 4782969 }
-        requires side { self.now.side ≤ 2752470 }
-        requires free { self.now.free ≤ 14 }
-        requires letters { self.now.letters ≤ 42 }
-        requires crosses { self.now.crosses ≤ 126 }
-        requires letter { self.now.letter ≤ 3 }
-        requires cross { self.now.cross ≤ 9 }
+        requires small { IsSmallSum (SIDE - 1) self.now }
         requires place { IsSmall place.now }
         ensures old { result.old ≡ self.now.old + place.now.old }
         ensures word { result.word ≡ self.now.word * place.now.word }
@@ -99,13 +92,7 @@ impl Sum {
 
     /// The bound of the plays of a stretch with this sum.
     fn bound(&self, points: u64, ones: u64, bonus: u64) -> u64
-        requires old { self.now.old ≤ 1485 }
-        requires word { self.now.word ≤ 14348907 }
-        requires side { self.now.side ≤ 2949075 }
-        requires letter { self.now.letter ≤ 3 }
-        requires cross { self.now.cross ≤ 9 }
-        requires letters { self.now.letters ≤ 45 }
-        requires crosses { self.now.crosses ≤ 135 }
+        requires small { IsSmallSum SIDE self.now }
         requires points { points ≤ 2000000 }
         requires ones { ones ≤ 2000000 }
         requires bonus { bonus ≤ 65535 }
@@ -125,8 +112,8 @@ impl Sum {
 
 /// A number that no play passes whose stretch begins at a place: the bound of the longest stretch with seven free places.
 pub fn longest(places: &[Place; SIDE], first: usize, points: u64, ones: u64, bonus: u64) -> u64
-    requires first { first < 15 }
-    requires small { (i : ℕ) → i < 15 → IsSmall (place_in places.now i) }
+    requires first { first < SIDE }
+    requires small { (i : ℕ) → i < SIDE → IsSmall (place_in places.now i) }
     requires points { points ≤ 2000000 }
     requires ones { ones ≤ 2000000 }
     requires bonus { bonus ≤ 65535 }

@@ -1,9 +1,9 @@
 //! What the tiles of a move score at the most, added up place by place.
-ghost use Rattle.std.specs.Prelude.{◌≡◌, ◌<◌, ◌≤◌, ◌+◌, ◌*◌, ◌==◌, ◌&&◌, ℕ, nat_le, not, if◌then◌else◌};
+ghost use Rattle.std.specs.Prelude.{◌≡◌, ◌≤◌, ◌+◌, ◌-◌, ◌*◌, ◌==◌, ◌&&◌, ℕ, nat_le, not, if◌then◌else◌};
 ghost use Rattle.ref_play.specs.Scores.{points_on};
 ghost use Rattle.gen_moves.specs.LineTiles.{tile_of_entry};
 ghost use Rattle.gen_moves.specs.Bounds.{IsSmall, one_if, place_in};
-ghost use Rattle.gen_moves.specs.Tallies.{AreSmall, LiesOn, tally};
+ghost use Rattle.gen_moves.specs.Tallies.{AreSmall, IsSmallTally, LiesOn, tally};
 
 use crate::places::Place;
 use crate::spots::tile_of;
@@ -42,10 +42,7 @@ impl Tally {
 
     /// That with one place more, on which lies an old tile, or a new one of so many points.
     fn with(&self, place: &Place, points: u64) -> Tally
-        requires letters { self.now.letters ≤ 5544 }
-        requires word { self.now.word ≤ 4782969 }
-        requires crosses { self.now.crosses ≤ 2764944 }
-        requires free { self.now.free ≤ 14 }
+        requires small { IsSmallTally (SIDE - 1) self.now }
         requires place { IsSmall place.now }
         requires points { points ≤ 99 }
         ensures letters { result.letters ≡ self.now.letters + (place.now.old + place.now.letter * points) }
@@ -63,9 +60,7 @@ impl Tally {
 
     /// What it comes to.
     fn score(&self, bonus: u16) -> u64
-        requires letters { self.now.letters ≤ 5940 }
-        requires word { self.now.word ≤ 14348907 }
-        requires crosses { self.now.crosses ≤ 2962440 }
+        requires { IsSmallTally SIDE self.now }
         ensures { result ≡ self.now.letters * self.now.word + self.now.crosses + (if nat_le 7 self.now.free then bonus else 0) }
     {
         let on_top = if self.free >= RACK as u64 {

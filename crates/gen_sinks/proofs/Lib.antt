@@ -3,3 +3,4 @@ pub mod RankOrder
 pub mod Keeping
 pub mod Skipping
 pub mod Turns
+pub mod AnyOrder

@@ -23,6 +23,7 @@ use Rattle.ref_play.proofs.Naming.{notation_tells}
 use Rattle.ref_play.proofs.Ordering.{written_total, written_exact}
 use Rattle.gen_sinks.specs.Ranks.{rank_cmp, ranks_before, add_top, AreFirst, head_of}
 use Rattle.gen_sinks.proofs.Ranking.{first_more, first_none, first_unique}
+use Rattle.gen_sinks.proofs.AnyOrder.{add_swap, apart, same_fold}
 
 -- ---- a strict total order
 pub rank_total : (board : List (Option Tile)) → IsTotalOrder (rank_cmp board)
@@ -136,14 +137,15 @@ same_all rules words board rack all more are those z c =
     let scored = scored_in rules words board rack all are z c in
     subst (λ (g : Given). Contains more g) (sym scored.1) (those.complete z.tiles scored.0)
 
--- in whatever order they come
-pub order_no_matter : (n : ℕ) (rules : Rules) (words : List (List ℕ)) (board : List (Option Tile)) (rack : List ℕ) (all more : List Given) → length board ≡ 225
+-- in whatever order they come, and whatever was kept before
+pub order_no_matter : (n : ℕ) (rules : Rules) (words : List (List ℕ)) (board : List (Option Tile)) (rack : List ℕ) (kept all more : List Given) → length board ≡ 225
     → AreAll rules words board rack all → AreAll rules words board rack more
-    → fold (add_top n (ranks_before board)) [] all ≡ fold (add_top n (ranks_before board)) [] more
-order_no_matter n rules words board rack all more size are those =
-    first_unique (ranks_before board) (ranks_never board) (ranks_trans board) n all more (fold (add_top n (ranks_before board)) [] all)
-    (fold (add_top n (ranks_before board)) [] more) (same_all rules words board rack all more are those) (same_all rules words board rack more all those are)
-    (added_are_first n rules words board rack all size are) (added_are_first n rules words board rack more size those)
+    → fold (add_top n (ranks_before board)) kept all ≡ fold (add_top n (ranks_before board)) kept more
+order_no_matter n rules words board rack kept all more size are those =
+    same_fold (add_top n (ranks_before board)) (IsScored rules words board rack)
+    (λ held x y one other differ. add_swap (ranks_before board) (ranks_trans board) (ranks_never board) n held x y (ranks_total rules words board rack x y size one other differ))
+    all more (apart all are.once) (apart more those.once) (scored_in rules words board rack all are) (same_all rules words board rack all more are those)
+    (same_all rules words board rack more all those are) kept
 
 pub firsts_are_one : (n : ℕ) (board : List (Option Tile)) (all more kept held : List Given) → ((given : Given) → Contains all given ↔ Contains more given)
     → AreFirst n (ranks_before board) all kept → AreFirst n (ranks_before board) more held → kept ≡ held

@@ -1,5 +1,6 @@
 -- Laws: what is left where all candidates of a board are kept as the first so many.
 use Rattle.std.specs.Prelude.{◌≡◌, ◌↔◌, ℕ, List, [], length, Contains, fold, Option}
+use Rattle.ref_tiles.specs.declared.rulebook.TheConstants.{SQUARES}
 use Rattle.ref_tiles.specs.declared.tiles.Tile.{Tile}
 use Rattle.ref_tiles.specs.declared.rulebook.Rules.{Rules}
 use Rattle.ref_play.specs.Best.{Given, AreAll, IsAnnotation}
@@ -8,15 +9,15 @@ use Rattle.gen_sinks.specs.Ranks.{ranks_before, add_top, AreFirst, head_of}
 -- all candidates, added one after another to none, leave the first so many of them
 abbrev pub AddedAreFirst : Type 0
 AddedAreFirst =
-    (n : ℕ) (rules : Rules) (words : List (List ℕ)) (board : List (Option Tile)) (rack : List ℕ) (all : List Given) → length board ≡ 225
+    (n : ℕ) (rules : Rules) (words : List (List ℕ)) (board : List (Option Tile)) (rack : List ℕ) (all : List Given) → length board ≡ SQUARES
     → AreAll rules words board rack all → AreFirst n (ranks_before board) all (fold (add_top n (ranks_before board)) [] all)
 
--- and the same ones in whatever order they come
+-- and the same ones in whatever order they come, and whatever was kept before
 abbrev pub OrderIsNoMatter : Type 0
 OrderIsNoMatter =
-    (n : ℕ) (rules : Rules) (words : List (List ℕ)) (board : List (Option Tile)) (rack : List ℕ) (all more : List Given) → length board ≡ 225
+    (n : ℕ) (rules : Rules) (words : List (List ℕ)) (board : List (Option Tile)) (rack : List ℕ) (kept all more : List Given) → length board ≡ SQUARES
     → AreAll rules words board rack all → AreAll rules words board rack more
-    → fold (add_top n (ranks_before board)) [] all ≡ fold (add_top n (ranks_before board)) [] more
+    → fold (add_top n (ranks_before board)) kept all ≡ fold (add_top n (ranks_before board)) kept more
 
 -- the first so many of the same plays are the same list
 abbrev pub FirstAreOne : Type 0

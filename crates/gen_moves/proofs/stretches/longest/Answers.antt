@@ -1,10 +1,10 @@
 use Rattle.std.proofs.Common.{◌≡◌, ◌+◌, ◌-◌, suc, sym, subst, arith}
 use Rattle.gen_moves.specs.Bounds.{IsSum, IsSmallSum, place_in}
-use Rattle.gen_moves.proofs.Longest.{sum_more, small_more, sum_bound, reach_stop, word_room, word_most}
+use Rattle.gen_moves.proofs.Longest.{sum_more, small_more, sum_bound, reach_stop, sum_up}
 use Rattle.gen_moves.proofs.stretches.longest.Goals as goal
 
-pub bound-requires-clause-word : goal.bound-requires-clause-word
-bound-requires-clause-word c = word_most (c.loop-place.place - c.args.first) c.loop-place.sum.word (omega arith) c.loop-place.invariant.small.word
+pub bound-requires-clause-small : goal.bound-requires-clause-small
+bound-requires-clause-small c = sum_up (c.loop-place.place - c.args.first) 15 c.loop-place.sum (omega arith) c.loop-place.invariant.small
 
 pub returns-then-places-place : goal.returns-then-places-place
 returns-then-places-place c =
@@ -14,8 +14,8 @@ returns-then-places-place c =
     sum_bound c.args.bonus c.args.points c.args.ones places c.args.first n c.loop-place.sum c.bound.result (omega arith) c.loop-place.invariant.sum c.requires.small c.bound.ensures
     (reach_stop places c.args.first n c.loop-place.place c.loop-place.sum at c.loop-place.invariant.sum c.if-sum-eq7.true c.if-places-place.true)
 
-pub with-sum-requires-clause-word : goal.with-sum-requires-clause-word
-with-sum-requires-clause-word c = word_room (c.loop-place.place - c.args.first) c.loop-place.sum.word (omega arith) c.loop-place.invariant.small.word
+pub with-sum-requires-clause-small : goal.with-sum-requires-clause-small
+with-sum-requires-clause-small c = sum_up (c.loop-place.place - c.args.first) 14 c.loop-place.sum (omega arith) c.loop-place.invariant.small
 
 pub with-sum-requires-clause-place : goal.with-sum-requires-clause-place
 with-sum-requires-clause-place c = c.requires.small c.loop-place.place (omega arith)
@@ -35,8 +35,8 @@ loop-place-preserved c =
           (small_more n c.loop-place.sum c.with-sum.result (places c.loop-place.place) c.loop-place.invariant.small (c.requires.small c.loop-place.place (omega arith)) e.old e.word e.side e.free e.letters e.crosses e.letter_limit e.cross_limit);
     }
 
-pub bound-requires-2-clause-word : goal.bound-requires-2-clause-word
-bound-requires-2-clause-word c = word_most (c.loop-place.place - c.args.first) c.loop-place.sum.word (omega arith) c.loop-place.invariant.small.word
+pub bound-requires-2-clause-small : goal.bound-requires-2-clause-small
+bound-requires-2-clause-small c = sum_up (c.loop-place.place - c.args.first) 15 c.loop-place.sum (omega arith) c.loop-place.invariant.small
 
 pub returns : goal.returns
 returns c =

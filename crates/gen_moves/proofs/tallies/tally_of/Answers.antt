@@ -1,8 +1,7 @@
 use Rattle.std.proofs.Common.{◌≡◌, ◌<◌, ◌+◌, ◌*◌, true, false, sym, ap, ◌∙◌, subst, arith}
 use Rattle.gen_moves.specs.Bounds.{place_in}
-use Rattle.gen_moves.specs.Tallies.{points_at, is_laid}
-use Rattle.gen_moves.proofs.Longest.{word_room, word_most}
-use Rattle.gen_moves.proofs.Tallying.{IsSmallTally, TallyAt, small_none, small_more, tally_start, tally_gap, tally_lay, tally_stop, tally_end, tally_is}
+use Rattle.gen_moves.specs.Tallies.{points_at, is_laid, IsSmallTally}
+use Rattle.gen_moves.proofs.Tallying.{tally_up, TallyAt, small_none, small_more, tally_start, tally_gap, tally_lay, tally_stop, tally_end, tally_is}
 use Rattle.gen_moves.proofs.tallies.tally_of.Goals as goal
 use Rattle.gen_moves.proofs.tallies.tally_of.Goals.{then-is_laid, else-is_laid+else-tally-gt0}
 
@@ -15,11 +14,14 @@ loop-place-init c =
       known = λ first len lies. tally_start c.args.rules.now (place_in c.args.places.now) c.args.fresh.now first len t e.letters e.word e.crosses e.free;
     }
 
-pub with-tally-requires-clause-word : goal.with-tally-requires-clause-word
-with-tally-requires-clause-word c = word_room c.loop-place.place c.loop-place.tally.word (omega arith) c.loop-place.invariant.small.word
+pub with-tally-requires-clause-small : goal.with-tally-requires-clause-small
+with-tally-requires-clause-small c = tally_up c.loop-place.place 14 c.loop-place.tally (omega arith) c.loop-place.invariant.small
 
-pub score-requires-clause-word : goal.score-requires-clause-word
-score-requires-clause-word c = word_most c.loop-place.place c.loop-place.tally.word (omega arith) c.loop-place.invariant.small.word
+pub score-requires : goal.score-requires
+score-requires c = tally_up c.loop-place.place 15 c.loop-place.tally (omega arith) c.loop-place.invariant.small
+
+pub score-requires-2 : goal.score-requires-2
+score-requires-2 c = tally_up c.loop-place.place 15 c.loop-place.tally (omega arith) c.loop-place.invariant.small
 
 pub returns-then-tally-gt0 : goal.returns-then-tally-gt0
 returns-then-tally-gt0 c first len lies =

@@ -1,7 +1,7 @@
 use Rattle.std.proofs.Common.{ℕ}
 use Rattle.gen_moves.specs.Bounds.{place_in}
-use Rattle.gen_moves.specs.Tallies.{LiesOn}
-use Rattle.gen_moves.proofs.Tallying.{IsSmallTally, TallyAt}
+use Rattle.gen_moves.specs.Tallies.{IsSmallTally, LiesOn}
+use Rattle.gen_moves.proofs.Tallying.{TallyAt}
 use Rattle.gen_moves.proofs.tallies.tally_of.Given as goal
 
 abbrev pub invariant-loop-place : goal.invariant-loop-place
