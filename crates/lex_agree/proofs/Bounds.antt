@@ -1,9 +1,12 @@
 -- The count of the strings of a file: label by label, and node by node.
 use Rattle.std.proofs.Common.{◌≡◌, ℕ, zero, suc, ◌+◌, ◌-◌, ◌<◌, ◌≤◌, ◌^◌, Bool, true, false, cond, ◌&&◌, ltb, List, [], ◌∷◌, ◌++◌, length, map, get_or, length-append, Option, Some, None, inl, inr, refl, sym, ap, subst, ◌∙◌, arith}
 use Rattle.std.specs.Prelude.{IsTrue, IsSome, IfSome, IfNone, is_none}
-use Rattle.std.specs.List.{Contains, list_all}
+use Rattle.std.specs.FinMap.{nat_cmp-IsAntisymmetric}
+use Rattle.std.specs.List.{Contains, HoldsAt, list_all}
+use Rattle.std.specs.Ordering.{nat_cmp}
+use Rattle.std.specs.declared.cmp.Ordering.TheVariants.{Equal}
 use Rattle.std.proofs.lemmas.Bool.{and_parts, and_from, cases_lt, false≢true, lt-ltb, ltb-true}
-use Rattle.std.proofs.lemmas.List.{length-map}
+use Rattle.std.proofs.lemmas.List.{length-map, get_or_append_left, get_or_at}
 use Rattle.std.proofs.lemmas.List.Elements.{Contains-append_left, Contains-append_right}
 use Rattle.lex_file.specs.declared.files.Node.{Node}
 use Rattle.lex_file.specs.Files.{number_of, IsNextNode}
@@ -13,8 +16,9 @@ use Rattle.lex_file.specs.Shapes.{file_node, is_file_node, fault_of}
 use Rattle.lex_file.specs.SoundFiles.{file_labels, sound}
 use Rattle.lex_file.specs.Graphs.{none_of_zero}
 use Rattle.lex_file.specs.Walking.{next_strings}
-use Rattle.lex_agree.specs.Counts.{HasAtMost, most_counted, IsCount, IsCounted, IsCountedThere, AreCountedBelow, AreCountedUntil, IsPut}
+use Rattle.lex_agree.specs.Counts.{HasAtMost, most_counted, slot_of, IsCount, IsCountedBy, AreCountedBeside, IsCounted, IsCountedThere, AreCountedBelow, AreCountedUntil, IsFirstTable, IsPut}
 use Rattle.lex_agree.specs.Walks.{node_tail}
+use Rattle.lex_agree.specs.declared.tables.CountTable.{CountTable}
 
 -- the strings of a set that begin with a label below one
 abbrev pub has_below : (List ℕ → Bool) → ℕ → List ℕ → Bool
@@ -138,10 +142,13 @@ label_low bytes shape node label false (Some next) is ends leads alive =
     head_low label (after ∷ rest)
     (file_labels bytes shape (number_of node) (label ∷ after ∷ rest) is (leads.tails after rest ∙ leads.some.2))
 
-pub counted_there : (bytes counts : List ℕ) (node : Node) (label : ℕ) (next : Option Node) → AreCountedBelow bytes counts (number_of node) → Leads bytes node label next
-    → IsCountedThere bytes counts next
-counted_there bytes counts node label None counted leads = tt
-counted_there bytes counts node label (Some next) counted leads = counted.each (number_of next) leads.falls leads.node
+pub counted_there : (bytes : List ℕ) (table : CountTable) (node : Node) (label : ℕ) (next : Option Node) → AreCountedBelow bytes table (number_of node)
+    → Leads bytes node label next → IsCountedThere bytes table next
+counted_there bytes table node label None counted leads = tt
+counted_there bytes table node label (Some next) counted leads = record {
+  here = counted.each (number_of next) leads.falls leads.node;
+  beside = counted.beside;
+}
 
 pub count_none : (bytes : List ℕ) → IsCount (next_strings (node_tail bytes) None) 0
 count_none bytes low = record { strings = []; all = λ string there. absurd (false≢true there); few = omega arith }
@@ -159,76 +166,131 @@ zero_count bytes count shape low = record {
   few = omega arith;
 }
 
-zero_counted : (bytes counts : List ℕ) → IsTrue (is_none (fault_of bytes)) → 0 < length counts → IsCounted bytes counts 0
-zero_counted bytes counts shape some = record { inside = some; count = zero_count bytes (get_or counts 0 0) shape }
+slot_zero : (thirds : Bool) → slot_of thirds 0 ≡ 0
+slot_zero true = refl
+slot_zero false = refl
+
+zero_counted : (bytes : List ℕ) (table : CountTable) → IsTrue (is_none (fault_of bytes)) → IsFirstTable table
+    → IsCountedBy bytes table.small.items (slot_of table.thirds 0) 0
+zero_counted bytes table shape first =
+    let size : length table.small.items ≡ 1 = ap length first.small in
+    let slot = slot_zero table.thirds in
+    record { inside = omega arith; count = λ _. zero_count bytes (get_or table.small.items (slot_of table.thirds 0) 0) shape }
+
+none_beside : (bytes : List ℕ) (table : CountTable) → IsFirstTable table → AreCountedBeside bytes table.nodes.items table.large.items
+none_beside bytes table first =
+    let nodes : length table.nodes.items ≡ 0 = ap length first.nodes in
+    let large : length table.large.items ≡ 0 = ap length first.large in
+    record { pairs = nodes ∙ sym large; each = λ place lt. absurd (omega arith) }
 
 -- before the first stored node
-pub counted_first : (bytes counts : List ℕ) (first : Option Node) → IsTrue (is_none (fault_of bytes)) → counts ≡ 0 ∷ []
+pub counted_first : (bytes : List ℕ) (table : CountTable) (first : Option Node) → IsTrue (is_none (fault_of bytes)) → IsFirstTable table
     → IfNone first ((n : ℕ) → 0 < n → is_file_node bytes n ≡ false) → IfSome first (λ (node : Node). IsNextNode bytes 0 (number_of node))
-    → AreCountedUntil bytes counts first
-counted_first bytes counts None shape is none found =
-    let size : length counts ≡ 1 = ap length is in
+    → AreCountedUntil bytes table first
+counted_first bytes table None shape is none found =
     record {
       each = λ n there. elim (cases_lt 0 n) [
         | inl some ↦ absurd (no_node bytes n (none n some) there)
         | inr le ↦
             let same : 0 ≡ n = omega arith in
-            subst (IsCounted bytes counts) same (zero_counted bytes counts shape (omega arith))
+            subst (IsCounted bytes table) same (record { here = zero_counted bytes table shape is; beside = none_beside bytes table is })
       ];
     }
-counted_first bytes counts (Some node) shape is none found =
-    let size : length counts ≡ 1 = ap length is in
-    let above = found.above in (
-      record {
-        some = omega arith;
-        few = omega arith;
-        each = λ m less there. elim (cases_lt 0 m) [
-          | inl some ↦ absurd (no_node bytes m (found.next m some less) there)
-          | inr le ↦
-              let same : 0 ≡ m = omega arith in
-              subst (IsCounted bytes counts) same (zero_counted bytes counts shape (omega arith))
-        ];
-      },
-      found.node,
-    )
+counted_first bytes table (Some node) shape is none found = (
+  record {
+    beside = none_beside bytes table is;
+    each = λ m less there. elim (cases_lt 0 m) [
+      | inl some ↦ absurd (no_node bytes m (found.next m some less) there)
+      | inr le ↦
+          let same : 0 ≡ m = omega arith in
+          subst (λ (n : ℕ). IsCountedBy bytes table.small.items (slot_of table.thirds n) n) same (zero_counted bytes table shape is)
+    ];
+  },
+  found.node,
+)
+
+-- one more count beside
+pub beside_more : (bytes nodes large : List ℕ) (n count : ℕ) → AreCountedBeside bytes nodes large → IsCount (file_tail bytes n) count
+    → AreCountedBeside bytes (nodes ++ n ∷ []) (large ++ count ∷ [])
+beside_more bytes nodes large n count before here =
+    let pairs = before.pairs in
+    let nodes_size = length-append nodes (n ∷ []) in
+    let large_size = length-append large (count ∷ []) in
+    record {
+      pairs = omega arith;
+      each = λ place lt. elim (cases_lt place (length large)) [
+        | inl less ↦
+            let node : get_or (nodes ++ n ∷ []) place 0 ≡ get_or nodes place 0 = get_or_append_left nodes (n ∷ []) 0 place (omega arith) in
+            let own : get_or (large ++ count ∷ []) place 0 ≡ get_or large place 0 = get_or_append_left large (count ∷ []) 0 place less in
+            subst (λ (m : ℕ). IsCount (file_tail bytes m) (get_or (large ++ count ∷ []) place 0)) (sym node)
+            (subst (IsCount (file_tail bytes (get_or nodes place 0))) (sym own) (before.each place less))
+        | inr past ↦
+            let node : get_or (nodes ++ n ∷ []) place 0 ≡ n = get_or_at nodes n [] 0 place (omega arith) in
+            let own : get_or (large ++ count ∷ []) place 0 ≡ count = get_or_at large count [] 0 place (omega arith) in
+            subst (λ (m : ℕ). IsCount (file_tail bytes m) (get_or (large ++ count ∷ []) place 0)) (sym node)
+            (subst (IsCount (file_tail bytes n)) (sym own) here)
+      ];
+    }
+
+-- the greatest number says nothing
+pub not_found : (has : List ℕ → Bool) → IsCount has 4294967295
+not_found has low = absurd (omega arith)
+
+-- a count that is found beside
+pub found_beside : (bytes nodes large : List ℕ) (n place : ℕ) → AreCountedBeside bytes nodes large → place < length nodes
+    → HoldsAt (λ (m : ℕ). nat_cmp m n ≡ Equal) nodes place → IsCount (file_tail bytes n) (get_or large place 0)
+found_beside bytes nodes large n place beside inside found =
+    let pairs = beside.pairs in
+    let same : get_or nodes place 0 ≡ n = nat_cmp-IsAntisymmetric (get_or nodes place 0) n (found 0) in
+    subst (λ (m : ℕ). IsCount (file_tail bytes m) (get_or large place 0)) same (beside.each place (omega arith))
 
 -- one more node is counted
-put_each : (bytes old new : List ℕ) (n count : ℕ) → AreCountedBelow bytes old n → IsCount (file_tail bytes n) count → IsPut old new n count
-    → (m : ℕ) → m ≤ n → is_file_node bytes m ≡ true → IsCounted bytes new m
-put_each bytes old new n count before here put m le there =
-    let size = put.size in
-    elim (cases_lt m n) [
-      | inl less ↦
-          let counted = before.each m less there in
-          record { inside = omega arith; count = subst (IsCount (file_tail bytes m)) (sym (put.same m counted.inside)) counted.count }
-      | inr past ↦
-          let same : n ≡ m = omega arith in
-          subst (IsCounted bytes new) same (record { inside = omega arith; count = subst (IsCount (file_tail bytes n)) (sym put.here) here })
-    ]
+pub put_below : (bytes : List ℕ) (old new : CountTable) (n byte : ℕ) → AreCountedBelow bytes old n
+    → AreCountedBeside bytes new.nodes.items new.large.items → new.thirds ≡ old.thirds → length old.small.items ≤ slot_of old.thirds n
+    → IsPut old.small.items new.small.items (slot_of old.thirds n) byte → (byte < 255 → IsCount (file_tail bytes n) byte)
+    → AreCountedBelow bytes new (n + 1)
+put_below bytes old new n byte before beside thirds room put here = record { beside = beside; each = each }
+  where
+    by_old : (m : ℕ) → m < n + 1 → is_file_node bytes m ≡ true → IsCountedBy bytes new.small.items (slot_of old.thirds m) m
+    by_old m le there =
+        let size = put.size in
+        elim (cases_lt m n) [
+          | inl less ↦
+              let counted = before.each m less there in
+              let inside = counted.inside in
+              let same = put.same (slot_of old.thirds m) inside in
+              record {
+                inside = omega arith;
+                count = subst (λ (c : ℕ). c < 255 → IsCount (file_tail bytes m) c) (sym same) counted.count;
+              }
+          | inr past ↦
+              let same : n ≡ m = omega arith in
+              subst (λ (k : ℕ). IsCountedBy bytes new.small.items (slot_of old.thirds k) k) same
+              (record { inside = omega arith; count = subst (λ (c : ℕ). c < 255 → IsCount (file_tail bytes n) c) (sym put.here) here })
+        ]
 
-pub counted_more : (bytes old new : List ℕ) (n count : ℕ) (next : Option Node) → AreCountedBelow bytes old n
-    → IsCount (file_tail bytes n) count → IsPut old new n count
+    each : (m : ℕ) → m < n + 1 → is_file_node bytes m ≡ true → IsCountedBy bytes new.small.items (slot_of new.thirds m) m
+    each m le there = subst (λ (t : Bool). IsCountedBy bytes new.small.items (slot_of t m) m) (sym thirds) (by_old m le there)
+
+pub counted_more : (bytes : List ℕ) (table : CountTable) (n : ℕ) (next : Option Node) → AreCountedBelow bytes table (n + 1)
     → IfNone next ((m : ℕ) → n < m → is_file_node bytes m ≡ false) → IfSome next (λ (node : Node). IsNextNode bytes n (number_of node))
-    → AreCountedUntil bytes new next
-counted_more bytes old new n count None before here put none found = record {
+    → AreCountedUntil bytes table next
+counted_more bytes table n None before none found = record {
   each = λ m there. elim (cases_lt n m) [
     | inl past ↦ absurd (no_node bytes m (none m past) there)
-    | inr le ↦ put_each bytes old new n count before here put m le there
+    | inr le ↦ record { here = before.each m (omega arith) there; beside = before.beside }
   ];
 }
-counted_more bytes old new n count (Some node) before here put none found =
-    let size = put.size in
-    let above = found.above in (
-      record {
-        some = omega arith;
-        few = omega arith;
-        each = λ m less there. elim (cases_lt n m) [
-          | inl past ↦ absurd (no_node bytes m (found.next m past less) there)
-          | inr le ↦ put_each bytes old new n count before here put m le there
-        ];
-      },
-      found.node,
-    )
+counted_more bytes table n (Some node) before none found = (
+  record {
+    beside = before.beside;
+    each = λ m less there. elim (cases_lt n m) [
+      | inl past ↦ absurd (no_node bytes m (found.next m past less) there)
+      | inr le ↦ before.each m (omega arith) there
+    ];
+  },
+  found.node,
+)
 
 -- how much is left behind a node
 abbrev pub left_behind : Option Node → ℕ

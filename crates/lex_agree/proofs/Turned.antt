@@ -1,7 +1,7 @@
 -- What is kept of each label: the steps behind it and the first labels of the front that was turned over to it last.
-use Rattle.std.proofs.Common.{◌≡◌, ℕ, ◌+◌, ◌<◌, List, [], ◌∷◌, length, get_or, set, take, replicate, inl, inr, sym, ap, subst, ◌∙◌, arith}
+use Rattle.std.proofs.Common.{◌≡◌, ℕ, ◌+◌, ◌<◌, ◌≤◌, List, [], ◌∷◌, ◌++◌, length, get_or, set, take, replicate, inl, inr, sym, ap, subst, ◌∙◌, arith}
 use Rattle.std.proofs.lemmas.Bool.{cases_lt}
-use Rattle.std.proofs.lemmas.List.{length-set, length-replicate, get_or-replicate, length-take-le, take_more, take-take, get_or-set_same, get_or-set_other}
+use Rattle.std.proofs.lemmas.List.{length-set, length-replicate, get_or-replicate, length-take-le, take_more, take_more_set, take-take, get_or-set_same, get_or-set_other}
 use Rattle.lex_file.specs.declared.files.Node.{Node}
 use Rattle.lex_file.specs.declared.lexicons.Step.{Step}
 use Rattle.lex_file.specs.Walking.{strings, IsOpen}
@@ -62,6 +62,19 @@ turned_same bytes first front kept last same before known alike =
           sym (take-take split same (take last kept.front) le) ∙ ap (take split) alike.alike ∙ take-take split same front le in
           subst (λ (labels : List ℕ). IsStepAt bytes (first ∷ labels) (get_or kept.steps split no_step)) (own ∙ both) (before.each split (omega arith));
     }
+
+-- the labels of the front that is kept, as far as it begins like another
+pub front_same : (labels front : List ℕ) (last same : ℕ) → last ≤ length labels → AreAlike (take last labels) front same → take same labels ≡ take same front
+front_same labels front last same le alike =
+    let size : length (take last labels) ≡ last = length-take-le last labels le in
+    let low = alike.in_one in
+    sym (take-take same last labels (omega arith)) ∙ alike.alike
+
+-- one more of them
+pub front_more : (labels front : List ℕ) (split : ℕ) → split < length labels → split < length front → take split labels ≡ take split front
+    → take (split + 1) (set labels split (get_or front split 0)) ≡ take (split + 1) front
+front_more labels front split room inside same =
+    take_more_set labels split (get_or front split 0) room ∙ ap (λ (l : List ℕ). l ++ get_or front split 0 ∷ []) same ∙ sym (take_more front split 0 inside)
 
 -- what is kept then
 pub turned_kept : (bytes : List ℕ) (first : ℕ) (front : List ℕ) (kept : Kept) → length front < 15 → AreTurned bytes first front (length front) kept.steps

@@ -1,7 +1,7 @@
 -- Walks over a file, and the turns of a letter over a mark, node by node and label by label.
 use Rattle.std.proofs.Common.{◌≡◌, ℕ, zero, suc, ◌+◌, ◌<◌, ◌≤◌, Bool, true, false, eqb, List, [], ◌∷◌, ◌++◌, length, get_or, set, take, append_assoc, append-nil, Option, Some, None, inl, inr, refl, sym, ap, subst, ◌∙◌, arith}
 use Rattle.std.proofs.lemmas.Bool.{cases_lt, false≢true}
-use Rattle.std.proofs.lemmas.List.{length-set, length-take-le, map-append, take_all, take_more, take-take, get_or-set_same, get_or-set_other}
+use Rattle.std.proofs.lemmas.List.{length-set, length-take-le, map-append, take_all, take_more, take_more_set, take-set, take-take, get_or-set_same, get_or-set_other}
 use Rattle.lex_file.specs.declared.files.Node.{Node}
 use Rattle.lex_file.specs.declared.lexicons.Step.{Step}
 use Rattle.lex_file.specs.Files.{number_of}
@@ -113,6 +113,17 @@ mark_some bytes front node behind at leads turns label rest there =
     turns label rest (sym (leads.tails label rest) ∙ sym (at.tails_there 0 (label ∷ rest)) ∙ there)
 
 -- ---- turns at all nodes before a mark
+
+-- the labels of a front stay where others are put behind them
+pub front_kept : (front after : List ℕ) (count label : ℕ) → take (count + 1) after ≡ take (count + 1) (set front count label) → take count after ≡ take count front
+front_kept front after count label same =
+    sym (take-take count (count + 1) after (omega arith)) ∙ ap (take count) same ∙ take-take count (count + 1) (set front count label) (omega arith)
+    ∙ take-set front count label
+
+-- a front with one label more
+pub front_longer : (front before : List ℕ) (count label : ℕ) → count < length front → take count front ≡ take count before
+    → take (count + 1) (set front count label) ≡ take count before ++ label ∷ []
+front_longer front before count label room same = take_more_set front count label room ∙ ap (λ (l : List ℕ). l ++ label ∷ []) same
 
 -- the labels turn over that go on behind a front with a label below one
 abbrev pub TurnsOverBelow : (List ℕ → Bool) → List ℕ → ℕ → Type 0
@@ -286,6 +297,13 @@ so_far_all bytes front node from at before none =
       | inr first ↦ mark_none bytes front node at (λ turned rest. none 0 (omega arith) (turned ∷ rest))
     ] in
     over_all bytes front node from at here before.letters none
+
+-- what turns over behind labels that are those of a front
+pub behind_same : (bytes labels front : List ℕ) (behind : Node) → labels ≡ front
+    → ((turned : ℕ) (rest : List ℕ) → file_tail bytes (number_of behind) (turned ∷ rest) ≡ true → language_of bytes (turned ∷ labels ++ behind_mark rest) ≡ true)
+    → (turned : ℕ) (rest : List ℕ) → file_tail bytes (number_of behind) (turned ∷ rest) ≡ true → language_of bytes (turned ∷ front ++ behind_mark rest) ≡ true
+behind_same bytes labels front behind same turns turned rest there =
+    subst (λ (l : List ℕ). language_of bytes (turned ∷ l ++ behind_mark rest) ≡ true) same (turns turned rest there)
 
 -- behind the mark, behind a letter, and where nothing goes on
 pub behind_mark_there : (bytes front : List ℕ) (node behind : Node) (label : ℕ) (found : Option Node) → IsNodeAt bytes front node → label ≡ 0 → found ≡ Some behind

@@ -1,11 +1,12 @@
 -- How many strings a set has at most, and that it has all rotated paths of words.
-use Rattle.std.specs.Prelude.{◌≡◌, ℕ, ◌+◌, ◌<◌, ◌≤◌, Bool, true, List, length, slice_index, Option, Some, None, IsTrue}
+use Rattle.std.specs.Prelude.{◌≡◌, ℕ, ◌+◌, ◌/◌, ◌<◌, ◌≤◌, Bool, true, List, [], ◌∷◌, length, slice_index, Option, Some, None, IsTrue, if◌then◌else◌}
 use Rattle.std.specs.List.{Contains, sum_by}
 use Rattle.lex_list.specs.RotatedPaths.{IsPath}
 use Rattle.lex_file.specs.declared.files.Node.{Node}
 use Rattle.lex_file.specs.Files.{number_of}
 use Rattle.lex_file.specs.Languages.{file_tail}
 use Rattle.lex_file.specs.Shapes.{is_file_node}
+use Rattle.lex_agree.specs.declared.tables.CountTable.{CountTable}
 
 -- all strings of the set stand in a list of so many or fewer
 pub record HasAtMost (has : List ℕ → Bool) (count : ℕ) : Type 0 where
@@ -31,30 +32,49 @@ most_counted = 4294967295
 abbrev pub IsCount : (List ℕ → Bool) → ℕ → Type 0
 IsCount has count = count < most_counted → HasAtMost has count
 
--- the strings of a node of a file are counted, at the place of its number
-pub record IsCounted (bytes counts : List ℕ) (n : ℕ) : Type 0 where
-  pub inside : n < length counts
-  pub count : IsCount (file_tail bytes n) (slice_index counts n)
+-- the place of the node of a number in a table: the number, or the third of it rounded up
+abbrev pub slot_of : Bool → ℕ → ℕ
+slot_of thirds n = if thirds then (n + 2) / 3 else n
+
+-- the strings of a node are counted by its byte, unless that is 255
+pub record IsCountedBy (bytes small : List ℕ) (slot n : ℕ) : Type 0 where
+  pub inside : slot < length small
+  pub count : slice_index small slot < 255 → IsCount (file_tail bytes n) (slice_index small slot)
+
+-- the strings of nodes are counted by numbers that stand beside theirs
+pub record AreCountedBeside (bytes nodes large : List ℕ) : Type 0 where
+  pub pairs : length nodes ≡ length large
+  pub each : (place : ℕ) → place < length large → IsCount (file_tail bytes (slice_index nodes place)) (slice_index large place)
+
+-- the strings of a node of a file are counted in a table
+pub record IsCounted (bytes : List ℕ) (table : CountTable) (n : ℕ) : Type 0 where
+  pub here : IsCountedBy bytes table.small.items (slot_of table.thirds n) n
+  pub beside : AreCountedBeside bytes table.nodes.items table.large.items
 
 -- the strings of a node are counted, where there is one
-abbrev pub IsCountedThere : List ℕ → List ℕ → Option Node → Type 0
-IsCountedThere bytes counts None = Unit {0}
-IsCountedThere bytes counts (Some node) = IsCounted bytes counts (number_of node)
+abbrev pub IsCountedThere : List ℕ → CountTable → Option Node → Type 0
+IsCountedThere bytes table None = Unit {0}
+IsCountedThere bytes table (Some node) = IsCounted bytes table (number_of node)
 
 -- the nodes of a file with lower numbers than one are counted
-pub record AreCountedBelow (bytes counts : List ℕ) (n : ℕ) : Type 0 where
-  pub some : 0 < length counts
-  pub few : length counts ≤ n
-  pub each : (m : ℕ) → m < n → is_file_node bytes m ≡ true → IsCounted bytes counts m
+pub record AreCountedBelow (bytes : List ℕ) (table : CountTable) (n : ℕ) : Type 0 where
+  pub beside : AreCountedBeside bytes table.nodes.items table.large.items
+  pub each : (m : ℕ) → m < n → is_file_node bytes m ≡ true → IsCountedBy bytes table.small.items (slot_of table.thirds m) m
 
 -- all nodes of a file are counted
-pub record AreCounted (bytes counts : List ℕ) : Type 0 where
-  pub each : (n : ℕ) → is_file_node bytes n ≡ true → IsCounted bytes counts n
+pub record AreCounted (bytes : List ℕ) (table : CountTable) : Type 0 where
+  pub each : (n : ℕ) → is_file_node bytes n ≡ true → IsCounted bytes table n
 
 -- the nodes before one are counted, which is one of the file, or all where there is none
-abbrev pub AreCountedUntil : List ℕ → List ℕ → Option Node → Type 0
-AreCountedUntil bytes counts None = AreCounted bytes counts
-AreCountedUntil bytes counts (Some node) = AreCountedBelow bytes counts (number_of node) × (is_file_node bytes (number_of node) ≡ true)
+abbrev pub AreCountedUntil : List ℕ → CountTable → Option Node → Type 0
+AreCountedUntil bytes table None = AreCounted bytes table
+AreCountedUntil bytes table (Some node) = AreCountedBelow bytes table (number_of node) × (is_file_node bytes (number_of node) ≡ true)
+
+-- a table in which the number 0 alone has a count
+pub record IsFirstTable (table : CountTable) : Type 0 where
+  pub small : table.small.items ≡ 0 ∷ []
+  pub nodes : table.nodes.items ≡ []
+  pub large : table.large.items ≡ []
 
 -- a list has a number at a place behind its end now, and is else the same where it was
 pub record IsPut (old new : List ℕ) (place number : ℕ) : Type 0 where

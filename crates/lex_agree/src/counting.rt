@@ -1,41 +1,44 @@
 //! The count of the strings of a file, by one pass over its nodes up to the root.
-ghost use Rattle.std.specs.Prelude.{◌≡◌, ◌+◌, ◌<◌, ◌≤◌, IsTrue, IfOk, OnOk, length, if◌then◌else◌};
+ghost use Rattle.std.specs.Prelude.{◌≡◌, ◌+◌, ◌<◌, IsTrue, IfOk, if◌then◌else◌};
 ghost use Rattle.lex_file.specs.Files.{bytes_of, number_of};
 ghost use Rattle.lex_file.specs.Languages.{file_tail, language_of};
 ghost use Rattle.lex_file.specs.Shapes.{is_file_node};
 ghost use Rattle.lex_file.specs.Walking.{next_strings};
-ghost use Rattle.lex_agree.specs.Counts.{most_counted, IsCount, IsCountedThere, AreCountedBelow, IsPut};
+ghost use Rattle.lex_agree.specs.Counts.{most_counted, IsCount, IsCountedThere, AreCountedBelow};
 ghost use Rattle.lex_agree.specs.Walks.{node_tail};
 
+use crate::tables::CountTable;
 use lex_file::{LexFile, Node, PathLex};
 use std::alloc::{AllocError, Global};
 
 /// A bound on the number of strings of a file, unless it is the greatest number: the sum over its arcs, each node once up
 /// to the root.
 ///
-/// It takes four bytes for each word of the file up to there.
+/// It takes a byte for each word of the file up to there, in GAD2 for each three words.
 #[tactic(auto, using(crate::proofs::Bounds::counted_first, crate::proofs::Bounds::counted_more, crate::proofs::Bounds::less_left))]
 pub fn count_strings(alloc: Global, file: &LexFile<'_>) -> Result<u32, AllocError>
     ensures { IfOk result (λ count. IsCount (language_of (bytes_of file.now)) count) }
 {
-    let root = file.place(file.root());
-    let mut counts = vec![in alloc; 0]?;
+    let root = file.root();
+    let mut counts = CountTable::new(alloc, file)?;
     let mut next = file.first();
     while let Some(node) = next {
         let count = count_node(file, &counts, node);
-        let place = file.place(node);
-        if place == root {
+        if file.place(node) == file.place(root) {
             return Ok(count);
         }
-        put_count(&mut counts, place as usize, count)?;
+        if !counts.has_room(file, node) {
+            return Ok(u32::MAX);
+        }
+        counts.put(file, node, count)?;
         next = file.after(node);
     }
-    Ok(counts[root as usize])
+    Ok(counts.of(file, root))
 }
 
 /// The count of a node, by those of the nodes before it.
 #[tactic(auto, using(crate::proofs::Bounds::first_label, crate::proofs::Bounds::last_label, crate::proofs::Bounds::label_more, crate::proofs::Bounds::label_low, crate::proofs::Bounds::counted_there, crate::proofs::Bounds::longer))]
-fn count_node(file: &LexFile<'_>, counts: &[u32], node: Node) -> u32
+fn count_node(file: &LexFile<'_>, counts: &CountTable, node: Node) -> u32
     requires node { IsTrue (is_file_node (bytes_of file.now) (number_of node)) }
     requires before { AreCountedBelow (bytes_of file.now) counts.now (number_of node) }
     ensures { IsCount (file_tail (bytes_of file.now) (number_of node)) result }
@@ -55,13 +58,13 @@ fn count_node(file: &LexFile<'_>, counts: &[u32], node: Node) -> u32
 
 /// The count of the strings behind an arc.
 #[tactic(auto, using(crate::proofs::Bounds::count_none))]
-fn count_behind(file: &LexFile<'_>, counts: &[u32], next: Option<Node>) -> u32
+fn count_behind(file: &LexFile<'_>, counts: &CountTable, next: Option<Node>) -> u32
     requires { IsCountedThere (bytes_of file.now) counts.now next }
     ensures { IsCount (next_strings (node_tail (bytes_of file.now)) next) result }
 {
     match next {
         None => 0,
-        Some(node) => counts[file.place(node) as usize],
+        Some(node) => counts.of(file, node),
     }
 }
 
@@ -72,16 +75,4 @@ fn sum_of(count: u32, more: u32, accepts: bool) -> u32
     count
         .saturating_add(more)
         .saturating_add(u32::from(accepts))
-}
-
-/// Puts a number at a place behind the end of a list.
-fn put_count(counts: &mut Vec<u32>, place: usize, count: u32) -> Result<(), AllocError>
-    requires { length counts.old.items ≤ place }
-    ensures { OnOk result (IsPut counts.old.items counts.new.items place count) }
-{
-    for _ in counts.len()..place {
-        counts.push(0)?;
-    }
-    counts.push(count)?;
-    Ok(())
 }

@@ -44,8 +44,7 @@ pub fn walk_on(file: &LexFile<'_>, first: u8, front: &[u8], kept: &mut Kept) -> 
     ensures kept { IsKept (bytes_of file.now) first kept.new }
 {
     let same = begin(file, first, front, kept);
-    turn_more(file, first, front, same, &mut kept.steps);
-    put_front(&mut kept.front, front);
+    turn_more(file, first, front, same, kept);
     kept.known = front.len() + 1;
     kept.steps[front.len()]
 }
@@ -57,6 +56,7 @@ fn begin(file: &LexFile<'_>, first: u8, front: &[u8], kept: &mut Kept) -> usize
     requires { IsKept (bytes_of file.now) first kept.old }
     ensures letters { length kept.new.front ≡ 15 }
     ensures few { result ≤ length front.now }
+    ensures front { take result kept.new.front ≡ take result front.now }
     ensures steps { AreTurned (bytes_of file.now) first front.now result kept.new.steps }
 {
     if kept.known == 0 {
@@ -66,31 +66,20 @@ fn begin(file: &LexFile<'_>, first: u8, front: &[u8], kept: &mut Kept) -> usize
     common_letters(&kept.front[..kept.known - 1], front)
 }
 
-/// Puts beside the steps behind a label and the first labels of a front, which are known, those to the others.
-#[tactic(auto, using(crate::proofs::Turned::turned_more))]
-fn turn_more(
-    file: &LexFile<'_>,
-    first: u8,
-    front: &[u8],
-    same: usize,
-    steps: &mut [Step<Node>; PLACES],
-)
+/// Puts beside the first labels of a front and the steps behind a label and these, which are known, the others.
+#[tactic(auto, using(crate::proofs::Turned::turned_more, crate::proofs::Turned::front_more))]
+fn turn_more(file: &LexFile<'_>, first: u8, front: &[u8], same: usize, kept: &mut Kept)
     requires few { length front.now < 15 }
     requires same { same ≤ length front.now }
-    requires steps { AreTurned (bytes_of file.now) first front.now same steps.old }
-    ensures { AreTurned (bytes_of file.now) first front.now (length front.now) steps.new }
+    requires letters { length kept.old.front ≡ 15 }
+    requires front { take same kept.old.front ≡ take same front.now }
+    requires steps { AreTurned (bytes_of file.now) first front.now same kept.old.steps }
+    ensures letters { length kept.new.front ≡ 15 }
+    ensures front { take (length front.now) kept.new.front ≡ front.now }
+    ensures steps { AreTurned (bytes_of file.now) first front.now (length front.now) kept.new.steps }
 {
     for split in same..front.len() {
-        steps[split + 1] = follow(file, steps[split], front[split]);
+        kept.front[split] = front[split];
+        kept.steps[split + 1] = follow(file, kept.steps[split], front[split]);
     }
-}
-
-/// Puts a front where the one before it was.
-fn put_front(labels: &mut [u8; MOST_LABELS], front: &[u8])
-    requires few { length front.now < 15 }
-    requires room { length labels.old ≡ 15 }
-    ensures room { length labels.new ≡ 15 }
-    ensures front { take (length front.now) labels.new ≡ front.now }
-{
-    labels[..front.len()].copy_from_slice(front);
 }

@@ -14,6 +14,7 @@ mod firsts;
 mod kept;
 mod letters;
 mod steps;
+mod tables;
 mod turning;
 
 pub use agreeing::agree;

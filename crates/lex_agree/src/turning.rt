@@ -22,26 +22,32 @@ pub fn all_turn_over(file: &LexFile<'_>, letters: usize) -> bool
 {
     let fronts = (MOST_LABELS * letters + 1) as u32;
     let mut kept = [none_kept(start(file)); EACH_LABEL];
-    turn_over(file, &[], file.root(), fronts, &mut kept).is_some()
+    let mut front = [0; MOST_LABELS];
+    turn_over(file, &mut front, 0, file.root(), fronts, &mut kept).is_some()
 }
 
 /// The number of fronts that are left of so many, where letters turn over at a node behind a front and at all nodes that
 /// come behind it before a mark; none where one does not, or where there are too many fronts or too long ones.
 ///
-/// Of each label it is kept what stands behind it and the front that was turned over to it last.
+/// The front is so many of the labels; those behind it are written over. Of each label it is kept what stands behind it and the
+/// front that was turned over to it last.
 fn turn_over(
     file: &LexFile<'_>,
-    front: &[u8],
+    front: &mut [u8; MOST_LABELS],
+    len: usize,
     node: Node,
     fronts: u32,
     kept: &mut [Kept; EACH_LABEL],
 ) -> Option<u32>
-    requires node { IsNodeAt (bytes_of file.now) front.now node }
+    requires room { length front.old ≡ 15 }
+    requires node { IsNodeAt (bytes_of file.now) (take len front.old) node }
     requires kept { AreKept (bytes_of file.now) kept.old }
-    ensures turned { OnSome result (TurnsOverFrom (language_of (bytes_of file.now)) front.now) }
+    ensures room { OnSome result (length front.new ≡ 15) }
+    ensures front { OnSome result (take len front.new ≡ take len front.old) }
+    ensures turned { OnSome result (TurnsOverFrom (language_of (bytes_of file.now)) (take len front.old)) }
     ensures kept { OnSome result (AreKept (bytes_of file.now) kept.new) }
 {
-    if fronts == 0 || front.len() >= MOST_LABELS {
+    if fronts == 0 || len >= MOST_LABELS {
         return None;
     }
     let mut left = fronts - 1;
@@ -52,30 +58,19 @@ fn turn_over(
         match branch.step.next {
             None => {}
             Some(behind) if branch.label == MARK => {
-                if !turn_over_at(file, front, behind, kept) {
+                if !turn_over_at(file, &front[..len], behind, kept) {
                     return None;
                 }
             }
             Some(next) => {
-                let longer = with_label(front, branch.label);
-                left = turn_over(file, &longer[..front.len() + 1], next, left, kept)?;
+                front[len] = branch.label;
+                left = turn_over(file, front, len + 1, next, left, kept)?;
             }
         }
         from = branch.label + 1;
         rest = on.rest;
     }
     Some(left)
-}
-
-/// Labels and one more.
-fn with_label(front: &[u8], label: u8) -> [u8; MOST_LABELS]
-    requires { length front.now < 15 }
-    ensures { take (length front.now + 1) result ≡ front.now ++ label ∷ [] }
-{
-    let mut longer = [0; MOST_LABELS];
-    longer[..front.len()].copy_from_slice(front);
-    longer[front.len()] = label;
-    longer
 }
 
 /// Whether the letters turn over with which tails of a node begin, which stands behind the mark of a front.

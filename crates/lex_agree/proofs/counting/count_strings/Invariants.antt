@@ -3,7 +3,7 @@ use Rattle.lex_agree.proofs.Bounds.{left_behind}
 use Rattle.lex_agree.proofs.counting.count_strings.Given as goal
 
 abbrev pub invariant-loop-next : goal.invariant-loop-next
-invariant-loop-next l = AreCountedUntil l.file.bytes.now l.counts.items l.next
+invariant-loop-next l = AreCountedUntil l.file.bytes.now l.counts l.next
 
 abbrev pub decreases-loop-next : goal.decreases-loop-next
 decreases-loop-next l = left_behind l.next

@@ -1,7 +1,7 @@
-use Rattle.std.proofs.Common.{◌+◌, length, take, arith}
+use Rattle.std.proofs.Common.{◌≡◌, ◌+◌, ◌∙◌, length, set, take, arith}
 use Rattle.lex_agree.specs.Walks.{AreKept}
 use Rattle.lex_agree.proofs.Bounds.{label_low}
-use Rattle.lex_agree.proofs.Walking.{TurnsBehind, behind_none_there, behind_mark_there, behind_letter_there, so_far_more, so_far_all}
+use Rattle.lex_agree.proofs.Walking.{TurnsBehind, behind_none_there, behind_same, front_kept, front_longer, behind_mark_there, behind_letter_there, so_far_more, so_far_all}
 use Rattle.lex_agree.proofs.turning.+turn_over.Goals as goal
 use Rattle.lex_agree.proofs.turning.+turn_over.Goals.{in-None, in-Some-next+else-not-turn_over_at, in-Some-2+in_ok-left-in-Some-2}
 
@@ -23,7 +23,10 @@ loop-on-smaller t c =
 pub loop-on-preserved : goal.loop-on-preserved
 loop-on-preserved t c =
     let bytes = c.args.file.now.bytes.now in
-    let front = c.args.front.now in
+    let len = c.args.len in
+    let front = take len c.args.front.now in
+    let same = c.loop-on.invariant.front in
+    let room = c.loop-on.invariant.room in
     let branch = c.in-Some.on.branch in
     let low = label_low bytes c.args.file.now.shape c.args.node branch.label branch.step.accepts branch.step.next c.requires.node.node_there
     c.in-Some.ensures.accepts c.in-Some.ensures.next c.in-Some.ensures.alive in
@@ -31,10 +34,22 @@ loop-on-preserved t c =
       | in-None w ↦ behind_none_there bytes front c.args.node branch.label branch.step.next c.requires.node w.in-None.is c.in-Some.ensures.next
       | in-Some-next+else-not-turn_over_at w ↦
           behind_mark_there bytes front c.args.node w.in-Some-next.behind branch.label branch.step.next c.requires.node w.if-branch-eq-MARK.true
-          w.in-Some-next.is c.in-Some.ensures.next w.if-not-turn_over_at.ensures.turned
+          w.in-Some-next.is c.in-Some.ensures.next (behind_same bytes (take len c.loop-on.front) front w.in-Some-next.behind same w.if-not-turn_over_at.ensures.turned)
       | in-Some-2+in_ok-left-in-Some-2 w ↦
-          behind_letter_there bytes front (take (length front + 1) w.with_label-longer.result) branch.label branch.step.next w.in-Some-2.next
-          w.if-branch-eq-MARK.false w.in-Some-2.is w.with_label-longer.ensures w.in_ok-left-in-Some-2.ensures.turned
+          behind_letter_there bytes front (take (len + 1) (set c.loop-on.front len branch.label)) branch.label branch.step.next w.in-Some-2.next
+          w.if-branch-eq-MARK.false w.in-Some-2.is (front_longer c.loop-on.front c.args.front.now len branch.label (omega arith) same)
+          w.in_ok-left-in-Some-2.ensures.turned
+    ] in
+    let labels : length c.match-branch.front ≡ 15 = elim c.match-branch.branch [
+      | in-None w ↦ rw w.front-is room
+      | in-Some-next+else-not-turn_over_at w ↦ rw w.front-is room
+      | in-Some-2+in_ok-left-in-Some-2 w ↦ rw w.front-is w.in_ok-left-in-Some-2.ensures.room
+    ] in
+    let still : take len c.match-branch.front ≡ front = elim c.match-branch.branch [
+      | in-None w ↦ rw w.front-is same
+      | in-Some-next+else-not-turn_over_at w ↦ rw w.front-is same
+      | in-Some-2+in_ok-left-in-Some-2 w ↦
+          rw w.front-is (front_kept c.loop-on.front w.turn_over.new.front len branch.label w.in_ok-left-in-Some-2.ensures.front ∙ same)
     ] in
     let kept : AreKept bytes c.match-branch.kept = elim c.match-branch.branch [
       | in-None w ↦ rw w.kept-is c.loop-on.invariant.kept
@@ -43,6 +58,8 @@ loop-on-preserved t c =
     ] in
     record {
       low = omega arith;
+      room = labels;
+      front = still;
       rest = c.in-Some.ensures.rest;
       kept = kept;
       below = so_far_more bytes front c.args.node c.loop-on.from branch.label branch.step.next c.requires.node c.loop-on.invariant.below
@@ -51,6 +68,8 @@ loop-on-preserved t c =
 
 pub returns : goal.returns
 returns t c = record {
-  turned = so_far_all c.args.file.now.bytes.now c.args.front.now c.args.node c.loop-on.from c.requires.node c.loop-on.invariant.below c.in_default.ensures.none;
+  room = c.loop-on.invariant.room;
+  front = c.loop-on.invariant.front;
+  turned = so_far_all c.args.file.now.bytes.now (take c.args.len c.args.front.now) c.args.node c.loop-on.from c.requires.node c.loop-on.invariant.below c.in_default.ensures.none;
   kept = c.loop-on.invariant.kept;
 }

@@ -1,4 +1,4 @@
-use Rattle.std.proofs.Common.{◌-◌, ◌≤◌}
+use Rattle.std.proofs.Common.{◌≡◌, ◌-◌, ◌≤◌, length, take}
 use Rattle.lex_file.specs.Files.{number_of, IsRest}
 use Rattle.lex_file.specs.Languages.{language_of}
 use Rattle.lex_agree.specs.Walks.{AreKept}
@@ -12,9 +12,11 @@ abbrev pub invariant-loop-on : goal.invariant-loop-on
 invariant-loop-on l =
     record {
       low : l.from ≤ 27;
+      room : length l.front ≡ 15;
+      front : take l.len l.front ≡ take l.len l.fn.front;
       rest : IsRest l.file.bytes.now (number_of l.node) l.from l.rest;
       kept : AreKept l.file.bytes.now l.kept;
-      below : TurnsSoFar (language_of l.file.bytes.now) l.front l.from;
+      below : TurnsSoFar (language_of l.file.bytes.now) (take l.len l.fn.front) l.from;
     }
 
 abbrev pub decreases-loop-on : goal.decreases-loop-on
