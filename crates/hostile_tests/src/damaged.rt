@@ -23,7 +23,7 @@ fn single_bits(rt: HostRuntime) {
     }
 }
 
-/// Wherever a record is cut off, there is an answer.
+/// Wherever a record is cut off, there is an answer, and it is settled, since there is no exchange.
 #[test]
 fn cut_records(rt: HostRuntime) {
     for len in 0..WITHDRAWN.game.len() {
@@ -39,5 +39,6 @@ fn cut_records(rt: HostRuntime) {
         let outcome = attempt(rt.alloc(), &job, &working(8192));
         assert!(rt; outcome.answer.is_ok(), "{len} bytes");
         assert!(rt; outcome.out.as_slice().ends_with(job.wrote), "{len} bytes");
+        assert!(rt; outcome.answer != Ok(Verdict::Unsettled), "{len} bytes");
     }
 }

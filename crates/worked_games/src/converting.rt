@@ -1,6 +1,6 @@
 //! Lexicon files that are converted into a format, over memory.
 use crate::games::{judged_by, lexicon_of};
-use crate::lexicons::{AT, AT_IT, EMPTY, checked_bytes, expect};
+use crate::lexicons::{AT, AT_IT, EMPTY, checked_bytes, expect, expect_bad};
 use crate::pieces::{Pieces, assert_same};
 use devices::FromWrite;
 use engine::{Verdict, run_convert};
@@ -234,7 +234,8 @@ fn with_word(rt: &impl Abort, alloc: Global, file: &[u8], place: usize, word: [u
     bytes
 }
 
-/// What is wrong with the form of a file is written, whatever the format asked for, as by a check.
+/// What is wrong with the form of a file is written, whatever the format asked for, and where it is checked, or a record is judged by
+/// it.
 #[test]
 fn faults(rt: HostRuntime) {
     for row in &CHANGES {
@@ -244,8 +245,7 @@ fn faults(rt: HostRuntime) {
             let told = converted(&rt, rt.alloc(), &file, format);
             expect(&rt, &told, Verdict::BadFile, report);
         }
-        let told = checked_bytes(&rt, rt.alloc(), b"AT", &file);
-        expect(&rt, &told, Verdict::BadFile, report);
+        expect_bad(&rt, rt.alloc(), &file, row.report);
     }
 }
 

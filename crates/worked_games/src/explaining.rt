@@ -1,7 +1,7 @@
 //! What explains a verdict, or a line of a record.
 ghost use Rattle.std.specs.Prelude.{◌≡◌};
 
-use crate::games::{lexicon_of, rules_with};
+use crate::games::{assert_settled, lexicon_of, rules_with};
 use crate::pieces::Pieces;
 use endings::Exit;
 use engine::{open_case, pair_file};
@@ -20,18 +20,17 @@ struct Row {
     head: &'static str,
 }
 
-/// What explains a record or one of its lines, and how the program ends after it. Read one by one, the bytes come to the same.
+/// What explains a record or one of its lines, and how the program ends after it. Read one by one or seven at once, the bytes
+/// come to the same, and a record without an exchange is settled.
 fn explained(rt: &impl Abort, alloc: Global, rules: &Rules, row: &Row) -> (Exit, Vec<u8>) {
-    let told = explained_by(
-        rt,
-        alloc,
-        rules,
-        row,
-        Pieces::new(row.game.as_bytes(), usize::MAX),
-    );
-    let again = explained_by(rt, alloc, rules, row, Pieces::new(row.game.as_bytes(), 1));
-    assert_eq!(rt; again.0, told.0);
-    assert_eq!(rt; again.1.as_slice(), told.1.as_slice());
+    let game = row.game.as_bytes();
+    let told = explained_by(rt, alloc, rules, row, Pieces::new(game, usize::MAX));
+    for piece in [1, 7] {
+        let again = explained_by(rt, alloc, rules, row, Pieces::new(game, piece));
+        assert_eq!(rt; again.0, told.0);
+        assert_eq!(rt; again.1.as_slice(), told.1.as_slice());
+    }
+    assert_settled(rt, alloc, told.0 == Exit::Unsettled, game);
     told
 }
 

@@ -206,7 +206,7 @@ fn changed(rt: &impl Abort, change: &Change) -> [u8; 36] {
 }
 
 /// Asserts what is written of a bad file by the list AT: where it is checked, and where a record is judged by it.
-fn expect_bad(rt: &impl Abort, alloc: Global, file: &[u8], report: &str) {
+pub fn expect_bad(rt: &impl Abort, alloc: Global, file: &[u8], report: &str) {
     let told = checked_bytes(rt, alloc, b"AT", file);
     expect(rt, &told, Verdict::BadFile, report.as_bytes());
     let told = judged_by(
