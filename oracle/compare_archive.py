@@ -5,13 +5,10 @@ damaged records, with names that no file has and a folder among them. Every run 
 run in four is by a rules text.
 """
 import random
-import sys
-import tempfile
-from pathlib import Path
 
 from archive import read_json_line, read_tab_line, status_of, tab_line, unread, ways
 from compare_games import Maker
-from comparing import Differences
+from comparing import Differences, compared
 from dealing import Dealer, likely, line, spoiled
 from fuzz import TEXT_DAMAGES, damaged
 from lexicons import GAD2, build, convert
@@ -109,18 +106,15 @@ class Archives(Differences):
         return told
 
 
-def main():
-    program, cases = str(Path(sys.argv[1]).resolve()), int(sys.argv[2])
-    random.seed(int(sys.argv[3]))
+def compare(archives, cases):
+    """Compares runs of up to forty games by one list."""
     made = 0
-    with tempfile.TemporaryDirectory() as folder:
-        archives = Archives(program, folder)
-        while made < cases:
-            rules = ENGLISH if likely(0.75) else random_rules()
-            games, listed = some_games(rules, min(40, cases - made))
-            archives.compare(games, listed, rules)
-            made += len(games)
-    archives.end(made, "games")
+    while made < cases:
+        rules = ENGLISH if likely(0.75) else random_rules()
+        games, listed = some_games(rules, min(40, cases - made))
+        archives.compare(games, listed, rules)
+        made += len(games)
 
 
-main()
+archives, games_made = compared(Archives, compare)
+archives.end(games_made, "games")

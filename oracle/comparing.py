@@ -39,15 +39,20 @@ class Differences:
         sys.exit(self.differences > 0)
 
 
-def compare_cases(make, case):
-    """Compares as many cases as the command line says, from its seed on: `case(made, number)`, by what `make` makes of the program and a
-    folder for its inputs."""
+def compared(make, compare):
+    """What `make` made of the program that the command line names and a folder for its inputs, behind `compare(made, cases)` with the number
+    of cases there and from its seed on; and that number."""
     program, cases = str(Path(sys.argv[1]).resolve()), int(sys.argv[2])
     random.seed(int(sys.argv[3]))
     with tempfile.TemporaryDirectory() as folder:
         made = make(program, folder)
-        for number in range(cases):
-            case(made, number)
+        compare(made, cases)
+    return made, cases
+
+
+def compare_cases(make, case):
+    """Compares as many cases as the command line says: `case(made, number)`."""
+    made, cases = compared(make, lambda made, cases: [case(made, number) for number in range(cases)])
     made.end(cases)
 
 
