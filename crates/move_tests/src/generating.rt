@@ -208,6 +208,8 @@ fn assert_row(rt: &impl Abort, alloc: Global, rules: &Rules, row: &Row) {
     assert_written(rt, &given, row.plays);
     let given = by_paths(rt, alloc, rules, &list, &board, &rack);
     assert_written(rt, &given, row.plays);
+    let case = (row.words, row.board, row.rack, row.plays.len());
+    assert_case(rt, alloc, rules, case);
 }
 
 #[test]
@@ -278,14 +280,18 @@ fn assert_case(rt: &impl Abort, alloc: Global, rules: &Rules, case: Case<'_>) {
 }
 
 #[test]
-fn beside_a_plain_search(rt: HostRuntime) {
+fn behind_plays(rt: HostRuntime) {
     let rules = english_rules();
-    for case in CASES.iter().chain(&PLAYED).chain(&NO_GAME) {
+    for case in &PLAYED {
         assert_case(&rt, rt.alloc(), &rules, *case);
     }
-    for row in &ROWS {
-        let case = (row.words, row.board, row.rack, row.plays.len());
-        assert_case(&rt, rt.alloc(), &rules, case);
+}
+
+#[test]
+fn beside_a_plain_search(rt: HostRuntime) {
+    let rules = english_rules();
+    for case in CASES.iter().chain(&NO_GAME) {
+        assert_case(&rt, rt.alloc(), &rules, *case);
     }
     for (lie, rack, plays) in &POSITIONS {
         let tiles = GAME.get(..*lie).expect(&rt, "tiles of the game");
