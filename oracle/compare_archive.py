@@ -5,14 +5,10 @@ damaged records, with names that no file has and a folder among them. Every run 
 run in four is by a rules text.
 """
 import random
-import subprocess
-import sys
-import tempfile
-from collections import Counter
-from pathlib import Path
 
 from archive import read_json_line, read_tab_line, status_of, tab_line, unread, ways
 from compare_games import Maker
+from comparing import Differences, compared
 from dealing import Dealer, likely, line, spoiled
 from fuzz import TEXT_DAMAGES, damaged
 from lexicons import GAD2, build, convert
@@ -64,14 +60,14 @@ def some_games(rules, count):
     return games, {word for word in listed - phonies if 2 <= len(word) <= 15}
 
 
-class Archives:
-    """A program, a folder for its inputs, and what was told so far."""
+class Archives(Differences):
+    """Archives of games, with a name of no file and the name of a folder among them."""
 
     def __init__(self, program, folder):
-        self.program, self.folder, self.differences, self.seen = program, Path(folder), 0, Counter()
+        super().__init__(program, folder)
         (self.folder / "folder").mkdir()
 
-    def put(self, games, listed, rules):
+    def write(self, games, listed, rules):
         """Writes the inputs of a run, and tells the lines of which one has to be said of each name."""
         (self.folder / "words").write_text("\n".join(sorted(listed)))
         (self.folder / "lexicon").write_bytes(choose([build(listed), convert(build(listed), GAD2)]))
@@ -86,9 +82,9 @@ class Archives:
         (self.folder / "names").write_text("".join(f"{told[0]['name']}\n" for told in wanted if "\n" not in told[0]["name"]))
         return wanted
 
-    def run(self, games, listed, rules):
+    def compare(self, games, listed, rules):
         """One run in both forms."""
-        wanted = self.put(games, listed, rules)
+        wanted = self.write(games, listed, rules)
         by = ["--rules", "rules"] if rules != ENGLISH or likely(0.2) else []
         names = [told[0]["name"] for told in wanted]
         given = ["--names", "names", "words", "lexicon"] if likely(0.5) else ["words", "lexicon", "--", *names]
@@ -99,7 +95,7 @@ class Archives:
 
     def lines(self, words, wanted, reading):
         """The lines of a run with what they say, each of which has to be one of those that are wanted of its name."""
-        ran = subprocess.run([self.program, "archive", *words], cwd=self.folder, capture_output=True, check=False, timeout=600)
+        ran = self.run("archive", *words)
         texts = ran.stdout.decode().splitlines(keepends=True) if ran.stdout.endswith(b"\n") else []
         self.expect(len(texts) == len(wanted) and not ran.stderr, *words, ran.stdout[-500:], ran.stderr)
         told = [(text, reading(text)) for text in ran.stdout.decode().split("\n")[:-1] for text in [text + "\n"]]
@@ -109,25 +105,16 @@ class Archives:
         self.expect(ran.returncode == status_of([said for _, said in told]), *words, "status", ran.returncode)
         return told
 
-    def expect(self, good, *what):
-        if not good:
-            self.differences += 1
-            print(*what, sep="\n  ")
 
-
-def main():
-    program, cases = str(Path(sys.argv[1]).resolve()), int(sys.argv[2])
-    random.seed(int(sys.argv[3]))
+def compare(archives, cases):
+    """Compares runs of up to forty games by one list."""
     made = 0
-    with tempfile.TemporaryDirectory() as folder:
-        archives = Archives(program, folder)
-        while made < cases:
-            rules = ENGLISH if likely(0.75) else random_rules()
-            games, listed = some_games(rules, min(40, cases - made))
-            archives.run(games, listed, rules)
-            made += len(games)
-    print(f"{made} games, {archives.differences} differences", dict(sorted(archives.seen.items())))
-    sys.exit(archives.differences > 0)
+    while made < cases:
+        rules = ENGLISH if likely(0.75) else random_rules()
+        games, listed = some_games(rules, min(40, cases - made))
+        archives.compare(games, listed, rules)
+        made += len(games)
 
 
-main()
+archives, games_made = compared(Archives, compare)
+archives.end(games_made, "games")

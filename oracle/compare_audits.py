@@ -5,15 +5,11 @@ and one both: the program has to tell exactly these, and the corrected record ha
 games that nobody dealt have some numbers changed at random, and the second judge says what is to be told of them.
 """
 import random
-import subprocess
-import sys
-import tempfile
-from collections import Counter
 from dataclasses import replace
-from pathlib import Path
 
 from audits import MOST, status, ways
 from compare_games import Maker
+from comparing import Differences, compare_cases
 from dealing import Dealer, likely, line
 from lexicons import GAD2, build, convert
 from rules import ENGLISH
@@ -67,22 +63,17 @@ def spoil(events, kind):
     return changed, lines
 
 
-class Sheets:
-    """A program, a folder for its inputs, and what was told so far."""
+class Sheets(Differences):
+    """Sheets with mistakes."""
 
-    def __init__(self, program, folder):
-        self.program, self.folder, self.differences, self.seen = program, Path(folder), 0, Counter()
-
-    def put(self, events, listed, rules):
+    def write(self, events, listed, rules):
+        """Writes the inputs of a run, and tells its options."""
         (self.folder / "words").write_text("\n".join(sorted(listed)))
         (self.folder / "lexicon").write_bytes(choose([build(listed), convert(build(listed), GAD2)]))
         (self.folder / "rules").write_bytes(text_of(rules))
         (self.folder / "game").write_text("".join(map(line, events)))
         (self.folder / "out").unlink(missing_ok=True)
         return ["--rules", "rules"] if rules != ENGLISH or likely(0.2) else []
-
-    def run(self, *words):
-        return subprocess.run([self.program, *words], cwd=self.folder, capture_output=True, check=False, timeout=600)
 
     def tidied(self, events):
         """The normal form of a record of these events."""
@@ -100,7 +91,7 @@ class Sheets:
         changed, told = spoil(events, kind)
         if any(abs(it.total) > MOST for it in [*events, *changed]):
             return
-        by = self.put(changed, listed, rules)
+        by = self.write(changed, listed, rules)
         ran = self.run("audit", *by, "--corrected", "out", "words", "lexicon", "game")
         lines = ran.stdout.decode().split("\n")
         verdict = lines[-2] if len(lines) > 1 else ""
@@ -124,7 +115,7 @@ class Sheets:
         if any(abs(number) > MOST for it in events for number in (it.score, it.total)):
             return
         listed = {word for word in maker.listed if 2 <= len(word) <= 15}
-        by = self.put(events, listed, rules)
+        by = self.write(events, listed, rules)
         told, verdicts = ways(events, listed, rules)
         ran = self.run("audit", *by, "--corrected", "out", "words", "lexicon", "game")
         lines = ran.stdout.decode().split("\n")
@@ -134,22 +125,10 @@ class Sheets:
         self.expect(verdict not in verdicts or ran.returncode == status(told, verdict), "status", ran.returncode, lines)
         self.expect((self.folder / "out").exists() != verdict.startswith("illegal"), "corrected", verdict)
 
-    def expect(self, good, *what):
-        if not good:
-            self.differences += 1
-            print(*what, sep="\n  ")
+    def case(self, number):
+        """A sheet with mistakes that are known, and a random one."""
+        self.known(["score", "sum", "score", "sum", "both"][number % 5])
+        self.unknown()
 
 
-def main():
-    program, cases = str(Path(sys.argv[1]).resolve()), int(sys.argv[2])
-    random.seed(int(sys.argv[3]))
-    with tempfile.TemporaryDirectory() as folder:
-        sheets = Sheets(program, folder)
-        for case in range(cases):
-            sheets.known(["score", "sum", "score", "sum", "both"][case % 5])
-            sheets.unknown()
-    print(f"{cases} cases, {sheets.differences} differences", dict(sorted(sheets.seen.items())))
-    sys.exit(sheets.differences > 0)
-
-
-main()
+compare_cases(Sheets, Sheets.case)

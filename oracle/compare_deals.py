@@ -1,10 +1,8 @@
 """Compares `referee judge` with the second judge on random games that were dealt for real, and on such games with one rack
 spoiled: compare_deals.py PROGRAM CASES SEED"""
 import random
-import sys
-import tempfile
 
-from comparing import Comparison
+from comparing import Comparison, compared
 from dealing import Dealer, in_order, line, spoiled, words_in_reach
 from deals import events_of
 from rules import ENGLISH
@@ -47,14 +45,5 @@ def records(cases):
                 yield record, "".join(map(line, record)), listed, dealt
 
 
-def main():
-    program, cases = sys.argv[1], int(sys.argv[2])
-    random.seed(int(sys.argv[3]))
-    with tempfile.TemporaryDirectory() as folder:
-        comparison = Comparison(program, folder)
-        for record in records(cases):
-            comparison.judge(*record)
-    comparison.end()
-
-
-main()
+comparison, _ = compared(Comparison, lambda made, cases: [made.judge(*record) for record in records(cases)])
+comparison.end()

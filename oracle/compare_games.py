@@ -3,12 +3,10 @@
 The second judge is tried on worked rows first, and the two are compared on the game of `examples/`.
 """
 import random
-import sys
-import tempfile
 from pathlib import Path
 
 from boards import ACROSS, DOWN, Refused, place, runs, score_of
-from comparing import Comparison
+from comparing import Comparison, compared
 from dealing import in_order, likely, line, words_in_reach
 from deals import events_of
 from games import Event
@@ -161,19 +159,19 @@ def example(comparison):
     comparison.judge(events_of(text), text, set((folder / "words.txt").read_text().upper().split()))
 
 
+def compare(comparison, cases):
+    """Compares the game of `examples/` and random ones."""
+    example(comparison)
+    for _ in range(cases):
+        maker = Maker(choose([2, 3, 6, 10, 40, 120]))
+        events = maker.game()
+        if events and not events[0].player:
+            comparison.judge(events, "".join(map(line, events)), maker.listed)
+
+
 def main():
-    program, cases = sys.argv[1], int(sys.argv[2])
     rows()
-    random.seed(int(sys.argv[3]))
-    with tempfile.TemporaryDirectory() as folder:
-        comparison = Comparison(program, folder)
-        example(comparison)
-        for _ in range(cases):
-            maker = Maker(choose([2, 3, 6, 10, 40, 120]))
-            events = maker.game()
-            if events and not events[0].player:
-                comparison.judge(events, "".join(map(line, events)), maker.listed)
-    comparison.end()
+    compared(Comparison, compare)[0].end()
 
 
 if __name__ == "__main__":

@@ -4,11 +4,11 @@ import random
 import struct
 import subprocess
 import sys
-import tempfile
 from collections import Counter
 from pathlib import Path
 
 from answers import checked, converted, status_of
+from comparing import compared
 from lexicons import GAD1, GAD2, MARK, build, convert
 
 LETTERS = "ABEINRSTZ"
@@ -109,20 +109,21 @@ class Lexicons:
             self.run(["convert", form, self.lexicon, self.out], answer, status_of(answer), wrote=True)
 
 
+def compare(lexicons, cases):
+    """Compares random lists, and files of them with changes."""
+    for _ in range(cases):
+        words = random_words()
+        lexicons.build(words)
+        for form in (GAD1, GAD2) * 2:
+            words_now = words if random.random() < 0.7 else other_list(words)
+            data = convert(build(words), form)
+            for _ in range(random.choice([0, 1, 1, 1, 2])):
+                data = changed(data) if len(data) >= 16 else data
+            lexicons.check(words_now, data)
+
+
 def main():
-    program, cases = sys.argv[1], int(sys.argv[2])
-    random.seed(int(sys.argv[3]))
-    with tempfile.TemporaryDirectory() as folder:
-        lexicons = Lexicons(program, folder)
-        for _ in range(cases):
-            words = random_words()
-            lexicons.build(words)
-            for form in (GAD1, GAD2) * 2:
-                words_now = words if random.random() < 0.7 else other_list(words)
-                data = convert(build(words), form)
-                for _ in range(random.choice([0, 1, 1, 1, 2])):
-                    data = changed(data) if len(data) >= 16 else data
-                lexicons.check(words_now, data)
+    lexicons, cases = compared(Lexicons, compare)
     print(f"{cases} lists, no difference")
     for answer, times in sorted(lexicons.seen.items()):
         print(f"{times:8} {answer}")

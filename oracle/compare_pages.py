@@ -6,26 +6,17 @@ the second judge says of the record: names, totals, verdict, reason, boards, row
 of a game of up to 30 events has less than 300 kB.
 """
 import random
-import subprocess
-import sys
-import tempfile
-from collections import Counter
-from pathlib import Path
 
 import audits
 from answers import lines_of, status_of, words_of
+from comparing import Differences, compare_cases
 from dealing import likely, line
 from deals import event_of, settled_verdicts
 from game_pages import differences, expected
-from lexicons import GAD2, build, convert
-from mistakes import some_game
+from mistakes import some_inputs
 from records import Fault, read
-from rules import ENGLISH
-from rules_texts import text_of
-from ruling import random_rules
 
 choose = random.choice
-MOST = 999_999
 NAMES = [b"A", b"<b>", b"</td>", b"&amp;", b"\"'", b"x\xff\xfe", b"<script>alert(1)</script>", b"&#39;", "Zoë".encode(), b"-->", b"]]>"]
 
 
@@ -37,37 +28,27 @@ def named(game, first, second):
     return game
 
 
-class Pages:
-    """A program, a folder for its inputs, and what was told so far."""
-
-    def __init__(self, program, folder):
-        self.program, self.folder, self.differences, self.seen = program, Path(folder), 0, Counter()
-
-    def put(self, name, data):
-        (self.folder / name).write_bytes(data)
-        return data
+class Pages(Differences):
+    """Pages of games with mistakes."""
 
     def case(self):
-        rules = ENGLISH if likely(0.75) else random_rules()
-        events, listed = some_game(rules)
-        if any(abs(number) > MOST for it in events for number in (it.score, it.total)):
+        inputs = some_inputs(self.put)
+        if inputs is None:
             return
-        words = self.put("words", "\n".join(sorted(listed)).encode())
-        self.put("lexicon", choose([build(listed), convert(build(listed), GAD2)]))
-        text = self.put("rules", text_of(rules)) if rules != ENGLISH or likely(0.2) else None
+        rules, events, words, _, text = inputs
         game = "".join(map(line, events)).encode()
         names = random.sample([it for it in NAMES if b":" not in it and b" " not in it], 2)
         game = self.put("game", named(game, *names) if likely(0.7) else game)
         self.compare(words, game, text, rules)
 
-    def run(self, by):
+    def page(self, by):
         (self.folder / "out").unlink(missing_ok=True)
-        ran = subprocess.run([self.program, "page", *by, "words", "lexicon", "game", "out"], cwd=self.folder, capture_output=True, check=False, timeout=600)
+        ran = self.run("page", *by, "words", "lexicon", "game", "out")
         return ran, (self.folder / "out").read_bytes() if (self.folder / "out").exists() else None
 
     def compare(self, words, game, text, rules):
         by = ["--rules", "rules"] if text is not None else []
-        ran, page = self.run(by)
+        ran, page = self.page(by)
         try:
             players, said = read(game)
         except Fault as fault:
@@ -83,23 +64,7 @@ class Pages:
         self.expect(len(events) > 30 or len(page) < 300_000, len(page), "bytes")
         told = differences(page, expected(verdict, players, events, lines, listed, rules, words, text))
         self.expect(not told, *told[:5], game.decode("latin-1"))
-        return self.expect(self.run(by)[1] == page, "another page")
-
-    def expect(self, good, *what):
-        if not good:
-            self.differences += 1
-            print(*what, sep="\n  ")
+        return self.expect(self.page(by)[1] == page, "another page")
 
 
-def main():
-    program, cases = str(Path(sys.argv[1]).resolve()), int(sys.argv[2])
-    random.seed(int(sys.argv[3]))
-    with tempfile.TemporaryDirectory() as folder:
-        pages = Pages(program, folder)
-        for _ in range(cases):
-            pages.case()
-    print(f"{cases} cases, {pages.differences} differences", dict(sorted(pages.seen.items())))
-    sys.exit(pages.differences > 0)
-
-
-main()
+compare_cases(Pages, lambda pages, _: pages.case())

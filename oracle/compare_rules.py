@@ -9,13 +9,13 @@ import random
 import re
 import subprocess
 import sys
-import tempfile
 from collections import Counter
 from pathlib import Path
 
 from answers import error_of, judged, status_of, topped
 from best import kinds_told
 from compare_games import Maker
+from comparing import compared
 from dealing import Dealer, in_order, likely, line, spoiled, words_in_reach
 from lexicons import build
 from rules import ENGLISH
@@ -81,28 +81,29 @@ class Ruled:
         self.run("top", text, topped(words, lexicon, record, rack, text), rack)
 
 
-def example(compared):
+def example(ruled):
     """Compares the game of `examples/` by other rules, and by the English ones."""
     folder = Path(__file__).parent.parent / "examples"
     game, listed = (folder / "club.gcg").read_bytes(), set((folder / "words.txt").read_text().upper().split())
     for text in ((folder / "club.rules").read_bytes(), text_of(ENGLISH)):
-        compared.compare(text, game, listed, "AEINRST")
+        ruled.compare(text, game, listed, "AEINRST")
+
+
+def compare(ruled, cases):
+    """Compares the game of `examples/` and games by random rules."""
+    example(ruled)
+    for _ in range(cases):
+        rules = random_rules()
+        for game in games(rules):
+            ruled.compare(another_text(rules), *game)
+        ruled.compare(damaged_text(rules), *game)
 
 
 def main():
-    program, cases = sys.argv[1], int(sys.argv[2])
-    random.seed(int(sys.argv[3]))
-    with tempfile.TemporaryDirectory() as folder:
-        compared = Ruled(program, folder)
-        example(compared)
-        for _ in range(cases):
-            rules = random_rules()
-            for game in games(rules):
-                compared.compare(another_text(rules), *game)
-            compared.compare(damaged_text(rules), *game)
-    print(f"{cases} rules, {compared.seen.total()} runs, {compared.differences} differences", dict(sorted(compared.seen.items())))
-    print("best plays:", ", ".join(f"{kind} {times}" for kind, times in sorted(compared.kinds.items())))
-    sys.exit(compared.differences > 0)
+    ruled, cases = compared(Ruled, compare)
+    print(f"{cases} rules, {ruled.seen.total()} runs, {ruled.differences} differences", dict(sorted(ruled.seen.items())))
+    print("best plays:", ", ".join(f"{kind} {times}" for kind, times in sorted(ruled.kinds.items())))
+    sys.exit(ruled.differences > 0)
 
 
 if __name__ == "__main__":

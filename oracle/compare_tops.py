@@ -7,11 +7,11 @@ as many as it is asked for, by the greater score and then as they are written, o
 import random
 import subprocess
 import sys
-import tempfile
 from collections import Counter
 from pathlib import Path
 
 from best import MANY, best_plays
+from comparing import compared
 from dealing import Dealer, in_order, likely, line, words_in_reach
 from lexicons import build
 from rules import ENGLISH
@@ -59,12 +59,7 @@ class Tops:
 
 
 def main():
-    program, number = sys.argv[1], int(sys.argv[2])
-    random.seed(int(sys.argv[3]))
-    with tempfile.TemporaryDirectory() as folder:
-        tops = Tops(program, folder)
-        for case in cases(number):
-            tops.compare(*case)
+    tops, number = compared(Tops, lambda made, number: [made.compare(*case) for case in cases(number)])
     print(f"{number} racks, {tops.differences} differences", dict(sorted(tops.kinds.items())))
     sys.exit(tops.differences > 0)
 

@@ -1,12 +1,59 @@
-"""Judges records by the program and by the second judge, and counts what they say."""
+"""What comparisons of the program with the second judge have in common: how cases are counted and differences told, and records that
+are judged by both."""
+import random
 import subprocess
 import sys
+import tempfile
 from collections import Counter
 from pathlib import Path
 
 from best import kinds_told
 from deals import judge_deal, legal_report, settled_ways
 from lexicons import build
+
+
+class Differences:
+    """A program, a folder for its inputs, how many differences were told, and what was seen how often."""
+
+    def __init__(self, program, folder):
+        self.program, self.folder, self.differences, self.seen = program, Path(folder), 0, Counter()
+
+    def put(self, name, data):
+        """Writes a file of the folder, and gives its bytes back."""
+        (self.folder / name).write_bytes(data)
+        return data
+
+    def run(self, *words):
+        """Runs the program in the folder."""
+        return subprocess.run([self.program, *words], cwd=self.folder, capture_output=True, check=False, timeout=600)
+
+    def expect(self, good, *what):
+        """Tells a difference, if there is one."""
+        if not good:
+            self.differences += 1
+            print(*what, sep="\n  ")
+
+    def end(self, cases, counted="cases"):
+        """Tells what was compared; the exit status is 1 where anything differs."""
+        print(f"{cases} {counted}, {self.differences} differences", dict(sorted(self.seen.items())))
+        sys.exit(self.differences > 0)
+
+
+def compared(make, compare):
+    """What `make` made of the program that the command line names and a folder for its inputs, behind `compare(made, cases)` with the number
+    of cases there and from its seed on; and that number."""
+    program, cases = str(Path(sys.argv[1]).resolve()), int(sys.argv[2])
+    random.seed(int(sys.argv[3]))
+    with tempfile.TemporaryDirectory() as folder:
+        made = make(program, folder)
+        compare(made, cases)
+    return made, cases
+
+
+def compare_cases(make, case):
+    """Compares as many cases as the command line says: `case(made, number)`."""
+    made, cases = compared(make, lambda made, cases: [case(made, number) for number in range(cases)])
+    made.end(cases)
 
 
 class Comparison:

@@ -33,24 +33,26 @@ part() {
 }
 
 if [ -x "$program" ]; then
-    part oracle/program.py "$program"
-    part oracle/manual.py "$program"
-    part oracle/pages.py "$program"
-    part oracle/sentences.py "$program"
-    part oracle/releases.py "$program"
-    part oracle/compare_records.py "$program" 1000 "$seed"
-    part oracle/compare_games.py "$program" 200 "$seed"
-    part oracle/compare_deals.py "$program" 40 "$seed"
-    part oracle/compare_lexicons.py "$program" 100 "$seed"
-    part oracle/flip_lexicons.py "$program" 2000 "$seed"
-    part oracle/compare_tops.py "$program" 50 "$seed"
-    part oracle/compare_rules.py "$program" 20 "$seed"
-    part oracle/compare_archive.py "$program" 60 "$seed"
-    part oracle/archive_scripts.py "$program" 30 "$seed"
-    part oracle/compare_audits.py "$program" 60 "$seed"
-    part oracle/compare_explains.py "$program" 60 "$seed"
-    part oracle/compare_pages.py "$program" 40 "$seed"
-    part oracle/fuzz.py "$program" 60 "$seed"
+    for script in program manual pages sentences releases; do
+        part oracle/$script.py "$program"
+    done
+    while read -r script cases; do
+        part "oracle/$script.py" "$program" "$cases" "$seed"
+    done <<'END'
+compare_records 1000
+compare_games 200
+compare_deals 40
+compare_lexicons 100
+flip_lexicons 2000
+compare_tops 50
+compare_rules 20
+compare_archive 60
+archive_scripts 30
+compare_audits 60
+compare_explains 60
+compare_pages 40
+fuzz 60
+END
 else
     failed=$((failed + 1))
     echo "FAILED: there is no program $program"
@@ -61,10 +63,14 @@ else
     failed=$((failed + 1))
     echo "FAILED: there is no program $probe"
 fi
-part oracle/try_best.py 10 "$seed"
-part oracle/try_deals.py 10 "$seed"
-part oracle/try_lexicons.py 200 "$seed"
-part oracle/try_rules.py 100 "$seed"
+while read -r script cases; do
+    part "oracle/$script.py" "$cases" "$seed"
+done <<'END'
+try_best 10
+try_deals 10
+try_lexicons 200
+try_rules 100
+END
 if command -v cc > /dev/null; then
     [ ! -x "$program" ] || part bench/refuse_memory.py - "$program"
     [ ! -x "$tests" ] || part bench/refuse_memory.py "$tests"

@@ -5,9 +5,13 @@ from dataclasses import replace
 
 from compare_games import Maker, some_tiles
 from dealing import Dealer, likely
-from rules import SIDE
+from lexicons import GAD2, build, convert
+from rules import ENGLISH, SIDE
+from rules_texts import text_of
+from ruling import random_rules
 
 choose = random.choice
+MOST = 999_999
 
 
 def moved(event):
@@ -77,3 +81,16 @@ def some_game(rules):
     for _ in range(choose([0, 1, 1, 2]) if events else 0):
         events = with_mistake(events) or events
     return events, {word for word in listed if 2 <= len(word) <= SIDE}
+
+
+def some_inputs(put):
+    """Rules and the events of such a game, with its list, a lexicon of it, and the rules as a text (None: the English ones, without a text);
+    `put` writes these three. None where a number of the game is too large for a record."""
+    rules = ENGLISH if likely(0.75) else random_rules()
+    events, listed = some_game(rules)
+    if any(abs(number) > MOST for it in events for number in (it.score, it.total)):
+        return None
+    words = put("words", "\n".join(sorted(listed)).encode())
+    lexicon = put("lexicon", choose([build(listed), convert(build(listed), GAD2)]))
+    text = put("rules", text_of(rules)) if rules != ENGLISH or likely(0.2) else None
+    return rules, events, words, lexicon, text

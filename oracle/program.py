@@ -725,13 +725,17 @@ tiles not on the board: 100
 """
 
 
-def board_of(first, told, *changes):
-    """The English board with some of its lines changed."""
-    text = f"board {first}\n{SQUARES}{told}{EVERY_TILE}"
+def changed(text, changes):
+    """A text with some of its lines changed, each of which it has once."""
     for old, new in changes:
         assert text.count(old) == 1, old
         text = text.replace(old, new)
     return text
+
+
+def board_of(first, told, *changes):
+    """The English board with some of its lines changed."""
+    return changed(f"board {first}\n{SQUARES}{told}{EVERY_TILE}", changes)
 
 
 WITHOUT_WORD = [("board: 100", "board: 96"), ("D 4", "D 3"), ("O 8", "O 7"), ("R 6", "R 5"), ("W 2", "W 1")]
@@ -985,11 +989,7 @@ AT_MARKED = (ROW_OF_AT[0], " 9 . . ' . . .[' .]' . . . ' . .")
 
 def picture_of(line, play, *changes):
     """The English board before a line, with some of its rows changed."""
-    text = f"board before line {line}{', the squares of the play in brackets' if play else ''}\n{SQUARES}"
-    for old, new in changes:
-        assert text.count(old) == 1, old
-        text = text.replace(old, new)
-    return text
+    return changed(f"board before line {line}{', the squares of the play in brackets' if play else ''}\n{SQUARES}", changes)
 
 
 def explained(run):

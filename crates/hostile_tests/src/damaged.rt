@@ -1,6 +1,7 @@
 //! Damaged inputs.
-use crate::jobs::{AT, Call, Job, WITHDRAWN, attempt, working};
+use crate::jobs::{Call, Job, WITHDRAWN, attempt, working};
 use engine::Verdict;
+use test_samples::AT;
 
 /// Each change of one bit in the file of AT makes it another lexicon than that of AT.
 #[test]
@@ -23,7 +24,7 @@ fn single_bits(rt: HostRuntime) {
     }
 }
 
-/// Wherever a record is cut off, there is an answer.
+/// Wherever a record is cut off, there is an answer, and it is settled, since there is no exchange.
 #[test]
 fn cut_records(rt: HostRuntime) {
     for len in 0..WITHDRAWN.game.len() {
@@ -38,6 +39,7 @@ fn cut_records(rt: HostRuntime) {
         };
         let outcome = attempt(rt.alloc(), &job, &working(8192));
         assert!(rt; outcome.answer.is_ok(), "{len} bytes");
+        assert!(rt; outcome.answer != Ok(Verdict::Unsettled), "{len} bytes");
         assert!(rt; outcome.out.as_slice().ends_with(job.wrote), "{len} bytes");
     }
 }

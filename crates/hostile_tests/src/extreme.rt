@@ -2,12 +2,12 @@
 ghost use Rattle.devices.specs.Devices.{Device, HasRoom};
 ghost use Rattle.std.specs.Prelude.{◌≡◌, None};
 
-use crate::jobs::EMPTY;
 use devices::{DeviceFailed, FromRead, FromWrite, Input};
 use engine::{Verdict, run};
 use ref_tiles::english_rules;
 use std::alloc::Global;
 use std::process::Abort;
+use test_samples::EMPTY;
 
 /// An input of so many line feeds. It counts them as it gives them.
 #[derive(Drop)]

@@ -3,9 +3,31 @@ ghost use Rattle.std.specs.Prelude.{◌<◌};
 
 use crate::feeds::{Mishap, NEVER};
 use crate::jobs::{Call, JOBS, Job, attempt, working};
-use engine::RunFault;
+use engine::{RunFault, Verdict};
+use gcg_read::{EventKind, read};
 use std::alloc::Global;
 use std::process::Abort;
+
+/// Whether tiles are exchanged in the record of a job.
+fn has_exchange(rt: &impl Abort, alloc: Global, job: &Job<'_>) -> bool {
+    let record = read(alloc, job.game).expect(rt, "a record");
+    record.events.as_slice().iter().any(|event| {
+        matches!(
+            event.kind,
+            EventKind::Exchange(_) | EventKind::ExchangeUnknown(_)
+        )
+    })
+}
+
+/// A record without an exchange is settled.
+#[test]
+fn unsettled_jobs(rt: HostRuntime) {
+    for job in &JOBS {
+        if job.verdict == Verdict::Unsettled {
+            assert!(rt; has_exchange(&rt, rt.alloc(), job), "{:?}", job.game);
+        }
+    }
+}
 
 /// Asserts that a job with working devices does what it is to do, however few bytes they move at once.
 fn assert_done(rt: &impl Abort, alloc: Global, job: &Job<'_>) {

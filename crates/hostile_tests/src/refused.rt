@@ -2,9 +2,9 @@
 //! call, and takes little memory besides. Without a refusal the answer is the row's.
 use crate::feeds::{Feed, NEVER};
 use crate::jobs::{
-    AT, AT_BY_NODES, BEST_PLAYS, BUILT, CHECKED, CONVERTED, CONVERTED_BACK, Job, NO_DEAL, ONE_PLAY,
-    PLAYS_BEFORE, RULED, RULED_BOARD, RULED_NO_DEAL, RULED_PLAYS, RULED_PLAYS_BEFORE, SETTLED,
-    SHOWN, STALE, TIDIED, UNSETTLED, WITHDRAWN, WORD, attempt, working,
+    BEST_PLAYS, BUILT, CHECKED, CONVERTED, CONVERTED_BACK, Job, NO_DEAL, ONE_PLAY, PLAYS_BEFORE,
+    RULED, RULED_BOARD, RULED_NO_DEAL, RULED_PLAYS, RULED_PLAYS_BEFORE, SETTLED, SHOWN, STALE,
+    TIDIED, UNSETTLED, WITHDRAWN, WORD, attempt, working,
 };
 use engine::{RunFault, open_case, pair_file};
 use explain_lines::push_explanation;
@@ -19,6 +19,7 @@ use lex_list::WordList;
 use ref_tiles::{Kind, english_rules};
 use std::alloc::Global;
 use std::process::Abort;
+use test_samples::{AT, AT_BY_NODES, ROWS_1_TO_7, ROWS_9_TO_11, ROWS_12_TO_15, has_parts};
 
 /// A job is done, or refused with nothing written.
 fn assert_spared(rt: &impl Abort, alloc: Global, job: &Job<'_>) {
@@ -260,7 +261,9 @@ fn complete_with_an_exchange(rt: HostRuntime) {
 }
 
 /// What explains a wrong score.
-const WRONG_SCORE: &str = "illegal line 1: WrongScore 16
+const WRONG_SCORE: [&str; 5] = [
+    "\
+illegal line 1: WrongScore 16
 line 1: >A: DORWAAE 8E WORD +18 18
 The play scores 16, but 18 is written.
 WORD
@@ -271,63 +274,42 @@ WORD
   sum 8 x 2 = 16
 score of the play: 16
 board before line 1, the squares of the play in brackets
-   A B C D E F G H I J K L M N O
- 1 = . . ' . . . = . . . ' . . =
- 2 . - . . . \" . . . \" . . . - .
- 3 . . - . . . ' . ' . . . - . .
- 4 ' . . - . . . ' . . . - . . '
- 5 . . . . - . . . . . - . . . .
- 6 . \" . . . \" . . . \" . . . \" .
- 7 . . ' . . . ' . ' . . . ' . .
- 8 = . . '[. . . -]. . . ' . . =
- 9 . . ' . . . ' . ' . . . ' . .
-10 . \" . . . \" . . . \" . . . \" .
-11 . . . . - . . . . . - . . . .
-12 ' . . - . . . ' . . . - . . '
-13 . . - . . . ' . ' . . . - . .
-14 . - . . . \" . . . \" . . . - .
-15 = . . ' . . . = . . . ' . . =
-= triple word, - double word, \" triple letter, ' double letter
-small letters are blanks
-";
+",
+    ROWS_1_TO_7,
+    " 8 = . . '[. . . -]. . . ' . . =\n",
+    ROWS_9_TO_11,
+    ROWS_12_TO_15,
+];
 
 /// What explains racks.
-const SHORT_RACKS: &str = "illegal line 2: TilesShort ?
+const SHORT_RACKS: [&str; 5] = [
+    "\
+illegal line 2: TilesShort ?
 line 2: >B: ? - +0 0
 The game has 2 of the tile ?, but by the lines below there would have to be 3: 0 on the board, 2 on A's rack and 1 on B's.
   line 1 shows 2 on A's rack
   line 2 shows 1 on B's rack
 board before line 2
-   A B C D E F G H I J K L M N O
- 1 = . . ' . . . = . . . ' . . =
- 2 . - . . . \" . . . \" . . . - .
- 3 . . - . . . ' . ' . . . - . .
- 4 ' . . - . . . ' . . . - . . '
- 5 . . . . - . . . . . - . . . .
- 6 . \" . . . \" . . . \" . . . \" .
- 7 . . ' . . . ' . ' . . . ' . .
- 8 = . . ' . . . - . . . ' . . =
- 9 . . ' . . . ' . ' . . . ' . .
-10 . \" . . . \" . . . \" . . . \" .
-11 . . . . - . . . . . - . . . .
-12 ' . . - . . . ' . . . - . . '
-13 . . - . . . ' . ' . . . - . .
-14 . - . . . \" . . . \" . . . - .
-15 = . . ' . . . = . . . ' . . =
-= triple word, - double word, \" triple letter, ' double letter
-small letters are blanks
-";
+",
+    ROWS_1_TO_7,
+    " 8 = . . ' . . . - . . . ' . . =\n",
+    ROWS_9_TO_11,
+    ROWS_12_TO_15,
+];
 
 /// What explains a text that is no record.
-const THIRD_PLAYER: &str = "bad record line 3: ThirdPlayer
+const THIRD_PLAYER: [&str; 1] = [
+    "\
+bad record line 3: ThirdPlayer
 line 3: >C: - +0 0
 C is a third nickname: the players are A and B.
-";
+",
+];
 
 /// Asserts what explains a record by the list WORD, or that memory is refused.
-fn assert_explained(rt: &impl Abort, alloc: Global, game: &[u8], want: &str) {
+fn assert_explained(rt: &impl Abort, alloc: Global, game: &[u8], want: &[&str]) {
     if let Some(text) = explained(alloc, game) {
-        assert_eq!(rt; text.as_slice(), want.as_bytes());
+        assert!(rt; has_parts(text.as_slice(), want));
     }
 }
 
@@ -351,7 +333,7 @@ fn explain_of_a_wrong_score(rt: HostRuntime) {
         &rt,
         rt.alloc(),
         b">A: DORWAAE 8E WORD +18 18\n",
-        WRONG_SCORE,
+        &WRONG_SCORE,
     );
 }
 
@@ -361,7 +343,7 @@ fn explain_of_racks(rt: HostRuntime) {
         &rt,
         rt.alloc(),
         b">A: ?? - +0 0\n>B: ? - +0 0\n",
-        SHORT_RACKS,
+        &SHORT_RACKS,
     );
 }
 
@@ -371,6 +353,6 @@ fn explain_of_no_record(rt: HostRuntime) {
         &rt,
         rt.alloc(),
         b">A: - +0 0\n>B: - +0 0\n>C: - +0 0\n",
-        THIRD_PLAYER,
+        &THIRD_PLAYER,
     );
 }

@@ -1,5 +1,5 @@
 //! Which files are told at once to be that of a list, and which need the walk beside the paths in order.
-use crate::samples::{AT, AT_AND_MORE, AT_ATE, AT_ATE_APART, AT_BY_NODES, AT_IT, EMPTY};
+use crate::samples::{AT_AND_MORE, AT_ATE, AT_ATE_APART, LISTS};
 use lex_agree::agree;
 use lex_build::{build, convert};
 use lex_check::check;
@@ -7,6 +7,7 @@ use lex_file::{Format, LexFile};
 use lex_list::WordList;
 use std::alloc::Global;
 use std::process::Abort;
+use test_samples::{AT, AT_BY_NODES, AT_IT, EMPTY};
 
 /// A word list and a file, whether it is told at once that the file is that of the list, and whether it is.
 struct Row {
@@ -82,16 +83,6 @@ const ROWS: [Row; 10] = [
     },
 ];
 
-/// Lists whose files are told at once, in both formats.
-const LISTS: [&[u8]; 6] = [
-    b"AT\nTA",
-    b"STAR\nRATS\nARTS\nTSAR",
-    b"ABCDEFGHIJKLMNO\nONMLKJIHGFEDCBA\nAAAAAAAAAAAAAAA",
-    b"AA\nAAA\nAAAA\nAAAAA\nAAAAAA",
-    b"ZZ\nZA\nAZ\nAA\nZAZ\nAZA",
-    b"CARE\nCARES\nCARED\nBARE\nBARES\nBARED\nCARING\nBARING",
-];
-
 /// Whether it is told at once that a file is that of a list, and whether it is; none where there is no list or no file.
 fn answers(alloc: Global, words: &[u8], bytes: &[u8]) -> Option<(bool, bool)> {
     let list = WordList::read(alloc, words).ok()?;
@@ -125,6 +116,7 @@ fn worked_rows(rt: HostRuntime) {
     }
 }
 
+/// Files are told at once in both formats.
 #[test]
 fn built_files_are_told_at_once(rt: HostRuntime) {
     for words in &LISTS {

@@ -1,11 +1,12 @@
 //! The files that are built of lists.
-use crate::samples::{AT, AT_ATE, AT_IT, EMPTY};
+use crate::samples::{AT_ATE, LISTS};
 use lex_build::{BuildFault, build};
 use lex_check::{Mismatch, check};
 use lex_file::LexFile;
 use lex_list::{ListWhy, WordList};
 use std::alloc::Global;
 use std::process::Abort;
+use test_samples::{AT, AT_IT, EMPTY};
 
 /// The file of the word AA, whose paths are A+A and AA: the node of A has a mark that goes on and an A that ends.
 const AA: [u8; 32] = [
@@ -24,18 +25,6 @@ const FILES: [(&[u8], &[u8]); 9] = [
     (b"IT\r\nAT\r\n", &AT_IT),
     (b"AA", &AA),
     (b"AT\nATE", &AT_ATE),
-];
-
-/// Word lists whose files are checked against them.
-const LISTS: [&[u8]; 8] = [
-    b"",
-    b"AT",
-    b"AT\nTA",
-    b"STAR\nRATS\nARTS\nTSAR",
-    b"ABCDEFGHIJKLMNO\nONMLKJIHGFEDCBA\nAAAAAAAAAAAAAAA",
-    b"AA\nAAA\nAAAA\nAAAAA\nAAAAAA",
-    b"ZZ\nZA\nAZ\nAA\nZAZ\nAZA",
-    b"CARE\nCARES\nCARED\nBARE\nBARES\nBARED\nCARING\nBARING",
 ];
 
 /// What becomes of a list: it is built and checked, or memory ran out on the way.

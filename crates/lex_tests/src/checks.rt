@@ -1,10 +1,11 @@
 //! The answers of the checker, and the paths of a list as a lexicon.
-use crate::samples::{AT, AT_ATE, AT_IT, EMPTY};
+use crate::samples::AT_ATE;
 use lex_check::{Mismatch, SortedPaths, check, check_paths, law_of_lexicons, pair, text_of};
 use lex_file::{LexFile, PathLex};
 use lex_list::WordList;
 use std::alloc::Global;
 use std::process::Abort;
+use test_samples::{AT, AT_IT, EMPTY};
 
 /// The file of AT with an arc that accepts A too.
 const AT_AND_A: [u8; 36] = [

@@ -1,9 +1,9 @@
 //! Files of the first format: their faults, and what walks find in them.
 ghost use Rattle.std.specs.Prelude.{◌≡◌};
 
-use crate::samples::{AT, AT_BY_NODES, AT_IT, EMPTY};
 use lex_file::{Branch, FileFault, LexFile, Node, PathLex, Step, law_of_language, law_of_nodes};
 use std::process::Abort;
+use test_samples::{AT, AT_BY_NODES, AT_IT, EMPTY};
 
 /// A change of one word of the file of AT, and the fault that it makes.
 struct Change {

@@ -1,10 +1,10 @@
 //! Files of the second format: their faults, and what walks find in them.
-use crate::samples::{AT, AT_BY_NODES};
 use lex_check::{Mismatch, check, text_of};
 use lex_file::{FileFault, Format, LexFile};
 use lex_list::WordList;
 use std::alloc::Global;
 use std::process::Abort;
+use test_samples::{AT, AT_BY_NODES};
 
 /// A change of one word of the GAD2 file of AT, and the fault that it makes. Word 2 of the header is the root.
 struct Change {

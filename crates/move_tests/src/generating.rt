@@ -3,7 +3,8 @@ ghost use Rattle.std.specs.Prelude.{◌≡◌, ℕ, List};
 ghost use Rattle.lex_list.specs.RotatedPaths.{StandsFor};
 ghost use Rattle.gen_moves.specs.Laws.{AreLong};
 
-use crate::boards::{Laid, WORD_AT, at, laid, list_of};
+use crate::boards::{Laid, at, laid, list_of};
+use crate::cases::{CASES, Case, GAME, LIST, NO_GAME, PLAYED, POSITIONS};
 use crate::searching::{Told, searched};
 use game_notes::{annotate, cross_sets, top};
 use gen_cross::Cross;
@@ -207,6 +208,8 @@ fn assert_row(rt: &impl Abort, alloc: Global, rules: &Rules, row: &Row) {
     assert_written(rt, &given, row.plays);
     let given = by_paths(rt, alloc, rules, &list, &board, &rack);
     assert_written(rt, &given, row.plays);
+    let case = (row.words, row.board, row.rack, row.plays.len());
+    assert_case(rt, alloc, rules, case);
 }
 
 #[test]
@@ -216,167 +219,6 @@ fn rows(rt: HostRuntime) {
         assert_row(&rt, rt.alloc(), &rules, row);
     }
 }
-
-/// The words of a list, the tiles on a board, a rack, and how many plays there are, by a search of its own (`oracle/best.py`).
-type Case<'a> = (&'a [u8], &'a [Laid], &'a [u8], usize);
-
-const WORD: [Laid; 1] = [(7, 4, Dir::Across, b"WORD")];
-
-const RETAINS: [Laid; 1] = [(7, 3, Dir::Across, b"RETAINS")];
-
-/// The boards and racks of games.
-const CASES: [Case<'static>; 14] = [
-    (b"WORD", &[], b"DORWAAE", 8),
-    (b"WORD", &[], b"DOW?", 8),
-    (b"RETAINS", &[], b"AEINRST", 14),
-    (b"AT", &[], b"?A", 4),
-    (b"QI", &[], b"AEOUUTT", 0),
-    (b"AT\nRA\nWORD", &WORD, b"AT", 1),
-    (b"AT\nDT\nRA\nWORD", &WORD, b"AT", 3),
-    (b"RETAINS", &RETAINS, b"ADEORTW", 0),
-    (b"RETAINS", &RETAINS, b"AEINRST", 7),
-    (b"AT", &[], b"SX", 0),
-    (b"AT", &[], b"??", 4),
-    (b"AT\nEAT\nOE\nRA\nWORD", &WORD_AT, b"E", 1),
-    (b"AT", &[(7, 7, Dir::Across, b"AT")], b"AAABCDE", 1),
-    (b"", &[], b"A", 0),
-];
-
-/// Tiles on all four edges; two corners are free.
-const EDGES: [Laid; 4] = [
-    (0, 0, Dir::Across, b"TATATATATATATA"),
-    (14, 1, Dir::Across, b"TATATATATATATA"),
-    (1, 0, Dir::Down, b"ATATATATATATA"),
-    (1, 14, Dir::Down, b"TATATATATATAT"),
-];
-
-/// Every other square of a row.
-const GAPS: [Laid; 8] = [
-    (7, 0, Dir::Across, b"A"),
-    (7, 2, Dir::Across, b"A"),
-    (7, 4, Dir::Across, b"A"),
-    (7, 6, Dir::Across, b"A"),
-    (7, 8, Dir::Across, b"A"),
-    (7, 10, Dir::Across, b"A"),
-    (7, 12, Dir::Across, b"A"),
-    (7, 14, Dir::Across, b"A"),
-];
-
-const ROW_OF_A: &[u8] = b"AAAAAAAAAAAAAAA";
-
-/// All squares but the last one.
-const FULL: [Laid; 15] = [
-    (0, 0, Dir::Across, ROW_OF_A),
-    (1, 0, Dir::Across, ROW_OF_A),
-    (2, 0, Dir::Across, ROW_OF_A),
-    (3, 0, Dir::Across, ROW_OF_A),
-    (4, 0, Dir::Across, ROW_OF_A),
-    (5, 0, Dir::Across, ROW_OF_A),
-    (6, 0, Dir::Across, ROW_OF_A),
-    (7, 0, Dir::Across, ROW_OF_A),
-    (8, 0, Dir::Across, ROW_OF_A),
-    (9, 0, Dir::Across, ROW_OF_A),
-    (10, 0, Dir::Across, ROW_OF_A),
-    (11, 0, Dir::Across, ROW_OF_A),
-    (12, 0, Dir::Across, ROW_OF_A),
-    (13, 0, Dir::Across, ROW_OF_A),
-    (14, 0, Dir::Across, b"AAAAAAAAAAAAAA"),
-];
-
-/// Words that no list has, apart from one another.
-const APART: [Laid; 5] = [
-    (0, 3, Dir::Across, b"Q"),
-    (3, 14, Dir::Down, b"Z"),
-    (9, 0, Dir::Across, b"zz"),
-    (12, 12, Dir::Across, b"QT"),
-    (14, 3, Dir::Across, b"Z"),
-];
-
-/// Boards on which no game could stand, and a rack of eight tiles, of which a play takes seven at the most.
-const NO_GAME: [Case<'static>; 11] = [
-    (
-        b"AT\nTA",
-        &[(0, 0, Dir::Across, b"a"), (14, 14, Dir::Across, b"T")],
-        b"AT",
-        8,
-    ),
-    (
-        b"ABCDEFGHIJKLMNO\nBCDEFGHIJKLMN",
-        &[(7, 1, Dir::Across, b"BCDEFGHIJKLMN")],
-        b"AO",
-        1,
-    ),
-    (b"ATATATATATATATA\nTATATATATATATAA", &EDGES, b"AT?", 4),
-    (b"AT\nATA\nTA\nTAT", &EDGES, b"AT?", 428),
-    (b"ABABABABABABABA", &GAPS, b"BBBBBBB", 1),
-    (b"ABABABABABABABA", &GAPS, b"BBBBB??", 21),
-    (ROW_OF_A, &FULL, b"A?", 2),
-    (b"AAAAAAAAAAAAAAB", &FULL, b"A?", 1),
-    (b"AT\nTA\nZAT", &APART, b"AT", 8),
-    (b"ABCDEFGH", &[], b"ABCDEFGH", 0),
-    (b"ABCDEFGH", &[(7, 7, Dir::Across, b"E")], b"ABCDEFGH", 2),
-];
-
-/// The new tiles of a whole game, in the order in which they came.
-const GAME: [Laid; 41] = [
-    (7, 4, Dir::Across, b"GAZE"),
-    (8, 6, Dir::Across, b"ONCE"),
-    (9, 5, Dir::Across, b"NOD"),
-    (9, 9, Dir::Across, b"FLOAT"),
-    (10, 10, Dir::Across, b"AID"),
-    (8, 12, Dir::Across, b"HAT"),
-    (3, 14, Dir::Down, b"RESUL"),
-    (5, 5, Dir::Down, b"Qu"),
-    (1, 13, Dir::Down, b"WHEN"),
-    (0, 14, Dir::Down, b"WE"),
-    (1, 12, Dir::Down, b"OE"),
-    (4, 6, Dir::Down, b"AI"),
-    (6, 7, Dir::Across, b"SAID"),
-    (0, 7, Dir::Down, b"COURT"),
-    (5, 9, Dir::Across, b"KA"),
-    (1, 6, Dir::Down, b"NY"),
-    (4, 10, Dir::Across, b"PE"),
-    (10, 2, Dir::Across, b"PILE"),
-    (9, 3, Dir::Down, b"F"),
-    (11, 3, Dir::Down, b"G"),
-    (8, 2, Dir::Down, b"SI"),
-    (3, 11, Dir::Down, b"N"),
-    (6, 1, Dir::Down, b"AXE"),
-    (6, 0, Dir::Down, b"Ja"),
-    (5, 2, Dir::Down, b"EM"),
-    (4, 2, Dir::Down, b"G"),
-    (3, 3, Dir::Down, b"DUE"),
-    (4, 4, Dir::Across, b"T"),
-    (8, 0, Dir::Down, b"Y"),
-    (2, 4, Dir::Down, b"SI"),
-    (11, 4, Dir::Across, b"OT"),
-    (11, 10, Dir::Down, b"B"),
-    (11, 7, Dir::Across, b"BUL"),
-    (12, 6, Dir::Across, b"VET"),
-    (13, 7, Dir::Down, b"AM"),
-    (14, 5, Dir::Across, b"RI"),
-    (12, 9, Dir::Down, b"O"),
-    (1, 8, Dir::Across, b"R"),
-    (13, 4, Dir::Across, b"IO"),
-    (10, 8, Dir::Down, b"N"),
-    (0, 4, Dir::Down, b"VI"),
-];
-
-const LIST: &[u8] =
-    b"AE\nAH\nAI\nAN\nAT\nAX\nBE\nDE\nEN\nER\nET\nEX\nHAT\nHE\nIN\nIS\nJA\nKA\nMA\nNA\nNE\nNO\nOE\nOR\nOX\nQUA\nRE\nSI\nSO\nTA\nUN\nUT\nWARN\nWE\nYA\nCORNU";
-
-/// How many of these tiles lie, a rack, and how many plays there are.
-const POSITIONS: [(usize, &[u8], usize); 9] = [
-    (0, b"ADEGORZ", 24),
-    (1, b"CELNOOT", 14),
-    (5, b"AAHQRTW", 7),
-    (7, b"AENQRW?", 80),
-    (13, b"CNORTUU", 8),
-    (20, b"EEISUUX", 1),
-    (23, b"JRRRRS?", 20),
-    (30, b"ILOOTUV", 0),
-    (41, b"NRR", 0),
-];
 
 /// Asserts that these are the same plays, each once in both.
 fn assert_same(rt: &impl Abort, given: &[Told], plain: &[Told]) {
@@ -423,18 +265,26 @@ fn assert_best(
 }
 
 fn assert_case(rt: &impl Abort, alloc: Global, rules: &Rules, case: Case<'_>) {
-    let (words, tiles, rack, plays) = case;
+    let (words, tiles, held, plays) = case;
     let list = list_of(rt, alloc, words);
     let bytes = build(alloc, &list).expect(rt, "a lexicon");
     let file = LexFile::open(bytes.as_slice()).expect(rt, "a file");
     let pair = pair(alloc, &list, file).expect(rt, "a pair");
     let board = laid(rt, tiles);
-    let rack = rack_of(rt, rack);
+    let rack = rack_of(rt, held);
     let plain = searched(rt, alloc, rules, &list, &board, &rack);
-    assert_eq!(rt; plain.len(), plays);
+    assert_eq!(rt; plain.len(), plays, "{:?} {:?}", words, held);
     let given = by_file(rt, alloc, rules, &pair, &board, &rack);
     assert_same(rt, &given, &plain);
     assert_best(rt, alloc, rules, &pair, &board, &rack, &plain);
+}
+
+#[test]
+fn behind_plays(rt: HostRuntime) {
+    let rules = english_rules();
+    for case in &PLAYED {
+        assert_case(&rt, rt.alloc(), &rules, *case);
+    }
 }
 
 #[test]

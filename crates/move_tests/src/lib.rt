@@ -6,6 +6,8 @@
 #[cfg(test)]
 mod boards;
 #[cfg(test)]
+mod cases;
+#[cfg(test)]
 mod crosses;
 #[cfg(test)]
 mod generating;

@@ -81,40 +81,41 @@ fn lines_without_an_entry(rt: HostRuntime) {
     }
 }
 
+/// What was found of a game, how many of its plays have a word that is not in the list, and its line.
+const FINDINGS: [(Finding, Option<usize>, &str); 5] = [
+    (
+        Finding::Legal { complete: true },
+        Some(0),
+        "a\tlegal\tcomplete\t-\t-\t0\t-\t-\t-\t-\t0\n",
+    ),
+    (
+        Finding::Legal { complete: false },
+        Some(2),
+        "a\tlegal\tunfinished\t-\t-\t0\t-\t-\t-\t-\t2\n",
+    ),
+    (
+        Finding::Illegal {
+            line: 7,
+            fault: GameFault::Rule(RuleFault::WrongScore(16)),
+        },
+        None,
+        "a\tillegal\t-\t7\tWrongScore 16\t0\t-\t-\t-\t-\t-\n",
+    ),
+    (
+        Finding::Unsettled,
+        Some(1),
+        "a\tunsettled\t-\t-\t-\t0\t-\t-\t-\t-\t1\n",
+    ),
+    (
+        Finding::NoGame,
+        Some(0),
+        "a\tno game\t-\t-\t-\t0\t-\t-\t-\t-\t0\n",
+    ),
+];
+
 #[test]
 fn lines_of_findings(rt: HostRuntime) {
-    let wrong = GameFault::Rule(RuleFault::WrongScore(16));
-    let rows: [(Finding, Option<usize>, &str); 5] = [
-        (
-            Finding::Legal { complete: true },
-            Some(0),
-            "a\tlegal\tcomplete\t-\t-\t0\t-\t-\t-\t-\t0\n",
-        ),
-        (
-            Finding::Legal { complete: false },
-            Some(2),
-            "a\tlegal\tunfinished\t-\t-\t0\t-\t-\t-\t-\t2\n",
-        ),
-        (
-            Finding::Illegal {
-                line: 7,
-                fault: wrong,
-            },
-            None,
-            "a\tillegal\t-\t7\tWrongScore 16\t0\t-\t-\t-\t-\t-\n",
-        ),
-        (
-            Finding::Unsettled,
-            Some(1),
-            "a\tunsettled\t-\t-\t-\t0\t-\t-\t-\t-\t1\n",
-        ),
-        (
-            Finding::NoGame,
-            Some(0),
-            "a\tno game\t-\t-\t-\t0\t-\t-\t-\t-\t0\n",
-        ),
-    ];
-    for (finding, unlisted, want) in rows {
+    for (finding, unlisted, want) in FINDINGS {
         let entry = Entry {
             record: Record::empty(rt.alloc()),
             finding,

@@ -1,7 +1,7 @@
 //! What explains a verdict, or a line of a record.
 ghost use Rattle.std.specs.Prelude.{◌≡◌};
 
-use crate::games::{lexicon_of, rules_with};
+use crate::games::{assert_settled, lexicon_of, rules_with};
 use crate::pieces::Pieces;
 use endings::Exit;
 use engine::{open_case, pair_file};
@@ -10,6 +10,7 @@ use lex_list::WordList;
 use ref_tiles::{Rules, english_rules};
 use std::alloc::Global;
 use std::process::Abort;
+use test_samples::{ROWS_1_TO_7, ROWS_12_TO_15, has_parts};
 
 /// A word list, a record, the line that is asked for, and the front of what is written: all of it but the board.
 #[derive(Drop)]
@@ -20,18 +21,17 @@ struct Row {
     head: &'static str,
 }
 
-/// What explains a record or one of its lines, and how the program ends after it. Read one by one, the bytes come to the same.
+/// What explains a record or one of its lines, and how the program ends after it. Read one by one or seven at once, the bytes
+/// come to the same, and a record without an exchange is settled.
 fn explained(rt: &impl Abort, alloc: Global, rules: &Rules, row: &Row) -> (Exit, Vec<u8>) {
-    let told = explained_by(
-        rt,
-        alloc,
-        rules,
-        row,
-        Pieces::new(row.game.as_bytes(), usize::MAX),
-    );
-    let again = explained_by(rt, alloc, rules, row, Pieces::new(row.game.as_bytes(), 1));
-    assert_eq!(rt; again.0, told.0);
-    assert_eq!(rt; again.1.as_slice(), told.1.as_slice());
+    let game = row.game.as_bytes();
+    let told = explained_by(rt, alloc, rules, row, Pieces::new(game, usize::MAX));
+    for piece in [1, 7] {
+        let again = explained_by(rt, alloc, rules, row, Pieces::new(game, piece));
+        assert_eq!(rt; again.0, told.0);
+        assert_eq!(rt; again.1.as_slice(), told.1.as_slice());
+    }
+    assert_settled(rt, alloc, told.0 == Exit::Unsettled, game);
     told
 }
 
@@ -724,7 +724,9 @@ fn lines_asked_for(rt: HostRuntime) {
 }
 
 /// All of a text, with the board.
-const WHOLE: &str = "illegal line 1: WrongScore 16
+const WHOLE: [&str; 4] = [
+    "\
+illegal line 1: WrongScore 16
 line 1: >A: DORWAAE H8 WORD +18 18
 The play scores 16, but 18 is written.
 WORD
@@ -735,25 +737,16 @@ WORD
   sum 8 x 2 = 16
 score of the play: 16
 board before line 1, the squares of the play in brackets
-   A B C D E F G H I J K L M N O
- 1 = . . ' . . . = . . . ' . . =
- 2 . - . . . \" . . . \" . . . - .
- 3 . . - . . . ' . ' . . . - . .
- 4 ' . . - . . . ' . . . - . . '
- 5 . . . . - . . . . . - . . . .
- 6 . \" . . . \" . . . \" . . . \" .
- 7 . . ' . . . ' . ' . . . ' . .
- 8 = . . ' . . .[-]. . . ' . . =
+",
+    ROWS_1_TO_7,
+    "\
+\x208 = . . ' . . .[-]. . . ' . . =
  9 . . ' . . . '[.]' . . . ' . .
 10 . \" . . . \" .[.]. \" . . . \" .
 11 . . . . - . .[.]. . - . . . .
-12 ' . . - . . . ' . . . - . . '
-13 . . - . . . ' . ' . . . - . .
-14 . - . . . \" . . . \" . . . - .
-15 = . . ' . . . = . . . ' . . =
-= triple word, - double word, \" triple letter, ' double letter
-small letters are blanks
-";
+",
+    ROWS_12_TO_15,
+];
 
 #[test]
 fn whole_text(rt: HostRuntime) {
@@ -764,7 +757,7 @@ fn whole_text(rt: HostRuntime) {
         head: "",
     };
     let (_exit, text) = explained(&rt, rt.alloc(), &english_rules(), &row);
-    assert_eq!(rt; text.as_slice(), WHOLE.as_bytes());
+    assert!(rt; has_parts(text.as_slice(), &WHOLE));
 }
 
 /// A line so many times.

@@ -46,13 +46,13 @@ pub fn judged_by(
         let again = judged_in_pieces(rt, alloc, rules, [words, lexicon, game], piece);
         assert_same(rt, &told, &again);
     }
-    assert_settled(rt, alloc, told.0, game);
+    assert_settled(rt, alloc, told.0 == Verdict::Unsettled, game);
     told
 }
 
-/// Asserts that a record which stays unsettled has an exchange.
-pub fn assert_settled(rt: &impl Abort, alloc: Global, verdict: Verdict, game: &[u8]) {
-    if verdict == Verdict::Unsettled {
+/// Asserts that a record has an exchange, where it stays unsettled.
+pub fn assert_settled(rt: &impl Abort, alloc: Global, is_unsettled: bool, game: &[u8]) {
+    if is_unsettled {
         let record = read(alloc, game).expect(rt, "a record");
         let mut events = record.events.as_slice().iter();
         assert!(rt; events.any(|event| is_exchange(&event.kind)), "{:?}", game);

@@ -61,7 +61,7 @@ fn ruled_by(
         let again = ruled_in_pieces(rt, alloc, [rules, words, lexicon, game], piece);
         assert_same(rt, &told, &again);
     }
-    assert_settled(rt, alloc, told.0, game);
+    assert_settled(rt, alloc, told.0 == Verdict::Unsettled, game);
     told
 }
 

@@ -76,65 +76,72 @@ fn best_plays(rt: HostRuntime) {
         ),
     ];
     for (words, game, rack, want) in rows {
-        let file = lexicon_of(&rt, rt.alloc(), words.as_bytes());
-        let (verdict, text) = topped(
-            &rt,
-            rt.alloc(),
-            words.as_bytes(),
-            &file,
-            game.as_bytes(),
-            rack.as_bytes(),
-        );
-        assert_eq!(rt; verdict, Verdict::Done);
-        assert_eq!(rt; text.as_slice(), want.as_bytes(), "{want}");
+        expect_topped(&rt, rt.alloc(), words, game, rack, Verdict::Done, want);
     }
+}
+
+/// The fault of a play that scores four points, where five are written.
+const WRONG_SCORE: Verdict = Verdict::Illegal {
+    line: 1,
+    fault: GameFault::Rule(RuleFault::WrongScore(4)),
+};
+
+/// The words of a list, a record, and what is answered and written of them by the rack AT.
+const INPUTS: [(&str, &str, Verdict, &str); 4] = [
+    (
+        "A",
+        "",
+        Verdict::BadList,
+        "bad word list line 1: BadLength\n",
+    ),
+    (
+        "AT",
+        ">A: -8 +0 0\n",
+        Verdict::BadRecord,
+        "bad record line 1: Code\n",
+    ),
+    (
+        "AT",
+        ">A: 8H AT +5 5\n",
+        WRONG_SCORE,
+        "illegal line 1: WrongScore 4\n",
+    ),
+    (
+        "AT",
+        "",
+        Verdict::Done,
+        "8G AT 4\n8H AT 4\nH7 AT 4\nH8 AT 4\n",
+    ),
+];
+
+/// Asserts what is answered and written of words, their lexicon, a record and a rack.
+fn expect_topped(
+    rt: &impl Abort,
+    alloc: Global,
+    words: &str,
+    game: &str,
+    rack: &str,
+    want: Verdict,
+    told: &str,
+) {
+    let file = lexicon_of(rt, alloc, words.as_bytes());
+    let (verdict, text) = topped(
+        rt,
+        alloc,
+        words.as_bytes(),
+        &file,
+        game.as_bytes(),
+        rack.as_bytes(),
+    );
+    assert_eq!(rt; verdict, want);
+    assert_eq!(rt; text.as_slice(), told.as_bytes(), "{told}");
 }
 
 /// The first bad input is told, and a record that the rules do not allow.
 #[test]
 fn bad_inputs(rt: HostRuntime) {
-    let refused = Verdict::Illegal {
-        line: 1,
-        fault: GameFault::Rule(RuleFault::WrongScore(4)),
-    };
-    let rows: [(&str, &str, Verdict, &str); 4] = [
-        (
-            "A",
-            "",
-            Verdict::BadList,
-            "bad word list line 1: BadLength\n",
-        ),
-        (
-            "AT",
-            ">A: -8 +0 0\n",
-            Verdict::BadRecord,
-            "bad record line 1: Code\n",
-        ),
-        (
-            "AT",
-            ">A: 8H AT +5 5\n",
-            refused,
-            "illegal line 1: WrongScore 4\n",
-        ),
-        (
-            "AT",
-            "",
-            Verdict::Done,
-            "8G AT 4\n8H AT 4\nH7 AT 4\nH8 AT 4\n",
-        ),
-    ];
-    for (words, game, want, told) in rows {
-        let file = lexicon_of(&rt, rt.alloc(), words.as_bytes());
-        let (verdict, text) = topped(
-            &rt,
-            rt.alloc(),
-            words.as_bytes(),
-            &file,
-            game.as_bytes(),
-            b"AT",
-        );
-        assert_eq!(rt; verdict, want);
-        assert_eq!(rt; text.as_slice(), told.as_bytes(), "{told}");
+    for (words, game, want, told) in INPUTS {
+        expect_topped(&rt, rt.alloc(), words, game, "AT", want, told);
     }
     let (verdict, text) = topped(&rt, rt.alloc(), b"AT", b"", b"", b"AT");
     assert_eq!(rt; verdict, Verdict::BadFile);
