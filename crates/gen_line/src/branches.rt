@@ -57,13 +57,13 @@ pub fn next_letter<L: PathLex>(
     ensures rest { IfSome result (λ on. L.is_rest lex.now node (on.branch.label + 1) on.rest) }
 {
     let mut next = from;
-    let mut left = rest;
-    while let Some(on) = lex.branch_on(node, next, left) {
+    let mut remaining = rest;
+    while let Some(on) = lex.branch_on(node, next, remaining) {
         if tiles.allow_label(free, on.branch.label) {
             return Some(on);
         }
         next = on.branch.label + 1;
-        left = on.rest;
+        remaining = on.rest;
     }
     None
 }

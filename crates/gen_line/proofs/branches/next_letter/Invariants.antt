@@ -8,7 +8,7 @@ invariant-loop-on g l =
     record {
       low : l.from ≤ l.next;
       high : l.next ≤ 27;
-      rest : g.L.PathLex.is_rest l.lex l.node l.next l.left;
+      rest : g.L.PathLex.is_rest l.lex l.node l.next l.remaining;
       passed : (label : ℕ) → l.from ≤ label → label < l.next → shows l.free l.tiles.rack label ≡ true → NoTail (g.L.PathLex.tail l.lex) l.node label;
     }
 
