@@ -186,18 +186,13 @@ fn count_of(plays: [&[Written]; 2]) -> usize {
 
 fn assert_row(rt: &impl Abort, alloc: Global, rules: &Rules, row: Row) {
     let (words, tiles, held, plays) = row;
-    let list = list_of(rt, alloc, words);
-    let bytes = build(alloc, &list).expect(rt, "a lexicon");
-    let file = LexFile::open(bytes.as_slice()).expect(rt, "a file");
-    let pair = pair(alloc, &list, file).expect(rt, "a pair");
-    let board = laid(rt, tiles);
-    let rack = rack_of(rt, held);
-    let given = by_file(rt, alloc, rules, &pair, &board, &rack);
+    let case = (words, tiles, held, count_of(plays));
+    let given = assert_case(rt, alloc, rules, case);
     assert_written(rt, &given, plays);
+    let list = list_of(rt, alloc, words);
+    let (board, rack) = (laid(rt, tiles), rack_of(rt, held));
     let given = by_paths(rt, alloc, rules, &list, &board, &rack);
     assert_written(rt, &given, plays);
-    let case = (words, tiles, held, count_of(plays));
-    assert_case(rt, alloc, rules, case);
 }
 
 #[test]
@@ -252,7 +247,8 @@ fn assert_best(
     assert_first(rt, best.as_slice(), plain, 1);
 }
 
-fn assert_case(rt: &impl Abort, alloc: Global, rules: &Rules, case: Case<'_>) {
+/// Asserts that the plays by the file are those of a plain search, and so many, and gives them.
+fn assert_case(rt: &impl Abort, alloc: Global, rules: &Rules, case: Case<'_>) -> Vec<Told> {
     let (words, tiles, held, plays) = case;
     let list = list_of(rt, alloc, words);
     let bytes = build(alloc, &list).expect(rt, "a lexicon");
@@ -265,6 +261,7 @@ fn assert_case(rt: &impl Abort, alloc: Global, rules: &Rules, case: Case<'_>) {
     let given = by_file(rt, alloc, rules, &pair, &board, &rack);
     assert_same(rt, &given, &plain);
     assert_best(rt, alloc, rules, &pair, &board, &rack, &plain);
+    given
 }
 
 #[test]
