@@ -162,28 +162,33 @@ TEXTS = {
     "sum-then-turn": ">A: DORWAAE 8E WORD +16 15\n>B: (time) +0 4\n",
     "untidy": "\ufeff#player1 A  Ann Lee\r\n#note x\n>A:\tDORWAAE  8e WORD 16 16\r\n",
 }
+
+
+def changes_of(file, front, *rows):
+    """Changes of a lexicon: for each row the place and the bytes that stand there instead, and the line that tells it, by name."""
+    told = {}
+    for name, place, part, line in (row.split(" ", 3) for row in rows):
+        place, part = int(place), bytes.fromhex(part)
+        told[front + name] = (file[:place] + part + file[place + len(part) :], line)
+    return told
+
+
+AT_CHANGES = changes_of(
+    AT_FILE, "",
+    "magic 0 48 Magic", "root 8 05 Root", "no-root 8 00 Root", "label 16 7b Label", "order 32 c1 Order", "dead 16 54 DeadArc",
+    "open 32 94 OpenRun", "target 20 40010000 Target", "extra 28 21010000 Extra A", "count 12 02 WordCount",
+)
+MASK_CHANGES = changes_of(
+    AT_MASKS, "masks-",
+    "root 8 0b Root", "mask 16 00001088 Mask", "no-mark 28 01000000 NoMark", "accept 32 02000000 Accept", "target 36 04000000 Target",
+    "dead 20 00000000 DeadArc", "open 52 06001080 OpenRun", "extra 56 02000000 Extra A",
+)
 CHANGED = {  # the lexicon of AT with one change, and the line that tells it
-    "magic": (b"\x48" + AT_FILE[1:], "Magic"),
-    "root": (AT_FILE[:8] + b"\5" + AT_FILE[9:], "Root"),
-    "no-root": (AT_FILE[:8] + b"\0" + AT_FILE[9:], "Root"),
-    "label": (AT_FILE[:16] + b"\x7b" + AT_FILE[17:], "Label"),
-    "order": (AT_FILE[:32] + b"\xc1" + AT_FILE[33:], "Order"),
-    "dead": (AT_FILE[:16] + b"\x54" + AT_FILE[17:], "DeadArc"),
-    "open": (AT_FILE[:32] + b"\x94" + AT_FILE[33:], "OpenRun"),
-    "target": (AT_FILE[:20] + b"\x40\1\0\0" + AT_FILE[24:], "Target"),
-    "extra": (AT_FILE[:28] + b"\x21\1\0\0" + AT_FILE[32:], "Extra A"),
-    "count": (AT_FILE[:12] + b"\2" + AT_FILE[13:], "WordCount"),
+    **AT_CHANGES,
     "other": (AT_IT_FILE, "Extra I"),
     "text": (b"no lexicon at all\n", "Magic"),
     "third-format": (b"GAD3" + AT_FILE[4:], "Magic"),
-    "masks-root": (AT_MASKS[:8] + b"\x0b" + AT_MASKS[9:], "Root"),
-    "masks-mask": (AT_MASKS[:16] + b"\0\0\x10\x88" + AT_MASKS[20:], "Mask"),
-    "masks-no-mark": (AT_MASKS[:28] + b"\1\0\0\0" + AT_MASKS[32:], "NoMark"),
-    "masks-accept": (AT_MASKS[:32] + b"\2\0\0\0" + AT_MASKS[36:], "Accept"),
-    "masks-target": (AT_MASKS[:36] + b"\4\0\0\0" + AT_MASKS[40:], "Target"),
-    "masks-dead": (AT_MASKS[:20] + bytes(4) + AT_MASKS[24:], "DeadArc"),
-    "masks-open": (AT_MASKS[:52] + b"\6\0\x10\x80" + AT_MASKS[56:], "OpenRun"),
-    "masks-extra": (AT_MASKS[:56] + b"\2\0\0\0" + AT_MASKS[60:], "Extra A"),
+    **MASK_CHANGES,
     "masks-length": (AT_MASKS + bytes(4), "Length"),
     "fan": (FAN, "Missing A+T"),
 }

@@ -39,36 +39,31 @@ ROWS = [
     ("AT", AT_IT, "bad lexicon: Extra I"),
     ("AT IT", AT, "bad lexicon: Missing I+T"),
     ("AT", b"\x48" + AT[1:], "bad lexicon: Magic"),
-    ("AT", with_root(AT, 5), "bad lexicon: Root"),
-    ("AT", with_root(AT, 0), "bad lexicon: Root"),
-    ("AT", with_word(AT, 1, "7b000000"), "bad lexicon: Label"),
-    ("AT", with_word(AT, 5, "c1010000"), "bad lexicon: Order"),
-    ("AT", with_word(AT, 2, "40010000"), "bad lexicon: Target"),
-    ("AT", with_word(AT, 1, "54000000"), "bad lexicon: DeadArc"),
-    ("AT", with_word(AT, 5, "94010000"), "bad lexicon: OpenRun"),
-    ("AT", with_word(AT, 4, "21010000"), "bad lexicon: Extra A"),
     ("AT", AT[:12] + b"\2" + AT[13:], "bad lexicon: WordCount"),
     ("", GAD1 + EMPTY, "ok 0"),
     ("AT", FAN, "bad lexicon: Missing A+T"),
     ("AT", AT_MASKS, "ok 1"),
-    ("AT", with_root(AT_MASKS, 11), "bad lexicon: Root"),
-    ("AT", with_root(AT_MASKS, 0), "bad lexicon: Root"),
-    ("AT", with_root(AT_MASKS, 14), "bad lexicon: Root"),
-    ("AT", with_word(AT_MASKS, 1, "00001088"), "bad lexicon: Mask"),
-    ("AT", with_word(AT_MASKS, 1, "00000080"), "bad lexicon: Mask"),
-    ("AT", with_word(AT_MASKS, 4, "01000000"), "bad lexicon: NoMark"),
-    ("AT", with_word(AT_MASKS, 5, "02000000"), "bad lexicon: Accept"),
-    ("AT", with_word(AT_MASKS, 6, "04000000"), "bad lexicon: Target"),
-    ("AT", with_word(AT_MASKS, 6, "02000000"), "bad lexicon: Target"),
-    ("AT", with_word(AT_MASKS, 2, "00000000"), "bad lexicon: DeadArc"),
-    ("AT", with_word(AT_MASKS, 10, "06001080"), "bad lexicon: OpenRun"),
-    ("AT", with_word(AT_MASKS, 11, "02000000"), "bad lexicon: Extra A"),
     ("AT", AT_MASKS[:12] + b"\2" + AT_MASKS[13:], "bad lexicon: WordCount"),
     ("", GAD2 + EMPTY, "ok 0"),
     ("", GAD2 + bytes(4) + b"\1" + bytes(7), "bad lexicon: Root"),
     ("", GAD2 + b"\1" + bytes(11), "bad lexicon: Length"),
     ("", b"GAD3" + EMPTY, "bad lexicon: Magic"),
 ]
+# For each of the two files of AT: other roots, and then other words of the body by their numbers, each with its fault.
+OTHER_ROOTS = [(AT, [5, 0]), (AT_MASKS, [11, 0, 14])]
+OTHER_WORDS = [
+    (AT, "1 7b000000 Label, 5 c1010000 Order, 2 40010000 Target, 1 54000000 DeadArc, 5 94010000 OpenRun, 4 21010000 Extra A"),
+    (
+        AT_MASKS,
+        "1 00001088 Mask, 1 00000080 Mask, 4 01000000 NoMark, 5 02000000 Accept, 6 04000000 Target, 6 02000000 Target, "
+        "2 00000000 DeadArc, 10 06001080 OpenRun, 11 02000000 Extra A",
+    ),
+]
+for file, roots in OTHER_ROOTS:
+    ROWS += [("AT", with_root(file, root), "bad lexicon: Root") for root in roots]
+for file, changes in OTHER_WORDS:
+    for number, word, wanted in (change.split(" ", 2) for change in changes.split(", ")):
+        ROWS.append(("AT", with_word(file, int(number), word), f"bad lexicon: {wanted}"))
 # What `convert` makes of a file.
 CONVERTED = [
     (AT, GAD2, AT_MASKS),

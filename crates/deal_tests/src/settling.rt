@@ -1,4 +1,5 @@
 //! Records, and what settles them: a deal, a proof that there is none, or nothing within the budget.
+use Answer::{Dealt, NoDeal, Unknown};
 use deal_cuts::rules_out;
 use deal_search::{Settling, settle, settle_within};
 use deal_steps::{Step, fits};
@@ -21,45 +22,34 @@ enum Answer {
     Unknown,
 }
 
-/// A record, and what settles it.
-struct Row {
-    lines: &'static [u8],
-    answer: Answer,
-}
-
-const ROWS: [Row; 8] = [
-    Row {
-        lines: b"",
-        answer: Answer::Dealt,
-    },
-    Row {
-        lines: b">A: AEINRST -7 +0 0\n>B: - +0 0\n>A: BCDFGHJ - +0 0\n",
-        answer: Answer::Dealt,
-    },
-    Row {
-        lines: b">A: AEINRST -1 +0 0\n>B: - +0 0\n>A: BCDFGHJ - +0 0\n",
-        answer: Answer::NoDeal(3),
-    },
-    Row {
-        lines: b">A: AEINRST -1 +0 0\n>B: - +0 0\n>A: BCDFGHJ - +0 0\n>B: - +0 0\n>A: - +0 0\n",
-        answer: Answer::NoDeal(3),
-    },
-    Row {
-        lines: b">A: AEINRST -1 +0 0\n>B: - +0 0\n>A: AEINRSB - +0 0\n",
-        answer: Answer::Dealt,
-    },
-    Row {
-        lines: b">A: Q -Q +0 0\n>B: - +0 0\n>A: Q - +0 0\n",
-        answer: Answer::NoDeal(3),
-    },
-    Row {
-        lines: b">A: Q -Q +0 0\n>B: -2 +0 0\n>A: - +0 0\n>B: Q - +0 0\n",
-        answer: Answer::Dealt,
-    },
-    Row {
-        lines: b">A: Q -Q +0 0\n>B: - +0 0\n>A: - +0 0\n>B: Q - +0 0\n",
-        answer: Answer::NoDeal(4),
-    },
+/// Records, and what settles them.
+const ROWS: [(&[u8], Answer); 8] = [
+    (b"", Dealt),
+    (
+        b">A: AEINRST -7 +0 0\n>B: - +0 0\n>A: BCDFGHJ - +0 0\n",
+        Dealt,
+    ),
+    (
+        b">A: AEINRST -1 +0 0\n>B: - +0 0\n>A: BCDFGHJ - +0 0\n",
+        NoDeal(3),
+    ),
+    (
+        b">A: AEINRST -1 +0 0\n>B: - +0 0\n>A: BCDFGHJ - +0 0\n>B: - +0 0\n>A: - +0 0\n",
+        NoDeal(3),
+    ),
+    (
+        b">A: AEINRST -1 +0 0\n>B: - +0 0\n>A: AEINRSB - +0 0\n",
+        Dealt,
+    ),
+    (b">A: Q -Q +0 0\n>B: - +0 0\n>A: Q - +0 0\n", NoDeal(3)),
+    (
+        b">A: Q -Q +0 0\n>B: -2 +0 0\n>A: - +0 0\n>B: Q - +0 0\n",
+        Dealt,
+    ),
+    (
+        b">A: Q -Q +0 0\n>B: - +0 0\n>A: - +0 0\n>B: Q - +0 0\n",
+        NoDeal(4),
+    ),
 ];
 
 /// The steps of a record whose events are allowed.
@@ -80,13 +70,13 @@ fn answer_of(
     match settled {
         Ok(Settling::Dealt(deal)) => {
             assert!(rt; fits(rules, steps, deal.as_slice()));
-            Some(Answer::Dealt)
+            Some(Dealt)
         }
         Ok(Settling::NoDeal(cut)) => {
             assert!(rt; rules_out(rules, steps, &cut));
-            Some(Answer::NoDeal(cut.places.len()))
+            Some(NoDeal(cut.places.len()))
         }
-        Ok(Settling::Unknown) => Some(Answer::Unknown),
+        Ok(Settling::Unknown) => Some(Unknown),
         Err(_) => None,
     }
 }
@@ -94,11 +84,11 @@ fn answer_of(
 #[test]
 fn settles(rt: HostRuntime) {
     let rules = english_rules();
-    for row in &ROWS {
-        let steps = steps_of(rt.alloc(), &rules, row.lines).expect(&rt, "a record that passed");
+    for (lines, expected) in &ROWS {
+        let steps = steps_of(rt.alloc(), &rules, lines).expect(&rt, "a record that passed");
         let settled = settle(rt.alloc(), &rules, &steps);
         let answer = answer_of(&rt, &rules, &steps, settled).expect(&rt, "memory");
-        assert_eq!(rt; answer, row.answer, "{:?}", row.lines);
+        assert_eq!(rt; answer, *expected, "{:?}", lines);
     }
 }
 
@@ -106,11 +96,11 @@ fn settles(rt: HostRuntime) {
 #[test]
 fn spends_its_budget(rt: HostRuntime) {
     let rules = english_rules();
-    for row in &ROWS {
-        let steps = steps_of(rt.alloc(), &rules, row.lines).expect(&rt, "a record that passed");
+    for (lines, _) in &ROWS {
+        let steps = steps_of(rt.alloc(), &rules, lines).expect(&rt, "a record that passed");
         let settled = settle_within(rt.alloc(), &rules, &steps, 0);
         let answer = answer_of(&rt, &rules, &steps, settled).expect(&rt, "memory");
-        assert_eq!(rt; answer, Answer::Unknown, "{:?}", row.lines);
+        assert_eq!(rt; answer, Unknown, "{:?}", lines);
     }
 }
 
@@ -118,11 +108,11 @@ fn spends_its_budget(rt: HostRuntime) {
 #[test]
 fn refused_while_settling(rt: HostRuntime) {
     let rules = english_rules();
-    for row in &ROWS {
-        if let Some(steps) = steps_of(rt.alloc(), &rules, row.lines) {
+    for (lines, expected) in &ROWS {
+        if let Some(steps) = steps_of(rt.alloc(), &rules, lines) {
             let settled = settle(rt.alloc(), &rules, &steps);
             if let Some(answer) = answer_of(&rt, &rules, &steps, settled) {
-                assert_eq!(rt; answer, row.answer, "{:?}", row.lines);
+                assert_eq!(rt; answer, *expected, "{:?}", lines);
             }
         }
     }

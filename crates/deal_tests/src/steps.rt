@@ -53,7 +53,7 @@ fn held(first: &str, second: &str, thrown: &str) -> Held {
 }
 
 /// A tile set of 14: two each of A, E, R and T, one each of D, I, N, O, S and W.
-fn short_rules(rt: &impl Abort) -> Rules {
+pub fn short_rules(rt: &impl Abort) -> Rules {
     let mut parts = english_rules().parts();
     parts.counts = tiles("AADEEINORRSTTW");
     Rules::checked(parts).expect(rt, "fourteen tiles")

@@ -165,16 +165,16 @@ module _ (rules : Rules) (words : List (List ℕ)) (d : Dir) (board : List (Opti
       let most : letter_factor (premium_at rules square) * points ≤ (places i).letter * points = mul-le-mul ((known i below).letter (new_free i below t e)) (omega arith) in
       omega arith
 
-  letters_le : letters_score rules (with_tiles board (put_by d line y)) (put_by d line y) (run_of d line (first, len)) ≤ total (letter_sum rules places y) first len
+  letters_le : letters_score rules (with_tiles board (put_by d line y)) (put_by d line y) (run_of d line (first, len)) ≤ total (letter_sum rules places entry) first len
   unfolding letters_score
   letters_le =
       let inside = move.whole.inside in
-      range_sum (λ k. square_points rules (with_tiles board (put_by d line y)) (put_by d line y) (along d (square_at d line first) k)) (letter_sum rules places y) 0 first len
+      range_sum (λ k. square_points rules (with_tiles board (put_by d line y)) (put_by d line y) (along d (square_at d line first) k)) (letter_sum rules places entry) 0 first len
       (λ k less.
       let zero_k : 0 + k ≡ k = omega arith in
       let at : along d (square_at d line first) (0 + k) ≡ square_at d line (first + k) = ap (along d (square_at d line first)) zero_k ∙ along_at d line first k in
       let le = point_le (first + k) (omega arith) (entry (first + k)) refl in
-      subst (λ s. square_points rules (with_tiles board (put_by d line y)) (put_by d line y) s ≤ letter_sum rules places y (first + k)) (sym at) le)
+      subst (λ s. square_points rules (with_tiles board (put_by d line y)) (put_by d line y) s ≤ letter_sum rules places entry (first + k)) (sym at) le)
 
   factor_le : (run : Run) → words_factor rules (put_by d line y) run ≤ times (λ i. (places i).word) first len
   unfolding words_factor
@@ -189,13 +189,13 @@ module _ (rules : Rules) (words : List (List ℕ)) (d : Dir) (board : List (Opti
       by i true one le = le
       by i false one le = one
 
-  crosses_le : sum_by (λ (p : Placed). cross_score rules (other_dir d) board p.square p.tile) (put_by d line y) ≤ total (cross_sum rules places y) first len
+  crosses_le : sum_by (λ (p : Placed). cross_score rules (other_dir d) board p.square p.tile) (put_by d line y) ≤ total (cross_sum rules places entry) first len
   crosses_le =
       let inside = move.whole.inside in
       let score : Placed → ℕ = λ p. cross_score rules (other_dir d) board p.square p.tile in
       let is = ap (sum_by score) tiles_are ∙ sum_put score d line entry first len in
       let each =
-      total-mono (λ i. sums.at_place score d line i (entry i)) (cross_sum rules places y) first len
+      total-mono (λ i. sums.at_place score d line i (entry i)) (cross_sum rules places entry) first len
       (λ i from upto. by i (omega arith) (entry i) refl) in
       omega arith
     where
@@ -205,7 +205,7 @@ module _ (rules : Rules) (words : List (List ℕ)) (d : Dir) (board : List (Opti
       by i below (Some t) e = (known i below).cross (new_free i below t e) t
 
   -- the play of a stretch scores no more than it adds up to
-  pub tally_le : score_of rules board (put_by d line y) ≤ tally rules places y first len
+  pub tally_le : score_of rules board (put_by d line y) ≤ tally rules places entry first len
   tally_le =
       let on = move_candidate words d board line cells is listed rack y first len tells long_words size low move few in
       let ps = put_by d line y in
@@ -237,11 +237,11 @@ module _ (rules : Rules) (words : List (List ℕ)) (d : Dir) (board : List (Opti
 
   -- ---- what a stretch adds up to, by the tiles of the rack alone
   letters_up : (letter : ℕ) → ((i : ℕ) → first ≤ i → i < first + len → (places i).free ≡ true → (places i).letter ≤ letter)
-      → total (letter_sum rules places y) first len ≤ total (λ i. (places i).old) first len + (total (λ i. ((places i).letter - 1) * single i) first len + total single first len) + letter * total weight first len
+      → total (letter_sum rules places entry) first len ≤ total (λ i. (places i).old) first len + (total (λ i. ((places i).letter - 1) * single i) first len + total single first len) + letter * total weight first len
   letters_up letter most =
       let inside = move.whole.inside in
       let each =
-      total-mono (letter_sum rules places y) (λ i. ((places i).old + (((places i).letter - 1) * single i + single i)) + letter * weight i) first len
+      total-mono (letter_sum rules places entry) (λ i. ((places i).old + (((places i).letter - 1) * single i + single i)) + letter * weight i) first len
       (λ i from upto. by i (omega arith) (most i from upto) (entry i) refl) in
       let split = total-scaled (λ i. (places i).old + (((places i).letter - 1) * single i + single i)) weight letter first len in
       let both = total-both (λ i. (places i).old) (λ i. ((places i).letter - 1) * single i + single i) first len in
@@ -258,11 +258,11 @@ module _ (rules : Rules) (words : List (List ℕ)) (d : Dir) (board : List (Opti
           omega arith
 
   crosses_up : (cross : ℕ) → ((i : ℕ) → first ≤ i → i < first + len → (places i).free ≡ true → (places i).cross ≤ cross)
-      → total (cross_sum rules places y) first len ≤ total (λ i. (places i).side) first len + total (λ i. (places i).cross * single i) first len + cross * total weight first len
+      → total (cross_sum rules places entry) first len ≤ total (λ i. (places i).side) first len + total (λ i. (places i).cross * single i) first len + cross * total weight first len
   crosses_up cross most =
       let inside = move.whole.inside in
       let each =
-      total-mono (cross_sum rules places y) (λ i. ((places i).side + (places i).cross * single i) + cross * weight i) first len
+      total-mono (cross_sum rules places entry) (λ i. ((places i).side + (places i).cross * single i) + cross * weight i) first len
       (λ i from upto. by i (omega arith) (most i from upto) (entry i) refl) in
       let split = total-scaled (λ i. (places i).side + (places i).cross * single i) weight cross first len in
       let both = total-both (λ i. (places i).side) (λ i. (places i).cross * single i) first len in
@@ -329,7 +329,7 @@ module _ (rules : Rules) (words : List (List ℕ)) (d : Dir) (board : List (Opti
       let spare_crosses = spare_le (λ i. (places i).cross) cross ones crosses ones_here in
       let letters_here = letters_up letter letters in
       let letters_more : letter * total weight first len ≤ letter * points = mul-le-mul (omega arith) weights in
-      let line_le : total (letter_sum rules places y) first len
+      let line_le : total (letter_sum rules places entry) first len
       ≤ total (λ i. (places i).old) first len + (least (total (λ i. (places i).letter - 1) first len) ((letter - 1) * ones) + least ones (free_count places first len)) + letter * points = omega arith in
       let same : times (λ i. (places i).word) first len ≤ times (λ i. (places i).word) first len = omega arith in
       let run_le = mul-le-mul line_le same in

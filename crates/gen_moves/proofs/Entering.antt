@@ -1,5 +1,5 @@
 -- The entries of a line and placements on it: the tiles of entries, and the entries of tiles.
-use Rattle.std.proofs.Common.{◌≡◌, ℕ, zero, suc, ◌+◌, ◌-◌, ◌*◌, ◌%◌, ◌<◌, ◌≤◌, ◌==◌, Bool, true, false, nat_lt, List, [], ◌∷◌, ◌++◌, length, refl, sym, ap, ◌∙◌, subst, arith, ◌⊎◌, ⊎_elim, Option, Some, None}
+use Rattle.std.proofs.Common.{◌≡◌, ℕ, zero, suc, ◌+◌, ◌-◌, ◌*◌, ◌%◌, ◌<◌, ◌≤◌, ◌==◌, Bool, true, false, nat_lt, List, [], ◌∷◌, ◌++◌, length, get_or, refl, sym, ap, ◌∙◌, subst, arith, ◌⊎◌, ⊎_elim, Option, Some, None}
 use Rattle.std.specs.Prelude.{Contains}
 use Rattle.std.specs.List.{list_all, flat_map, range_with_len}
 use Rattle.std.proofs.lemmas.List.{length-set, get_or-set_same, get_or-set_other}
@@ -23,7 +23,7 @@ use Rattle.ref_play.proofs.LineLaws.{line_of-square_at, place_of-square_at, squa
 use Rattle.ref_play.proofs.FormedRuns.{none_contained, join_keys}
 use Rattle.ref_play.proofs.Reading.{tile_in-cases, tile_in-there, tile_of_symbol, places_rise, join_itself}
 use Rattle.gen_line.specs.Entries.{letter_of, is_blank_entry}
-use Rattle.gen_moves.specs.LineTiles.{faced, tile_of_entry, blank_part, entry_of}
+use Rattle.gen_moves.specs.LineTiles.{faced, tile_of_entry, line_tiles, new_tile, blank_part, entry_of}
 use Rattle.gen_moves.proofs.Lists.{list_all-each}
 
 -- ---- the entry of a tile is that of no other
@@ -42,6 +42,16 @@ tile_again_by kind.Blank l =
 pub tile_again : (o : Option Tile) → tile_of_entry (entry_of o) ≡ o
 tile_again None = refl
 tile_again (Some t) = tile_again_by t.kind t.shown ∙ tile_of_symbol t
+
+-- the tile of an entry is that of its place
+tile_there : (y : List ℕ) (i : ℕ) → new_tile (line_tiles y) i ≡ tile_of_entry (get_or y i 0)
+unfolding line_tiles
+tile_there [] i = refl
+tile_there (e ∷ y) zero = refl
+tile_there (e ∷ y) (suc i) = tile_there y i
+
+pub tiles_there : (y : List ℕ) → new_tile (line_tiles y) ≡ (λ (i : ℕ). tile_of_entry (get_or y i 0))
+tiles_there y = λ j i. tile_there y i j
 
 -- ---- the tiles that a function of places puts on a line
 abbrev pub put_from : Dir → ℕ → (ℕ → Option Tile) → ℕ → ℕ → List Placed

@@ -24,7 +24,7 @@ use Rattle.gen_line.proofs.Sinks.{add_all-append, front-less, took-more, range-m
 use Rattle.gen_moves.specs.declared.spots.Spot.{Spot}
 use Rattle.gen_moves.specs.Findings.{told, given_along, given_by}
 use Rattle.gen_moves.specs.Laws.{Setting}
-use Rattle.gen_moves.specs.Telling.{IsFit, tell, spot_of, both_cells}
+use Rattle.gen_moves.specs.Telling.{IsFitMove, tell, spot_of, both_cells}
 use Rattle.gen_moves.proofs.MovePlaces.{put_by, covers_anchor, main_run}
 use Rattle.gen_moves.proofs.Moving.{move_candidate}
 use Rattle.gen_moves.proofs.Gathering.{tiles_is, line_move}
@@ -57,7 +57,7 @@ abbrev IsFitOn : List (Option Tile) → Dir → List Placed → Type 0
 IsFitOn board d ps = (1 ≤ length ps) × (length ps ≤ 7 → IsLegal board ps × RunsAlong d board ps)
 
 pub move_fit : (words : List (List ℕ)) (board : List (Option Tile)) (g listed : List ℕ → Bool) (cells : Dir → ℕ → List Cell) → Setting words board g listed cells
-    → (rack : List ℕ) (d : Dir) (line : ℕ) → line < 15 → (y : List ℕ) → Contains (line_moves g (cells d line) rack) y → IsFit (spot_of board d line) y
+    → (rack : List ℕ) (d : Dir) (line : ℕ) → line < 15 → (y : List ℕ) → Contains (line_moves g (cells d line) rack) y → IsFitMove (spot_of board d line) y
 move_fit words board g listed cells s rack d line low y c =
     let move = (line_move words board g listed cells s rack d line low y).0 c in
     let is = s.lines d line low in
@@ -78,9 +78,9 @@ every_from P [] h = tt
 every_from P (x ∷ xs) h = (h x (Contains-here x xs), every_from P xs (λ y c. h y (Contains-there x xs y c)))
 
 pub moves_fit : (words : List (List ℕ)) (board : List (Option Tile)) (g listed : List ℕ → Bool) (cells : Dir → ℕ → List Cell) → Setting words board g listed cells
-    → (rack : List ℕ) (d : Dir) (line : ℕ) → line < 15 → Every (IsFit (spot_of board d line)) (line_moves g (cells d line) rack)
+    → (rack : List ℕ) (d : Dir) (line : ℕ) → line < 15 → Every (IsFitMove (spot_of board d line)) (line_moves g (cells d line) rack)
 moves_fit words board g listed cells s rack d line low =
-    every_from (IsFit (spot_of board d line)) (line_moves g (cells d line) rack) (λ y c. move_fit words board g listed cells s rack d line low y c)
+    every_from (IsFitMove (spot_of board d line)) (line_moves g (cells d line) rack) (λ y c. move_fit words board g listed cells s rack d line low y c)
 
 -- what a taker asks of each move, where it asks the same of the sink for all
 pub every_with : {X : Type 0} (A : Type 0) (P : X → Type 0) (xs : List X) → A → Every P xs → Every (λ x. A × P x) xs

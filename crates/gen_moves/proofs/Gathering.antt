@@ -29,11 +29,11 @@ use Rattle.gen_line.specs.Moves.{IsMove, Labelled}
 use Rattle.gen_line.specs.Model.{line_moves}
 use Rattle.gen_line.proofs.GivenMoves.{gives_the_moves, gives_none_twice}
 use Rattle.gen_moves.specs.BoardLines.{IsLineOf}
-use Rattle.gen_moves.specs.LineTiles.{faced, tile_of_entry, entry_of, tiles_of, entries_of}
+use Rattle.gen_moves.specs.LineTiles.{faced, tile_of_entry, entry_of, placement_of, tiles_of, entries_of}
 use Rattle.gen_moves.specs.Findings.{told, given_on, given_along, given_by}
 use Rattle.gen_moves.specs.Laws.{TellsWords, AreLong, AreEntries, IsCandidateOn, Setting}
 use Rattle.gen_moves.proofs.Lists.{All-each, in_join, from_join, in_range, from_range, range_differs, AllPairs-append, AllPairs-flat_map}
-use Rattle.gen_moves.proofs.Entering.{tile_in-put, in_line_from}
+use Rattle.gen_moves.proofs.Entering.{tiles_there, put_from, tile_in-put, in_line_from}
 use Rattle.gen_moves.proofs.MovePlaces.{tiled, cell_entry, put_by, put_at, covers_anchor}
 use Rattle.gen_moves.proofs.Moving.{move_candidate}
 use Rattle.gen_moves.proofs.Finding.{entry_on, candidate_move}
@@ -59,8 +59,8 @@ entries_of_tiles d line y size low =
     (ap entry_of (tile_in-put d line (λ i. tile_of_entry (get_or y i 0)) 0 15 k (omega arith) (omega arith)) ∙ entry_again (get_or y k 0) (low k below))))
 
 pub tiles_is : (d : Dir) (line : ℕ) (y : List ℕ) → tiles_of d line y ≡ put_by d line y
-unfolding tiles_of
-tiles_is d line y = refl
+unfolding placement_of
+tiles_is d line y = ap (λ (f : ℕ → Option Tile). put_from d line f 0 15) (tiles_there y)
 
 move_low : (listed : List ℕ → Bool) (cells : List Cell) (rack y : List ℕ) (first len : ℕ) → IsMove listed cells rack y first len → (i : ℕ) → i < 15 → get_or y i 0 < 53
 move_low listed cells rack y first len move i below =

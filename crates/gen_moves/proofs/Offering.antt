@@ -1,5 +1,5 @@
 -- The plays of an anchor pass none of its bounds.
-use Rattle.std.proofs.Common.{◌≡◌, ℕ, ◌+◌, ◌*◌, ◌<◌, ◌≤◌, ◌==◌, ◌≤ℤ◌, pos, Bool, true, false, List, [], ◌∷◌, length, get_or, refl, sym, ap, ◌∙◌, subst, arith, ⊎_elim, not, ◌&&◌, Option, Some, None, if◌then◌else◌}
+use Rattle.std.proofs.Common.{◌≡◌, ℕ, ◌+◌, ◌*◌, ◌<◌, ◌≤◌, ◌==◌, ◌||◌, ◌≤ℤ◌, pos, Bool, true, false, List, [], ◌∷◌, length, get_or, refl, sym, ap, ◌∙◌, subst, arith, ⊎_elim, not, Option, Some, None, is_some, if◌then◌else◌}
 use Rattle.std.proofs.lemmas.Int.{ints}
 use Rattle.ref_tiles.specs.declared.tiles.Tile.{Tile}
 use Rattle.ref_tiles.specs.declared.rulebook.Rules.{Rules}
@@ -19,21 +19,21 @@ use Rattle.gen_cross.specs.Values.{value_at, IsRight}
 use Rattle.gen_cross.proofs.CrossLaws.{score_of_tile}
 use Rattle.gen_line.specs.declared.cells.Cell.{Cell}
 use Rattle.gen_line.specs.declared.cells.Cell.TheVariants.{Old, Free}
-use Rattle.gen_line.specs.Cells.{cell_at, is_anchor_cell, is_full, full_on}
+use Rattle.gen_line.specs.Cells.{cell_at, is_anchor_cell, full_on}
 use Rattle.gen_line.proofs.Tests.{owes}
 use Rattle.gen_line.specs.Walk.{Every, add_all, anchor_moves, none_put}
 use Rattle.gen_line.proofs.Anchors.{anchor_old, anchor_not}
 use Rattle.gen_line.proofs.Reaching.{anchor_owes, anchor_reach}
 use Rattle.gen_line.proofs.Sinks.{all-still}
 use Rattle.gen_moves.specs.declared.places.Place.{Place}
-use Rattle.gen_moves.specs.LineTiles.{tiles_of}
+use Rattle.gen_moves.specs.LineTiles.{tile_of_entry, line_tiles, new_tile, tiles_of}
 use Rattle.gen_moves.specs.Findings.{told}
 use Rattle.gen_moves.specs.Laws.{Setting}
-use Rattle.gen_moves.specs.BoardLines.{IsLineOf}
 use Rattle.gen_moves.specs.Telling.{spot_of}
-use Rattle.gen_moves.specs.Tallies.{is_laid, tally, IsTallied}
+use Rattle.gen_moves.specs.Tallies.{is_laid, tally, LiesOn, IsTallied}
 use Rattle.gen_moves.specs.Bounds.{rack_points, rack_ones, IsPlaceOf, ArePlaces, HasScores, TellsUnder, IsOffer, AreOffers}
-use Rattle.gen_moves.proofs.MovePlaces.{put_by, at_place}
+use Rattle.gen_moves.proofs.Entering.{on_top, tiles_there}
+use Rattle.gen_moves.proofs.MovePlaces.{AtPlace, put_by, at_place}
 use Rattle.gen_moves.proofs.Gathering.{tiles_is, line_labelled, wanted_few}
 use Rattle.gen_moves.proofs.Bounding.{some_is, count_is, tally_le, score_le}
 
@@ -86,18 +86,27 @@ free_of_none rules d board square p is none =
     (λ (taken : p.free ≡ false). absurd (some_is (tile_at board square) (is.taken taken) none))
     (cases_Bool p.free)
 
-laid_same : (rules : Rules) (words : List (List ℕ)) (d : Dir) (board : List (Option Tile)) (line : ℕ) (cells : List Cell) → IsLineOf words d board line cells
-    → (places : ℕ → Place) → ArePlaces rules d board line places → (y : List ℕ) (i : ℕ) → i < 15 → (o : Option Tile) → tile_at board (square_at d line i) ≡ o → full_on cells y i ≡ is_laid places y i
-laid_same rules words d board line cells is places are y i below None none =
-    let free = free_of_none rules d board (square_at d line i) (places i) (are i below) none in
-    ap (λ (c : Cell). is_full c (get_or y i 0)) (is.free i below none).1 ∙ sym (ap (λ (b : Bool). not (b && get_or y i 0 == 0)) free)
-laid_same rules words d board line cells is places are y i below (Some t) there =
-    let taken : (places i).free ≡ false =
+-- a new tile on top of another one, and of none
+some_top : (o : Option Tile) (t : Tile) → is_some (on_top o (Some t)) ≡ true
+some_top None t = refl
+some_top (Some n) t = refl
+
+none_top : (o : Option Tile) → is_some (on_top o None) ≡ is_some o
+none_top None = refl
+none_top (Some n) = refl
+
+-- a place has a tile then exactly where it is old or new
+laid_by : (rules : Rules) (d : Dir) (board : List (Option Tile)) (square : ℕ) (p : Place) → IsPlaceOf rules d board square p → (new old : Option Tile) → tile_at board square ≡ old
+    → is_some (on_top new old) ≡ (not p.free || is_some new)
+laid_by rules d board square p is new None none =
+    none_top new ∙ sym (ap (λ (b : Bool). not b || is_some new) (free_of_none rules d board square p is none))
+laid_by rules d board square p is new (Some t) there =
+    let taken : p.free ≡ false =
     ⊎_elim
-    (λ (free : (places i).free ≡ true). let both : None ≡ Some t = sym ((are i below).empty free) ∙ there in cc)
-    (λ (taken : (places i).free ≡ false). taken)
-    (cases_Bool (places i).free) in
-    ap (λ (c : Cell). is_full c (get_or y i 0)) (is.old i t below there) ∙ sym (ap (λ (b : Bool). not (b && get_or y i 0 == 0)) taken)
+    (λ (free : p.free ≡ true). let both : None ≡ Some t = sym (is.empty free) ∙ there in cc)
+    (λ (taken : p.free ≡ false). taken)
+    (cases_Bool p.free) in
+    some_top new t ∙ sym (ap (λ (b : Bool). not b || is_some new) taken)
 
 tallied : (rules : Rules) (words : List (List ℕ)) (board : List (Option Tile)) (g listed : List ℕ → Bool) (cells : Dir → ℕ → List Cell) → Setting words board g listed cells
     → (rack : List ℕ) (d : Dir) (line : ℕ) → line < 15 → (places : ℕ → Place) → ArePlaces rules d board line places → (h : ℕ) → h < 15 → (y : List ℕ)
@@ -110,21 +119,26 @@ tallied rules words board g listed cells s rack d line low places are h below y 
     let move = found.2 in
     let new = move.anchored in
     let within = move.within new.0 new.1 new.2 in
-    let none = (at_place words d board line (cells d line) is new.0 (get_or y new.0 0) new.1 (move.allowed new.0 new.1)).empty new.2 in
+    let at : (i : ℕ) → i < 15 → AtPlace board (square_at d line i) (cell_at (cells d line) i) (get_or y i 0) =
+    λ i on. at_place words d board line (cells d line) is i (get_or y i 0) on (move.allowed i on) in
+    let tiles : ℕ → Option Tile = λ i. tile_of_entry (get_or y i 0) in
+    let lies : LiesOn places tiles first len =
+    record {
+      whole = whole_agree (full_on (cells d line) y) (is_laid places tiles)
+          (λ i on. sym (at i on).filled ∙ laid_by rules d board (square_at d line i) (places i) (are i on) (tiles i) (tile_at board (square_at d line i)) refl) first len move.whole;
+      within = λ i on some. move.within i on (λ z. some (ap tile_of_entry z));
+      some = (new.0, within.0, within.1, free_of_none rules d board (square_at d line new.0) (places new.0) (are new.0 new.1) ((at new.0 new.1).empty new.2));
+    } in
     record {
       first = first;
       len = len;
-      lies = record {
-        whole = whole_agree (full_on (cells d line) y) (is_laid places y)
-            (λ i on. laid_same rules words d board line (cells d line) is places are y i on (tile_at board (square_at d line i)) refl) first len move.whole;
-        within = move.within;
-        some = (new.0, within.0, within.1, free_of_none rules d board (square_at d line new.0) (places new.0) (are new.0 new.1) none);
-      };
-      under = told_under rules board d line y (tally rules places y first len) (λ wanted.
+      lies = subst (λ (f : ℕ → Option Tile). LiesOn places f first len) (sym (tiles_there y)) lies;
+      under = told_under rules board d line y (tally rules places (new_tile (line_tiles y)) first len) (λ wanted.
           let few_tiles = (wanted_few board d (tiles_of d line y) wanted).1 in
           let few : length (put_by d line y) ≤ 7 = subst (λ (qs : List Placed). length qs ≤ 7) (tiles_is d line y) few_tiles in
-          subst (λ (qs : List Placed). score_of rules board qs ≤ tally rules places y first len) (sym (tiles_is d line y))
-          (tally_le rules words d board line (cells d line) is listed rack y first len s.told s.long s.size low move few places are));
+          subst (λ (qs : List Placed). score_of rules board qs ≤ tally rules places (new_tile (line_tiles y)) first len) (sym (tiles_is d line y))
+          (subst (λ (f : ℕ → Option Tile). score_of rules board (put_by d line y) ≤ tally rules places f first len) (sym (tiles_there y))
+          (tally_le rules words d board line (cells d line) is listed rack y first len s.told s.long s.size low move few places are)));
     }
 
 pub all_tallied : (rules : Rules) (words : List (List ℕ)) (board : List (Option Tile)) (g listed : List ℕ → Bool) (cells : Dir → ℕ → List Cell) → Setting words board g listed cells

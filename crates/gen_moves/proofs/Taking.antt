@@ -11,7 +11,7 @@ use Rattle.ref_play.specs.Best.{Given}
 use Rattle.gen_line.specs.Walk.{Took, add_all}
 use Rattle.gen_sinks.specs.Sinks.{seen}
 use Rattle.gen_moves.specs.declared.spots.Spot.{Spot}
-use Rattle.gen_moves.specs.LineTiles.{tiles_of}
+use Rattle.gen_moves.specs.LineTiles.{line_tiles, tiles_of}
 use Rattle.gen_moves.specs.Findings.{told}
 use Rattle.gen_moves.specs.Telling.{tell, PlayIs}
 
@@ -27,11 +27,11 @@ unfolding told
 told_by rules spot y b e = ap (λ (c : Bool). if c then told_as rules spot y ∷ [] else []) e
 
 -- nothing is told of entries whose play is not wanted
-pub tell_none : (rules : Rules) (spot : Spot) (add : List Given → Given → List Given) (items : List Given) (y : List ℕ) → PlayIs spot y None → items ≡ tell rules spot add items y
+pub tell_none : (rules : Rules) (spot : Spot) (add : List Given → Given → List Given) (items : List Given) (y : List ℕ) → PlayIs spot (line_tiles y) None → items ≡ tell rules spot add items y
 tell_none rules spot add items y none = sym (ap (add_all add items) (told_by rules spot y false none))
 
 -- and of others the play
-tell_one : (rules : Rules) (spot : Spot) (add : List Given → Given → List Given) (items : List Given) (y : List ℕ) (play : Play) (points : ℤ) → PlayIs spot y (Some play)
+tell_one : (rules : Rules) (spot : Spot) (add : List Given → Given → List Given) (items : List Given) (y : List ℕ) (play : Play) (points : ℤ) → PlayIs spot (line_tiles y) (Some play)
     → points ≡ pos (score_of rules spot.board play.tiles.items) → tell rules spot add items y ≡ add items (seen play points)
 tell_one rules spot add items y play points is score =
     let made : Given = seen play points in
@@ -43,7 +43,7 @@ tell_one rules spot add items y play points is score =
     ap (add_all add items) (told_by rules spot y true is.0) ∙ ap (add items) same
 
 pub took_one : {U E : Type 0} (r : Result U E) (rules : Rules) (spot : Spot) (add : List Given → Given → List Given) (old new : List Given) (y : List ℕ) (play : Play) (points : ℤ)
-    → PlayIs spot y (Some play) → points ≡ pos (score_of rules spot.board play.tiles.items) → OnOk r (new ≡ add old (seen play points)) → OnErr r (new ≡ old)
+    → PlayIs spot (line_tiles y) (Some play) → points ≡ pos (score_of rules spot.board play.tiles.items) → OnOk r (new ≡ add old (seen play points)) → OnErr r (new ≡ old)
     → Took (tell rules spot add) old (y ∷ []) new r
 took_one (Ok u) rules spot add old new y play points is score taken refused = taken ∙ sym (tell_one rules spot add old y play points is score)
 took_one (Err why) rules spot add old new y play points is score taken refused =

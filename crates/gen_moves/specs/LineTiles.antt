@@ -1,5 +1,5 @@
--- The tiles that entries put on a line of the board, and the entries of a placement.
-use Rattle.std.specs.Prelude.{ℕ, ◌+◌, ◌*◌, ◌==◌, Bool, true, false, List, map, slice_index, Option, Some, None, if◌then◌else◌}
+-- The new tiles of a line of the board, the entries that stand for them in a walk, and the placement that they make.
+use Rattle.std.specs.Prelude.{ℕ, ◌+◌, ◌*◌, ◌==◌, Bool, true, false, List, map, slice_index_or, Option, Some, None, if◌then◌else◌}
 use Rattle.std.specs.List.{flat_map, range_with_len}
 use Rattle.std.specs.Option.{option_map}
 use Rattle.ref_tiles.specs.declared.rulebook.TheConstants.{SIDE}
@@ -34,9 +34,21 @@ abbrev pub entry_of : Option Tile → ℕ
 entry_of None = 0
 entry_of (Some t) = 1 + 2 * t.shown.index + blank_part t.kind
 
+-- the tiles that entries stand for, place by place
+unfoldable pub line_tiles : List ℕ → List (Option Tile)
+line_tiles y = map tile_of_entry y
+
+-- the new tile on a place of a line
+abbrev pub new_tile : List (Option Tile) → ℕ → Option Tile
+new_tile tiles i = slice_index_or tiles i None
+
+-- the placement that the new tiles of a line make
+unfoldable pub placement_of : Dir → ℕ → List (Option Tile) → List Placed
+placement_of d line tiles = flat_map (λ i. placed_on (square_at d line i) (new_tile tiles i)) (range_with_len 0 SIDE)
+
 -- the placement that entries make on a line
-unfoldable pub tiles_of : Dir → ℕ → List ℕ → List Placed
-tiles_of d line y = flat_map (λ i. placed_on (square_at d line i) (tile_of_entry (slice_index y i))) (range_with_len 0 SIDE)
+abbrev pub tiles_of : Dir → ℕ → List ℕ → List Placed
+tiles_of d line y = placement_of d line (line_tiles y)
 
 -- the entries of a placement on a line
 unfoldable pub entries_of : Dir → ℕ → List Placed → List ℕ

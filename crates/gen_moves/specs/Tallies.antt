@@ -1,35 +1,36 @@
 -- What a move of a line scores at the most, by what each place of its stretch adds.
-use Rattle.std.specs.Prelude.{◌≡◌, ◌≢◌, ℕ, ◌+◌, ◌*◌, ◌^◌, ◌<◌, ◌≤◌, ◌==◌, ◌&&◌, not, nat_le, Bool, true, List, slice_index, if◌then◌else◌}
+use Rattle.std.specs.Prelude.{◌≡◌, ◌≢◌, ℕ, ◌+◌, ◌*◌, ◌^◌, ◌<◌, ◌≤◌, ◌||◌, not, nat_le, Bool, true, List, Option, None, is_some, if◌then◌else◌}
 use Rattle.ref_tiles.specs.declared.rulebook.TheConstants.{SIDE}
+use Rattle.ref_tiles.specs.declared.tiles.Tile.{Tile}
 use Rattle.ref_tiles.specs.declared.rulebook.Rules.{Rules}
 use Rattle.ref_board.specs.Runs.{IsWhole}
 use Rattle.ref_play.specs.Scores.{points_on}
 use Rattle.gen_moves.specs.declared.places.Place.{Place}
 use Rattle.gen_moves.specs.declared.spots.Spot.{Spot}
 use Rattle.gen_moves.specs.declared.tallies.Tally.{Tally}
-use Rattle.gen_moves.specs.LineTiles.{tile_of_entry}
+use Rattle.gen_moves.specs.LineTiles.{line_tiles, new_tile}
 use Rattle.gen_moves.specs.Bounds.{total, times, free_count, IsSmall, TellsUnder}
 
 -- the points of the new tile on a place; a blank has none
-abbrev pub points_at : Rules → List ℕ → ℕ → ℕ
-points_at rules y i = points_on rules (tile_of_entry (slice_index y i))
+abbrev pub points_at : Rules → (ℕ → Option Tile) → ℕ → ℕ
+points_at rules tiles i = points_on rules (tiles i)
 
 -- whether a place has an old tile or a new one
-abbrev pub is_laid : (ℕ → Place) → List ℕ → ℕ → Bool
-is_laid places y i = not ((places i).free && slice_index y i == 0)
+abbrev pub is_laid : (ℕ → Place) → (ℕ → Option Tile) → ℕ → Bool
+is_laid places tiles i = not (places i).free || is_some (tiles i)
 
 -- what a place adds to the word of the stretch, and its cross word to the score
-abbrev pub letter_sum : Rules → (ℕ → Place) → List ℕ → ℕ → ℕ
-letter_sum rules places y i = (places i).old + (places i).letter * points_at rules y i
+abbrev pub letter_sum : Rules → (ℕ → Place) → (ℕ → Option Tile) → ℕ → ℕ
+letter_sum rules places tiles i = (places i).old + (places i).letter * points_at rules tiles i
 
-abbrev pub cross_sum : Rules → (ℕ → Place) → List ℕ → ℕ → ℕ
-cross_sum rules places y i = (places i).side + (places i).cross * points_at rules y i
+abbrev pub cross_sum : Rules → (ℕ → Place) → (ℕ → Option Tile) → ℕ → ℕ
+cross_sum rules places tiles i = (places i).side + (places i).cross * points_at rules tiles i
 
 -- the word of a stretch, its cross words, and the bonus
-abbrev pub tally : Rules → (ℕ → Place) → List ℕ → ℕ → ℕ → ℕ
-tally rules places y first len =
-    total (letter_sum rules places y) first len * times (λ i. (places i).word) first len
-    + total (cross_sum rules places y) first len
+abbrev pub tally : Rules → (ℕ → Place) → (ℕ → Option Tile) → ℕ → ℕ → ℕ
+tally rules places tiles first len =
+    total (letter_sum rules places tiles) first len * times (λ i. (places i).word) first len
+    + total (cross_sum rules places tiles) first len
     + (if nat_le 7 (free_count places first len) then rules.bonus else 0)
 
 -- What so many places add up to at the most, so that no number runs over: by a place as it is at the most (IsSmall), with the 99 points
@@ -41,9 +42,9 @@ pub record IsSmallTally (len : ℕ) (t : Tally) : Type 0 where
   pub free : t.free ≤ len
 
 -- the new tiles of a line lie in one whole stretch of it, and there is one
-pub record LiesOn (places : ℕ → Place) (y : List ℕ) (first len : ℕ) : Type 0 where
-  pub whole : IsWhole (is_laid places y) first len
-  pub within : (i : ℕ) → i < SIDE → slice_index y i ≢ 0 → (first ≤ i) × (i < first + len)
+pub record LiesOn (places : ℕ → Place) (tiles : ℕ → Option Tile) (first len : ℕ) : Type 0 where
+  pub whole : IsWhole (is_laid places tiles) first len
+  pub within : (i : ℕ) → i < SIDE → tiles i ≢ None → (first ≤ i) × (i < first + len)
   pub some : (i : ℕ) × (first ≤ i) × (i < first + len) × ((places i).free ≡ true)
 
 abbrev pub AreSmall : (ℕ → Place) → Type 0
@@ -53,5 +54,5 @@ AreSmall places = (i : ℕ) → i < SIDE → IsSmall (places i)
 pub record IsTallied (rules : Rules) (spot : Spot) (places : ℕ → Place) (y : List ℕ) : Type 0 where
   pub first : ℕ
   pub len : ℕ
-  pub lies : LiesOn places y first len
-  pub under : TellsUnder rules spot.board spot.dir spot.line y (tally rules places y first len)
+  pub lies : LiesOn places (new_tile (line_tiles y)) first len
+  pub under : TellsUnder rules spot.board spot.dir spot.line y (tally rules places (new_tile (line_tiles y)) first len)

@@ -12,24 +12,28 @@ use Rattle.ref_play.specs.Best.{Given}
 use Rattle.gen_line.specs.declared.cells.Cell.{Cell}
 use Rattle.gen_line.specs.Walk.{add_all}
 use Rattle.gen_moves.specs.declared.spots.Spot.{Spot}
-use Rattle.gen_moves.specs.LineTiles.{tiles_of}
+use Rattle.gen_moves.specs.LineTiles.{line_tiles, placement_of}
 use Rattle.gen_moves.specs.Findings.{told}
 
--- these entries put down a tile, and where they are not too many a legal play with its run along the line
-abbrev pub IsFit : Spot → List ℕ → Type 0
-IsFit spot y =
-    (spot.line < SIDE) × ((1 ≤ length (tiles_of spot.dir spot.line y))
-    × (length (tiles_of spot.dir spot.line y) ≤ 7 → IsLegal spot.board (tiles_of spot.dir spot.line y) × RunsAlong spot.dir spot.board (tiles_of spot.dir spot.line y)))
+-- these tiles are one or more, and where they are not too many a legal play with its run along the line
+abbrev pub IsFit : Spot → List (Option Tile) → Type 0
+IsFit spot tiles =
+    (spot.line < SIDE) × ((1 ≤ length (placement_of spot.dir spot.line tiles))
+    × (length (placement_of spot.dir spot.line tiles) ≤ 7 → IsLegal spot.board (placement_of spot.dir spot.line tiles) × RunsAlong spot.dir spot.board (placement_of spot.dir spot.line tiles)))
+
+-- the entries of a move stand for such tiles
+abbrev pub IsFitMove : Spot → List ℕ → Type 0
+IsFitMove spot y = IsFit spot (line_tiles y)
 
 -- a sink's items after the entries of a line are told to it
 abbrev pub tell : Rules → Spot → (List Given → Given → List Given) → List Given → List ℕ → List Given
 tell rules spot add items y = add_all add items (told rules spot.board spot.dir spot.line y)
 
--- the play of the entries, where it is wanted
-abbrev pub PlayIs : Spot → List ℕ → Option Play → Type 0
-PlayIs spot y None = is_wanted spot.board spot.dir (tiles_of spot.dir spot.line y) ≡ false
-PlayIs spot y (Some play) =
-    (is_wanted spot.board spot.dir (tiles_of spot.dir spot.line y) ≡ true) × (play.dir ≡ spot.dir) × (play.tiles.items ≡ tiles_of spot.dir spot.line y)
+-- the play of the tiles, where it is wanted
+abbrev pub PlayIs : Spot → List (Option Tile) → Option Play → Type 0
+PlayIs spot tiles None = is_wanted spot.board spot.dir (placement_of spot.dir spot.line tiles) ≡ false
+PlayIs spot tiles (Some play) =
+    (is_wanted spot.board spot.dir (placement_of spot.dir spot.line tiles) ≡ true) × (play.dir ≡ spot.dir) × (play.tiles.items ≡ placement_of spot.dir spot.line tiles)
 
 -- ---- the lines of a board, one direction after the other
 abbrev pub spot_of : List (Option Tile) → Dir → ℕ → Spot

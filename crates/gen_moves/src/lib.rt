@@ -3,6 +3,7 @@
 #![tactic(auto)]
 
 mod anchors;
+mod entries;
 mod fronts;
 mod generating;
 mod laws;

@@ -2,13 +2,13 @@
 ghost use Rattle.std.specs.Prelude.{◌≡◌, ◌<◌};
 ghost use Rattle.ref_play.specs.Legality.{IsLegal};
 ghost use Rattle.ref_play.specs.Directions.{is_wanted, RunsAlong};
-ghost use Rattle.gen_moves.specs.LineTiles.{tile_of_entry, tiles_of};
+ghost use Rattle.gen_moves.specs.LineTiles.{placement_of};
 ghost use Rattle.gen_moves.specs.Telling.{IsFit, PlayIs};
 
+use crate::entries::LineTiles;
 use arrayvec::ArrayVec;
 use ref_board::{Board, Dir, SIDE, Square};
 use ref_play::{Placed, Play, RACK, notation, shortened};
-use ref_tiles::{Letter, Tile};
 
 /// A line of a board.
 #[derive(Clone, Copy)]
@@ -21,35 +21,20 @@ pub struct Spot {
     pub line: usize,
 }
 
-/// The tile of an entry: none for 0, else 1 + 2 * letter stands for a letter, A being 0, and one more for a blank.
-pub fn tile_of(entry: u8) -> Option<Tile>
-    ensures { result ≡ tile_of_entry entry }
-{
-    if entry == 0 {
-        return None;
-    }
-    let letter = Letter::new((entry - 1) / 2)?;
-    Some(if (entry - 1) % 2 == 1 {
-        Tile::of_blank(letter)
-    } else {
-        Tile::of_letter(letter)
-    })
-}
-
 impl Spot {
-    /// The tiles that some entries put down.
-    fn tiles_of(&self, entries: &[u8; SIDE]) -> ArrayVec<Placed, SIDE>
+    /// Some new tiles, each with its square.
+    fn placed(&self, tiles: &LineTiles) -> ArrayVec<Placed, SIDE>
         requires { self.now.line < SIDE }
-        ensures { result.items ≡ tiles_of self.now.dir self.now.line entries.now }
+        ensures { result.items ≡ placement_of self.now.dir self.now.line tiles.now }
     {
-        let mut tiles = ArrayVec::new();
+        let mut placed = ArrayVec::new();
         for place in 0..SIDE {
-            if let Some(tile) = tile_of(entries[place]) {
+            if let Some(tile) = tiles[place] {
                 let square = Square::on_line(self.dir, self.line, place);
-                tiles.push(Placed { square, tile });
+                placed.push(Placed { square, tile });
             }
         }
-        tiles
+        placed
     }
 
     /// Whether a play that runs along the line is written in its direction.
@@ -62,18 +47,18 @@ impl Spot {
         play.tiles.len() > 1 || notation(&self.board, play).dir == self.dir
     }
 
-    /// The play of the entries of a move, where it is written in the direction of the line and has not too many tiles.
-    pub fn play_of(&self, entries: &[u8; SIDE]) -> Option<Play>
-        requires { IsFit self.now entries.now }
-        ensures { PlayIs self.now entries.now result }
+    /// The play of some new tiles, where it is written in the direction of the line and has not too many of them.
+    pub fn play_of(&self, tiles: &LineTiles) -> Option<Play>
+        requires { IsFit self.now tiles.now }
+        ensures { PlayIs self.now tiles.now result }
     {
-        let tiles = self.tiles_of(entries);
-        if tiles.len() > RACK {
+        let placed = self.placed(tiles);
+        if placed.len() > RACK {
             return None;
         }
         let play = Play {
             dir: self.dir,
-            tiles: shortened(&tiles),
+            tiles: shortened(&placed),
         };
         if !self.has_written(&play) {
             return None;

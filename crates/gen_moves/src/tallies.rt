@@ -1,15 +1,15 @@
 //! What the tiles of a move score at the most, added up place by place.
-ghost use Rattle.std.specs.Prelude.{◌≡◌, ◌≤◌, ◌+◌, ◌-◌, ◌*◌, ◌==◌, ◌&&◌, ℕ, nat_le, not, if◌then◌else◌};
+ghost use Rattle.std.specs.Prelude.{◌≡◌, ◌≤◌, ◌+◌, ◌-◌, ◌*◌, ◌||◌, ℕ, nat_le, not, is_some, if◌then◌else◌};
 ghost use Rattle.ref_play.specs.Scores.{points_on};
-ghost use Rattle.gen_moves.specs.LineTiles.{tile_of_entry};
+ghost use Rattle.gen_moves.specs.LineTiles.{new_tile};
 ghost use Rattle.gen_moves.specs.Bounds.{IsSmall, one_if, place_in};
 ghost use Rattle.gen_moves.specs.Tallies.{AreSmall, IsSmallTally, LiesOn, tally};
 
+use crate::entries::LineTiles;
 use crate::places::Place;
-use crate::spots::tile_of;
 use ref_board::SIDE;
 use ref_play::{RACK, points_on};
-use ref_tiles::Rules;
+use ref_tiles::{Rules, Tile};
 
 /// What the places of a stretch add up to.
 #[derive(Clone, Copy)]
@@ -72,31 +72,31 @@ impl Tally {
     }
 }
 
-/// The points of the new tile of an entry; a blank has none.
-fn points_of_entry(rules: &Rules, entry: u8) -> u64
-    ensures points { result ≡ points_on rules.now (tile_of_entry entry) }
+/// The points of a new tile, if there is one; a blank has none.
+fn points_of_tile(rules: &Rules, tile: &Option<Tile>) -> u64
+    ensures points { result ≡ points_on rules.now tile.now }
     ensures limit { result ≤ 99 }
 {
-    u64::from(points_on(rules, tile_of(entry)))
+    u64::from(points_on(rules, *tile))
 }
 
 /// Whether a place has an old tile or a new one.
-fn is_laid(place: &Place, entry: u8) -> bool
-    ensures { result ≡ not (place.now.free && entry == 0) }
+fn is_laid(place: &Place, tile: &Option<Tile>) -> bool
+    ensures { result ≡ (not place.now.free || is_some tile.now) }
 {
-    !(place.free && entry == 0)
+    !place.free || tile.is_some()
 }
 
-/// What the move of some entries scores at the most: what the stretch adds up to in which its tiles lie.
-pub fn tally_of(rules: &Rules, places: &[Place; SIDE], fresh: &[u8; SIDE]) -> u64
+/// What the move of some new tiles scores at the most: what the stretch adds up to in which they lie.
+pub fn tally_of(rules: &Rules, places: &[Place; SIDE], tiles: &LineTiles) -> u64
     requires { AreSmall (place_in places.now) }
-    ensures { (first len : ℕ) → LiesOn (place_in places.now) fresh.now first len
-        → result ≡ tally rules.now (place_in places.now) fresh.now first len }
+    ensures { (first len : ℕ) → LiesOn (place_in places.now) (new_tile tiles.now) first len
+        → result ≡ tally rules.now (place_in places.now) (new_tile tiles.now) first len }
 {
     let mut tally = Tally::none();
     for place in 0..SIDE {
-        if is_laid(&places[place], fresh[place]) {
-            tally = tally.with(&places[place], points_of_entry(rules, fresh[place]));
+        if is_laid(&places[place], &tiles[place]) {
+            tally = tally.with(&places[place], points_of_tile(rules, &tiles[place]));
         } else {
             if tally.free > 0 {
                 return tally.score(rules.bonus);

@@ -1,4 +1,5 @@
 //! The moves of a line, told to a sink as plays with their scores.
+use crate::entries::line_tiles;
 use crate::passing::passes;
 use crate::places::Place;
 use crate::spots::Spot;
@@ -24,7 +25,7 @@ impl<S: Sink> Taker<S> for LinePlays<'_> {
     ghost use Rattle.ref_tiles.specs.declared.tiles.Tile.{Tile};
     ghost use Rattle.ref_play.specs.Best.{Given};
     ghost use Rattle.gen_sinks.specs.Sinks.{IsFor};
-    ghost use Rattle.gen_moves.specs.Telling.{IsFit, tell};
+    ghost use Rattle.gen_moves.specs.Telling.{IsFitMove, tell};
     ghost use Rattle.gen_moves.specs.Bounds.{place_in};
     ghost use Rattle.gen_moves.specs.Tallies.{AreSmall, IsTallied};
 
@@ -38,21 +39,22 @@ impl<S: Sink> Taker<S> for LinePlays<'_> {
 
     ghost can_take = { λ plays board entries.
         (IsFor board plays.spot.now.board × AreSmall (place_in plays.places.now))
-        × (IsFit plays.spot.now entries × IsTallied plays.rules.now plays.spot.now (place_in plays.places.now) entries) };
+        × (IsFitMove plays.spot.now entries × IsTallied plays.rules.now plays.spot.now (place_in plays.places.now) entries) };
 
     ghost tell = { λ plays board items entries. tell plays.rules.now plays.spot.now (S.add board) items entries };
 
     ghost grows = { S.grows };
 
     fn take(&self, fresh: &[u8; SIDE], sink: &mut S) -> Result<(), NoMemory> {
+        let tiles = line_tiles(fresh);
         if passes(
             sink,
             self.spot.dir,
-            tally_of(self.rules, self.places, fresh),
+            tally_of(self.rules, self.places, &tiles),
         ) {
             return Ok(());
         }
-        let Some(play) = self.spot.play_of(fresh) else {
+        let Some(play) = self.spot.play_of(&tiles) else {
             return Ok(());
         };
         let points = score(self.rules, &self.spot.board, &play);

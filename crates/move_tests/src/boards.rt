@@ -12,6 +12,16 @@ pub type Laid = (usize, usize, Dir, &'static [u8]);
 /// 8E WORD, which leaves R over 9G and D over 9H, and 9G AT.
 pub const WORD_AT: [Laid; 2] = [(7, 4, Dir::Across, b"WORD"), (8, 6, Dir::Across, b"AT")];
 
+/// A on 8G and on 8I.
+pub const TWO: [Laid; 2] = [(7, 6, Dir::Across, b"A"), (7, 8, Dir::Across, b"A")];
+
+/// Whether a letter, as a number from 0, is one of these.
+pub fn has_letter(letters: &[u8], letter: usize) -> bool {
+    letters
+        .iter()
+        .any(|byte| usize::from(*byte) == letter.saturating_add(65))
+}
+
 /// The board with these tiles.
 pub fn laid(rt: &impl Abort, tiles: &[Laid]) -> Board {
     let mut board = Board::empty();

@@ -1,127 +1,56 @@
 //! The cross-sets of boards: the rows, and all 450 values by the definition, word by word.
-use crate::boards::{Laid, WORD_AT, at, laid, list_of};
+use crate::boards::{Laid, TWO, WORD_AT, at, has_letter, laid, list_of};
 use gen_cross::Cross;
 use lex_build::build;
 use lex_check::SortedPaths;
 use lex_file::{LexFile, PathLex};
 use lex_list::WordList;
+use ref_board::Dir::{Across, Down};
 use ref_board::{Board, Dir, SIDE, Square};
 use ref_tiles::{Letter, Rules, Tile, english_rules};
 use std::alloc::Global;
 use std::process::Abort;
 
 /// The letters that may be put on a square, and the points beside it, for a play of a direction: the words of the list, the
-/// tiles on the board, the row and the column of the square.
-struct Row {
-    words: &'static [u8],
-    board: &'static [Laid],
-    dir: Dir,
-    square: (usize, usize),
-    letters: &'static [u8],
-    points: u16,
-}
+/// tiles on the board, the row and the column of the square and the direction, the letters and the points.
+type Row = (
+    &'static [u8],
+    &'static [Laid],
+    (usize, usize, Dir),
+    &'static [u8],
+    u16,
+);
 
 const FEW: &[u8] = b"AT\nTA\nABAS\nTABA\n";
-
-/// A on 8G and on 8I.
-const TWO: [Laid; 2] = [(7, 6, Dir::Across, b"A"), (7, 8, Dir::Across, b"A")];
 
 const ALL: &[u8] = b"ABCDEFGHIJKLMNOPQRSTUVWXYZ";
 
 const ROWS: [Row; 9] = [
-    Row {
-        words: FEW,
-        board: &TWO,
-        dir: Dir::Down,
-        square: (7, 5),
-        letters: b"T",
-        points: 1,
-    },
-    Row {
-        words: FEW,
-        board: &TWO,
-        dir: Dir::Down,
-        square: (7, 7),
-        letters: b"",
-        points: 2,
-    },
-    Row {
-        words: FEW,
-        board: &TWO,
-        dir: Dir::Down,
-        square: (7, 9),
-        letters: b"T",
-        points: 1,
-    },
+    (FEW, &TWO, (7, 5, Down), b"T", 1),
+    (FEW, &TWO, (7, 7, Down), b"", 2),
+    (FEW, &TWO, (7, 9, Down), b"T", 1),
     // no tile beside it in its column
-    Row {
-        words: FEW,
-        board: &TWO,
-        dir: Dir::Across,
-        square: (7, 7),
-        letters: ALL,
-        points: 0,
-    },
+    (FEW, &TWO, (7, 7, Across), ALL, 0),
     // a square with a tile has neither letters nor points
-    Row {
-        words: FEW,
-        board: &TWO,
-        dir: Dir::Down,
-        square: (7, 6),
-        letters: b"",
-        points: 0,
-    },
+    (FEW, &TWO, (7, 6, Down), b"", 0),
     // three tiles in a row, the premium of the middle one counts no more
-    Row {
-        words: FEW,
-        board: &[(7, 6, Dir::Across, b"ABA")],
-        dir: Dir::Down,
-        square: (7, 5),
-        letters: b"T",
-        points: 5,
-    },
-    Row {
-        words: FEW,
-        board: &[(7, 6, Dir::Across, b"ABA")],
-        dir: Dir::Down,
-        square: (7, 9),
-        letters: b"S",
-        points: 5,
-    },
+    (FEW, &[(7, 6, Across, b"ABA")], (7, 5, Down), b"T", 5),
+    (FEW, &[(7, 6, Across, b"ABA")], (7, 9, Down), b"S", 5),
     // a blank on the board counts no points
-    Row {
-        words: FEW,
-        board: &[(7, 6, Dir::Across, b"aBA")],
-        dir: Dir::Down,
-        square: (7, 9),
-        letters: b"S",
-        points: 4,
-    },
+    (FEW, &[(7, 6, Across, b"aBA")], (7, 9, Down), b"S", 4),
     // the R of WORD and the A of AT stand over 10G
-    Row {
-        words: b"AT\nRA\nRAT\nWORD\n",
-        board: &WORD_AT,
-        dir: Dir::Across,
-        square: (9, 6),
-        letters: b"T",
-        points: 2,
-    },
+    (b"AT\nRA\nRAT\nWORD\n", &WORD_AT, (9, 6, Across), b"T", 2),
 ];
 
-fn has_letter(letters: &[u8], letter: usize) -> bool {
-    letters
-        .iter()
-        .any(|byte| usize::from(*byte) == letter.saturating_add(65))
-}
-
-fn assert_row(rt: &impl Abort, alloc: Global, rules: &Rules, row: &Row) {
-    let list = list_of(rt, alloc, row.words);
+fn assert_row(rt: &impl Abort, alloc: Global, rules: &Rules, row: Row) {
+    let (words, tiles, (line, column, dir), letters, points) = row;
+    let list = list_of(rt, alloc, words);
     let paths = SortedPaths::new(alloc, &list).expect(rt, "the paths");
-    let cross = Cross::scratch(rules, &laid(rt, row.board), &paths);
-    let square = at(rt, row.square.0, row.square.1);
-    assert_eq!(rt; cross.side(row.dir, square), row.points, "{:?}", row.square);
-    for (letter, may) in cross.mask(row.dir, square).iter().enumerate() {
-        assert_eq!(rt; *may, has_letter(row.letters, letter), "{:?}", row.square);
+    let cross = Cross::scratch(rules, &laid(rt, tiles), &paths);
+    let square = at(rt, line, column);
+    assert_eq!(rt; cross.side(dir, square), points, "{:?}", square);
+    for (letter, may) in cross.mask(dir, square).iter().enumerate() {
+        assert_eq!(rt; *may, has_letter(letters, letter), "{:?}", square);
     }
 }
 
@@ -129,7 +58,7 @@ fn assert_row(rt: &impl Abort, alloc: Global, rules: &Rules, row: &Row) {
 fn rows(rt: HostRuntime) {
     let rules = english_rules();
     for row in &ROWS {
-        assert_row(&rt, rt.alloc(), &rules, row);
+        assert_row(&rt, rt.alloc(), &rules, *row);
     }
 }
 

@@ -13,9 +13,10 @@ use lex_build::build;
 use lex_check::{Checked, SortedPaths, pair};
 use lex_file::{LexFile, PathLex};
 use lex_list::WordList;
-use ref_board::{Board, Dir};
+use ref_board::Board;
+use ref_board::Dir::{self, Across, Down};
 use ref_play::{Notation, Play, judge, notation};
-use ref_tiles::{Counts, Kind, Letter, Rules, english_rules};
+use ref_tiles::{Counts, Kind, Rules, english_rules};
 use std::alloc::Global;
 use std::process::Abort;
 
@@ -23,10 +24,7 @@ use std::process::Abort;
 fn rack_of(rt: &impl Abort, tiles: &[u8]) -> Counts {
     let mut counts = Counts::new();
     for byte in tiles {
-        let kind = match Letter::counted_from(b'A', *byte) {
-            Some(letter) => Kind::Letter(letter),
-            None => Kind::Blank,
-        };
+        let kind = Kind::of_byte(*byte).expect(rt, "a tile");
         assert!(rt; counts.count(kind) < 255);
         counts.add(kind);
     }
@@ -123,56 +121,41 @@ fn by_file(
 /// A play as it is written, from its first square (row and column, from 0) on, and its score.
 type Written = (usize, usize, Dir, &'static [u8], i32);
 
-/// The words of a list, the tiles on a board, a rack, and all plays.
-struct Row {
-    words: &'static [u8],
-    board: &'static [Laid],
-    rack: &'static [u8],
-    plays: &'static [Written],
-}
+/// The first plays of AT without a blank, on an empty board.
+const AT_FIRST: [Written; 4] = [
+    (7, 6, Across, b"AT", 4),
+    (7, 7, Across, b"AT", 4),
+    (6, 7, Down, b"AT", 4),
+    (7, 7, Down, b"AT", 4),
+];
+
+/// The same with a blank for either letter.
+const AT_BY_BLANK: [Written; 8] = [
+    (7, 6, Across, b"At", 2),
+    (7, 6, Across, b"aT", 2),
+    (7, 7, Across, b"At", 2),
+    (7, 7, Across, b"aT", 2),
+    (6, 7, Down, b"At", 2),
+    (6, 7, Down, b"aT", 2),
+    (7, 7, Down, b"At", 2),
+    (7, 7, Down, b"aT", 2),
+];
+
+/// One tile, once in each direction in which it makes a word.
+const ONE_TILE: [Written; 2] = [(14, 13, Across, b"A.", 2), (13, 14, Down, b"A.", 2)];
+
+/// The words of a list, the tiles on a board, a rack, and all plays, in two parts.
+type Row = (
+    &'static [u8],
+    &'static [Laid],
+    &'static [u8],
+    [&'static [Written]; 2],
+);
 
 const ROWS: [Row; 3] = [
-    Row {
-        words: b"AT",
-        board: &[],
-        rack: b"AT",
-        plays: &[
-            (7, 6, Dir::Across, b"AT", 4),
-            (7, 7, Dir::Across, b"AT", 4),
-            (6, 7, Dir::Down, b"AT", 4),
-            (7, 7, Dir::Down, b"AT", 4),
-        ],
-    },
-    // a blank for either letter
-    Row {
-        words: b"AT",
-        board: &[],
-        rack: b"AT?",
-        plays: &[
-            (7, 6, Dir::Across, b"AT", 4),
-            (7, 7, Dir::Across, b"AT", 4),
-            (6, 7, Dir::Down, b"AT", 4),
-            (7, 7, Dir::Down, b"AT", 4),
-            (7, 6, Dir::Across, b"At", 2),
-            (7, 6, Dir::Across, b"aT", 2),
-            (7, 7, Dir::Across, b"At", 2),
-            (7, 7, Dir::Across, b"aT", 2),
-            (6, 7, Dir::Down, b"At", 2),
-            (6, 7, Dir::Down, b"aT", 2),
-            (7, 7, Dir::Down, b"At", 2),
-            (7, 7, Dir::Down, b"aT", 2),
-        ],
-    },
-    // one tile, once in each direction in which it makes a word
-    Row {
-        words: b"AT",
-        board: &[(14, 14, Dir::Across, b"T")],
-        rack: b"A",
-        plays: &[
-            (14, 13, Dir::Across, b"A.", 2),
-            (13, 14, Dir::Down, b"A.", 2),
-        ],
-    },
+    (b"AT", &[], b"AT", [&AT_FIRST, &[]]),
+    (b"AT", &[], b"AT?", [&AT_FIRST, &AT_BY_BLANK]),
+    (b"AT", &[(14, 14, Across, b"T")], b"A", [&ONE_TILE, &[]]),
 ];
 
 fn is_written(rt: &impl Abort, told: &Told, play: &Written) -> bool {
@@ -188,35 +171,35 @@ fn is_written(rt: &impl Abort, told: &Told, play: &Written) -> bool {
         && told.1 == play.4
 }
 
-/// Asserts that what is given are these plays, each once, and no other.
-fn assert_written(rt: &impl Abort, given: &[Told], plays: &[Written]) {
-    assert_eq!(rt; given.len(), plays.len());
-    for play in plays {
+/// Asserts that what is given are the plays of both parts, each once, and no other.
+fn assert_written(rt: &impl Abort, given: &[Told], plays: [&[Written]; 2]) {
+    assert_eq!(rt; given.len(), count_of(plays));
+    for play in plays[0].iter().chain(plays[1]) {
         let same = given.iter().any(|told| is_written(rt, told, play));
         assert!(rt; same, "{:?}", play);
     }
 }
 
-fn assert_row(rt: &impl Abort, alloc: Global, rules: &Rules, row: &Row) {
-    let list = list_of(rt, alloc, row.words);
-    let bytes = build(alloc, &list).expect(rt, "a lexicon");
-    let file = LexFile::open(bytes.as_slice()).expect(rt, "a file");
-    let pair = pair(alloc, &list, file).expect(rt, "a pair");
-    let board = laid(rt, row.board);
-    let rack = rack_of(rt, row.rack);
-    let given = by_file(rt, alloc, rules, &pair, &board, &rack);
-    assert_written(rt, &given, row.plays);
+fn count_of(plays: [&[Written]; 2]) -> usize {
+    plays[0].len().saturating_add(plays[1].len())
+}
+
+fn assert_row(rt: &impl Abort, alloc: Global, rules: &Rules, row: Row) {
+    let (words, tiles, held, plays) = row;
+    let case = (words, tiles, held, count_of(plays));
+    let given = assert_case(rt, alloc, rules, case);
+    assert_written(rt, &given, plays);
+    let list = list_of(rt, alloc, words);
+    let (board, rack) = (laid(rt, tiles), rack_of(rt, held));
     let given = by_paths(rt, alloc, rules, &list, &board, &rack);
-    assert_written(rt, &given, row.plays);
-    let case = (row.words, row.board, row.rack, row.plays.len());
-    assert_case(rt, alloc, rules, case);
+    assert_written(rt, &given, plays);
 }
 
 #[test]
 fn rows(rt: HostRuntime) {
     let rules = english_rules();
     for row in &ROWS {
-        assert_row(&rt, rt.alloc(), &rules, row);
+        assert_row(&rt, rt.alloc(), &rules, *row);
     }
 }
 
@@ -264,7 +247,8 @@ fn assert_best(
     assert_first(rt, best.as_slice(), plain, 1);
 }
 
-fn assert_case(rt: &impl Abort, alloc: Global, rules: &Rules, case: Case<'_>) {
+/// Asserts that the plays by the file are those of a plain search, and so many, and gives them.
+fn assert_case(rt: &impl Abort, alloc: Global, rules: &Rules, case: Case<'_>) -> Vec<Told> {
     let (words, tiles, held, plays) = case;
     let list = list_of(rt, alloc, words);
     let bytes = build(alloc, &list).expect(rt, "a lexicon");
@@ -277,6 +261,7 @@ fn assert_case(rt: &impl Abort, alloc: Global, rules: &Rules, case: Case<'_>) {
     let given = by_file(rt, alloc, rules, &pair, &board, &rack);
     assert_same(rt, &given, &plain);
     assert_best(rt, alloc, rules, &pair, &board, &rack, &plain);
+    given
 }
 
 #[test]

@@ -1,16 +1,14 @@
 //! Cross-sets that are kept up by puts and lifts: a tile between two others, and boards whose tiles, or whose plays, are put and
 //! lifted in several orders, all values beside those that are made afresh.
-use crate::boards::{Laid, at, laid, list_of};
+use crate::boards::{Laid, TWO, at, has_letter, laid, list_of};
 use gcg_read::Text;
 use gen_cross::Cross;
 use lex_check::SortedPaths;
+use ref_board::Dir::{Across, Down};
 use ref_board::{Board, Dir, SIDE, Square};
 use ref_play::{Play, from_text};
 use ref_tiles::{Letter, Rules, Tile, english_rules};
 use std::process::Abort;
-
-/// A on 8G and on 8I.
-const TWO: [Laid; 2] = [(7, 6, Dir::Across, b"A"), (7, 8, Dir::Across, b"A")];
 
 /// What squares of row 8 have for a play down: the column, the letters and the points beside.
 type Beside = (usize, &'static [u8], u16);
@@ -52,28 +50,16 @@ fn assert_beside(rt: &impl Abort, cross: &Cross, beside: Beside) {
     let square = at(rt, 7, beside.0);
     assert_eq!(rt; cross.side(Dir::Down, square), beside.2, "{:?}", square);
     for (letter, may) in cross.mask(Dir::Down, square).iter().enumerate() {
-        let listed = beside
-            .1
-            .iter()
-            .any(|byte| usize::from(*byte) == letter.saturating_add(65));
+        let listed = has_letter(beside.1, letter);
         assert_eq!(rt; *may, listed, "{:?} {}", square, letter);
     }
 }
 
 /// Asserts that two crosses have one value of a square.
 fn assert_value(rt: &impl Abort, kept: &Cross, made: &Cross, dir: Dir, square: Square) {
-    assert_eq!(rt;
-        kept.mask(dir, square),
-        made.mask(dir, square),
-        "{:?}",
-        square
-    );
-    assert_eq!(rt;
-        kept.side(dir, square),
-        made.side(dir, square),
-        "{:?}",
-        square
-    );
+    let held = (kept.mask(dir, square), kept.side(dir, square));
+    let afresh = (made.mask(dir, square), made.side(dir, square));
+    assert_eq!(rt; held, afresh, "{:?}", square);
 }
 
 /// Asserts that two crosses have the same 450 values.
@@ -144,14 +130,14 @@ fn orders_of_tiles(rt: HostRuntime) {
 /// Plays: 8E WORD, 9G AT, G8 RAES through both and 10E TOES through its E; at the edges 1A ABAS, A1 AA, 15I RETAINS, which has
 /// seven tiles, and O14 AS.
 const PLAYS: [Laid; 8] = [
-    (7, 4, Dir::Across, b"WORD"),
-    (8, 6, Dir::Across, b"AT"),
-    (7, 6, Dir::Down, b"RAES"),
-    (9, 4, Dir::Across, b"TOES"),
-    (0, 0, Dir::Across, b"ABAS"),
-    (14, 8, Dir::Across, b"RETAINS"),
-    (13, 14, Dir::Down, b"AS"),
-    (0, 0, Dir::Down, b"AA"),
+    (7, 4, Across, b"WORD"),
+    (8, 6, Across, b"AT"),
+    (7, 6, Down, b"RAES"),
+    (9, 4, Across, b"TOES"),
+    (0, 0, Across, b"ABAS"),
+    (14, 8, Across, b"RETAINS"),
+    (13, 14, Down, b"AS"),
+    (0, 0, Down, b"AA"),
 ];
 
 /// Orders of these plays.

@@ -1,48 +1,23 @@
 //! How plays are written, and their order.
 use crate::plays::{AT, Text, WORD, after, judged};
-use ref_board::{Board, Dir, Square};
+use ref_board::Dir::{Across, Down};
+use ref_board::{Board, Square};
 use ref_play::{Notation, PlayFault, before, law_of_before, notation};
 use std::alloc::Global;
 use std::process::Abort;
 
-/// A legal play and its notation: the plays before it, its text as it is given, and its text as it is written.
-struct Row {
-    before: &'static [Text],
-    given: Text,
-    written: Text,
-}
-
-const ROWS: [Row; 6] = [
-    Row {
-        before: &[],
-        given: (7, 4, Dir::Across, b"WOrD"),
-        written: (7, 4, Dir::Across, b"WOrD"),
-    },
-    Row {
-        before: &[WORD],
-        given: (7, 3, Dir::Across, b"SWORDS"),
-        written: (7, 3, Dir::Across, b"S....S"),
-    },
-    Row {
-        before: &[WORD, AT],
-        given: (8, 5, Dir::Across, b"E.."),
-        written: (8, 5, Dir::Across, b"E.."),
-    },
-    Row {
-        before: &[WORD, AT],
-        given: (7, 5, Dir::Down, b".E"),
-        written: (8, 5, Dir::Across, b"E.."),
-    },
-    Row {
-        before: &[WORD],
-        given: (7, 4, Dir::Down, b".E"),
-        written: (7, 4, Dir::Down, b".E"),
-    },
-    Row {
-        before: &[WORD],
-        given: (8, 4, Dir::Across, b"E"),
-        written: (7, 4, Dir::Down, b".E"),
-    },
+/// Legal plays and their notation: the plays before each, its text as it is given, and its text as it is written.
+const ROWS: [(&[Text], Text, Text); 6] = [
+    (&[], (7, 4, Across, b"WOrD"), (7, 4, Across, b"WOrD")),
+    (
+        &[WORD],
+        (7, 3, Across, b"SWORDS"),
+        (7, 3, Across, b"S....S"),
+    ),
+    (&[WORD, AT], (8, 5, Across, b"E.."), (8, 5, Across, b"E..")),
+    (&[WORD, AT], (7, 5, Down, b".E"), (8, 5, Across, b"E..")),
+    (&[WORD], (7, 4, Down, b".E"), (7, 4, Down, b".E")),
+    (&[WORD], (8, 4, Across, b"E"), (7, 4, Down, b".E")),
 ];
 
 pub fn assert_written(rt: &impl Abort, notation: &Notation, written: Text) {
@@ -55,29 +30,25 @@ pub fn assert_written(rt: &impl Abort, notation: &Notation, written: Text) {
     }
 }
 
-fn assert_row(rt: &impl Abort, alloc: Global, row: &Row) {
-    let board = after(rt, alloc, row.before);
-    match judged(rt, alloc, &board, row.given) {
-        Ok(play) => assert_written(rt, &notation(&board, &play), row.written),
-        Err(fault) => assert!(rt; false, "{fault:?}"),
-    }
-}
-
 #[test]
 fn written_plays(rt: HostRuntime) {
-    for row in &ROWS {
-        assert_row(&rt, rt.alloc(), row);
+    for (before, given, written) in &ROWS {
+        let board = after(&rt, rt.alloc(), before);
+        match judged(&rt, rt.alloc(), &board, *given) {
+            Ok(play) => assert_written(&rt, &notation(&board, &play), *written),
+            Err(fault) => assert!(rt; false, "{fault:?}"),
+        }
     }
 }
 
 /// First plays of a game, each before those behind it: across before down, then row by row, then capitals before small
 /// letters.
 const ORDERED: [Text; 5] = [
-    (7, 6, Dir::Across, b"AT"),
-    (7, 6, Dir::Across, b"At"),
-    (7, 7, Dir::Across, b"AT"),
-    (6, 7, Dir::Down, b"AT"),
-    (7, 7, Dir::Down, b"AT"),
+    (7, 6, Across, b"AT"),
+    (7, 6, Across, b"At"),
+    (7, 7, Across, b"AT"),
+    (6, 7, Down, b"AT"),
+    (7, 7, Down, b"AT"),
 ];
 
 /// Whether the first play comes before the second, where both are legal.

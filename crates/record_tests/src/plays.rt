@@ -2,7 +2,11 @@
 ghost use Rattle.std.specs.Prelude.{IfOk};
 ghost use Rattle.ref_play.specs.Legality.{IsLegal};
 
+use ref_board::Dir::{Across, Down};
 use ref_board::{Board, Dir, Square};
+use ref_play::PlayFault::{
+    Apart, Mismatch, MissesCentre, NoNewTile, NotWhole, OffBoard, TooManyTiles, TooShort,
+};
 use ref_play::{
     Play, PlayFault, Words, apply, from_text, judge, law_of_undoing, score, undo, words,
 };
@@ -14,179 +18,46 @@ use std::process::Abort;
 pub type Text = (usize, usize, Dir, &'static [u8]);
 
 /// 8E WORD, which leaves R over 9G and D over 9H.
-pub const WORD: Text = (7, 4, Dir::Across, b"WORD");
+pub const WORD: Text = (7, 4, Across, b"WORD");
 
 /// 9G AT.
-pub const AT: Text = (8, 6, Dir::Across, b"AT");
+pub const AT: Text = (8, 6, Across, b"AT");
 
 /// A legal play: the plays before it, its text, its score in the English game, and its words.
-struct Scored {
-    before: &'static [Text],
-    text: Text,
-    points: i32,
-    words: &'static [&'static [u8]],
-}
+type Scored = (&'static [Text], Text, i32, &'static [&'static [u8]]);
 
 const SCORED: [Scored; 14] = [
-    Scored {
-        before: &[],
-        text: WORD,
-        points: 16,
-        words: &[b"WORD"],
-    },
-    Scored {
-        before: &[],
-        text: (7, 4, Dir::Across, b"WOrD"),
-        points: 14,
-        words: &[b"WORD"],
-    },
-    Scored {
-        before: &[],
-        text: (7, 1, Dir::Across, b"RETAINS"),
-        points: 66,
-        words: &[b"RETAINS"],
-    },
-    Scored {
-        before: &[],
-        text: (7, 3, Dir::Across, b"RETAINS"),
-        points: 66,
-        words: &[b"RETAINS"],
-    },
-    Scored {
-        before: &[],
-        text: (7, 3, Dir::Across, b"RETAIN"),
-        points: 14,
-        words: &[b"RETAIN"],
-    },
-    Scored {
-        before: &[],
-        text: (6, 7, Dir::Down, b"At"),
-        points: 2,
-        words: &[b"AT"],
-    },
-    Scored {
-        before: &[],
-        text: (7, 7, Dir::Down, b"AT"),
-        points: 4,
-        words: &[b"AT"],
-    },
-    Scored {
-        before: &[WORD],
-        text: AT,
-        points: 9,
-        words: &[b"AT", b"RA", b"DT"],
-    },
-    Scored {
-        before: &[WORD],
-        text: (7, 4, Dir::Across, b"WorDs"),
-        points: 8,
-        words: &[b"WORDS"],
-    },
-    Scored {
-        before: &[WORD],
-        text: (7, 3, Dir::Across, b"S....S"),
-        points: 11,
-        words: &[b"SWORDS"],
-    },
-    Scored {
-        before: &[WORD],
-        text: (6, 4, Dir::Across, b"A"),
-        points: 5,
-        words: &[b"AW"],
-    },
-    Scored {
-        before: &[WORD, AT],
-        text: (8, 5, Dir::Across, b"E.."),
-        points: 5,
-        words: &[b"EAT", b"OE"],
-    },
-    Scored {
-        before: &[WORD, AT],
-        text: (8, 5, Dir::Across, b"EAT"),
-        points: 5,
-        words: &[b"EAT", b"OE"],
-    },
-    Scored {
-        before: &[WORD, AT],
-        text: (7, 5, Dir::Down, b".E"),
-        points: 5,
-        words: &[b"OE", b"EAT"],
-    },
+    (&[], WORD, 16, &[b"WORD"]),
+    (&[], (7, 4, Across, b"WOrD"), 14, &[b"WORD"]),
+    (&[], (7, 1, Across, b"RETAINS"), 66, &[b"RETAINS"]),
+    (&[], (7, 3, Across, b"RETAINS"), 66, &[b"RETAINS"]),
+    (&[], (7, 3, Across, b"RETAIN"), 14, &[b"RETAIN"]),
+    (&[], (6, 7, Down, b"At"), 2, &[b"AT"]),
+    (&[], (7, 7, Down, b"AT"), 4, &[b"AT"]),
+    (&[WORD], AT, 9, &[b"AT", b"RA", b"DT"]),
+    (&[WORD], (7, 4, Across, b"WorDs"), 8, &[b"WORDS"]),
+    (&[WORD], (7, 3, Across, b"S....S"), 11, &[b"SWORDS"]),
+    (&[WORD], (6, 4, Across, b"A"), 5, &[b"AW"]),
+    (&[WORD, AT], (8, 5, Across, b"E.."), 5, &[b"EAT", b"OE"]),
+    (&[WORD, AT], (8, 5, Across, b"EAT"), 5, &[b"EAT", b"OE"]),
+    (&[WORD, AT], (7, 5, Down, b".E"), 5, &[b"OE", b"EAT"]),
 ];
 
-/// A refused text: the plays before it, the text, and its fault.
-struct Refused {
-    before: &'static [Text],
-    text: Text,
-    fault: PlayFault,
-}
-
-const REFUSED: [Refused; 13] = [
-    Refused {
-        before: &[],
-        text: (7, 3, Dir::Across, b"WORD"),
-        fault: PlayFault::MissesCentre,
-    },
-    Refused {
-        before: &[],
-        text: (7, 13, Dir::Across, b"ABC"),
-        fault: PlayFault::OffBoard,
-    },
-    Refused {
-        before: &[],
-        text: (14, 14, Dir::Across, b"A"),
-        fault: PlayFault::MissesCentre,
-    },
-    Refused {
-        before: &[],
-        text: (7, 7, Dir::Across, b"A"),
-        fault: PlayFault::TooShort,
-    },
-    Refused {
-        before: &[WORD],
-        text: (7, 3, Dir::Across, b"QUA"),
-        fault: PlayFault::Mismatch,
-    },
-    Refused {
-        before: &[WORD],
-        text: (7, 4, Dir::Across, b"WORD."),
-        fault: PlayFault::Mismatch,
-    },
-    Refused {
-        before: &[WORD],
-        text: (7, 4, Dir::Across, b"...."),
-        fault: PlayFault::NoNewTile,
-    },
-    Refused {
-        before: &[WORD],
-        text: (0, 0, Dir::Across, b"ABCDEFGH"),
-        fault: PlayFault::TooManyTiles,
-    },
-    Refused {
-        before: &[WORD],
-        text: (7, 3, Dir::Across, b"S"),
-        fault: PlayFault::NotWhole,
-    },
-    Refused {
-        before: &[WORD],
-        text: (7, 8, Dir::Across, b"S"),
-        fault: PlayFault::NotWhole,
-    },
-    Refused {
-        before: &[WORD],
-        text: (0, 0, Dir::Across, b"AT"),
-        fault: PlayFault::Apart,
-    },
-    Refused {
-        before: &[WORD],
-        text: (6, 8, Dir::Across, b"AT"),
-        fault: PlayFault::Apart,
-    },
-    Refused {
-        before: &[WORD],
-        text: (14, 14, Dir::Down, b"S"),
-        fault: PlayFault::TooShort,
-    },
+/// Texts that are refused: the plays before each, the text, and its fault.
+const REFUSED: [(&[Text], Text, PlayFault); 13] = [
+    (&[], (7, 3, Across, b"WORD"), MissesCentre),
+    (&[], (7, 13, Across, b"ABC"), OffBoard),
+    (&[], (14, 14, Across, b"A"), MissesCentre),
+    (&[], (7, 7, Across, b"A"), TooShort),
+    (&[WORD], (7, 3, Across, b"QUA"), Mismatch),
+    (&[WORD], (7, 4, Across, b"WORD."), Mismatch),
+    (&[WORD], (7, 4, Across, b"...."), NoNewTile),
+    (&[WORD], (0, 0, Across, b"ABCDEFGH"), TooManyTiles),
+    (&[WORD], (7, 3, Across, b"S"), NotWhole),
+    (&[WORD], (7, 8, Across, b"S"), NotWhole),
+    (&[WORD], (0, 0, Across, b"AT"), Apart),
+    (&[WORD], (6, 8, Across, b"AT"), Apart),
+    (&[WORD], (14, 14, Down, b"S"), TooShort),
 ];
 
 /// The play that a text names on a board.
@@ -228,36 +99,33 @@ fn assert_words(rt: &impl Abort, words: &Words, expected: &[&[u8]]) {
     }
 }
 
-fn assert_scored(rt: &impl Abort, alloc: Global, rules: &Rules, row: &Scored) {
-    let board = after(rt, alloc, row.before);
-    match judged(rt, alloc, &board, row.text) {
+fn assert_scored(rt: &impl Abort, alloc: Global, rules: &Rules, row: Scored) {
+    let (before, text, points, expected) = row;
+    let board = after(rt, alloc, before);
+    match judged(rt, alloc, &board, text) {
         Ok(play) => {
-            assert_eq!(rt; score(rules, &board, &play), row.points, "{:?}", row.text);
+            assert_eq!(rt; score(rules, &board, &play), points, "{:?}", text);
             let words = words(&board, &play);
-            assert_words(rt, &words, row.words);
+            assert_words(rt, &words, expected);
         }
         Err(fault) => assert!(rt; false, "{fault:?}"),
     }
-}
-
-fn assert_refused(rt: &impl Abort, alloc: Global, row: &Refused) {
-    let board = after(rt, alloc, row.before);
-    let fault = judged(rt, alloc, &board, row.text).err();
-    assert_eq!(rt; fault, Some(row.fault), "{:?}", row.text);
 }
 
 #[test]
 fn scored_plays(rt: HostRuntime) {
     let rules = english_rules();
     for row in &SCORED {
-        assert_scored(&rt, rt.alloc(), &rules, row);
+        assert_scored(&rt, rt.alloc(), &rules, *row);
     }
 }
 
 #[test]
 fn refused_plays(rt: HostRuntime) {
-    for row in &REFUSED {
-        assert_refused(&rt, rt.alloc(), row);
+    for (before, text, fault) in &REFUSED {
+        let board = after(&rt, rt.alloc(), before);
+        let refused = judged(&rt, rt.alloc(), &board, *text).err();
+        assert_eq!(rt; refused, Some(*fault), "{:?}", text);
     }
 }
 
@@ -278,10 +146,10 @@ fn fault_there(
 #[test]
 fn plays_on_another_board(rt: HostRuntime) {
     let overlap = fault_there(&rt, rt.alloc(), &[], WORD, &[WORD]);
-    assert_eq!(rt; overlap, Some(PlayFault::Mismatch));
-    let both_ends: Text = (7, 3, Dir::Across, b"S....S");
+    assert_eq!(rt; overlap, Some(Mismatch));
+    let both_ends: Text = (7, 3, Across, b"S....S");
     let gap = fault_there(&rt, rt.alloc(), &[WORD], both_ends, &[]);
-    assert_eq!(rt; gap, Some(PlayFault::NotWhole));
+    assert_eq!(rt; gap, Some(NotWhole));
 }
 
 fn put(rt: &impl Abort, board: &mut Board, column: usize, tile: Tile) {
@@ -296,7 +164,7 @@ fn letter(rt: &impl Abort, byte: u8) -> Letter {
 
 #[test]
 fn tiles_put_down(rt: HostRuntime) {
-    let board = after(&rt, rt.alloc(), &[(7, 4, Dir::Across, b"WOrD")]);
+    let board = after(&rt, rt.alloc(), &[(7, 4, Across, b"WOrD")]);
     let mut expected = Board::empty();
     put(&rt, &mut expected, 4, Tile::of_letter(letter(&rt, b'W')));
     put(&rt, &mut expected, 5, Tile::of_letter(letter(&rt, b'O')));
@@ -326,6 +194,6 @@ fn tiles_taken_back(rt: HostRuntime) {
 
 #[test]
 fn names(rt: HostRuntime) {
-    assert_eq!(rt; PlayFault::OffBoard.name(), "OffBoard");
-    assert_eq!(rt; PlayFault::Apart.name(), "Apart");
+    assert_eq!(rt; OffBoard.name(), "OffBoard");
+    assert_eq!(rt; Apart.name(), "Apart");
 }

@@ -1,239 +1,221 @@
 //! The reader of records: faults, plays, codes and names.
+use Code::{Challenge, Exchange, LastRack, Pass, Time, Unknown, Withdraw};
+use gcg_read::Seat::{First, Second};
 use gcg_read::{
     Event, EventKind, Events, MAX_BYTES, MAX_EVENTS, Name, Player, Players, Points, ReadFault,
     Record, Seat, Text, Why, law_of_faults, law_of_lines, read,
 };
-use ref_board::Dir;
+use ref_board::Dir::{self, Across, Down};
 use ref_tiles::{Counts, Kind, Letter, Symbol};
 use std::alloc::Global;
 use std::process::Abort;
 
-/// Records of one fault, with its line: lines of plays, then codes that are none and pragmas that give a nickname twice.
-const FAULTS: [(&[u8], u32, Why); 60] = [
-    (b">A 8E WORD +16 16", 1, Why::NoColon),
-    (b">A B: 8E WORD +16 16", 1, Why::NoColon),
-    (b">: 8E WORD +16 16", 1, Why::NoColon),
-    (b"> \t : 8E WORD +16 16", 1, Why::NoColon),
-    (b">", 1, Why::NoColon),
-    (b"\n#note\r\n>A", 3, Why::NoColon),
+/// The faults of records: texts, with the line of the fault.
+const FAULTS: [(Why, &[(&[u8], u32)]); 8] = [
     (
-        b">A: 8E WORD +16 16\n>B: 9G AT +9 9\n>C: x",
-        3,
-        Why::ThirdPlayer,
+        Why::NoColon,
+        &[
+            (b">A 8E WORD +16 16", 1),
+            (b">A B: 8E WORD +16 16", 1),
+            (b">: 8E WORD +16 16", 1),
+            (b"> \t : 8E WORD +16 16", 1),
+            (b">", 1),
+            (b"\n#note\r\n>A", 3),
+        ],
     ),
     (
-        b">A: 8E WORD +16 16\n\n>B: 9G AT +9 9\n>a: 8E WORD +16 16",
-        4,
         Why::ThirdPlayer,
+        &[
+            (b">A: 8E WORD +16 16\n>B: 9G AT +9 9\n>C: x", 3),
+            (
+                b">A: 8E WORD +16 16\n\n>B: 9G AT +9 9\n>a: 8E WORD +16 16",
+                4,
+            ),
+            (b">A: - +0 0\n>B: - +0 0\n>C: - +0 0", 3),
+            (b"#player1 A\n#player2 A", 2),
+            (b"#player2 B Bo\n\n#player1\tB\tAnn\r\n", 3),
+            (b"#player1 A\n#player2 B\n>C: - +0 0", 3),
+            (b">A: - +0 0\n>B: - +0 0\n#player2 C\n>C: - +0 0", 4),
+        ],
     ),
-    (b">A:", 1, Why::Fields),
-    (b">A: 8E", 1, Why::Fields),
-    (b">A: 8E WORD", 1, Why::Fields),
-    (b">A: A 8E WORD +16 16 16", 1, Why::Fields),
-    (b">A: 8E WORD +16", 1, Why::Code),
-    (b">A: AAAAAAAA - +0 0", 1, Why::Rack),
-    (b">A: abc - x 0", 1, Why::Rack),
-    (b">A: A1 8E WORD +16 16", 1, Why::Rack),
-    (b">A: AAAAAAAA 16A A- x 0", 1, Why::Rack),
-    (b">B:: 8E WORD +16 16", 1, Why::Rack),
-    (b">A: 16A AT +4 4", 1, Why::Position),
-    (b">A: 0A AT +4 4", 1, Why::Position),
-    (b">A: A0 AT +4 4", 1, Why::Position),
-    (b">A: 8P AT +4 4", 1, Why::Position),
-    (b">A: 008A AT +4 4", 1, Why::Position),
-    (b">A: 88 AT +4 4", 1, Why::Position),
-    (b">A: 8 A- x 4", 1, Why::Position),
-    (b">A: A HH AT +4 4", 1, Why::Position),
-    (b">A: 8E W0RD +16 16", 1, Why::Word),
-    (b">A: 8A ABCDEFGHIJKLMNOP x 4", 1, Why::Word),
-    (b">A: 8A () +4 4", 1, Why::Word),
-    (b">A: 8E WORD\r +16 16", 1, Why::Word),
-    (b">A: 8E WORD +x 16", 1, Why::Number),
-    (b">A: 8E WORD + 16", 1, Why::Number),
-    (b">A: 8E WORD +16 1000000", 1, Why::Number),
-    (b">A: 8E WORD +-16 16", 1, Why::Number),
-    (b">A: 8E WORD +16 16\r\n>A: 8E WORD 1.5 16", 2, Why::Number),
-    (b">A: - +0 0\n>B: - +0 0\n>C: - +0 0", 3, Why::ThirdPlayer),
-    (b">A: -8 +0 0", 1, Why::Code),
-    (b">A: -0 +0 0", 1, Why::Code),
-    (b">A: -11 +0 0", 1, Why::Code),
-    (b">A: -a +0 0", 1, Why::Code),
-    (b">A: -AAAAAAAA +0 0", 1, Why::Code),
-    (b">A: --- +0 0", 1, Why::Code),
-    (b">A: -\x00 +0 0", 1, Why::Code),
-    (b">A: + +0 0", 1, Why::Code),
-    (b">A: AEI (AB +4 4", 1, Why::Code),
-    (b">A: AEI AB) +4 4", 1, Why::Code),
-    (b">A: ( +4 4", 1, Why::Code),
-    (b">A: () +4 4", 1, Why::Code),
-    (b">A: (AB)) +4 4", 1, Why::Code),
-    (b">A: (Time) -5 0", 1, Why::Code),
-    (b">A: (challenge +5 5", 1, Why::Code),
-    (b">A: AEI (A1) x 4", 1, Why::Code),
-    (b">A: - +1234567 0", 1, Why::Number),
-    (b">A: AEI -7 +0 zero", 1, Why::Number),
-    (b">A: A1 - +0 0", 1, Why::Word),
-    (b">A: aei -8 x 0", 1, Why::Rack),
-    (b"#player1 A\n#player2 A", 2, Why::ThirdPlayer),
     (
-        b"#player2 B Bo\n\n#player1\tB\tAnn\r\n",
-        3,
-        Why::ThirdPlayer,
+        Why::Fields,
+        &[
+            (b">A:", 1),
+            (b">A: 8E", 1),
+            (b">A: 8E WORD", 1),
+            (b">A: A 8E WORD +16 16 16", 1),
+        ],
     ),
-    (b"#player1 A\n#player2 B\n>C: - +0 0", 3, Why::ThirdPlayer),
     (
-        b">A: - +0 0\n>B: - +0 0\n#player2 C\n>C: - +0 0",
-        4,
-        Why::ThirdPlayer,
+        Why::Code,
+        &[
+            (b">A: 8E WORD +16", 1),
+            (b">A: -8 +0 0", 1),
+            (b">A: -0 +0 0", 1),
+            (b">A: -11 +0 0", 1),
+            (b">A: -a +0 0", 1),
+            (b">A: -AAAAAAAA +0 0", 1),
+            (b">A: --- +0 0", 1),
+            (b">A: -\x00 +0 0", 1),
+            (b">A: + +0 0", 1),
+            (b">A: AEI (AB +4 4", 1),
+            (b">A: AEI AB) +4 4", 1),
+            (b">A: ( +4 4", 1),
+            (b">A: () +4 4", 1),
+            (b">A: (AB)) +4 4", 1),
+            (b">A: (Time) -5 0", 1),
+            (b">A: (challenge +5 5", 1),
+            (b">A: AEI (A1) x 4", 1),
+        ],
+    ),
+    (
+        Why::Rack,
+        &[
+            (b">A: AAAAAAAA - +0 0", 1),
+            (b">A: abc - x 0", 1),
+            (b">A: A1 8E WORD +16 16", 1),
+            (b">A: AAAAAAAA 16A A- x 0", 1),
+            (b">B:: 8E WORD +16 16", 1),
+            (b">A: aei -8 x 0", 1),
+        ],
+    ),
+    (
+        Why::Position,
+        &[
+            (b">A: 16A AT +4 4", 1),
+            (b">A: 0A AT +4 4", 1),
+            (b">A: A0 AT +4 4", 1),
+            (b">A: 8P AT +4 4", 1),
+            (b">A: 008A AT +4 4", 1),
+            (b">A: 88 AT +4 4", 1),
+            (b">A: 8 A- x 4", 1),
+            (b">A: A HH AT +4 4", 1),
+        ],
+    ),
+    (
+        Why::Word,
+        &[
+            (b">A: 8E W0RD +16 16", 1),
+            (b">A: 8A ABCDEFGHIJKLMNOP x 4", 1),
+            (b">A: 8A () +4 4", 1),
+            (b">A: 8E WORD\r +16 16", 1),
+            (b">A: A1 - +0 0", 1),
+        ],
+    ),
+    (
+        Why::Number,
+        &[
+            (b">A: 8E WORD +x 16", 1),
+            (b">A: 8E WORD + 16", 1),
+            (b">A: 8E WORD +16 1000000", 1),
+            (b">A: 8E WORD +-16 16", 1),
+            (b">A: 8E WORD +16 16\r\n>A: 8E WORD 1.5 16", 2),
+            (b">A: - +1234567 0", 1),
+            (b">A: AEI -7 +0 zero", 1),
+        ],
     ),
 ];
 
-#[test]
-fn faults(rt: HostRuntime) {
-    for row in &FAULTS {
-        let fault = read(rt.alloc(), row.0).err();
-        let expected = ReadFault {
-            line: row.1,
-            why: row.2,
-        };
-        assert_eq!(rt; fault, Some(expected), "{:?}", row.0);
+fn fault(line: u32, why: Why) -> ReadFault {
+    ReadFault { line, why }
+}
+
+fn assert_faults(rt: &impl Abort, alloc: Global, why: Why, rows: &[(&[u8], u32)]) {
+    for (text, line) in rows {
+        let expected = Err(fault(*line, why));
+        assert_eq!(rt; events_in(alloc, text), expected, "{:?}", text);
     }
 }
 
-/// A record, and its last event: the line, the player, the square, the direction, the symbols, the score and
-/// the total.
-struct Row {
-    text: &'static [u8],
-    line: u32,
-    player: Seat,
-    square: usize,
-    dir: Dir,
-    word: &'static [u8],
-    score: i32,
-    total: i32,
+#[test]
+fn faults(rt: HostRuntime) {
+    for (why, rows) in &FAULTS {
+        assert_faults(&rt, rt.alloc(), *why, rows);
+    }
 }
 
+/// A record, and its last event: the line and the player, the square, the direction and the symbols, the score and the total.
+type Row = (
+    &'static [u8],
+    (u32, Seat),
+    (usize, Dir, &'static [u8]),
+    (i32, i32),
+);
+
 const PLAYS: [Row; 12] = [
-    Row {
-        text: b"\xef\xbb\xbf#player1 A  Ann Lee\r\n#note x\n>A:\tDORWAAE  8e WORD 16 16\r\n",
-        line: 3,
-        player: Seat::First,
-        square: 109,
-        dir: Dir::Across,
-        word: b"WORD",
-        score: 16,
-        total: 16,
-    },
-    Row {
-        text: b">A: E 9F E(AT) +5 21",
-        line: 1,
-        player: Seat::First,
-        square: 125,
-        dir: Dir::Across,
-        word: b"EAT",
-        score: 5,
-        total: 21,
-    },
-    Row {
-        text: b">A: DORWAAE 8E WORD +16 16",
-        line: 1,
-        player: Seat::First,
-        square: 109,
-        dir: Dir::Across,
-        word: b"WORD",
-        score: 16,
-        total: 16,
-    },
-    Row {
-        text: b"\xef\xbb\xbf> A :\t8e WOrD  16 16 \t\r\n",
-        line: 1,
-        player: Seat::First,
-        square: 109,
-        dir: Dir::Across,
-        word: b"WOrD",
-        score: 16,
-        total: 16,
-    },
-    Row {
-        text: b"#player1 X\r\n\n >C: x\n>A: E8 W(O).(rd) -000007 -0\r",
-        line: 4,
-        player: Seat::Second,
-        square: 109,
-        dir: Dir::Down,
-        word: b"WO.rd",
-        score: -7,
-        total: 0,
-    },
-    Row {
-        text: b">A: 8E WORD +16 16\n>B: AT 9G AT +9 9",
-        line: 2,
-        player: Seat::Second,
-        square: 126,
-        dir: Dir::Across,
-        word: b"AT",
-        score: 9,
-        total: 9,
-    },
-    Row {
-        text: b">A: 8E WORD +16 16\n>B: AT 9G AT +9 9\n>A: 01A A -999999 +999999\n",
-        line: 3,
-        player: Seat::First,
-        square: 0,
-        dir: Dir::Across,
-        word: b"A",
-        score: -999_999,
-        total: 999_999,
-    },
-    Row {
-        text: b">A: 8E WORD +16 16\n>B: AT 9G AT +9 9\n>B: ? o15 ............... 0 0",
-        line: 3,
-        player: Seat::Second,
-        square: 224,
-        dir: Dir::Down,
-        word: b"...............",
-        score: 0,
-        total: 0,
-    },
-    Row {
-        text: b">A\r: 8E WORD +16 16\n>A: 15a z +1 1\n",
-        line: 2,
-        player: Seat::Second,
-        square: 210,
-        dir: Dir::Across,
-        word: b"z",
-        score: 1,
-        total: 1,
-    },
-    Row {
-        text: b">A\t: 08A (A)BCDEFGHIJKLMN +0 -0\r",
-        line: 1,
-        player: Seat::First,
-        square: 105,
-        dir: Dir::Across,
-        word: b"ABCDEFGHIJKLMN",
-        score: 0,
-        total: 0,
-    },
-    Row {
-        text: b"#player2 A\n>B: - +0 0\n>A: AEI h08 AT +4 4",
-        line: 3,
-        player: Seat::Second,
-        square: 112,
-        dir: Dir::Down,
-        word: b"AT",
-        score: 4,
-        total: 4,
-    },
-    Row {
-        text: b"#player1 A\n\n>A: 1O .......(........)) -0 +7\r\n",
-        line: 3,
-        player: Seat::First,
-        square: 14,
-        dir: Dir::Across,
-        word: b"...............",
-        score: 0,
-        total: 7,
-    },
+    (
+        b"\xef\xbb\xbf#player1 A  Ann Lee\r\n#note x\n>A:\tDORWAAE  8e WORD 16 16\r\n",
+        (3, First),
+        (109, Across, b"WORD"),
+        (16, 16),
+    ),
+    (
+        b">A: E 9F E(AT) +5 21",
+        (1, First),
+        (125, Across, b"EAT"),
+        (5, 21),
+    ),
+    (
+        b">A: DORWAAE 8E WORD +16 16",
+        (1, First),
+        (109, Across, b"WORD"),
+        (16, 16),
+    ),
+    (
+        b"\xef\xbb\xbf> A :\t8e WOrD  16 16 \t\r\n",
+        (1, First),
+        (109, Across, b"WOrD"),
+        (16, 16),
+    ),
+    (
+        b"#player1 X\r\n\n >C: x\n>A: E8 W(O).(rd) -000007 -0\r",
+        (4, Second),
+        (109, Down, b"WO.rd"),
+        (-7, 0),
+    ),
+    (
+        b">A: 8E WORD +16 16\n>B: AT 9G AT +9 9",
+        (2, Second),
+        (126, Across, b"AT"),
+        (9, 9),
+    ),
+    (
+        b">A: 8E WORD +16 16\n>B: AT 9G AT +9 9\n>A: 01A A -999999 +999999\n",
+        (3, First),
+        (0, Across, b"A"),
+        (-999_999, 999_999),
+    ),
+    (
+        b">A: 8E WORD +16 16\n>B: AT 9G AT +9 9\n>B: ? o15 ............... 0 0",
+        (3, Second),
+        (224, Down, b"..............."),
+        (0, 0),
+    ),
+    (
+        b">A\r: 8E WORD +16 16\n>A: 15a z +1 1\n",
+        (2, Second),
+        (210, Across, b"z"),
+        (1, 1),
+    ),
+    (
+        b">A\t: 08A (A)BCDEFGHIJKLMN +0 -0\r",
+        (1, First),
+        (105, Across, b"ABCDEFGHIJKLMN"),
+        (0, 0),
+    ),
+    (
+        b"#player2 A\n>B: - +0 0\n>A: AEI h08 AT +4 4",
+        (3, Second),
+        (112, Down, b"AT"),
+        (4, 4),
+    ),
+    (
+        b"#player1 A\n\n>A: 1O .......(........)) -0 +7\r\n",
+        (3, First),
+        (14, Across, b"..............."),
+        (0, 7),
+    ),
 ];
 
 fn writes(text: &Text, bytes: &[u8]) -> bool {
@@ -252,24 +234,29 @@ fn last_event<'a>(rt: &impl Abort, record: &'a Record) -> &'a Event {
 #[test]
 fn plays(rt: HostRuntime) {
     for row in &PLAYS {
-        let record = read(rt.alloc(), row.text).expect(&rt, "a record");
-        assert_event(&rt, row, last_event(&rt, &record));
+        let record = read(rt.alloc(), row.0).expect(&rt, "a record");
+        assert_event(&rt, *row, last_event(&rt, &record));
     }
 }
 
-fn assert_event(rt: &impl Abort, row: &Row, event: &Event) {
-    assert_eq!(rt; event.line, row.line);
-    assert!(rt; event.player == row.player);
+fn assert_event(rt: &impl Abort, row: Row, event: &Event) {
+    let (text, (line, player), (square, direction, symbols), numbers) = row;
+    assert_eq!(rt; event.line, line, "{:?}", text);
+    assert!(rt; event.player == player, "{:?}", text);
     match &event.kind {
         EventKind::Play { at, dir, word } => {
-            assert_eq!(rt; at.number(), row.square);
-            assert!(rt; *dir == row.dir);
-            assert!(rt; writes(word, row.word));
+            assert_eq!(rt; at.number(), square, "{:?}", text);
+            assert!(rt; *dir == direction, "{:?}", text);
+            assert!(rt; writes(word, symbols), "{:?}", text);
         }
         _ => assert!(rt; false, "no play"),
     }
-    assert_eq!(rt; event.score.value(), row.score);
-    assert_eq!(rt; event.total.value(), row.total);
+    assert_eq!(rt;
+        (event.score.value(), event.total.value()),
+        numbers,
+        "{:?}",
+        text
+    );
 }
 
 /// What a code is read as, with the tiles that it has.
@@ -283,122 +270,54 @@ enum Code {
     LastRack(&'static [u8]),
 }
 
-/// A record, and its last event: the line, the tiles of the rack (empty where there is none), what happened, the
-/// score and the total.
-struct CodeRow {
-    text: &'static [u8],
-    line: u32,
-    rack: &'static [u8],
-    code: Code,
-    score: i32,
-    total: i32,
-}
+/// A record, and its last event: the line, the tiles of the rack (empty where there is none), what happened, and the score and the
+/// total.
+type CodeRow = (&'static [u8], u32, &'static [u8], Code, (i32, i32));
 
 const CODES: [CodeRow; 13] = [
-    CodeRow {
-        text: b">A: - +0 0\n>B: - +0 0\n>A: AEINRST (AEINRST) -7 -7\n>B: AEINRST (AEINRST) -7 -7",
-        line: 4,
-        rack: b"AEINRST",
-        code: Code::LastRack(b"AEINRST"),
-        score: -7,
-        total: -7,
-    },
-    CodeRow {
-        text: b">A: - +0 0",
-        line: 1,
-        rack: b"",
-        code: Code::Pass,
-        score: 0,
-        total: 0,
-    },
-    CodeRow {
-        text: b">A: DORWAAE - +0 -0\r",
-        line: 1,
-        rack: b"DORWAAE",
-        code: Code::Pass,
-        score: 0,
-        total: 0,
-    },
-    CodeRow {
-        text: b">A: 8E WORD +16 16\n>A: EAA -- -16 0",
-        line: 2,
-        rack: b"EAA",
-        code: Code::Withdraw,
-        score: -16,
-        total: 0,
-    },
-    CodeRow {
-        text: b">A: AEI -7 +0 0",
-        line: 1,
-        rack: b"AEI",
-        code: Code::Unknown(7),
-        score: 0,
-        total: 0,
-    },
-    CodeRow {
-        text: b">A: -1 0 000000",
-        line: 1,
-        rack: b"",
-        code: Code::Unknown(1),
-        score: 0,
-        total: 0,
-    },
-    CodeRow {
-        text: b">A: AEINRS? -?EA? +0 12",
-        line: 1,
-        rack: b"AEINRS?",
-        code: Code::Exchange(b"AE??"),
-        score: 0,
-        total: 12,
-    },
-    CodeRow {
-        text: b">A: -Q 0 0",
-        line: 1,
-        rack: b"",
-        code: Code::Exchange(b"Q"),
-        score: 0,
-        total: 0,
-    },
-    CodeRow {
-        text: b">A: 8E WORD +16 16\n\n>A\t: (challenge)\t+5  21 \t",
-        line: 3,
-        rack: b"",
-        code: Code::Challenge,
-        score: 5,
-        total: 21,
-    },
-    CodeRow {
-        text: b"> A: (time) -10 6\n",
-        line: 1,
-        rack: b"",
-        code: Code::Time,
-        score: -10,
-        total: 6,
-    },
-    CodeRow {
-        text: b">A: (AB?) +4 4",
-        line: 1,
-        rack: b"",
-        code: Code::LastRack(b"AB?"),
-        score: 4,
-        total: 4,
-    },
-    CodeRow {
-        text: b">A: (TIME) +12 12",
-        line: 1,
-        rack: b"",
-        code: Code::LastRack(b"TIME"),
-        score: 12,
-        total: 12,
-    },
-    CodeRow {
-        text: b">A\x00: ZA?ZAZA (ZA?ZAZA) -33 -999999\n",
-        line: 1,
-        rack: b"ZA?ZAZA",
-        code: Code::LastRack(b"AAAZZZ?"),
-        score: -33,
-        total: -999_999,
-    },
+    (
+        b">A: - +0 0\n>B: - +0 0\n>A: AEINRST (AEINRST) -7 -7\n>B: AEINRST (AEINRST) -7 -7",
+        4,
+        b"AEINRST",
+        LastRack(b"AEINRST"),
+        (-7, -7),
+    ),
+    (b">A: - +0 0", 1, b"", Pass, (0, 0)),
+    (b">A: DORWAAE - +0 -0\r", 1, b"DORWAAE", Pass, (0, 0)),
+    (
+        b">A: 8E WORD +16 16\n>A: EAA -- -16 0",
+        2,
+        b"EAA",
+        Withdraw,
+        (-16, 0),
+    ),
+    (b">A: AEI -7 +0 0", 1, b"AEI", Unknown(7), (0, 0)),
+    (b">A: -1 0 000000", 1, b"", Unknown(1), (0, 0)),
+    (
+        b">A: AEINRS? -?EA? +0 12",
+        1,
+        b"AEINRS?",
+        Exchange(b"AE??"),
+        (0, 12),
+    ),
+    (b">A: -Q 0 0", 1, b"", Exchange(b"Q"), (0, 0)),
+    (
+        b">A: 8E WORD +16 16\n\n>A\t: (challenge)\t+5  21 \t",
+        3,
+        b"",
+        Challenge,
+        (5, 21),
+    ),
+    (b"> A: (time) -10 6\n", 1, b"", Time, (-10, 6)),
+    (b">A: (AB?) +4 4", 1, b"", LastRack(b"AB?"), (4, 4)),
+    (b">A: (TIME) +12 12", 1, b"", LastRack(b"TIME"), (12, 12)),
+    (
+        b">A\x00: ZA?ZAZA (ZA?ZAZA) -33 -999999\n",
+        1,
+        b"ZA?ZAZA",
+        LastRack(b"AAAZZZ?"),
+        (-33, -999_999),
+    ),
 ];
 
 fn count_of(rack: &Counts, tile: u8) -> usize {
@@ -434,101 +353,74 @@ fn is_code(kind: &EventKind, code: &Code) -> bool {
 }
 
 fn assert_code(rt: &impl Abort, row: &CodeRow, event: &Event) {
-    assert_eq!(rt; event.line, row.line);
-    assert!(rt; is_code(&event.kind, &row.code), "{:?}", row.text);
+    let (text, line, tiles, code, numbers) = row;
+    assert_eq!(rt; event.line, *line, "{:?}", text);
+    assert!(rt; is_code(&event.kind, code), "{:?}", text);
     match &event.rack {
-        Some(rack) => assert!(rt; has_tiles(rack, row.rack), "{:?}", row.text),
-        None => assert!(rt; row.rack.is_empty(), "{:?}", row.text),
+        Some(rack) => assert!(rt; has_tiles(rack, tiles), "{:?}", text),
+        None => assert!(rt; tiles.is_empty(), "{:?}", text),
     }
-    assert_eq!(rt; event.score.value(), row.score);
-    assert_eq!(rt; event.total.value(), row.total);
-}
-
-fn assert_last_code(rt: &impl Abort, alloc: Global, row: &CodeRow) {
-    let record = read(alloc, row.text).expect(rt, "a record");
-    assert_code(rt, row, last_event(rt, &record));
+    assert_eq!(rt;
+        (event.score.value(), event.total.value()),
+        *numbers,
+        "{:?}",
+        text
+    );
 }
 
 #[test]
 fn codes(rt: HostRuntime) {
     for row in &CODES {
-        assert_last_code(&rt, rt.alloc(), row);
+        let record = read(rt.alloc(), row.0).expect(&rt, "a record");
+        assert_code(&rt, row, last_event(&rt, &record));
     }
 }
 
-/// A record, and the nicknames and full names of its players.
-struct NameRow {
-    text: &'static [u8],
-    nicks: [&'static [u8]; 2],
-    fulls: [&'static [u8]; 2],
-}
-
-const NAMES: [NameRow; 13] = [
-    NameRow {
-        text: b"\xef\xbb\xbf#player1 A  Ann Lee\r\n#note x\n>A:\tDORWAAE  8e WORD 16 16\r\n",
-        nicks: [b"A", b""],
-        fulls: [b"Ann Lee", b""],
-    },
-    NameRow {
-        text: b"#player1 A  Ann Lee\r\n#player2 B",
-        nicks: [b"A", b"B"],
-        fulls: [b"Ann Lee", b""],
-    },
-    NameRow {
-        text: b"#player2 \tB\t Bo:  Ng \t\n",
-        nicks: [b"", b"B"],
-        fulls: [b"", b"Bo:  Ng"],
-    },
-    NameRow {
-        text: b"#player1 A:B Ann\n>C: - +0 0",
-        nicks: [b"C", b""],
-        fulls: [b"", b""],
-    },
-    NameRow {
-        text: b"#player1 :\n#player1 A Ann",
-        nicks: [b"A", b""],
-        fulls: [b"Ann", b""],
-    },
-    NameRow {
-        text: b"#player1 A Ann\n#player1 B Bo\n#player2 B Cy",
-        nicks: [b"A", b"B"],
-        fulls: [b"Ann", b"Cy"],
-    },
-    NameRow {
-        text: b"#player1 A Ann\n#player2 B Bo\n#player1 B Bo",
-        nicks: [b"A", b"B"],
-        fulls: [b"Ann", b"Bo"],
-    },
-    NameRow {
-        text: b">A: - +0 0\n#player1 B Bo\n#player2 A Ann",
-        nicks: [b"A", b""],
-        fulls: [b"", b""],
-    },
-    NameRow {
-        text: b"#player2 B Bo\n>A: - +0 0\n>B: - +0 0",
-        nicks: [b"A", b"B"],
-        fulls: [b"", b"Bo"],
-    },
-    NameRow {
-        text: b"#player1X A\n#player1\n#player1 \t \n#player11 A\n#player3 A\n#player A",
-        nicks: [b"", b""],
-        fulls: [b"", b""],
-    },
-    NameRow {
-        text: b"#Player1 A\n# player1 A\n #player1 A\n##player1 A\n#\nplayer1 A",
-        nicks: [b"", b""],
-        fulls: [b"", b""],
-    },
-    NameRow {
-        text: b"#rack1 A\n#note player1 A\n#lexicon X\n#player1 A\x00 \x00",
-        nicks: [b"A\x00", b""],
-        fulls: [b"\x00", b""],
-    },
-    NameRow {
-        text: b"\xef\xbb\xbf#player1 A Ann\r\r\n#player2 B\r",
-        nicks: [b"A", b"B"],
-        fulls: [b"Ann\r", b""],
-    },
+/// Records, and the nickname and the full name of the first player, and then of the second.
+const NAMES: [(&[u8], [&[u8]; 4]); 13] = [
+    (
+        b"\xef\xbb\xbf#player1 A  Ann Lee\r\n#note x\n>A:\tDORWAAE  8e WORD 16 16\r\n",
+        [b"A", b"Ann Lee", b"", b""],
+    ),
+    (
+        b"#player1 A  Ann Lee\r\n#player2 B",
+        [b"A", b"Ann Lee", b"B", b""],
+    ),
+    (b"#player2 \tB\t Bo:  Ng \t\n", [b"", b"", b"B", b"Bo:  Ng"]),
+    (b"#player1 A:B Ann\n>C: - +0 0", [b"C", b"", b"", b""]),
+    (b"#player1 :\n#player1 A Ann", [b"A", b"Ann", b"", b""]),
+    (
+        b"#player1 A Ann\n#player1 B Bo\n#player2 B Cy",
+        [b"A", b"Ann", b"B", b"Cy"],
+    ),
+    (
+        b"#player1 A Ann\n#player2 B Bo\n#player1 B Bo",
+        [b"A", b"Ann", b"B", b"Bo"],
+    ),
+    (
+        b">A: - +0 0\n#player1 B Bo\n#player2 A Ann",
+        [b"A", b"", b"", b""],
+    ),
+    (
+        b"#player2 B Bo\n>A: - +0 0\n>B: - +0 0",
+        [b"A", b"", b"B", b"Bo"],
+    ),
+    (
+        b"#player1X A\n#player1\n#player1 \t \n#player11 A\n#player3 A\n#player A",
+        [b"", b"", b"", b""],
+    ),
+    (
+        b"#Player1 A\n# player1 A\n #player1 A\n##player1 A\n#\nplayer1 A",
+        [b"", b"", b"", b""],
+    ),
+    (
+        b"#rack1 A\n#note player1 A\n#lexicon X\n#player1 A\x00 \x00",
+        [b"A\x00", b"\x00", b"", b""],
+    ),
+    (
+        b"\xef\xbb\xbf#player1 A Ann\r\r\n#player2 B\r",
+        [b"A", b"Ann\r", b"B", b""],
+    ),
 ];
 
 fn assert_player(rt: &impl Abort, player: &Player, nick: &[u8], full: &[u8]) {
@@ -536,20 +428,12 @@ fn assert_player(rt: &impl Abort, player: &Player, nick: &[u8], full: &[u8]) {
     assert_eq!(rt; player.full.as_bytes(), full);
 }
 
-fn assert_players(rt: &impl Abort, players: &Players, row: &NameRow) {
-    assert_player(rt, &players.first, row.nicks[0], row.fulls[0]);
-    assert_player(rt, &players.second, row.nicks[1], row.fulls[1]);
-}
-
-fn assert_names(rt: &impl Abort, alloc: Global, row: &NameRow) {
-    let record = read(alloc, row.text).expect(rt, "a record");
-    assert_players(rt, &record.players, row);
-}
-
 #[test]
 fn pragmas(rt: HostRuntime) {
-    for row in &NAMES {
-        assert_names(&rt, rt.alloc(), row);
+    for (text, names) in &NAMES {
+        let players = read(rt.alloc(), text).expect(&rt, "a record").players;
+        assert_player(&rt, &players.first, names[0], names[1]);
+        assert_player(&rt, &players.second, names[2], names[3]);
     }
 }
 
@@ -574,14 +458,10 @@ fn assert_racks(rt: &impl Abort, events: &[Event]) {
 #[test]
 fn names_and_racks(rt: HostRuntime) {
     let text = b">Ann Lee\n#x\n>Bo:?QQ A1 Q +0 0\n> Al :A1 Q +0 0\n";
-    let no_colon = ReadFault {
-        line: 1,
-        why: Why::NoColon,
-    };
-    assert_eq!(rt; events_in(rt.alloc(), text), Err(no_colon));
+    assert_eq!(rt; events_in(rt.alloc(), text), Err(fault(1, Why::NoColon)));
     let record = read(rt.alloc(), &text[9..]).expect(&rt, "a record");
-    assert_player(&rt, record.players.of(Seat::First), b"Bo", b"");
-    assert_player(&rt, record.players.of(Seat::Second), b"Al", b"");
+    assert_player(&rt, record.players.of(First), b"Bo", b"");
+    assert_player(&rt, record.players.of(Second), b"Al", b"");
     assert_racks(&rt, record.events.as_slice());
 }
 
@@ -592,7 +472,7 @@ fn names_of_faults_and_players(rt: HostRuntime) {
     let name = Name::copied(rt.alloc(), b"Ann").expect(&rt, "memory");
     assert_eq!(rt; name.as_bytes(), b"Ann".as_slice());
     assert_eq!(rt; Name::empty(rt.alloc()).as_bytes().len(), 0);
-    assert!(rt; Seat::First.other() == Seat::Second);
+    assert!(rt; First.other() == Second);
 }
 
 #[test]
@@ -616,7 +496,7 @@ fn texts(rt: HostRuntime) {
 fn own_event(rt: &impl Abort) -> Event {
     Event {
         line: 7,
-        player: Seat::Second,
+        player: Second,
         rack: Some(Counts::new()),
         kind: EventKind::Pass,
         score: Points::new(0).expect(rt, "0"),
@@ -655,10 +535,7 @@ fn most_events(rt: HostRuntime) {
     let mut text = repeated(&rt, rt.alloc(), b">A: 8E A 0 0\n", MAX_EVENTS);
     assert_eq!(rt; events_in(rt.alloc(), &text), Ok(1_000));
     text.extend_from_slice(b"\n>").expect(&rt, "memory");
-    let one_more = ReadFault {
-        line: 1_002,
-        why: Why::TooManyEvents,
-    };
+    let one_more = fault(1_002, Why::TooManyEvents);
     assert_eq!(rt; events_in(rt.alloc(), &text), Err(one_more));
 }
 
@@ -667,9 +544,6 @@ fn most_bytes(rt: HostRuntime) {
     let mut text = repeated(&rt, rt.alloc(), &[b'\n'; 16], MAX_BYTES / 16);
     assert_eq!(rt; events_in(rt.alloc(), &text), Ok(0));
     text.push(b'\n').expect(&rt, "memory");
-    let one_more = ReadFault {
-        line: 0,
-        why: Why::TooLong,
-    };
+    let one_more = fault(0, Why::TooLong);
     assert_eq!(rt; events_in(rt.alloc(), &text), Err(one_more));
 }

@@ -1,9 +1,16 @@
 //! The turns of records: which events stand, and the first fault of the others.
+use Answer::{Illegal, Legal};
+use Game::{English, Short, Spare, Varied};
+use game_turns::RuleFault::{
+    BadBonus, BadTime, BonusOnPhony, ExchangeRefused, ExchangeSize, GameOver, LastRackSize,
+    NotOver, NotYourTurn, NothingToWithdraw, Play, TooManyUsed, WithdrawnValid, WrongScore,
+    WrongTotal,
+};
 use game_turns::{Machine, RuleFault, Turn, law_of_tallies, play_through};
 use gcg_read::{Event, Record, Seat, read};
 use lex_list::WordList;
-use ref_play::PlayFault;
-use ref_tiles::{Counts, Kind, Letter, Rules, english_rules};
+use ref_play::PlayFault::MissesCentre;
+use ref_tiles::{Counts, Kind, Rules, english_rules};
 use std::alloc::Global;
 use std::process::Abort;
 
@@ -29,13 +36,12 @@ enum Answer {
     Illegal(u32, RuleFault),
 }
 
-/// A record with the list and the rules that it is judged by.
-struct Row {
-    game: Game,
-    words: &'static [u8],
-    lines: &'static [&'static [u8]],
-    answer: Answer,
-}
+/// Lines of a record.
+type Lines = &'static [&'static [u8]];
+
+/// The rules and the list that records are judged by, the lines with which all of them begin, and the lines of each behind these, with
+/// what that record is answered.
+type Table = (Game, &'static [u8], Lines, &'static [(Lines, Answer)]);
 
 const WORD: &[u8] = b">A: DORWAAE 8E WORD +16 16";
 
@@ -46,6 +52,10 @@ const TAKEN: &[u8] = b">B: AT -- -9 0";
 const PASS_A: &[u8] = b">A: - +0 0";
 
 const PASS_B: &[u8] = b">B: - +0 0";
+
+const SIX_PASSES: Lines = &[PASS_A, PASS_B, PASS_A, PASS_B, PASS_A, PASS_B];
+
+const FIVE_PASSES: Lines = &[PASS_A, PASS_B, PASS_A, PASS_B, PASS_A];
 
 const LOSES_A: &[u8] = b">A: AEINRST (AEINRST) -7 -7";
 
@@ -64,439 +74,234 @@ const LISTED: &[u8] = b"WORD\nAT\nRA";
 const ALL_LISTED: &[u8] = b"WORD\nAT\nRA\nDT";
 
 /// Plays, turns, scores and totals.
-const PLAYS: [Row; 10] = [
-    Row {
-        game: Game::English,
-        words: LISTED,
-        lines: &[WORD, AT],
-        answer: Answer::Legal(false),
-    },
-    Row {
-        game: Game::English,
-        words: LISTED,
-        lines: &[],
-        answer: Answer::Legal(false),
-    },
-    Row {
-        game: Game::English,
-        words: LISTED,
-        lines: &[WORD, b">A: - +0 16"],
-        answer: Answer::Illegal(2, RuleFault::NotYourTurn),
-    },
-    Row {
-        game: Game::English,
-        words: LISTED,
-        lines: &[b">A: DORWAAE 8D WORD +16 16"],
-        answer: Answer::Illegal(1, RuleFault::Play(PlayFault::MissesCentre)),
-    },
-    Row {
-        game: Game::English,
-        words: LISTED,
-        lines: &[b">A: DOW? 8E WOrD +16 16"],
-        answer: Answer::Illegal(1, RuleFault::WrongScore(14)),
-    },
-    Row {
-        game: Game::English,
-        words: LISTED,
-        lines: &[b">A: DORWAAE 8E WORD +16 17"],
-        answer: Answer::Illegal(1, RuleFault::WrongTotal(16)),
-    },
-    Row {
-        game: Game::English,
-        words: LISTED,
-        lines: &[WORD, b"", b">B: - +5 5"],
-        answer: Answer::Illegal(3, RuleFault::WrongScore(0)),
-    },
-    Row {
-        game: Game::Short,
-        words: LISTED,
-        lines: &[b">A: 8H AT +4 4", PASS_B, b">A: 9H ABCDEF +0 4"],
-        answer: Answer::Illegal(3, RuleFault::TooManyUsed),
-    },
-    Row {
-        game: Game::English,
-        words: LISTED,
-        lines: &[b">A: AEI -5 +0 0", b">B: QU - +0 0", b">A: SX - +0 0"],
-        answer: Answer::Legal(false),
-    },
-    Row {
-        game: Game::English,
-        words: LISTED,
-        lines: &[
-            WORD,
-            PASS_B,
-            b">A: 7E A +5 21",
-            PASS_B,
-            b">A: (time) -10 11",
-            b">A: - +0 11",
+const PLAYS: [Table; 2] = [
+    (
+        English,
+        LISTED,
+        &[],
+        &[
+            (&[WORD, AT], Legal(false)),
+            (&[], Legal(false)),
+            (&[WORD, b">A: - +0 16"], Illegal(2, NotYourTurn)),
+            (
+                &[b">A: DORWAAE 8D WORD +16 16"],
+                Illegal(1, Play(MissesCentre)),
+            ),
+            (&[b">A: DOW? 8E WOrD +16 16"], Illegal(1, WrongScore(14))),
+            (&[b">A: DORWAAE 8E WORD +16 17"], Illegal(1, WrongTotal(16))),
+            (&[WORD, b"", b">B: - +5 5"], Illegal(3, WrongScore(0))),
+            (
+                &[b">A: AEI -5 +0 0", b">B: QU - +0 0", b">A: SX - +0 0"],
+                Legal(false),
+            ),
+            (
+                &[
+                    WORD,
+                    PASS_B,
+                    b">A: 7E A +5 21",
+                    PASS_B,
+                    b">A: (time) -10 11",
+                    b">A: - +0 11",
+                ],
+                Legal(false),
+            ),
         ],
-        answer: Answer::Legal(false),
-    },
+    ),
+    (
+        Short,
+        LISTED,
+        &[],
+        &[(
+            &[b">A: 8H AT +4 4", PASS_B, b">A: 9H ABCDEF +0 4"],
+            Illegal(3, TooManyUsed),
+        )],
+    ),
 ];
 
 /// Exchanges.
-const EXCHANGES: [Row; 3] = [
-    Row {
-        game: Game::Short,
-        words: LISTED,
-        lines: &[b">A: AEINRST -AE +0 0"],
-        answer: Answer::Illegal(1, RuleFault::ExchangeRefused),
-    },
-    Row {
-        game: Game::Spare,
-        words: LISTED,
-        lines: &[b">A: AEINRST -5 +0 0"],
-        answer: Answer::Illegal(1, RuleFault::ExchangeSize),
-    },
-    Row {
-        game: Game::Spare,
-        words: LISTED,
-        lines: &[b">A: AEINRST -AEI +0 0"],
-        answer: Answer::Legal(false),
-    },
+const EXCHANGES: [Table; 2] = [
+    (
+        Short,
+        LISTED,
+        &[],
+        &[(&[b">A: AEINRST -AE +0 0"], Illegal(1, ExchangeRefused))],
+    ),
+    (
+        Spare,
+        LISTED,
+        &[],
+        &[
+            (&[b">A: AEINRST -5 +0 0"], Illegal(1, ExchangeSize)),
+            (&[b">A: AEINRST -AEI +0 0"], Legal(false)),
+        ],
+    ),
 ];
 
 /// Withdrawals.
-const WITHDRAWALS: [Row; 6] = [
-    Row {
-        game: Game::English,
-        words: LISTED,
-        lines: &[WORD, AT, TAKEN, b">A: AT 9G AT +9 25"],
-        answer: Answer::Legal(false),
-    },
-    Row {
-        game: Game::English,
-        words: LISTED,
-        lines: &[WORD, AT, TAKEN, b">B: AT 9G AT +9 9"],
-        answer: Answer::Illegal(4, RuleFault::NotYourTurn),
-    },
-    Row {
-        game: Game::English,
-        words: ALL_LISTED,
-        lines: &[WORD, AT, TAKEN],
-        answer: Answer::Illegal(3, RuleFault::WithdrawnValid),
-    },
-    Row {
-        game: Game::English,
-        words: LISTED,
-        lines: &[b">A: -- +0 0"],
-        answer: Answer::Illegal(1, RuleFault::NothingToWithdraw),
-    },
-    Row {
-        game: Game::English,
-        words: LISTED,
-        lines: &[WORD, AT, b">B: (time) -5 4", b">B: AT -- -9 -5"],
-        answer: Answer::Illegal(4, RuleFault::NothingToWithdraw),
-    },
-    Row {
-        game: Game::English,
-        words: LISTED,
-        lines: &[WORD, AT, b">A: -- -9 7"],
-        answer: Answer::Illegal(3, RuleFault::NothingToWithdraw),
-    },
+const WITHDRAWALS: [Table; 3] = [
+    (
+        English,
+        LISTED,
+        &[WORD, AT],
+        &[
+            (&[TAKEN, b">A: AT 9G AT +9 25"], Legal(false)),
+            (&[TAKEN, b">B: AT 9G AT +9 9"], Illegal(4, NotYourTurn)),
+            (
+                &[b">B: (time) -5 4", b">B: AT -- -9 -5"],
+                Illegal(4, NothingToWithdraw),
+            ),
+            (&[b">A: -- -9 7"], Illegal(3, NothingToWithdraw)),
+        ],
+    ),
+    (
+        English,
+        ALL_LISTED,
+        &[WORD, AT],
+        &[(&[TAKEN], Illegal(3, WithdrawnValid))],
+    ),
+    (
+        English,
+        LISTED,
+        &[],
+        &[(&[b">A: -- +0 0"], Illegal(1, NothingToWithdraw))],
+    ),
 ];
 
 /// Unsuccessful challenges.
-const CHALLENGES: [Row; 8] = [
-    Row {
-        game: Game::English,
-        words: LISTED,
-        lines: &[WORD, AT, b">B: AT (challenge) +5 14"],
-        answer: Answer::Legal(false),
-    },
-    Row {
-        game: Game::English,
-        words: LISTED,
-        lines: &[WORD, AT, b">B: AT (challenge) +10 19"],
-        answer: Answer::Legal(false),
-    },
-    Row {
-        game: Game::English,
-        words: LISTED,
-        lines: &[WORD, AT, b">B: AT (challenge) +15 24"],
-        answer: Answer::Illegal(3, RuleFault::BadBonus),
-    },
-    Row {
-        game: Game::English,
-        words: ALL_LISTED,
-        lines: &[WORD, AT, b">B: AT (challenge) +15 24"],
-        answer: Answer::Legal(false),
-    },
-    Row {
-        game: Game::English,
-        words: ALL_LISTED,
-        lines: &[WORD, AT, b">B: AT (challenge) +20 29"],
-        answer: Answer::Illegal(3, RuleFault::BadBonus),
-    },
-    Row {
-        game: Game::English,
-        words: b"WORD",
-        lines: &[WORD, AT, b">B: AT (challenge) +5 14"],
-        answer: Answer::Illegal(3, RuleFault::BonusOnPhony),
-    },
-    Row {
-        game: Game::English,
-        words: LISTED,
-        lines: &[b">A: (challenge) +5 5"],
-        answer: Answer::Illegal(1, RuleFault::BadBonus),
-    },
-    Row {
-        game: Game::English,
-        words: LISTED,
-        lines: &[WORD, AT, b">B: (time) -5 4", b">B: (challenge) +5 9"],
-        answer: Answer::Illegal(4, RuleFault::BadBonus),
-    },
+const CHALLENGES: [Table; 4] = [
+    (
+        English,
+        LISTED,
+        &[WORD, AT],
+        &[
+            (&[b">B: AT (challenge) +5 14"], Legal(false)),
+            (&[b">B: AT (challenge) +10 19"], Legal(false)),
+            (&[b">B: AT (challenge) +15 24"], Illegal(3, BadBonus)),
+            (
+                &[b">B: (time) -5 4", b">B: (challenge) +5 9"],
+                Illegal(4, BadBonus),
+            ),
+        ],
+    ),
+    (
+        English,
+        ALL_LISTED,
+        &[WORD, AT],
+        &[
+            (&[b">B: AT (challenge) +15 24"], Legal(false)),
+            (&[b">B: AT (challenge) +20 29"], Illegal(3, BadBonus)),
+        ],
+    ),
+    (
+        English,
+        b"WORD",
+        &[WORD, AT],
+        &[(&[b">B: AT (challenge) +5 14"], Illegal(3, BonusOnPhony))],
+    ),
+    (
+        English,
+        LISTED,
+        &[],
+        &[(&[b">A: (challenge) +5 5"], Illegal(1, BadBonus))],
+    ),
 ];
 
 /// Games that a player ends by going out.
-const OUT: [Row; 12] = [
-    Row {
-        game: Game::Short,
-        words: b"RETAINS",
-        lines: &[RETAINS, GAINS],
-        answer: Answer::Legal(true),
-    },
-    Row {
-        game: Game::Short,
-        words: b"RETAINS",
-        lines: &[RETAINS, IDLE, GAINS, b">A: (time) -5 83"],
-        answer: Answer::Legal(true),
-    },
-    Row {
-        game: Game::Short,
-        words: b"RETAINS",
-        lines: &[RETAINS, IDLE, GAINS, b">A: (time) -7 81"],
-        answer: Answer::Illegal(4, RuleFault::BadTime),
-    },
-    Row {
-        game: Game::Short,
-        words: b"RETAINS",
-        lines: &[
-            RETAINS,
-            IDLE,
-            GAINS,
-            b">A: (time) -5 83",
-            b">A: (time) -5 78",
+const OUT: [Table; 2] = [
+    (
+        Short,
+        b"RETAINS",
+        &[RETAINS],
+        &[
+            (&[GAINS], Legal(true)),
+            (&[IDLE, GAINS, b">A: (time) -5 83"], Legal(true)),
+            (&[IDLE, GAINS, b">A: (time) -7 81"], Illegal(4, BadTime)),
+            (
+                &[IDLE, GAINS, b">A: (time) -5 83", b">A: (time) -5 78"],
+                Illegal(5, BadTime),
+            ),
+            (&[IDLE, IDLE], Illegal(3, GameOver)),
+            (&[b">A: (ADEORW) +20 86"], Illegal(2, LastRackSize)),
+            (&[b">B: (ADEORTW) +22 22"], Illegal(2, NotYourTurn)),
+            (&[b">A: (ADEORTW) +11 77"], Illegal(2, WrongScore(22))),
+            (&[GAINS, b">A: (ADEORTW) +22 110"], Illegal(3, GameOver)),
+            (
+                &[b">A: (challenge) +5 71", b">A: (ADEORTW) +22 93"],
+                Legal(true),
+            ),
         ],
-        answer: Answer::Illegal(5, RuleFault::BadTime),
-    },
-    Row {
-        game: Game::Short,
-        words: b"RETAINS",
-        lines: &[RETAINS, IDLE, IDLE],
-        answer: Answer::Illegal(3, RuleFault::GameOver),
-    },
-    Row {
-        game: Game::Short,
-        words: b"RETAINS",
-        lines: &[RETAINS, b">A: (ADEORW) +20 86"],
-        answer: Answer::Illegal(2, RuleFault::LastRackSize),
-    },
-    Row {
-        game: Game::Short,
-        words: b"RETAINS",
-        lines: &[RETAINS, b">B: (ADEORTW) +22 22"],
-        answer: Answer::Illegal(2, RuleFault::NotYourTurn),
-    },
-    Row {
-        game: Game::Short,
-        words: b"RETAINS",
-        lines: &[RETAINS, b">A: (ADEORTW) +11 77"],
-        answer: Answer::Illegal(2, RuleFault::WrongScore(22)),
-    },
-    Row {
-        game: Game::Short,
-        words: b"RETAINS",
-        lines: &[RETAINS, GAINS, b">A: (ADEORTW) +22 110"],
-        answer: Answer::Illegal(3, RuleFault::GameOver),
-    },
-    Row {
-        game: Game::Short,
-        words: b"AT",
-        lines: &[RETAINS, BACK, IDLE, b">A: AEINRST - +0 0"],
-        answer: Answer::Legal(false),
-    },
-    Row {
-        game: Game::Short,
-        words: b"AT",
-        lines: &[RETAINS, BACK, b">A: (ADEORTW) +22 22"],
-        answer: Answer::Illegal(3, RuleFault::NotOver),
-    },
-    Row {
-        game: Game::Short,
-        words: b"RETAINS",
-        lines: &[RETAINS, b">A: (challenge) +5 71", b">A: (ADEORTW) +22 93"],
-        answer: Answer::Legal(true),
-    },
+    ),
+    (
+        Short,
+        b"AT",
+        &[RETAINS, BACK],
+        &[
+            (&[IDLE, b">A: AEINRST - +0 0"], Legal(false)),
+            (&[b">A: (ADEORTW) +22 22"], Illegal(3, NotOver)),
+        ],
+    ),
 ];
 
 /// Games that end by turns without a play that stands.
-const STALE: [Row; 9] = [
-    Row {
-        game: Game::English,
-        words: b"RETAINS",
-        lines: &[
-            PASS_A, PASS_B, PASS_A, PASS_B, PASS_A, PASS_B, LOSES_A, LOSES_B,
+const STALE: [Table; 2] = [
+    (
+        English,
+        b"RETAINS",
+        SIX_PASSES,
+        &[
+            (&[LOSES_A, LOSES_B], Legal(true)),
+            (&[LOSES_B, LOSES_A], Legal(true)),
+            (&[LOSES_A, b">B: - +0 0"], Illegal(8, GameOver)),
+            (&[LOSES_A, b">A: (AEINRST) -7 -14"], Illegal(8, GameOver)),
+            (&[b">A: (???????) +0 0"], Legal(false)),
+            (&[b">A: (??????) +0 0"], Illegal(7, LastRackSize)),
         ],
-        answer: Answer::Legal(true),
-    },
-    Row {
-        game: Game::English,
-        words: b"RETAINS",
-        lines: &[
-            PASS_A, PASS_B, PASS_A, PASS_B, PASS_A, PASS_B, LOSES_B, LOSES_A,
+    ),
+    (
+        English,
+        b"RETAINS",
+        FIVE_PASSES,
+        &[
+            (&[LOSES_B], Illegal(6, NotOver)),
+            (&[b">B: 8G aa +0 0", PASS_A, LOSES_B], Illegal(8, NotOver)),
+            (
+                &[b">B: 8G AA +4 4", b">B: -- -4 0", LOSES_A, LOSES_B],
+                Legal(true),
+            ),
         ],
-        answer: Answer::Legal(true),
-    },
-    Row {
-        game: Game::English,
-        words: b"RETAINS",
-        lines: &[PASS_A, PASS_B, PASS_A, PASS_B, PASS_A, LOSES_B],
-        answer: Answer::Illegal(6, RuleFault::NotOver),
-    },
-    Row {
-        game: Game::English,
-        words: b"RETAINS",
-        lines: &[
-            PASS_A,
-            PASS_B,
-            PASS_A,
-            PASS_B,
-            PASS_A,
-            PASS_B,
-            LOSES_A,
-            b">B: - +0 0",
-        ],
-        answer: Answer::Illegal(8, RuleFault::GameOver),
-    },
-    Row {
-        game: Game::English,
-        words: b"RETAINS",
-        lines: &[
-            PASS_A,
-            PASS_B,
-            PASS_A,
-            PASS_B,
-            PASS_A,
-            PASS_B,
-            LOSES_A,
-            b">A: (AEINRST) -7 -14",
-        ],
-        answer: Answer::Illegal(8, RuleFault::GameOver),
-    },
-    Row {
-        game: Game::English,
-        words: b"RETAINS",
-        lines: &[
-            PASS_A,
-            PASS_B,
-            PASS_A,
-            PASS_B,
-            PASS_A,
-            PASS_B,
-            b">A: (???????) +0 0",
-        ],
-        answer: Answer::Legal(false),
-    },
-    Row {
-        game: Game::English,
-        words: b"RETAINS",
-        lines: &[
-            PASS_A,
-            PASS_B,
-            PASS_A,
-            PASS_B,
-            PASS_A,
-            PASS_B,
-            b">A: (??????) +0 0",
-        ],
-        answer: Answer::Illegal(7, RuleFault::LastRackSize),
-    },
-    Row {
-        game: Game::English,
-        words: b"RETAINS",
-        lines: &[
-            PASS_A,
-            PASS_B,
-            PASS_A,
-            PASS_B,
-            PASS_A,
-            b">B: 8G aa +0 0",
-            PASS_A,
-            LOSES_B,
-        ],
-        answer: Answer::Illegal(8, RuleFault::NotOver),
-    },
-    Row {
-        game: Game::English,
-        words: b"RETAINS",
-        lines: &[
-            PASS_A,
-            PASS_B,
-            PASS_A,
-            PASS_B,
-            PASS_A,
-            b">B: 8G AA +4 4",
-            b">B: -- -4 0",
-            LOSES_A,
-            LOSES_B,
-        ],
-        answer: Answer::Legal(true),
-    },
+    ),
 ];
 
 /// Games by numbers that are not the English ones.
-const VARIED: [Row; 7] = [
-    Row {
-        game: Game::Varied,
-        words: b"RETAINS",
-        lines: &[PASS_A, PASS_B, PASS_A, PASS_B, LOSES_A, LOSES_B],
-        answer: Answer::Legal(true),
-    },
-    Row {
-        game: Game::Varied,
-        words: b"RETAINS",
-        lines: &[PASS_A, PASS_B, PASS_A, LOSES_B],
-        answer: Answer::Illegal(4, RuleFault::NotOver),
-    },
-    Row {
-        game: Game::Varied,
-        words: LISTED,
-        lines: &[WORD, AT, b">B: AT (challenge) +5 14"],
-        answer: Answer::Illegal(3, RuleFault::BadBonus),
-    },
-    Row {
-        game: Game::Varied,
-        words: LISTED,
-        lines: &[WORD, AT, b">B: AT (challenge) +20 29"],
-        answer: Answer::Legal(false),
-    },
-    Row {
-        game: Game::Varied,
-        words: LISTED,
-        lines: &[WORD, AT, b">B: AT (challenge) +30 39"],
-        answer: Answer::Illegal(3, RuleFault::BadBonus),
-    },
-    Row {
-        game: Game::Varied,
-        words: LISTED,
-        lines: &[WORD, b">A: (time) -20 -4"],
-        answer: Answer::Legal(false),
-    },
-    Row {
-        game: Game::Varied,
-        words: LISTED,
-        lines: &[WORD, b">A: (time) -5 11"],
-        answer: Answer::Illegal(2, RuleFault::BadTime),
-    },
+const VARIED: [Table; 2] = [
+    (
+        Varied,
+        b"RETAINS",
+        &[PASS_A, PASS_B, PASS_A],
+        &[
+            (&[PASS_B, LOSES_A, LOSES_B], Legal(true)),
+            (&[LOSES_B], Illegal(4, NotOver)),
+        ],
+    ),
+    (
+        Varied,
+        LISTED,
+        &[WORD],
+        &[
+            (&[AT, b">B: AT (challenge) +5 14"], Illegal(3, BadBonus)),
+            (&[AT, b">B: AT (challenge) +20 29"], Legal(false)),
+            (&[AT, b">B: AT (challenge) +30 39"], Illegal(3, BadBonus)),
+            (&[b">A: (time) -20 -4"], Legal(false)),
+            (&[b">A: (time) -5 11"], Illegal(2, BadTime)),
+        ],
+    ),
 ];
 
 /// Tiles from their letters.
 fn tiles(rt: &impl Abort, letters: &[u8]) -> Counts {
     let mut counts = Counts::new();
     for byte in letters {
-        let letter = Letter::counted_from(b'A', *byte).expect(rt, "a letter");
-        let kind = Kind::Letter(letter);
+        let kind = Kind::of_byte(*byte).expect(rt, "a tile");
         assert!(rt; counts.count(kind) < 255);
         counts.add(kind);
     }
@@ -506,13 +311,13 @@ fn tiles(rt: &impl Abort, letters: &[u8]) -> Counts {
 fn rules_of(rt: &impl Abort, game: Game) -> Rules {
     let mut parts = english_rules().parts();
     match game {
-        Game::English => (),
-        Game::Short => parts.counts = tiles(rt, b"AADEEINORRSTTW"),
-        Game::Spare => {
+        English => (),
+        Short => parts.counts = tiles(rt, b"AADEEINORRSTTW"),
+        Spare => {
             parts.counts = tiles(rt, b"AAAAADEEINORRSTTW");
             parts.exchange_min = 1;
         }
-        Game::Varied => {
+        Varied => {
             parts.zero_limit = 4;
             parts.challenge_unit = 10;
             parts.time_step = 10;
@@ -521,9 +326,10 @@ fn rules_of(rt: &impl Abort, game: Game) -> Rules {
     Rules::checked(parts).expect(rt, "rules")
 }
 
-fn record_of(rt: &impl Abort, alloc: Global, lines: &[&[u8]]) -> Record {
+/// The record of these lines, one part behind the other.
+fn record_of(rt: &impl Abort, alloc: Global, front: &[&[u8]], behind: &[&[u8]]) -> Record {
     let mut text = Vec::new(alloc);
-    for line in lines {
+    for line in front.iter().chain(behind) {
         text.extend_from_slice(line).expect(rt, "memory");
         text.push(b'\n').expect(rt, "memory");
     }
@@ -534,7 +340,7 @@ fn list_of(rt: &impl Abort, alloc: Global, words: &[u8]) -> WordList {
     WordList::read(alloc, words).expect(rt, "a word list")
 }
 
-/// What is answered of a row's game. What passed lends the rules, a record of as many events as the row has lines, and the list.
+/// What is answered of a record. What passed lends the rules, a record of as many events as there are lines, and the list.
 fn answer_of(
     rt: &impl Abort,
     rules: &Rules,
@@ -549,23 +355,27 @@ fn answer_of(
                 (passed.record().events.len(), passed.list().len()),
                 (lines, list.len())
             );
-            Answer::Legal(passed.complete())
+            Legal(passed.complete())
         }
-        Err(refusal) => Answer::Illegal(refusal.line, refusal.fault),
+        Err(refusal) => Illegal(refusal.line, refusal.fault),
     }
 }
 
-fn assert_answer(rt: &impl Abort, alloc: Global, row: &Row) {
-    let rules = rules_of(rt, row.game);
-    let record = record_of(rt, alloc, row.lines);
-    let list = list_of(rt, alloc, row.words);
-    let answer = answer_of(rt, &rules, &record, &list, row.lines.len());
-    assert_eq!(rt; answer, row.answer, "{:?}", row.lines);
+fn assert_table(rt: &impl Abort, alloc: Global, table: Table) {
+    let (game, words, front, rows) = table;
+    let rules = rules_of(rt, game);
+    let list = list_of(rt, alloc, words);
+    for (behind, expected) in rows {
+        let record = record_of(rt, alloc, front, behind);
+        let lines = front.len().saturating_add(behind.len());
+        let answer = answer_of(rt, &rules, &record, &list, lines);
+        assert_eq!(rt; answer, *expected, "{:?} {:?}", front, behind);
+    }
 }
 
-fn assert_answers(rt: &impl Abort, alloc: Global, rows: &[Row]) {
-    for row in rows {
-        assert_answer(rt, alloc, row);
+fn assert_answers(rt: &impl Abort, alloc: Global, tables: &[Table]) {
+    for table in tables {
+        assert_table(rt, alloc, *table);
     }
 }
 
@@ -641,31 +451,21 @@ const START: Told = Told {
 };
 
 const WAITING: Told = Told {
-    bag: 86,
     rack: 3,
     total: 16,
     tiles: 4,
-    words: 0,
-    finished: false,
+    ..START
 };
 
 const STANDING: Told = Told {
     bag: 82,
-    rack: 7,
     total: 16,
     tiles: 4,
     words: 1,
-    finished: false,
+    ..START
 };
 
-const TAKEN_BACK: Told = Told {
-    bag: 86,
-    rack: 7,
-    total: 0,
-    tiles: 4,
-    words: 0,
-    finished: false,
-};
+const TAKEN_BACK: Told = Told { tiles: 4, ..START };
 
 /// Asserts what a step answers, and what is told of the machine and the first player behind it.
 fn assert_step(
@@ -696,7 +496,12 @@ fn taken(counted: bool, rack_size: usize, stands: bool) -> Result<Turn, RuleFaul
 #[test]
 fn a_play_taken_back(rt: HostRuntime) {
     let list = list_of(&rt, rt.alloc(), b"AT");
-    let record = record_of(&rt, rt.alloc(), &[WORD, b">A: -- -16 0", b">A: - +0 16"]);
+    let record = record_of(
+        &rt,
+        rt.alloc(),
+        &[],
+        &[WORD, b">A: -- -16 0", b">A: - +0 16"],
+    );
     let play = event(&rt, &record, 0);
     let back = event(&rt, &record, 1);
     let pass = event(&rt, &record, 2);
@@ -714,7 +519,7 @@ fn a_play_taken_back(rt: HostRuntime) {
 #[test]
 fn a_play_that_stands(rt: HostRuntime) {
     let list = list_of(&rt, rt.alloc(), b"AT");
-    let record = record_of(&rt, rt.alloc(), &[WORD, b">A: -- -16 0"]);
+    let record = record_of(&rt, rt.alloc(), &[], &[WORD, b">A: -- -16 0"]);
     let play = event(&rt, &record, 0);
     let back = event(&rt, &record, 1);
     let mut machine = Machine::new(&english_rules());

@@ -51,15 +51,16 @@ const FAULTS: [(&[u8], u32, RulesWhy); 33] = [
     (b"bonus 999\nzero_limit 0\n", 0, RulesWhy::Missing),
 ];
 
+/// What is answered of a text with this fault.
+fn fault(line: u32, why: RulesWhy) -> Option<RulesFault> {
+    Some(RulesFault { line, why })
+}
+
 #[test]
 fn faults_of_lines(rt: HostRuntime) {
-    for row in &FAULTS {
-        let fault = Rules::read(row.0).err();
-        let expected = RulesFault {
-            line: row.1,
-            why: row.2,
-        };
-        assert_eq!(rt; fault, Some(expected), "{:?}", row.0);
+    for (text, line, why) in &FAULTS {
+        let expected = fault(*line, *why);
+        assert_eq!(rt; Rules::read(text).err(), expected, "{:?}", text);
     }
 }
 
@@ -88,8 +89,8 @@ fn assert_english(rt: &impl Abort, text: &[u8]) {
 #[test]
 fn english_text(rt: HostRuntime) {
     assert_english(&rt, ENGLISH_TEXT);
-    for row in &SAME {
-        let text = changed(&rt, rt.alloc(), row.0, row.1);
+    for (from, to) in &SAME {
+        let text = changed(&rt, rt.alloc(), from, to);
         assert_english(&rt, &text);
     }
 }
@@ -125,13 +126,9 @@ const DAMAGED: [(&[u8], &[u8], u32, RulesWhy); 10] = [
 
 #[test]
 fn damaged_texts(rt: HostRuntime) {
-    for row in &DAMAGED {
-        let text = changed(&rt, rt.alloc(), row.0, row.1);
-        let expected = RulesFault {
-            line: row.2,
-            why: row.3,
-        };
-        assert_eq!(rt; Rules::read(&text).err(), Some(expected), "{:?}", row.1);
+    for (from, to, line, why) in &DAMAGED {
+        let text = changed(&rt, rt.alloc(), from, to);
+        assert_eq!(rt; Rules::read(&text).err(), fault(*line, *why), "{:?}", to);
     }
 }
 
@@ -178,11 +175,7 @@ fn one_tile_too_many(rt: HostRuntime) {
         .as_slice()
         .replace(rt.alloc(), b"tile A 18 1", b"tile A 19 1")
         .expect(&rt, "memory");
-    let limits = RulesFault {
-        line: 0,
-        why: RulesWhy::Limits,
-    };
-    assert_eq!(rt; Rules::read(&over).err(), Some(limits));
+    assert_eq!(rt; Rules::read(&over).err(), fault(0, RulesWhy::Limits));
 }
 
 #[test]
@@ -219,15 +212,7 @@ fn long_texts(rt: HostRuntime) {
     for _ in 0..MAX_RULES_BYTES {
         text.push(b'\n').expect(&rt, "memory");
     }
-    let missing = RulesFault {
-        line: 0,
-        why: RulesWhy::Missing,
-    };
-    assert_eq!(rt; Rules::read(&text).err(), Some(missing));
+    assert_eq!(rt; Rules::read(&text).err(), fault(0, RulesWhy::Missing));
     text.push(b'\n').expect(&rt, "memory");
-    let long = RulesFault {
-        line: 0,
-        why: RulesWhy::TooLong,
-    };
-    assert_eq!(rt; Rules::read(&text).err(), Some(long));
+    assert_eq!(rt; Rules::read(&text).err(), fault(0, RulesWhy::TooLong));
 }

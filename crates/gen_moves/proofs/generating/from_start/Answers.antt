@@ -2,7 +2,7 @@ use Rattle.std.proofs.Common.{◌≡◌, sym, ap, ◌∙◌, subst, List, ℕ}
 use Rattle.gen_line.specs.declared.cells.Cell.{Cell}
 use Rattle.gen_line.specs.Walk.{Every, Took, anchor_moves}
 use Rattle.gen_sinks.specs.Sinks.{IsFor}
-use Rattle.gen_moves.specs.Telling.{IsFit, both_cells, spot_of, tell}
+use Rattle.gen_moves.specs.Telling.{IsFitMove, both_cells, spot_of, tell}
 use Rattle.gen_moves.specs.Narrowing.{IsSpelt}
 use Rattle.gen_moves.proofs.Fitting.{every_with, took_told}
 use Rattle.gen_moves.specs.Bounds.{place_in}
@@ -28,7 +28,7 @@ walk_anchor-requires-clause-can g c =
     let same : anchor_moves path c.narrowed-cells.result rack s.place ≡ anchor_moves path cells rack s.place =
     c.narrowed-cells.ensures (subst (IsSpelt path) (sym c.cells_of.ensures) c.requires.good.spelt) rack ∙ ap (λ (ds : List Cell). anchor_moves path ds rack s.place) c.cells_of.ensures in
     let places = place_in c.line_places-places.result in
-    let fit = IsFit (spot_of board s.dir s.line) in
+    let fit = IsFitMove (spot_of board s.dir s.line) in
     let summed = IsTallied c.args.rules.now (spot_of board s.dir s.line) places in
     let asked = IsFor (g.S.Sink.made_for c.args.sink.now) board × AreSmall places in
     subst (λ (ys : List (List ℕ)). Every (λ y. asked × (fit y × summed y)) ys) (sym same)

@@ -2,7 +2,7 @@ use Rattle.std.proofs.Common.{rules, ◌≡◌, Some, arith}
 use Rattle.ref_tiles.specs.Letters.{letter_at}
 use Rattle.gen_line.specs.Entries.{letter_of}
 use Rattle.gen_moves.proofs.Writing.{entry_blank}
-use Rattle.gen_moves.proofs.spots.tile_of.Goals as goal
+use Rattle.gen_moves.proofs.entries.tile_of.Goals as goal
 
 pub returns-then-entry-eq1 : goal.returns-then-entry-eq1
 returns-then-entry-eq1 c =
