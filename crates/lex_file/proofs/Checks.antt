@@ -2,9 +2,9 @@
 use Rattle.std.proofs.Common.{◌≡◌, ℕ, zero, suc, ◌+◌, ◌<◌, ◌≤◌, true, false, List, length, get_or, Some, None, inl, inr, refl, arith, add-one, subst}
 use Rattle.std.proofs.lemmas.Bool.{cases_lt}
 use Rattle.lex_file.specs.declared.faults.FileFault.{FileFault}
-use Rattle.lex_file.specs.Arcs.{is_last}
+use Rattle.lex_file.specs.Arcs.{arc_of, is_last}
 use Rattle.lex_file.specs.Nodes.{start_at}
-use Rattle.lex_file.specs.Shapes.{arc_fault, arcs_fault, body_fault}
+use Rattle.lex_file.specs.Shapes.{IsLeast, arc_fault, arcs_fault, body_fault}
 
 pub fine_none : (words : List ℕ) → arcs_fault words 0 ≡ None
 unfolding arcs_fault
@@ -45,3 +45,12 @@ start_last words place last = rw add-one (rw last refl)
 pub start_same : (words : List ℕ) (place : ℕ) → is_last (get_or words place 0) ≡ false → start_at words (place + 1) ≡ start_at words place
 unfolding start_at
 start_same words place last = rw add-one (rw last refl)
+
+pub least_none : (words : List ℕ) → IsLeast words 0 0
+least_none words label = grind arith
+
+pub least_last : (words : List ℕ) (place : ℕ) → is_last (get_or words place 0) ≡ true → IsLeast words (place + 1) 0
+least_last words place last label = rw add-one (rw last (grind arith))
+
+pub least_more : (words : List ℕ) (place : ℕ) → is_last (get_or words place 0) ≡ false → IsLeast words (place + 1) ((arc_of (get_or words place 0)).label + 1)
+least_more words place last label = rw (add-one, add-one) (rw last refl)

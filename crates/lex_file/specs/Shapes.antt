@@ -1,5 +1,5 @@
 -- The shape of a compiled lexicon: the checks of its form, in order.
-use Rattle.std.specs.Prelude.{ℕ, zero, suc, ◌+◌, ◌*◌, Bool, ◌&&◌, ◌||◌, ◌==◌, nat_lt, nat_le, eqb, List, [], ◌∷◌, length, slice_index, Option, Some, None, if◌then◌else◌}
+use Rattle.std.specs.Prelude.{◌≡◌, ℕ, zero, suc, ◌+◌, ◌*◌, Bool, ◌&&◌, ◌||◌, ◌==◌, nat_lt, nat_le, eqb, List, [], ◌∷◌, length, slice_index, Option, Some, None, if◌then◌else◌}
 use Rattle.std.specs.List.{starts_with}
 use Rattle.std.specs.Option.{option_or}
 use Rattle.check_lists.specs.Checks.{passes, first_fault}
@@ -41,6 +41,10 @@ format_of bytes =
 abbrev pub label_before : List ℕ → ℕ → ℕ
 label_before words zero = 0
 label_before words (suc place) = (arc_of (slice_index words place)).label
+
+-- whether the labels that are in order at a place, behind the arc before it, are those from one on
+abbrev pub IsLeast : List ℕ → ℕ → ℕ → Type 0
+IsLeast words place least = (label : ℕ) → (begins words place || nat_lt (label_before words place) label) ≡ nat_le least label
 
 -- whether a target of an arc is none, or the first arc of a node that ends before the arc's own node begins
 abbrev pub leads_back : List ℕ → ℕ → ℕ → Bool

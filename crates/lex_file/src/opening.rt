@@ -4,7 +4,7 @@ ghost use Rattle.lex_file.specs.FileWords.{words_in};
 ghost use Rattle.lex_file.specs.Formats.{header_bytes};
 ghost use Rattle.check_lists.specs.Checks.{Refuses};
 ghost use Rattle.lex_file.specs.Nodes.{start_at};
-ghost use Rattle.lex_file.specs.Shapes.{label_before, leads_back, arc_fault, body_fault, header_fault, form_fault, format_of, fault_of};
+ghost use Rattle.lex_file.specs.Shapes.{leads_back, IsLeast, arc_fault, body_fault, header_fault, form_fault, format_of, fault_of};
 
 use crate::arcs::Arc;
 use crate::faults::FileFault;
@@ -67,16 +67,21 @@ fn check_header(bytes: &[u8]) -> Result<(), FileFault>
 }
 
 /// Looks for the first fault of the arcs.
-#[tactic(auto, using(crate::proofs::Checks::fine_none, crate::proofs::Checks::fine_more, crate::proofs::Checks::start_none, crate::proofs::Checks::start_last, crate::proofs::Checks::start_same), unfolding(crate::specs::Shapes::body_fault))]
+#[tactic(auto, using(crate::proofs::Checks::fine_none, crate::proofs::Checks::fine_more, crate::proofs::Checks::start_none, crate::proofs::Checks::start_last, crate::proofs::Checks::start_same, crate::proofs::Checks::least_none, crate::proofs::Checks::least_last, crate::proofs::Checks::least_more), unfolding(crate::specs::Shapes::body_fault))]
 fn check_arcs(arcs: &[u8]) -> Result<(), FileFault>
     ensures { Refuses result (body_fault (words_in arcs.now)) }
 {
     let count = word_count(arcs);
     let mut start = 1;
+    let mut least = 0;
     for place in 0..count {
-        check_arc(arcs, place, start)?;
-        if is_last(word_at(arcs, place)) {
+        check_arc(arcs, place, start, least)?;
+        let word = word_at(arcs, place);
+        if is_last(word) {
             start = place + 2;
+            least = 0;
+        } else {
+            least = Arc::of_word(word).label + 1;
         }
     }
     if !begins(arcs, count) {
@@ -85,18 +90,21 @@ fn check_arcs(arcs: &[u8]) -> Result<(), FileFault>
     Ok(())
 }
 
-/// Looks for the first fault of the arc at a place. The first arc of its node has the number `start`.
+/// Looks for the first fault of the arc at a place. The first arc of its node has the number `start`, and `least` is the least
+/// label that is in order there.
 #[tactic(auto, unfolding(crate::specs::Shapes::arc_fault))]
-fn check_arc(arcs: &[u8], place: usize, start: usize) -> Result<(), FileFault>
+#[inline(always)]
+fn check_arc(arcs: &[u8], place: usize, start: usize, least: u8) -> Result<(), FileFault>
     requires inside { place < length (words_in arcs.now) }
     requires node { start ≡ start_at (words_in arcs.now) place }
+    requires order { IsLeast (words_in arcs.now) place least }
     ensures { Refuses result (arc_fault (words_in arcs.now) place) }
 {
     let arc = Arc::of_word(word_at(arcs, place));
     if arc.label > MAX_LABEL {
         return Err(FileFault::Label);
     }
-    if !begins(arcs, place) && arc.label <= label_before(arcs, place) {
+    if arc.label < least {
         return Err(FileFault::Order);
     }
     if !leads_back(arcs, start, arc.target) {
@@ -106,15 +114,6 @@ fn check_arc(arcs: &[u8], place: usize, start: usize) -> Result<(), FileFault>
         return Err(FileFault::DeadArc);
     }
     Ok(())
-}
-
-/// The label of the arc before a place that is not the first.
-fn label_before(arcs: &[u8], place: usize) -> u8
-    requires first { 0 < place }
-    requires inside { place < length (words_in arcs.now) }
-    ensures { result ≡ label_before (words_in arcs.now) place }
-{
-    Arc::of_word(word_at(arcs, place - 1)).label
 }
 
 /// Whether a target is none, or the first arc of a node that ends before arc `start`.

@@ -1,8 +1,36 @@
-use Rattle.std.proofs.Common.{arith}
+use Rattle.std.proofs.Common.{rules, arith}
 use Rattle.std.proofs.lemmas.Result.{err_from_is_err_and}
 use Rattle.lex_file.specs.FileWords.{words_in}
-use Rattle.lex_file.proofs.Checks.{fault_here}
+use Rattle.lex_file.proofs.Checks.{fault_here, fine_none, fine_more, start_none, start_last, start_same, least_none, least_last, least_more}
 use Rattle.lex_file.proofs.opening.check_arcs.Goals as goal
+use Rattle.lex_file.proofs.opening.check_arcs.Goals.{then-is_last, else-is_last}
+
+pub loop-place-init : goal.loop-place-init
+loop-place-init c =
+    record {
+      fine = fine_none (words_in c.args.arcs.now);
+      node = start_none (words_in c.args.arcs.now);
+      order = least_none (words_in c.args.arcs.now);
+    }
+
+pub loop-place-preserved : goal.loop-place-preserved
+loop-place-preserved c =
+    elim c.if-is_last.branch [
+      | then-is_last w ↦
+          rw (w.start-is, w.least-is)
+          (record {
+            fine = search (rules, fine_more);
+            node = search (rules, start_last);
+            order = search (rules, least_last);
+          })
+      | else-is_last w ↦
+          rw (w.start-is, w.least-is)
+          (record {
+            fine = search (rules, fine_more);
+            node = search (rules, start_same);
+            order = search (rules, least_more);
+          })
+    ]
 
 pub returns-in_err-check_arc : goal.returns-in_err-check_arc
 returns-in_err-check_arc c =

@@ -1,7 +1,7 @@
 use Rattle.std.proofs.Common.{◌≡◌, None}
 use Rattle.lex_file.specs.FileWords.{words_in}
 use Rattle.lex_file.specs.Nodes.{start_at}
-use Rattle.lex_file.specs.Shapes.{arcs_fault}
+use Rattle.lex_file.specs.Shapes.{IsLeast, arcs_fault}
 use Rattle.lex_file.proofs.opening.check_arcs.Given as goal
 
 abbrev pub invariant-loop-place : goal.invariant-loop-place
@@ -9,4 +9,5 @@ invariant-loop-place l =
     record {
       fine : arcs_fault (words_in l.arcs) l.place ≡ None;
       node : l.start ≡ start_at (words_in l.arcs) l.place;
+      order : IsLeast (words_in l.arcs) l.place l.least;
     }
