@@ -8,7 +8,7 @@ use crate::failing::{DeviceFailed, ReadGaveUp};
 use std::alloc::Global;
 
 /// How many bytes one read asks for at most.
-const CHUNK: usize = 8192;
+const CHUNK: usize = 65536;
 
 /// Where bytes come from. It counts its failures.
 pub trait Input {
@@ -60,7 +60,7 @@ pub fn read_within<I: Input>(
 fn most_of_read(left: usize) -> usize
     ensures some { 0 < result }
     ensures few { result ≤ left + 1 }
-    ensures fits { result ≤ 8192 }
+    ensures fits { result ≤ 65536 }
 {
     left.min(CHUNK - 1) + 1
 }

@@ -8,7 +8,7 @@ abbrev pub invariant-loop-chunk : goal.invariant-loop-chunk
 invariant-loop-chunk g l =
     let old = g.I.Input.device l.initial.input in
     let new = g.I.Input.device l.input in
-    record { within : vec_len l.bytes ≤ l.limit + 1; taken : Consumes old.bytes new.bytes l.bytes.items; worked : HasWorked old new; chunk : length l.chunk ≡ 8192 }
+    record { within : vec_len l.bytes ≤ l.limit + 1; taken : Consumes old.bytes new.bytes l.bytes.items; worked : HasWorked old new; chunk : length l.chunk ≡ 65536 }
 
 abbrev pub decreases-loop-chunk : goal.decreases-loop-chunk
 decreases-loop-chunk g l = l.limit + 1 - vec_len l.bytes
