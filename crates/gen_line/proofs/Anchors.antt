@@ -1,5 +1,5 @@
 -- The walks from the anchors of an empty line give its moves.
-use Rattle.std.proofs.Common.{◌≡◌, ℕ, zero, suc, ◌+◌, ◌<◌, ◌&&◌, Bool, true, false, List, [], ◌∷◌, ◌++◌, length, map, drop, replicate, if◌then◌else◌, Some, refl, sym, ap, ◌∙◌, subst, length-append, arith}
+use Rattle.std.proofs.Common.{◌≡◌, ℕ, zero, suc, ◌+◌, ◌<◌, ◌&&◌, Bool, true, false, List, [], ◌∷◌, ◌++◌, length, map, drop, replicate, if◌then◌else◌, refl, sym, ap, ◌∙◌, subst, length-append, arith}
 use Rattle.std.proofs.lemmas.List.{length-drop}
 use Rattle.gen_line.specs.declared.cells.Cell.{Cell}
 use Rattle.gen_line.specs.declared.cells.Cell.TheVariants.{Old, Free}
@@ -8,10 +8,9 @@ use Rattle.gen_line.specs.declared.tiles.Tiles.{Tiles}
 use Rattle.gen_line.specs.Entries.{label_of}
 use Rattle.gen_line.specs.Cells.{cell_at}
 use Rattle.gen_line.specs.Model.{join_range, zeros, after, longer, may, less, one_try, tries, leaf, right, starts_free, turn, left, left_of, rest_of_anchor, cell_moves, unwalk, line_moves}
-use Rattle.lex_file.specs.Walking.{strings}
-use Rattle.gen_line.specs.Walk.{finish_left, gives_one_left, gives_tries_left, gives_cell, gives_anchor, none_put, Every}
+use Rattle.gen_line.specs.Walk.{finish_left, gives_one_left, gives_tries_left, gives_cell, gives_anchor, gives_behind, none_put, Every}
 use Rattle.gen_line.proofs.Walks.{map-join, join-same}
-use Rattle.gen_line.proofs.LeftWalks.{tries_left-same, length-left_of}
+use Rattle.gen_line.proofs.LeftWalks.{length-left_of}
 use Rattle.gen_line.proofs.Anchoring.{walk_written}
 
 -- ---- how long what is given is
@@ -105,7 +104,7 @@ anchor_given g line rack h m size inside =
     (λ x long. walk_written h x inside long)
 
 pub cell_given : (g : List ℕ → Bool) (line : List Cell) (rack : List ℕ) (h : ℕ) (c : Cell) → length line ≡ 15 → h < 15
-    → gives_cell g line h (none_put rack) c ≡ map (unwalk h) (cell_moves g line h rack c)
+    → gives_cell g line h h (none_put rack) c ≡ map (unwalk h) (cell_moves g line h rack c)
 cell_given g line rack h (Old a) size inside = refl
 cell_given g line rack h (Free m) size inside =
     elim m.anchor as (λ b. (if b then gives_tries_left g line h h m (none_put rack) else []) ≡ map (unwalk h) (if b then tries m rack (rest_of_anchor g line h rack) else []))
@@ -121,21 +120,23 @@ all_given g line rack size =
 
 pub anchor_old : (g : List ℕ → Bool) (line : List Cell) (tiles : Tiles) (h a : ℕ) → cell_at line h ≡ Old a → gives_anchor g line tiles h ≡ []
 unfolding gives_anchor
-anchor_old g line tiles h a e = ap (gives_cell g line h tiles) e
+anchor_old g line tiles h a e = ap (gives_cell g line h h tiles) e
 
 pub anchor_not : (g : List ℕ → Bool) (line : List Cell) (tiles : Tiles) (h : ℕ) (m : Open) → cell_at line h ≡ Free m → m.anchor ≡ false → gives_anchor g line tiles h ≡ []
 unfolding gives_anchor
 anchor_not g line tiles h m e not =
-    ap (gives_cell g line h tiles) e ∙ ap (λ b. if b then gives_tries_left g line h h m tiles else []) not
+    ap (gives_cell g line h h tiles) e ∙ ap (λ b. if b then gives_tries_left g line h h m tiles else []) not
 
-anchor_is : (g : List ℕ → Bool) (line : List Cell) (tiles : Tiles) (h : ℕ) (m : Open) → cell_at line h ≡ Free m → m.anchor ≡ true → gives_anchor g line tiles h ≡ gives_tries_left g line h h m tiles
-unfolding gives_anchor
-anchor_is g line tiles h m e anchor =
-    ap (gives_cell g line h tiles) e ∙ ap (λ b. if b then gives_tries_left g line h h m tiles else []) anchor
+pub behind_old : (g : List ℕ → Bool) (line : List Cell) (last : ℕ) (tiles : Tiles) (h a : ℕ) → cell_at line h ≡ Old a → gives_behind g line last tiles h ≡ []
+unfolding gives_behind
+behind_old g line last tiles h a e = ap (gives_cell g line last h tiles) e
 
--- the walk from the root is that of the whole lexicon
-pub start_same : {N : Type 0} (tail : N → List ℕ → Bool) (root : N) (g : List ℕ → Bool) (line : List Cell) (h : ℕ) (m : Open) (tiles : Tiles) → ((t : List ℕ) → tail root t ≡ g t) → cell_at line h ≡ Free m → m.anchor ≡ true
-    → gives_anchor g line tiles h ≡ gives_tries_left (strings tail (record { accepts = false; next = Some root })) line h h m tiles
-start_same tail root g line h m tiles same e anchor =
-    anchor_is g line tiles h m e anchor
-    ∙ sym (tries_left-same (strings tail (record { accepts = false; next = Some root })) g line h h m tiles (λ a t. same (a ∷ t)))
+pub behind_not : (g : List ℕ → Bool) (line : List Cell) (last : ℕ) (tiles : Tiles) (h : ℕ) (m : Open) → cell_at line h ≡ Free m → m.anchor ≡ false → gives_behind g line last tiles h ≡ []
+unfolding gives_behind
+behind_not g line last tiles h m e not =
+    ap (gives_cell g line last h tiles) e ∙ ap (λ b. if b then gives_tries_left g line last h m tiles else []) not
+
+pub behind_is : (g : List ℕ → Bool) (line : List Cell) (last : ℕ) (tiles : Tiles) (h : ℕ) (m : Open) → cell_at line h ≡ Free m → m.anchor ≡ true → gives_behind g line last tiles h ≡ gives_tries_left g line last h m tiles
+unfolding gives_behind
+behind_is g line last tiles h m e anchor =
+    ap (gives_cell g line last h tiles) e ∙ ap (λ b. if b then gives_tries_left g line last h m tiles else []) anchor

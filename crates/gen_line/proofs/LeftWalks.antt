@@ -109,13 +109,13 @@ pub gives_left-none : (g : List ℕ → Bool) (line : List Cell) (h places : ℕ
 unfolding left left_of finish_left
 gives_left-none g line h places tiles e = ap (λ k. gives_left g line h k tiles) e
 
-left-old : (g : List ℕ → Bool) (line : List Cell) (h k a : ℕ) (tiles : Tiles) → cell_at line k ≡ Old a → gives_left g line h (suc k) tiles ≡ gives_left (after g a) line h k tiles
+pub left-old : (g : List ℕ → Bool) (line : List Cell) (h k a : ℕ) (tiles : Tiles) → cell_at line k ≡ Old a → gives_left g line h (suc k) tiles ≡ gives_left (after g a) line h k tiles
 unfolding left left_of finish_left
 left-old g line h k a tiles e =
     ap (λ c. map (finish_left h (suc k) tiles.fresh) (left g (c ∷ left_of line k) (drop (h + 1) line) tiles.rack)) e
     ∙ map-same (finish_left h (suc k) tiles.fresh) (λ os. 0 ∷ os) (finish_left h k tiles.fresh) (left (after g a) (left_of line k) (drop (h + 1) line) tiles.rack) (λ os. refl)
 
-left-free : (g : List ℕ → Bool) (line : List Cell) (h k : ℕ) (m : Open) (tiles : Tiles) → cell_at line k ≡ Free m → gives_left g line h (suc k) tiles ≡ gives_turn g line h tiles ++ (if m.anchor then [] else gives_tries_left g line h k m tiles)
+pub left-free : (g : List ℕ → Bool) (line : List Cell) (h k : ℕ) (m : Open) (tiles : Tiles) → cell_at line k ≡ Free m → gives_left g line h (suc k) tiles ≡ gives_turn g line h tiles ++ (if m.anchor then [] else gives_tries_left g line h k m tiles)
 unfolding left left_of gives_tries_left gives_one_left tries finish_left
 left-free g line h k m tiles e =
     let cs : List Cell = drop (h + 1) line in

@@ -12,7 +12,6 @@ pub mod Sinks
 pub mod Walks
 pub mod LeftWalks
 pub mod Branching
-pub mod Spent
 pub mod Anchoring
 pub mod Anchors
 pub mod Reaching

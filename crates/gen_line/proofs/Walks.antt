@@ -1,5 +1,5 @@
 -- What the walk gives, cell by cell.
-use Rattle.std.proofs.Common.{◌&&◌, ◌≡◌, ℕ, zero, suc, ◌+◌, ◌<◌, ◌≤◌, Bool, true, false, List, [], ◌∷◌, ◌++◌, length, map, drop, get_or, slice_set, nat_lt, Option, Some, None, is_some, if◌then◌else◌, refl, sym, ap, ◌∙◌, subst, arith, add-one}
+use Rattle.std.proofs.Common.{◌&&◌, ◌||◌, ◌≡◌, ℕ, zero, suc, ◌+◌, ◌-◌, ◌*◌, ◌<◌, ◌≤◌, Bool, true, false, List, [], ◌∷◌, ◌++◌, length, map, drop, get_or, slice_set, nat_lt, Option, Some, None, is_some, if◌then◌else◌, refl, sym, ap, ◌∙◌, subst, arith, add-one}
 use borrow.Author.Tests.{lt-ltb, le-ltb}
 use Rattle.std.proofs.lemmas.List.{map-append, drop_all}
 use Rattle.std.proofs.lemmas.Bool.{ne_eqb, true≢false, and_parts, ltb-true}
@@ -9,9 +9,9 @@ use Rattle.gen_line.specs.declared.cells.Cell.{Cell}
 use Rattle.gen_line.specs.declared.cells.Cell.TheVariants.{Old, Free}
 use Rattle.gen_line.specs.declared.cells.Open.{Open}
 use Rattle.gen_line.specs.declared.tiles.Tiles.{Tiles}
-use Rattle.gen_line.specs.Entries.{letter_of, label_of, kind_of}
+use Rattle.gen_line.specs.Entries.{letter_of, label_of, kind_of, is_blank_entry}
 use Rattle.gen_line.specs.Cells.{cell_at}
-use Rattle.gen_line.specs.Model.{join_range, zeros, after, may, less, one_try, tries, leaf, right}
+use Rattle.gen_line.specs.Model.{join_range, zeros, after, may, shows, less, one_try, tries, leaf, right}
 use Rattle.lex_file.specs.Walking.{next_strings, strings}
 use Rattle.gen_line.specs.Walk.{put, finish_right, gives_right, one_right_of, gives_one_right, gives_tries_right, gives_leaf, with_tile}
 
@@ -181,6 +181,21 @@ may-nowhere m rack e kind same none =
     no_tile ∙ may-by m rack e kind false same no_tile
 
 -- the entries, one after the other
+-- a square and the rack show a letter: the square allows it, and the rack has a tile of it or a blank
+pub shows-letter : (m : Open) (rack : List ℕ) (label letter : ℕ) → 0 < label → label ≡ letter + 1
+    → shows m rack label ≡ (get_or m.mask letter false && (nat_lt 0 (get_or rack letter 0) || nat_lt 0 (get_or rack 26 0)))
+unfolding shows may
+shows-letter m rack label letter low is =
+    let tile : letter_of (2 * label - 1) ≡ letter = omega arith in
+    let blank : letter_of (2 * label) ≡ letter = omega arith in
+    let no_blank : is_blank_entry (2 * label - 1) ≡ false = grind arith in
+    let is_blank : is_blank_entry (2 * label) ≡ true = grind arith in
+    rw (tile, blank) (rw (no_blank, is_blank) (by (get_or m.mask letter false) (nat_lt 0 (get_or rack letter 0)) (nat_lt 0 (get_or rack 26 0))))
+  where
+    by : (a b c : Bool) → ((a && b) || (a && c)) ≡ (a && (b || c))
+    by true b c = refl
+    by false b c = refl
+
 pub tries_right-is : (g : List ℕ → Bool) (line : List Cell) (place : ℕ) (m : Open) (tiles : Tiles) → gives_tries_right g line place m tiles ≡ join_range (gives_one_right g line place m tiles) 1 52
 unfolding gives_tries_right
 tries_right-is g line place m tiles = refl

@@ -80,13 +80,20 @@ gives_letter_left g line h k m tiles label = of_label (gives_try_left g line h k
 unfoldable pub gives_tries_left : (List ℕ → Bool) → List Cell → ℕ → ℕ → Open → Tiles → List (List ℕ)
 gives_tries_left g line h k m tiles = all_entries (gives_one_left g line h k m tiles)
 
--- ---- what the walk from one place gives: its anchor is the first place walked
-abbrev pub gives_cell : (List ℕ → Bool) → List Cell → ℕ → Tiles → Cell → List (List ℕ)
-gives_cell g line h tiles (Old a) = []
-gives_cell g line h tiles (Free m) = if m.anchor then gives_tries_left g line h h m tiles else []
+-- ---- What the walk from one place h gives, by its cell: its anchor is the first place walked. The walk turns to the right behind the place
+-- `last`, which is the anchor, or the last of the old tiles right behind it where a language has what stands behind these, read backwards.
+abbrev pub gives_cell : (List ℕ → Bool) → List Cell → ℕ → ℕ → Tiles → Cell → List (List ℕ)
+gives_cell g line last h tiles (Old a) = []
+gives_cell g line last h tiles (Free m) = if m.anchor then gives_tries_left g line last h m tiles else []
+
+unfoldable pub gives_behind : (List ℕ → Bool) → List Cell → ℕ → Tiles → ℕ → List (List ℕ)
+gives_behind g line last tiles h = gives_cell g line last h tiles (cell_at line h)
 
 unfoldable pub gives_anchor : (List ℕ → Bool) → List Cell → Tiles → ℕ → List (List ℕ)
-gives_anchor g line tiles h = gives_cell g line h tiles (cell_at line h)
+gives_anchor g line tiles h = gives_cell g line h h tiles (cell_at line h)
+
+abbrev pub behind_moves : (List ℕ → Bool) → List Cell → ℕ → List ℕ → ℕ → List (List ℕ)
+behind_moves g line last rack h = gives_behind g line last (none_put rack) h
 
 -- the moves of a line of which a place is the first anchor covered
 abbrev pub anchor_moves : (List ℕ → Bool) → List Cell → List ℕ → ℕ → List (List ℕ)

@@ -1,5 +1,5 @@
 //! Tiles of a rack as they are laid: letters, and blanks as letters.
-ghost use Rattle.std.specs.Prelude.{◌≡◌, ◌<◌, slice_index, slice_set, sum};
+ghost use Rattle.std.specs.Prelude.{◌≡◌, ◌<◌, slice_index, slice_set};
 ghost use Rattle.gen_line.specs.Entries.{letter_of, kind_of};
 ghost use Rattle.gen_line.specs.Model.{may, shows, less};
 
@@ -44,18 +44,6 @@ fn kind(entry: u8) -> u8
 }
 
 impl Tiles {
-    /// How many tiles are left on the rack.
-    #[inline(always)]
-    pub fn left(&self) -> u16
-        ensures { result ≡ sum self.now.rack }
-    {
-        let mut left = 0;
-        for number in &self.rack {
-            left += u16::from(*number);
-        }
-        left
-    }
-
     /// Whether a square and the rack allow a new tile.
     #[inline(always)]
     pub fn allow(&self, free: &Open, entry: u8) -> bool
@@ -67,29 +55,27 @@ impl Tiles {
     }
 
     /// Whether a square and the rack allow some new tile that shows the letter of a label.
-    #[tactic(auto, unfolding(crate::specs::Model::shows))]
     #[inline(always)]
     pub fn allow_label(&self, free: &Open, label: u8) -> bool
         requires low { 0 < label }
         requires high { label < LABELS }
         ensures { result ≡ shows free.now self.now.rack label }
     {
-        self.allow(free, 2 * label - 1) || self.allow(free, 2 * label)
+        let letter = usize::from(label) - 1;
+        free.mask[letter] && (self.rack[letter] > 0 || self.rack[usize::from(BLANK)] > 0)
     }
 
-    /// The tiles once a new one was put on a place.
+    /// Puts a new tile on a place.
     #[inline(always)]
-    pub fn with(&self, place: usize, entry: u8) -> Tiles
+    pub fn put(&mut self, place: usize, entry: u8)
         requires place { place < SIDE }
         requires low { 0 < entry }
         requires high { entry < ENTRIES }
-        requires left { 0 < slice_index self.now.rack (kind_of entry) }
-        ensures fresh { result.fresh ≡ slice_set self.now.fresh place entry }
-        ensures rack { result.rack ≡ less self.now.rack entry }
+        requires left { 0 < slice_index self.old.rack (kind_of entry) }
+        ensures fresh { self.new.fresh ≡ slice_set self.old.fresh place entry }
+        ensures rack { self.new.rack ≡ less self.old.rack entry }
     {
-        let mut tiles = *self;
-        tiles.fresh[place] = entry;
-        tiles.rack[usize::from(kind(entry))] -= 1;
-        tiles
+        self.fresh[place] = entry;
+        self.rack[usize::from(kind(entry))] -= 1;
     }
 }

@@ -1,9 +1,9 @@
-//! The walk over one line from one of its anchors: to the left, and then to the right.
+//! The walk over one line from one of its anchors, or from the old tiles behind it: to the left, and then to the right.
 ghost use Rattle.std.specs.Prelude.{◌≡◌, ◌<◌, ◌≤◌, ◌+◌, ◌&&◌, ℕ, List, false, IsOk, drop, length};
 ghost use Rattle.ref_tiles.specs.declared.rulebook.TheConstants.{SIDE};
 ghost use Rattle.gen_line.specs.Model.{starts_free};
 ghost use Rattle.lex_file.specs.Walking.{IsOpen, strings};
-ghost use Rattle.gen_line.specs.Walk.{MayGive, Gave, gives_leaf, gives_right, gives_tries_right, gives_letter_right, gives_try_right, gives_turn, gives_left, gives_tries_left, gives_letter_left, gives_try_left, gives_anchor, anchor_moves};
+ghost use Rattle.gen_line.specs.Walk.{MayGive, Gave, gives_leaf, gives_right, gives_tries_right, gives_letter_right, gives_try_right, gives_turn, gives_left, gives_tries_left, gives_letter_left, gives_try_left, gives_behind, behind_moves};
 
 use crate::branches::{behind_mark, next_letter};
 use crate::cells::{Cell, Open};
@@ -19,7 +19,8 @@ use std::alloc::AllocError as NoMemory;
 pub struct LineWalk<'a, L, T> {
     pub lex: &'a L,
     pub line: &'a [Cell; SIDE],
-    pub anchor: usize,
+    /// The place with which the left part ends: the anchor, or the last of the old tiles right behind it.
+    pub last: usize,
     pub taker: &'a T,
     ghost size: { length line.now ≡ SIDE },
 }
@@ -109,9 +110,6 @@ impl<L: PathLex, T> LineWalk<'_, L, T> {
             (gives_tries_right (strings (L.tail self.now.lex.now) at) self.now.line.now place free.now tiles.now) sink.new result }
         ensures steady { T.grows ≡ false → IsOk result }
     {
-        if tiles.left() == 0 {
-            return Ok(());
-        }
         let Some(node) = at.next else {
             return Ok(());
         };
@@ -182,7 +180,9 @@ impl<L: PathLex, T> LineWalk<'_, L, T> {
         ensures steady { T.grows ≡ false → IsOk result }
     {
         if tiles.allow(free, entry) {
-            return self.right(next, place + 1, &tiles.with(place, entry), sink);
+            let mut laid = *tiles;
+            laid.put(place, entry);
+            return self.right(next, place + 1, &laid, sink);
         }
         Ok(())
     }
@@ -194,22 +194,22 @@ impl<L: PathLex, T> LineWalk<'_, L, T> {
     where
         T: Taker<S>,
         requires node { IsOpen (L.is_node self.now.lex.now) at.next }
-        requires anchor { self.now.anchor < SIDE }
+        requires last { self.now.last < SIDE }
         requires can { MayGive (T.can_take self.now.taker.now) T.made_for sink.old
-            (gives_turn (strings (L.tail self.now.lex.now) at) self.now.line.now self.now.anchor tiles.now) }
+            (gives_turn (strings (L.tail self.now.lex.now) at) self.now.line.now self.now.last tiles.now) }
         ensures made_for { T.made_for sink.new ≡ T.made_for sink.old }
         ensures took { Gave (T.tell self.now.taker.now) T.made_for T.items sink.old
-            (gives_turn (strings (L.tail self.now.lex.now) at) self.now.line.now self.now.anchor tiles.now) sink.new result }
+            (gives_turn (strings (L.tail self.now.lex.now) at) self.now.line.now self.now.last tiles.now) sink.new result }
         ensures steady { T.grows ≡ false → IsOk result }
     {
-        self.offer(ends_at(self.line, self.anchor + 1, at.accepts), tiles, sink)?;
+        self.offer(ends_at(self.line, self.last + 1, at.accepts), tiles, sink)?;
         match behind_mark(self.lex, at) {
             Some(behind) => {
                 let onward = Step {
                     accepts: false,
                     next: behind.next,
                 };
-                self.right(onward, self.anchor + 1, tiles, sink)
+                self.right(onward, self.last + 1, tiles, sink)
             }
             None => Ok(()),
         }
@@ -227,13 +227,13 @@ impl<L: PathLex, T> LineWalk<'_, L, T> {
     where
         T: Taker<S>,
         requires node { IsOpen (L.is_node self.now.lex.now) at.next }
-        requires anchor { self.now.anchor < SIDE }
-        requires places { places ≤ self.now.anchor }
+        requires last { self.now.last < SIDE }
+        requires places { places ≤ self.now.last }
         requires can { MayGive (T.can_take self.now.taker.now) T.made_for sink.old
-            (gives_left (strings (L.tail self.now.lex.now) at) self.now.line.now self.now.anchor places tiles.now) }
+            (gives_left (strings (L.tail self.now.lex.now) at) self.now.line.now self.now.last places tiles.now) }
         ensures made_for { T.made_for sink.new ≡ T.made_for sink.old }
         ensures took { Gave (T.tell self.now.taker.now) T.made_for T.items sink.old
-            (gives_left (strings (L.tail self.now.lex.now) at) self.now.line.now self.now.anchor places tiles.now) sink.new result }
+            (gives_left (strings (L.tail self.now.lex.now) at) self.now.line.now self.now.last places tiles.now) sink.new result }
         ensures steady { T.grows ≡ false → IsOk result }
     {
         if places == 0 {
@@ -268,19 +268,16 @@ impl<L: PathLex, T> LineWalk<'_, L, T> {
     where
         T: Taker<S>,
         requires node { IsOpen (L.is_node self.now.lex.now) at.next }
-        requires anchor { self.now.anchor < SIDE }
-        requires place { place ≤ self.now.anchor }
+        requires last { self.now.last < SIDE }
+        requires place { place ≤ self.now.last }
         requires can { MayGive (T.can_take self.now.taker.now) T.made_for sink.old
-            (gives_tries_left (strings (L.tail self.now.lex.now) at) self.now.line.now self.now.anchor place free.now tiles.now) }
+            (gives_tries_left (strings (L.tail self.now.lex.now) at) self.now.line.now self.now.last place free.now tiles.now) }
         ensures made_for { T.made_for sink.new ≡ T.made_for sink.old }
         ensures took { Gave (T.tell self.now.taker.now) T.made_for T.items sink.old
-            (gives_tries_left (strings (L.tail self.now.lex.now) at) self.now.line.now self.now.anchor place free.now tiles.now)
+            (gives_tries_left (strings (L.tail self.now.lex.now) at) self.now.line.now self.now.last place free.now tiles.now)
             sink.new result }
         ensures steady { T.grows ≡ false → IsOk result }
     {
-        if tiles.left() == 0 {
-            return Ok(());
-        }
         let Some(node) = at.next else {
             return Ok(());
         };
@@ -311,15 +308,15 @@ impl<L: PathLex, T> LineWalk<'_, L, T> {
     where
         T: Taker<S>,
         requires node { IsOpen (L.is_node self.now.lex.now) next.next }
-        requires anchor { self.now.anchor < SIDE }
-        requires place { place ≤ self.now.anchor }
+        requires last { self.now.last < SIDE }
+        requires place { place ≤ self.now.last }
         requires low { 0 < label }
         requires high { label < LABELS }
         requires can { MayGive (T.can_take self.now.taker.now) T.made_for sink.old
-            (gives_letter_left (strings (L.tail self.now.lex.now) next) self.now.line.now self.now.anchor place free.now tiles.now label) }
+            (gives_letter_left (strings (L.tail self.now.lex.now) next) self.now.line.now self.now.last place free.now tiles.now label) }
         ensures made_for { T.made_for sink.new ≡ T.made_for sink.old }
         ensures took { Gave (T.tell self.now.taker.now) T.made_for T.items sink.old
-            (gives_letter_left (strings (L.tail self.now.lex.now) next) self.now.line.now self.now.anchor place free.now tiles.now label)
+            (gives_letter_left (strings (L.tail self.now.lex.now) next) self.now.line.now self.now.last place free.now tiles.now label)
             sink.new result }
         ensures steady { T.grows ≡ false → IsOk result }
     {
@@ -342,47 +339,54 @@ impl<L: PathLex, T> LineWalk<'_, L, T> {
     where
         T: Taker<S>,
         requires node { IsOpen (L.is_node self.now.lex.now) next.next }
-        requires anchor { self.now.anchor < SIDE }
-        requires place { place ≤ self.now.anchor }
+        requires last { self.now.last < SIDE }
+        requires place { place ≤ self.now.last }
         requires low { 0 < entry }
         requires high { entry < ENTRIES }
         requires can { MayGive (T.can_take self.now.taker.now) T.made_for sink.old
-            (gives_try_left (strings (L.tail self.now.lex.now) next) self.now.line.now self.now.anchor place free.now tiles.now entry) }
+            (gives_try_left (strings (L.tail self.now.lex.now) next) self.now.line.now self.now.last place free.now tiles.now entry) }
         ensures made_for { T.made_for sink.new ≡ T.made_for sink.old }
         ensures took { Gave (T.tell self.now.taker.now) T.made_for T.items sink.old
-            (gives_try_left (strings (L.tail self.now.lex.now) next) self.now.line.now self.now.anchor place free.now tiles.now entry)
+            (gives_try_left (strings (L.tail self.now.lex.now) next) self.now.line.now self.now.last place free.now tiles.now entry)
             sink.new result }
         ensures steady { T.grows ≡ false → IsOk result }
     {
         if tiles.allow(free, entry) {
-            return self.left(next, place, &tiles.with(place, entry), sink);
+            let mut laid = *tiles;
+            laid.put(place, entry);
+            return self.left(next, place, &laid, sink);
         }
         Ok(())
     }
 
-    /// Gives the moves of which the anchor of the walk is the first anchor covered, where it is one.
-    fn from_anchor<S>(&self, tiles: &Tiles, sink: &mut S) -> Result<(), NoMemory>
+    /// Gives the moves of which a place is the first anchor covered, where it is one. The lexicon goes on so behind the old tiles
+    /// from there to the last place of the left part.
+    fn from_anchor<S>(
+        &self,
+        at: Step<L::Node>,
+        anchor: usize,
+        tiles: &Tiles,
+        sink: &mut S,
+    ) -> Result<(), NoMemory>
     where
         T: Taker<S>,
-        requires anchor { self.now.anchor < SIDE }
+        requires node { IsOpen (L.is_node self.now.lex.now) at.next }
+        requires last { self.now.last < SIDE }
+        requires anchor { anchor ≤ self.now.last }
         requires can { MayGive (T.can_take self.now.taker.now) T.made_for sink.old
-            (gives_anchor (L.language self.now.lex.now) self.now.line.now tiles.now self.now.anchor) }
+            (gives_behind (strings (L.tail self.now.lex.now) at) self.now.line.now self.now.last tiles.now anchor) }
         ensures made_for { T.made_for sink.new ≡ T.made_for sink.old }
         ensures took { Gave (T.tell self.now.taker.now) T.made_for T.items sink.old
-            (gives_anchor (L.language self.now.lex.now) self.now.line.now tiles.now self.now.anchor) sink.new result }
+            (gives_behind (strings (L.tail self.now.lex.now) at) self.now.line.now self.now.last tiles.now anchor) sink.new result }
         ensures steady { T.grows ≡ false → IsOk result }
     {
-        match &self.line[self.anchor] {
+        match &self.line[anchor] {
             Cell::Old(_) => Ok(()),
             Cell::Free(free) => {
                 if !free.anchor {
                     return Ok(());
                 }
-                let start = Step {
-                    accepts: false,
-                    next: Some(self.lex.root()),
-                };
-                self.tries_left(start, self.anchor, free, tiles, sink)
+                self.tries_left(at, anchor, free, tiles, sink)
             }
         }
     }
@@ -391,6 +395,10 @@ impl<L: PathLex, T> LineWalk<'_, L, T> {
 /// Gives a sink the moves of a line of which a place is the first anchor covered, each once, where the place is an anchor: the
 /// new tiles lie on free places that allow them, in one whole stretch that spells a word of the lexicon; the rack has them.
 ///
+/// Where old tiles lie right behind the place, the walk begins with them, so that it lays no tile before them that no word has
+/// there: `last` is the place of the last of them, and the lexicon goes on with `at` behind them, read backwards. Where none lie
+/// there, `last` is the place itself, and `at` is the root.
+///
 /// A rack has a number for each kind of tile: A to Z, and then blanks.
 ///
 /// # Errors
@@ -398,18 +406,22 @@ impl<L: PathLex, T> LineWalk<'_, L, T> {
 /// Where the sink was refused memory. It then has a front of the moves.
 pub fn walk_anchor<L: PathLex, S, T: Taker<S>>(
     lex: &L,
+    at: Step<L::Node>,
     line: &[Cell; SIDE],
     anchor: usize,
+    last: usize,
     rack: &[u8; KINDS],
     taker: &T,
     sink: &mut S,
 ) -> Result<(), NoMemory>
-    requires anchor { anchor < SIDE }
+    requires node { IsOpen (L.is_node lex.now) at.next }
+    requires last { last < SIDE }
+    requires anchor { anchor ≤ last }
     requires can { MayGive (T.can_take taker.now) T.made_for sink.old
-        (anchor_moves (L.language lex.now) line.now rack.now anchor) }
+        (behind_moves (strings (L.tail lex.now) at) line.now last rack.now anchor) }
     ensures made_for { T.made_for sink.new ≡ T.made_for sink.old }
     ensures took { Gave (T.tell taker.now) T.made_for T.items sink.old
-        (anchor_moves (L.language lex.now) line.now rack.now anchor) sink.new result }
+        (behind_moves (strings (L.tail lex.now) at) line.now last rack.now anchor) sink.new result }
     ensures steady { T.grows ≡ false → IsOk result }
 {
     let tiles = Tiles {
@@ -419,8 +431,8 @@ pub fn walk_anchor<L: PathLex, S, T: Taker<S>>(
     let walk = LineWalk {
         lex,
         line,
-        anchor,
+        last,
         taker,
     };
-    walk.from_anchor(&tiles, sink)
+    walk.from_anchor(at, anchor, &tiles, sink)
 }

@@ -21,10 +21,9 @@ use Rattle.gen_line.specs.declared.cells.Cell.{Cell}
 use Rattle.gen_line.specs.Model.{join_range, line_moves}
 use Rattle.gen_line.specs.Walk.{Every, Took, Front, add_all}
 use Rattle.gen_line.proofs.Sinks.{add_all-append, front-less, took-more, range-more}
-use Rattle.gen_moves.specs.declared.spots.Spot.{Spot}
 use Rattle.gen_moves.specs.Findings.{told, given_along, given_by}
 use Rattle.gen_moves.specs.Laws.{Setting}
-use Rattle.gen_moves.specs.Telling.{IsFitMove, tell, spot_of, both_cells}
+use Rattle.gen_moves.specs.Telling.{IsFitMove, tell, both_cells}
 use Rattle.gen_moves.proofs.MovePlaces.{put_by, covers_anchor, main_run}
 use Rattle.gen_moves.proofs.Moving.{move_candidate}
 use Rattle.gen_moves.proofs.Gathering.{tiles_is, line_move}
@@ -57,7 +56,7 @@ abbrev IsFitOn : List (Option Tile) → Dir → List Placed → Type 0
 IsFitOn board d ps = (1 ≤ length ps) × (length ps ≤ 7 → IsLegal board ps × RunsAlong d board ps)
 
 pub move_fit : (words : List (List ℕ)) (board : List (Option Tile)) (g listed : List ℕ → Bool) (cells : Dir → ℕ → List Cell) → Setting words board g listed cells
-    → (rack : List ℕ) (d : Dir) (line : ℕ) → line < 15 → (y : List ℕ) → Contains (line_moves g (cells d line) rack) y → IsFitMove (spot_of board d line) y
+    → (rack : List ℕ) (d : Dir) (line : ℕ) → line < 15 → (y : List ℕ) → Contains (line_moves g (cells d line) rack) y → IsFitMove board d line y
 move_fit words board g listed cells s rack d line low y c =
     let move = (line_move words board g listed cells s rack d line low y).0 c in
     let is = s.lines d line low in
@@ -78,9 +77,9 @@ every_from P [] h = tt
 every_from P (x ∷ xs) h = (h x (Contains-here x xs), every_from P xs (λ y c. h y (Contains-there x xs y c)))
 
 pub moves_fit : (words : List (List ℕ)) (board : List (Option Tile)) (g listed : List ℕ → Bool) (cells : Dir → ℕ → List Cell) → Setting words board g listed cells
-    → (rack : List ℕ) (d : Dir) (line : ℕ) → line < 15 → Every (IsFitMove (spot_of board d line)) (line_moves g (cells d line) rack)
+    → (rack : List ℕ) (d : Dir) (line : ℕ) → line < 15 → Every (IsFitMove board d line) (line_moves g (cells d line) rack)
 moves_fit words board g listed cells s rack d line low =
-    every_from (IsFitMove (spot_of board d line)) (line_moves g (cells d line) rack) (λ y c. move_fit words board g listed cells s rack d line low y c)
+    every_from (IsFitMove board d line) (line_moves g (cells d line) rack) (λ y c. move_fit words board g listed cells s rack d line low y c)
 
 -- what a taker asks of each move, where it asks the same of the sink for all
 pub every_with : {X : Type 0} (A : Type 0) (P : X → Type 0) (xs : List X) → A → Every P xs → Every (λ x. A × P x) xs
@@ -93,11 +92,11 @@ add_all-flat_map add f old [] = refl
 add_all-flat_map add f old (y ∷ ys) =
     add_all-flat_map add f (add_all add old (f y)) ys ∙ sym (add_all-append add old (f y) (flat_map f ys))
 
-pub took_told : {U E : Type 0} (rules : Rules) (spot : Spot) (add : List Given → Given → List Given) (old : List Given) (ys : List (List ℕ)) (new : List Given) (r : Result U E)
-    → Took (tell rules spot add) old ys new r → Took add old (flat_map (told rules spot.board spot.dir spot.line) ys) new r
-took_told rules spot add old ys new (Ok u) h = h ∙ add_all-flat_map add (told rules spot.board spot.dir spot.line) old ys
-took_told rules spot add old ys new (Err why) h =
-    let f = told rules spot.board spot.dir spot.line in
+pub took_told : {U E : Type 0} (rules : Rules) (board : List (Option Tile)) (d : Dir) (line : ℕ) (add : List Given → Given → List Given) (old : List Given) (ys : List (List ℕ)) (new : List Given) (r : Result U E)
+    → Took (tell rules board d line add) old ys new r → Took add old (flat_map (told rules board d line) ys) new r
+took_told rules board d line add old ys new (Ok u) h = h ∙ add_all-flat_map add (told rules board d line) old ys
+took_told rules board d line add old ys new (Err why) h =
+    let f = told rules board d line in
     record {
       front = flat_map f h.front;
       rest = flat_map f h.rest;

@@ -1,3 +1,4 @@
+pub mod Passable
 pub mod Lists
 pub mod Entering
 pub mod MovePlaces
@@ -8,7 +9,7 @@ pub mod Settings
 pub mod Fitting
 pub mod CellLaws
 pub mod Alone
-pub mod Narrowing
+pub mod Behind
 pub mod Writing
 pub mod Taking
 pub mod Sums

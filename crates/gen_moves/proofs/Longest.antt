@@ -1,11 +1,12 @@
 -- The bound of the longest stretch from a place bounds the plays of each shorter one.
 use Rattle.std.proofs.Common.{◌≡◌, ℕ, zero, suc, ◌+◌, ◌-◌, ◌*◌, ◌^◌, ◌<◌, ◌≤◌, Bool, true, false, nat_le, sym, ap, ◌∙◌, arith, ⊎_elim, if◌then◌else◌}
-use Rattle.std.proofs.lemmas.Bool.{cases_eq, cases_Bool, cases_lt, le-leb, leb-true}
+use Rattle.std.proofs.lemmas.Bool.{cases_eq, cases_Bool, cases_lt, le-leb, leb-true, true≢false}
 use Rattle.std.proofs.Math.Nat.{mul-le-mul, pow-le-pow_right}
 use Rattle.ref_play.proofs.ScoreLemmas.{factor_limit}
 use Rattle.gen_moves.proofs.Sums.{total-first, least-first, least-second, least-both}
 use Rattle.gen_moves.specs.declared.places.Place.{Place}
 use Rattle.gen_moves.specs.declared.stretches.Sum.{Sum}
+use Rattle.gen_moves.specs.Closing.{IsPassable}
 use Rattle.gen_moves.specs.Bounds.{total, times, one_if, free_count, IsBoundFrom, IsSum, IsSmall, IsSmallSum, least}
 
 total-up : (f : ℕ → ℕ) (a m n : ℕ) → m ≤ n → total f a m ≤ total f a n
@@ -57,11 +58,11 @@ sum_more places first n at s more is sum old word side free letters crosses lett
     }
 
 -- the bound of a sum bounds each shorter stretch
-pub sum_bound : (bonus points ones : ℕ) (places : ℕ → Place) (first n : ℕ) (s : Sum) (bound : ℕ) → first + n ≤ 15 → IsSum places first n s → ((i : ℕ) → i < 15 → IsSmall (places i))
+pub sum_bound : (bonus points ones : ℕ) (places : ℕ → Place) (opens : ℕ → Bool) (first n : ℕ) (s : Sum) (bound : ℕ) → first + n ≤ 15 → IsSum places first n s → ((i : ℕ) → i < 15 → IsSmall (places i))
     → bound ≡ (s.old + (least s.letters ((s.letter - 1) * ones) + least ones s.free) + s.letter * points) * s.word + (s.side + least s.crosses (s.cross * ones) + s.cross * points) + (if nat_le 7 s.free then bonus else 0)
-    → ((len : ℕ) → first + len ≤ 15 → free_count places first len ≤ 7 → len ≤ n) → IsBoundFrom bonus points ones places first bound
-sum_bound bonus points ones places first n s bound inside sum small is reach len in' few =
-    let le = reach len in' few in
+    → ((len : ℕ) → first + len ≤ 15 → free_count places first len ≤ 7 → IsPassable opens first len → len ≤ n) → IsBoundFrom bonus points ones places opens first bound
+sum_bound bonus points ones places opens first n s bound inside sum small is reach len in' few passable =
+    let le = reach len in' few passable in
     let old = total-up (λ i. (places i).old) first len n le in
     let side = total-up (λ i. (places i).side) first len n le in
     let free = total-up (λ i. one_if (places i).free) first len n le in
@@ -151,6 +152,14 @@ reach_stop places first n at s is sum seven free len inside few =
     (λ (le : len ≤ n). le)
     (cases_lt n len)
 
+-- where no tile can be laid on the next place
+pub reach_closed : (opens : ℕ → Bool) (first n at : ℕ) → at ≡ first + n → opens at ≡ false → (len : ℕ) → IsPassable opens first len → len ≤ n
+reach_closed opens first n at is closed len passable =
+    ⊎_elim
+    (λ (more : n < len). absurd (true≢false (sym (passable at (omega arith) (omega arith)) ∙ closed)))
+    (λ (le : len ≤ n). le)
+    (cases_lt n len)
+
 -- ---- small numbers
 pub sum_up : (n m : ℕ) (s : Sum) → n ≤ m → IsSmallSum n s → IsSmallSum m s
 sum_up n m s le small =
@@ -180,8 +189,9 @@ small_more n s more p small one old word side free letters crosses letter cross 
     record { old = omega arith; word = omega arith; side = omega arith; free = omega arith; letters = omega arith; crosses = omega arith; letter = letter; cross = cross }
 
 -- ---- a greater number bounds as well
-pub bound_up : (bonus points ones : ℕ) (places : ℕ → Place) (first low high : ℕ) → low ≤ high → IsBoundFrom bonus points ones places first low → IsBoundFrom bonus points ones places first high
-bound_up bonus points ones places first low high le h len inside few =
-    let w = h len inside few in
+pub bound_up : (bonus points ones : ℕ) (places : ℕ → Place) (opens : ℕ → Bool) (first low high : ℕ) → low ≤ high → IsBoundFrom bonus points ones places opens first low
+    → IsBoundFrom bonus points ones places opens first high
+bound_up bonus points ones places opens first low high le h len inside few passable =
+    let w = h len inside few passable in
     let within = w.within in
     record { letter = w.letter; cross = w.cross; letters = w.letters; crosses = w.crosses; within = omega arith }

@@ -29,8 +29,9 @@ use Rattle.gen_moves.specs.declared.places.Place.{Place}
 use Rattle.gen_moves.specs.LineTiles.{tile_of_entry, line_tiles, new_tile, tiles_of}
 use Rattle.gen_moves.specs.Findings.{told}
 use Rattle.gen_moves.specs.Laws.{Setting}
-use Rattle.gen_moves.specs.Telling.{spot_of}
 use Rattle.gen_moves.specs.Tallies.{is_laid, tally, LiesOn, IsTallied}
+use Rattle.gen_moves.specs.Closing.{AreOpen}
+use Rattle.gen_moves.proofs.Passable.{passes_open}
 use Rattle.gen_moves.specs.Bounds.{rack_points, rack_ones, IsPlaceOf, ArePlaces, HasScores, TellsUnder, IsOffer, AreOffers}
 use Rattle.gen_moves.proofs.Entering.{on_top, tiles_there}
 use Rattle.gen_moves.proofs.MovePlaces.{AtPlace, put_by, at_place}
@@ -53,9 +54,10 @@ told_under rules board d line y bound le = by (is_wanted board d (tiles_of d lin
     by false wanted = tt
 
 offer : (rules : Rules) (words : List (List ℕ)) (board : List (Option Tile)) (g listed : List ℕ → Bool) (cells : Dir → ℕ → List Cell) → Setting words board g listed cells
-    → (rack : List ℕ) (d : Dir) (line : ℕ) → line < 15 → (places : ℕ → Place) → ArePlaces rules d board line places → (h : ℕ) → h < 15 → (y : List ℕ)
-    → owes g (cells d line) rack h y ≡ true → IsOffer rules (rack_points rules rack 27) (rack_ones rules rack 27) board d line (cells d line) places h y
-offer rules words board g listed cells s rack d line low places are h below y e bound holds =
+    → (rack : List ℕ) (d : Dir) (line : ℕ) → line < 15 → (places : ℕ → Place) → ArePlaces rules d board line places → (opens : ℕ → Bool) → AreOpen (cells d line) rack opens
+    → (h : ℕ) → h < 15 → (y : List ℕ) → owes g (cells d line) rack h y ≡ true
+    → IsOffer rules (rack_points rules rack 27) (rack_ones rules rack 27) board d line (cells d line) places opens h y
+offer rules words board g listed cells s rack d line low places are opens open_are h below y e bound holds =
     let found = anchor_reach g listed s.splits (cells d line) rack y h (line_labelled words d board line (cells d line) (s.lines d line low)) below e in
     let first = found.0 in
     let len = found.1 in
@@ -65,7 +67,7 @@ offer rules words board g listed cells s rack d line low places are h below y e 
     let few_tiles = (wanted_few board d (tiles_of d line y) wanted).1 in
     let few : length (put_by d line y) ≤ 7 = subst (λ (qs : List Placed). length qs ≤ 7) (tiles_is d line y) few_tiles in
     let count = count_is rules words d board line (cells d line) (s.lines d line low) listed rack y first len s.told s.long s.size low move few places are in
-    let w = holds first reach.low reach.first_anchor len reach.high move.whole.inside (omega arith) in
+    let w = holds first reach.low reach.first_anchor len reach.high move.whole.inside (omega arith) (passes_open listed (cells d line) rack y first len move opens open_are) in
     let within = w.within in
     let score = score_le rules words d board line (cells d line) (s.lines d line low) listed rack y first len s.told s.long s.size low move few places are
     (rack_points rules rack 27) (rack_ones rules rack 27) w.letter w.cross (omega arith) (omega arith) w.letters w.crosses in
@@ -73,9 +75,9 @@ offer rules words board g listed cells s rack d line low places are h below y e 
 
 pub all_offers : (rules : Rules) (words : List (List ℕ)) (board : List (Option Tile)) (g listed : List ℕ → Bool) (cells : Dir → ℕ → List Cell) → Setting words board g listed cells
     → (rack : List ℕ) (d : Dir) (line : ℕ) → line < 15 → AreOffers rules (rack_points rules rack 27) (rack_ones rules rack 27) board g (cells d line) rack d line
-all_offers rules words board g listed cells s rack d line low places are h below =
-    every-more (λ y. owes g (cells d line) rack h y ≡ true) (IsOffer rules (rack_points rules rack 27) (rack_ones rules rack 27) board d line (cells d line) places h) (anchor_moves g (cells d line) rack h)
-    (λ y e. offer rules words board g listed cells s rack d line low places are h below y e)
+all_offers rules words board g listed cells s rack d line low places are opens open_are h below =
+    every-more (λ y. owes g (cells d line) rack h y ≡ true) (IsOffer rules (rack_points rules rack 27) (rack_ones rules rack 27) board d line (cells d line) places opens h) (anchor_moves g (cells d line) rack h)
+    (λ y e. offer rules words board g listed cells s rack d line low places are opens open_are h below y e)
     (anchor_owes g (cells d line) rack h (s.lines d line low).size below)
 
 -- ---- what the stretch of a move adds up to
@@ -110,7 +112,7 @@ laid_by rules d board square p is new (Some t) there =
 
 tallied : (rules : Rules) (words : List (List ℕ)) (board : List (Option Tile)) (g listed : List ℕ → Bool) (cells : Dir → ℕ → List Cell) → Setting words board g listed cells
     → (rack : List ℕ) (d : Dir) (line : ℕ) → line < 15 → (places : ℕ → Place) → ArePlaces rules d board line places → (h : ℕ) → h < 15 → (y : List ℕ)
-    → owes g (cells d line) rack h y ≡ true → IsTallied rules (spot_of board d line) places y
+    → owes g (cells d line) rack h y ≡ true → IsTallied rules board d line places y
 tallied rules words board g listed cells s rack d line low places are h below y e =
     let is = s.lines d line low in
     let found = anchor_reach g listed s.splits (cells d line) rack y h (line_labelled words d board line (cells d line) is) below e in
@@ -143,9 +145,9 @@ tallied rules words board g listed cells s rack d line low places are h below y 
 
 pub all_tallied : (rules : Rules) (words : List (List ℕ)) (board : List (Option Tile)) (g listed : List ℕ → Bool) (cells : Dir → ℕ → List Cell) → Setting words board g listed cells
     → (rack : List ℕ) (d : Dir) (line : ℕ) → line < 15 → (places : ℕ → Place) → ArePlaces rules d board line places → (h : ℕ) → h < 15
-    → Every (IsTallied rules (spot_of board d line) places) (anchor_moves g (cells d line) rack h)
+    → Every (IsTallied rules board d line places) (anchor_moves g (cells d line) rack h)
 all_tallied rules words board g listed cells s rack d line low places are h below =
-    every-more (λ y. owes g (cells d line) rack h y ≡ true) (IsTallied rules (spot_of board d line) places) (anchor_moves g (cells d line) rack h)
+    every-more (λ y. owes g (cells d line) rack h y ≡ true) (IsTallied rules board d line places) (anchor_moves g (cells d line) rack h)
     (λ y e. tallied rules words board g listed cells s rack d line low places are h below y e)
     (anchor_owes g (cells d line) rack h (s.lines d line low).size below)
 

@@ -26,7 +26,7 @@ use Rattle.gen_line.proofs.Sinks.{every-same, every-join, all-still, front-same,
 use Rattle.gen_moves.specs.declared.starts.Start.{Start}
 use Rattle.gen_moves.specs.Findings.{told, given_on, given_along, given_by}
 use Rattle.gen_moves.specs.Laws.{Setting}
-use Rattle.gen_moves.specs.Telling.{IsFitMove, spot_of}
+use Rattle.gen_moves.specs.Telling.{IsFitMove}
 use Rattle.gen_moves.specs.Bounds.{TellsUnder}
 use Rattle.gen_moves.specs.Starts.{IsStartOf, AreStarts, IsGood, GoesAlong, AreUnder, dir_of, bound_in, given_at, given_from}
 use Rattle.gen_moves.proofs.Fitting.{moves_fit, add_all-flat_map, join_flat}
@@ -35,7 +35,7 @@ use Rattle.gen_moves.proofs.Gathering.{line_labelled, wanted_few}
 
 -- ---- a start that is left out
 -- what a move tells is written along its line
-goes_along : (for : Option (List (Option Tile))) (board : List (Option Tile)) (d : Dir) (line : ℕ) (y : List ℕ) (score : ℤ) → IsFor for board → IsFitMove (spot_of board d line) y
+goes_along : (for : Option (List (Option Tile))) (board : List (Option Tile)) (d : Dir) (line : ℕ) (y : List ℕ) (score : ℤ) → IsFor for board → IsFitMove board d line y
     → is_wanted board d (tiles_of d line y) ≡ true → GoesAlong for d (record { dir = d; tiles = tiles_of d line y; score = score })
 unfolding notation_of
 goes_along for board Across line y score is fit wanted = tt
@@ -48,7 +48,7 @@ goes_along (Some own) board Down line y score is fit wanted =
     ∙ ap (λ (d : Dir). (written_on ps (runs_along d (with_tiles board ps) ps)).dir) few.0
     ∙ ap (λ (rs : List Run). (written_on ps rs).dir) runs
 
-pub told_along : (for : Option (List (Option Tile))) (rules : Rules) (board : List (Option Tile)) (d : Dir) (line : ℕ) (y : List ℕ) → IsFor for board → IsFitMove (spot_of board d line) y
+pub told_along : (for : Option (List (Option Tile))) (rules : Rules) (board : List (Option Tile)) (d : Dir) (line : ℕ) (y : List ℕ) → IsFor for board → IsFitMove board d line y
     → Every (GoesAlong for d) (told rules board d line y)
 unfolding told
 told_along for rules board d line y is fit = by (is_wanted board d (tiles_of d line y)) refl
@@ -59,12 +59,12 @@ told_along for rules board d line y is fit = by (is_wanted board d (tiles_of d l
     by false wanted = tt
 
 pub left_out : (for : Option (List (Option Tile))) (rules : Rules) (board : List (Option Tile)) (d : Dir) (line bound : ℕ) (ys : List (List ℕ)) (add : List Given → Given → List Given) (items : List Given)
-    → ((given : Given) → GoesAlong for d given → given.score ≤ℤ pos bound → add items given ≡ items) → IsFor for board → Every (IsFitMove (spot_of board d line)) ys
+    → ((given : Given) → GoesAlong for d given → given.score ≤ℤ pos bound → add items given ≡ items) → IsFor for board → Every (IsFitMove board d line) ys
     → Every (λ y. TellsUnder rules board d line y bound) ys → items ≡ add_all add items (flat_map (told rules board d line) ys)
 left_out for rules board d line bound ys add items still is fits under =
-    all-still (λ items y. add_all add items (told rules board d line y)) items (λ y. IsFitMove (spot_of board d line) y × TellsUnder rules board d line y bound) ys
+    all-still (λ items y. add_all add items (told rules board d line y)) items (λ y. IsFitMove board d line y × TellsUnder rules board d line y bound) ys
     (λ y known. passed_over rules board d line y bound (GoesAlong for d) add items still (told_along for rules board d line y is known.0) known.1)
-    (every-both (IsFitMove (spot_of board d line)) (λ y. TellsUnder rules board d line y bound) ys fits under)
+    (every-both (IsFitMove board d line) (λ y. TellsUnder rules board d line y bound) ys fits under)
     ∙ add_all-flat_map add (told rules board d line) items ys
 
 -- ---- a sink that was refused memory in the middle of the starts
@@ -85,10 +85,10 @@ front_of_starts add f xs n d old mid new below e h =
 
 -- ---- what is known of each start
 anchor_fits : (words : List (List ℕ)) (board : List (Option Tile)) (g listed : List ℕ → Bool) (cells : Dir → ℕ → List Cell) → Setting words board g listed cells
-    → (rack : List ℕ) (d : Dir) (line h : ℕ) → line < 15 → h < 15 → Every (IsFitMove (spot_of board d line)) (anchor_moves g (cells d line) rack h)
+    → (rack : List ℕ) (d : Dir) (line h : ℕ) → line < 15 → h < 15 → Every (IsFitMove board d line) (anchor_moves g (cells d line) rack h)
 anchor_fits words board g listed cells s rack d line h low below =
-    every-join (IsFitMove (spot_of board d line)) (anchor_moves g (cells d line) rack) 0 15 h
-    (every-same (IsFitMove (spot_of board d line)) (line_moves g (cells d line) rack) (join_range (anchor_moves g (cells d line) rack) 0 15) (sym (all_given g (cells d line) rack (s.lines d line low).size))
+    every-join (IsFitMove board d line) (anchor_moves g (cells d line) rack) 0 15 h
+    (every-same (IsFitMove board d line) (line_moves g (cells d line) rack) (join_range (anchor_moves g (cells d line) rack) 0 15) (sym (all_given g (cells d line) rack (s.lines d line low).size))
     (moves_fit words board g listed cells s rack d line low))
     (omega arith) (omega arith)
 

@@ -1,7 +1,8 @@
 -- What a sink has once the play of a line's entries was given to it.
-use Rattle.std.proofs.Common.{◌≡◌, ℕ, ℤ, Bool, true, false, List, [], ◌∷◌, refl, sym, ap, ◌∙◌, Some, None, Result, Ok, Err}
+use Rattle.std.proofs.Common.{Option, ◌≡◌, ℕ, ℤ, Bool, true, false, List, [], ◌∷◌, refl, sym, ap, ◌∙◌, Some, None, Result, Ok, Err}
 use Rattle.std.specs.Prelude.{pos, OnOk, OnErr, if◌then◌else◌}
 use Rattle.ref_tiles.specs.declared.rulebook.Rules.{Rules}
+use Rattle.ref_tiles.specs.declared.tiles.Tile.{Tile}
 use Rattle.ref_board.specs.declared.directions.Dir.{Dir}
 use Rattle.ref_play.specs.declared.placed.Placed.{Placed}
 use Rattle.ref_play.specs.declared.plays.Play.{Play}
@@ -10,41 +11,40 @@ use Rattle.ref_play.specs.Directions.{is_wanted}
 use Rattle.ref_play.specs.Best.{Given}
 use Rattle.gen_line.specs.Walk.{Took, add_all}
 use Rattle.gen_sinks.specs.Sinks.{seen}
-use Rattle.gen_moves.specs.declared.spots.Spot.{Spot}
 use Rattle.gen_moves.specs.LineTiles.{line_tiles, tiles_of}
 use Rattle.gen_moves.specs.Findings.{told}
 use Rattle.gen_moves.specs.Telling.{tell, PlayIs}
 
-abbrev told_as : Rules → Spot → List ℕ → Given
-told_as rules spot y =
-    record { dir = spot.dir; tiles = tiles_of spot.dir spot.line y; score = pos (score_of rules spot.board (tiles_of spot.dir spot.line y)) }
+abbrev told_as : Rules → List (Option Tile) → Dir → ℕ → List ℕ → Given
+told_as rules board d line y =
+    record { dir = d; tiles = tiles_of d line y; score = pos (score_of rules board (tiles_of d line y)) }
 
-abbrev wants : Spot → List ℕ → Bool
-wants spot y = is_wanted spot.board spot.dir (tiles_of spot.dir spot.line y)
+abbrev wants : List (Option Tile) → Dir → ℕ → List ℕ → Bool
+wants board d line y = is_wanted board d (tiles_of d line y)
 
-told_by : (rules : Rules) (spot : Spot) (y : List ℕ) (b : Bool) → wants spot y ≡ b → told rules spot.board spot.dir spot.line y ≡ (if b then told_as rules spot y ∷ [] else [])
+told_by : (rules : Rules) (board : List (Option Tile)) (d : Dir) (line : ℕ) (y : List ℕ) (b : Bool) → wants board d line y ≡ b → told rules board d line y ≡ (if b then told_as rules board d line y ∷ [] else [])
 unfolding told
-told_by rules spot y b e = ap (λ (c : Bool). if c then told_as rules spot y ∷ [] else []) e
+told_by rules board d line y b e = ap (λ (c : Bool). if c then told_as rules board d line y ∷ [] else []) e
 
 -- nothing is told of entries whose play is not wanted
-pub tell_none : (rules : Rules) (spot : Spot) (add : List Given → Given → List Given) (items : List Given) (y : List ℕ) → PlayIs spot (line_tiles y) None → items ≡ tell rules spot add items y
-tell_none rules spot add items y none = sym (ap (add_all add items) (told_by rules spot y false none))
+pub tell_none : (rules : Rules) (board : List (Option Tile)) (d : Dir) (line : ℕ) (add : List Given → Given → List Given) (items : List Given) (y : List ℕ) → PlayIs board d line (line_tiles y) None → items ≡ tell rules board d line add items y
+tell_none rules board d line add items y none = sym (ap (add_all add items) (told_by rules board d line y false none))
 
 -- and of others the play
-tell_one : (rules : Rules) (spot : Spot) (add : List Given → Given → List Given) (items : List Given) (y : List ℕ) (play : Play) (points : ℤ) → PlayIs spot (line_tiles y) (Some play)
-    → points ≡ pos (score_of rules spot.board play.tiles.items) → tell rules spot add items y ≡ add items (seen play points)
-tell_one rules spot add items y play points is score =
+tell_one : (rules : Rules) (board : List (Option Tile)) (d : Dir) (line : ℕ) (add : List Given → Given → List Given) (items : List Given) (y : List ℕ) (play : Play) (points : ℤ) → PlayIs board d line (line_tiles y) (Some play)
+    → points ≡ pos (score_of rules board play.tiles.items) → tell rules board d line add items y ≡ add items (seen play points)
+tell_one rules board d line add items y play points is score =
     let made : Given = seen play points in
-    let same : told_as rules spot y ≡ made =
+    let same : told_as rules board d line y ≡ made =
     sym
-    (ap (λ (d : Dir). let g : Given = record { dir = d; tiles = play.tiles.items; score = points } in g) is.1
-    ∙ ap (λ (p : ℤ). let g : Given = record { dir = spot.dir; tiles = play.tiles.items; score = p } in g) score
-    ∙ ap (λ (ps : List Placed). let g : Given = record { dir = spot.dir; tiles = ps; score = pos (score_of rules spot.board ps) } in g) is.2) in
-    ap (add_all add items) (told_by rules spot y true is.0) ∙ ap (add items) same
+    (ap (λ (e : Dir). let g : Given = record { dir = e; tiles = play.tiles.items; score = points } in g) is.1
+    ∙ ap (λ (p : ℤ). let g : Given = record { dir = d; tiles = play.tiles.items; score = p } in g) score
+    ∙ ap (λ (ps : List Placed). let g : Given = record { dir = d; tiles = ps; score = pos (score_of rules board ps) } in g) is.2) in
+    ap (add_all add items) (told_by rules board d line y true is.0) ∙ ap (add items) same
 
-pub took_one : {U E : Type 0} (r : Result U E) (rules : Rules) (spot : Spot) (add : List Given → Given → List Given) (old new : List Given) (y : List ℕ) (play : Play) (points : ℤ)
-    → PlayIs spot (line_tiles y) (Some play) → points ≡ pos (score_of rules spot.board play.tiles.items) → OnOk r (new ≡ add old (seen play points)) → OnErr r (new ≡ old)
-    → Took (tell rules spot add) old (y ∷ []) new r
-took_one (Ok u) rules spot add old new y play points is score taken refused = taken ∙ sym (tell_one rules spot add old y play points is score)
-took_one (Err why) rules spot add old new y play points is score taken refused =
+pub took_one : {U E : Type 0} (r : Result U E) (rules : Rules) (board : List (Option Tile)) (d : Dir) (line : ℕ) (add : List Given → Given → List Given) (old new : List Given) (y : List ℕ) (play : Play) (points : ℤ)
+    → PlayIs board d line (line_tiles y) (Some play) → points ≡ pos (score_of rules board play.tiles.items) → OnOk r (new ≡ add old (seen play points)) → OnErr r (new ≡ old)
+    → Took (tell rules board d line add) old (y ∷ []) new r
+took_one (Ok u) rules board d line add old new y play points is score taken refused = taken ∙ sym (tell_one rules board d line add old y play points is score)
+took_one (Err why) rules board d line add old new y play points is score taken refused =
     record { front = []; rest = y ∷ []; parts = refl; items = refused }

@@ -18,6 +18,7 @@ use Rattle.gen_line.specs.Walk.{Every, anchor_moves}
 use Rattle.gen_moves.specs.declared.places.Place.{Place}
 use Rattle.gen_moves.specs.declared.stretches.Sum.{Sum}
 use Rattle.gen_moves.specs.Findings.{told}
+use Rattle.gen_moves.specs.Closing.{AreOpen, IsPassable}
 
 -- the sum of what successive numbers give, and the product
 unfoldable pub total : (ℕ → ℕ) → ℕ → ℕ → ℕ
@@ -89,15 +90,17 @@ pub record IsWithin (bonus points ones : ℕ) (places : ℕ → Place) (first le
   pub crosses : (i : ℕ) → first ≤ i → i < first + len → (places i).free ≡ true → (places i).cross ≤ cross
   pub within : stretch_bound bonus places first len points ones letter cross ≤ bound
 
--- a number that no play passes whose stretch begins at a place
-abbrev pub IsBoundFrom : ℕ → ℕ → ℕ → (ℕ → Place) → ℕ → ℕ → Type 0
-IsBoundFrom bonus points ones places first bound = (len : ℕ) → first + len ≤ SIDE → free_count places first len ≤ 7 → IsWithin bonus points ones places first len bound
+-- a number that no play passes whose stretch begins at a place, by the places that may have a tile
+abbrev pub IsBoundFrom : ℕ → ℕ → ℕ → (ℕ → Place) → (ℕ → Bool) → ℕ → ℕ → Type 0
+IsBoundFrom bonus points ones places opens first bound =
+    (len : ℕ) → first + len ≤ SIDE → free_count places first len ≤ 7 → IsPassable opens first len → IsWithin bonus points ones places first len bound
 
 -- a number that no play of an anchor passes: its stretch has the anchor, and none before it
-abbrev pub IsAnchorBound : ℕ → ℕ → ℕ → List Cell → (ℕ → Place) → ℕ → ℕ → Type 0
-IsAnchorBound bonus points ones cells places h bound =
+abbrev pub IsAnchorBound : ℕ → ℕ → ℕ → List Cell → (ℕ → Place) → (ℕ → Bool) → ℕ → ℕ → Type 0
+IsAnchorBound bonus points ones cells places opens h bound =
     (first : ℕ) → first ≤ h → ((i : ℕ) → first ≤ i → i < h → is_anchor_cell (cell_at cells i) ≡ false)
-    → (len : ℕ) → h < first + len → first + len ≤ SIDE → free_count places first len ≤ 7 → IsWithin bonus points ones places first len bound
+    → (len : ℕ) → h < first + len → first + len ≤ SIDE → free_count places first len ≤ 7 → IsPassable opens first len
+    → IsWithin bonus points ones places first len bound
 
 -- the sums and products of a stretch
 pub record IsSum (places : ℕ → Place) (first len : ℕ) (sum : Sum) : Type 0 where
@@ -146,10 +149,12 @@ abbrev pub TellsUnder : Rules → List (Option Tile) → Dir → ℕ → List �
 TellsUnder rules board d line y bound = Every (λ (given : Given). given.score ≤ℤ pos bound) (told rules board d line y)
 
 -- what is known of a move of an anchor: its play passes no bound of the anchor
-abbrev pub IsOffer : Rules → ℕ → ℕ → List (Option Tile) → Dir → ℕ → List Cell → (ℕ → Place) → ℕ → List ℕ → Type 0
-IsOffer rules points ones board d line cells places h y = (bound : ℕ) → IsAnchorBound rules.bonus points ones cells places h bound → TellsUnder rules board d line y bound
+abbrev pub IsOffer : Rules → ℕ → ℕ → List (Option Tile) → Dir → ℕ → List Cell → (ℕ → Place) → (ℕ → Bool) → ℕ → List ℕ → Type 0
+IsOffer rules points ones board d line cells places opens h y =
+    (bound : ℕ) → IsAnchorBound rules.bonus points ones cells places opens h bound → TellsUnder rules board d line y bound
 
 -- which holds of all moves of a line
 abbrev pub AreOffers : Rules → ℕ → ℕ → List (Option Tile) → (List ℕ → Bool) → List Cell → List ℕ → Dir → ℕ → Type 0
 AreOffers rules points ones board g cells rack d line =
-    (places : ℕ → Place) → ArePlaces rules d board line places → (h : ℕ) → h < SIDE → Every (IsOffer rules points ones board d line cells places h) (anchor_moves g cells rack h)
+    (places : ℕ → Place) → ArePlaces rules d board line places → (opens : ℕ → Bool) → AreOpen cells rack opens
+    → (h : ℕ) → h < SIDE → Every (IsOffer rules points ones board d line cells places opens h) (anchor_moves g cells rack h)

@@ -4,6 +4,7 @@ pub mod Findings
 pub mod Laws
 pub mod Telling
 pub mod Bounds
+pub mod Closing
 pub mod Tallies
 pub mod Starts
-pub mod Narrowing
+pub mod OldTiles

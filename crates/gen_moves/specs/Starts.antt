@@ -12,12 +12,12 @@ use Rattle.gen_line.specs.declared.cells.Cell.{Cell}
 use Rattle.gen_line.specs.Walk.{Every, anchor_moves}
 use Rattle.gen_moves.specs.declared.starts.Start.{Start}
 use Rattle.gen_moves.specs.Findings.{told}
-use Rattle.gen_moves.specs.Telling.{IsFitMove, spot_of}
+use Rattle.gen_moves.specs.Telling.{IsFitMove}
 use Rattle.gen_sinks.specs.Skips.{GoesDown}
 use Rattle.gen_moves.specs.declared.places.Place.{Place}
 use Rattle.gen_moves.specs.Bounds.{TellsUnder, ArePlaces}
 use Rattle.gen_moves.specs.Tallies.{IsTallied}
-use Rattle.gen_moves.specs.Narrowing.{IsSpelt}
+use Rattle.gen_moves.specs.OldTiles.{IsSpelt}
 
 -- the direction of a numbered place: those of the lines across come first
 abbrev pub dir_of : ℕ → Dir
@@ -58,7 +58,7 @@ GoesAlong board Down given = GoesDown board given
 pub record IsGood (rules : Rules) (board : List (Option Tile)) (g : List ℕ → Bool) (cells : Dir → ℕ → List Cell) (rack : List ℕ) (s : Start) : Type 0 where
   pub line : s.line < SIDE
   pub place : s.place < SIDE
-  pub fits : Every (IsFitMove (spot_of board s.dir s.line)) (anchor_moves g (cells s.dir s.line) rack s.place)
+  pub fits : Every (IsFitMove board s.dir s.line) (anchor_moves g (cells s.dir s.line) rack s.place)
   pub under : AreUnder rules board g (cells s.dir s.line) rack s.dir s.line s.place s.bound
-  pub tallied : (places : ℕ → Place) → ArePlaces rules s.dir board s.line places → Every (IsTallied rules (spot_of board s.dir s.line) places) (anchor_moves g (cells s.dir s.line) rack s.place)
+  pub tallied : (places : ℕ → Place) → ArePlaces rules s.dir board s.line places → Every (IsTallied rules board s.dir s.line places) (anchor_moves g (cells s.dir s.line) rack s.place)
   pub spelt : IsSpelt g (cells s.dir s.line)

@@ -6,7 +6,7 @@ use Rattle.ref_tiles.specs.declared.rulebook.Rules.{Rules}
 use Rattle.ref_board.specs.Runs.{IsWhole}
 use Rattle.ref_play.specs.Scores.{points_on}
 use Rattle.gen_moves.specs.declared.places.Place.{Place}
-use Rattle.gen_moves.specs.declared.spots.Spot.{Spot}
+use Rattle.ref_board.specs.declared.directions.Dir.{Dir}
 use Rattle.gen_moves.specs.declared.tallies.Tally.{Tally}
 use Rattle.gen_moves.specs.LineTiles.{line_tiles, new_tile}
 use Rattle.gen_moves.specs.Bounds.{total, times, free_count, IsSmall, TellsUnder}
@@ -51,8 +51,8 @@ abbrev pub AreSmall : (ℕ → Place) → Type 0
 AreSmall places = (i : ℕ) → i < SIDE → IsSmall (places i)
 
 -- a move has a stretch, and its play scores no more than the stretch adds up to
-pub record IsTallied (rules : Rules) (spot : Spot) (places : ℕ → Place) (y : List ℕ) : Type 0 where
+pub record IsTallied (rules : Rules) (board : List (Option Tile)) (d : Dir) (line : ℕ) (places : ℕ → Place) (y : List ℕ) : Type 0 where
   pub first : ℕ
   pub len : ℕ
   pub lies : LiesOn places (new_tile (line_tiles y)) first len
-  pub under : TellsUnder rules spot.board spot.dir spot.line y (tally rules places (new_tile (line_tiles y)) first len)
+  pub under : TellsUnder rules board d line y (tally rules places (new_tile (line_tiles y)) first len)

@@ -11,35 +11,29 @@ use Rattle.ref_play.specs.Legality.{IsLegal}
 use Rattle.ref_play.specs.Best.{Given}
 use Rattle.gen_line.specs.declared.cells.Cell.{Cell}
 use Rattle.gen_line.specs.Walk.{add_all}
-use Rattle.gen_moves.specs.declared.spots.Spot.{Spot}
 use Rattle.gen_moves.specs.LineTiles.{line_tiles, placement_of}
 use Rattle.gen_moves.specs.Findings.{told}
 
--- these tiles are one or more, and where they are not too many a legal play with its run along the line
-abbrev pub IsFit : Spot → List (Option Tile) → Type 0
-IsFit spot tiles =
-    (spot.line < SIDE) × ((1 ≤ length (placement_of spot.dir spot.line tiles))
-    × (length (placement_of spot.dir spot.line tiles) ≤ 7 → IsLegal spot.board (placement_of spot.dir spot.line tiles) × RunsAlong spot.dir spot.board (placement_of spot.dir spot.line tiles)))
+-- these tiles of a line are one or more, and where they are not too many a legal play with its run along the line
+abbrev pub IsFit : List (Option Tile) → Dir → ℕ → List (Option Tile) → Type 0
+IsFit board d line tiles =
+    (line < SIDE) × ((1 ≤ length (placement_of d line tiles))
+    × (length (placement_of d line tiles) ≤ 7 → IsLegal board (placement_of d line tiles) × RunsAlong d board (placement_of d line tiles)))
 
 -- the entries of a move stand for such tiles
-abbrev pub IsFitMove : Spot → List ℕ → Type 0
-IsFitMove spot y = IsFit spot (line_tiles y)
+abbrev pub IsFitMove : List (Option Tile) → Dir → ℕ → List ℕ → Type 0
+IsFitMove board d line y = IsFit board d line (line_tiles y)
 
 -- a sink's items after the entries of a line are told to it
-abbrev pub tell : Rules → Spot → (List Given → Given → List Given) → List Given → List ℕ → List Given
-tell rules spot add items y = add_all add items (told rules spot.board spot.dir spot.line y)
+abbrev pub tell : Rules → List (Option Tile) → Dir → ℕ → (List Given → Given → List Given) → List Given → List ℕ → List Given
+tell rules board d line add items y = add_all add items (told rules board d line y)
 
--- the play of the tiles, where it is wanted
-abbrev pub PlayIs : Spot → List (Option Tile) → Option Play → Type 0
-PlayIs spot tiles None = is_wanted spot.board spot.dir (placement_of spot.dir spot.line tiles) ≡ false
-PlayIs spot tiles (Some play) =
-    (is_wanted spot.board spot.dir (placement_of spot.dir spot.line tiles) ≡ true) × (play.dir ≡ spot.dir) × (play.tiles.items ≡ placement_of spot.dir spot.line tiles)
+-- the play of the tiles of a line, where it is wanted
+abbrev pub PlayIs : List (Option Tile) → Dir → ℕ → List (Option Tile) → Option Play → Type 0
+PlayIs board d line tiles None = is_wanted board d (placement_of d line tiles) ≡ false
+PlayIs board d line tiles (Some play) = (is_wanted board d (placement_of d line tiles) ≡ true) × (play.dir ≡ d) × (play.tiles.items ≡ placement_of d line tiles)
 
--- ---- the lines of a board, one direction after the other
-abbrev pub spot_of : List (Option Tile) → Dir → ℕ → Spot
-spot_of board d line = record { board = board; dir = d; line = line }
-
--- the lines of both
+-- the lines of a board, one direction after the other
 abbrev pub both_cells : List (List Cell) → List (List Cell) → Dir → ℕ → List Cell
 both_cells across down Across line = slice_index_or across line []
 both_cells across down Down line = slice_index_or down line []

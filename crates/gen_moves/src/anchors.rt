@@ -2,8 +2,10 @@
 ghost use Rattle.std.specs.Prelude.{◌≡◌, ◌-◌, ◌*◌, ◌<◌, ◌≤◌, ℕ, Bool, true, List, [], slice_index, slice_index_or};
 ghost use Rattle.gen_line.specs.Cells.{cell_at, is_anchor_cell};
 ghost use Rattle.gen_moves.specs.Bounds.{IsSmall, IsAnchorBound, HasScores, AreOffers, place_in, rack_points, rack_ones};
+ghost use Rattle.gen_moves.specs.Closing.{open_in};
 ghost use Rattle.gen_moves.specs.Starts.{AreUnder, bound_in};
 
+use crate::closing::open_places;
 use crate::places::{Place, line_places};
 use crate::stretches::longest;
 use gen_cross::Cross;
@@ -25,6 +27,7 @@ fn is_anchor(cell: &Cell) -> bool
 fn anchor_bound(
     cells: &[Cell; SIDE],
     places: &[Place; SIDE],
+    opens: &[bool; SIDE],
     anchor: usize,
     points: u64,
     ones: u64,
@@ -35,9 +38,12 @@ fn anchor_bound(
     requires points { points ≤ 2000000 }
     requires ones { ones ≤ 2000000 }
     requires bonus { bonus ≤ 65535 }
-    ensures { IsAnchorBound bonus points ones cells.now (place_in places.now) anchor result }
+    ensures { IsAnchorBound bonus points ones cells.now (place_in places.now) (open_in opens.now) anchor result }
 {
-    let mut bound = longest(places, anchor, points, ones, bonus);
+    if !opens[anchor] {
+        return 0;
+    }
+    let mut bound = longest(places, opens, anchor, points, ones, bonus);
     let mut free = u64::from(places[anchor].free);
     for back in 0..anchor {
         let first = anchor - 1 - back;
@@ -48,7 +54,10 @@ fn anchor_bound(
         if is_anchor(&cells[first]) {
             return bound;
         }
-        let further = longest(places, first, points, ones, bonus);
+        if !opens[first] {
+            return bound;
+        }
+        let further = longest(places, opens, first, points, ones, bonus);
         if further > bound {
             bound = further;
         }
@@ -60,6 +69,7 @@ fn anchor_bound(
 fn anchor_bounds(
     cells: &[Cell; SIDE],
     places: &[Place; SIDE],
+    opens: &[bool; SIDE],
     points: u64,
     ones: u64,
     bonus: u64,
@@ -69,12 +79,12 @@ fn anchor_bounds(
     requires ones { ones ≤ 2000000 }
     requires bonus { bonus ≤ 65535 }
     ensures { (h : ℕ) → h < SIDE → is_anchor_cell (cell_at cells.now h) ≡ true
-        → IsAnchorBound bonus points ones cells.now (place_in places.now) h (slice_index result h) }
+        → IsAnchorBound bonus points ones cells.now (place_in places.now) (open_in opens.now) h (slice_index result h) }
 {
     let mut bounds = [0; SIDE];
     for anchor in 0..SIDE {
         if is_anchor(&cells[anchor]) {
-            bounds[anchor] = anchor_bound(cells, places, anchor, points, ones, bonus);
+            bounds[anchor] = anchor_bound(cells, places, opens, anchor, points, ones, bonus);
         }
     }
     bounds
@@ -88,6 +98,7 @@ fn line_bounds(
     dir: Dir,
     line: usize,
     cells: &[Cell; SIDE],
+    rack: &[u8; KINDS],
     points: u64,
     ones: u64,
 ) -> [u64; SIDE]
@@ -95,11 +106,12 @@ fn line_bounds(
     requires points { points ≤ 2000000 }
     requires ones { ones ≤ 2000000 }
     requires scores { HasScores rules.now board.now cross.now }
-    ensures { (g : List ℕ → Bool) (rack : List ℕ) → AreOffers rules.now points ones board.now g cells.now rack dir line
-        → (h : ℕ) → h < SIDE → AreUnder rules.now board.now g cells.now rack dir line h (slice_index result h) }
+    ensures { (g : List ℕ → Bool) → AreOffers rules.now points ones board.now g cells.now rack.now dir line
+        → (h : ℕ) → h < SIDE → AreUnder rules.now board.now g cells.now rack.now dir line h (slice_index result h) }
 {
     let places = line_places(rules, board, cross, dir, line);
-    anchor_bounds(cells, &places, points, ones, rules.bonus as u64)
+    let opens = open_places(cells, rack);
+    anchor_bounds(cells, &places, &opens, points, ones, rules.bonus as u64)
 }
 
 /// Such numbers for all lines of a direction.
@@ -109,19 +121,30 @@ pub fn all_bounds(
     cross: &Cross,
     dir: Dir,
     lines: &[[Cell; SIDE]; SIDE],
+    rack: &[u8; KINDS],
     points: u64,
     ones: u64,
 ) -> [[u64; SIDE]; SIDE]
     requires points { points ≤ 2000000 }
     requires ones { ones ≤ 2000000 }
     requires scores { HasScores rules.now board.now cross.now }
-    ensures { (line : ℕ) → line < SIDE → (g : List ℕ → Bool) (rack : List ℕ)
-        → AreOffers rules.now points ones board.now g (slice_index_or lines.now line []) rack dir line
-        → (h : ℕ) → h < SIDE → AreUnder rules.now board.now g (slice_index_or lines.now line []) rack dir line h (bound_in result line h) }
+    ensures { (line : ℕ) → line < SIDE → (g : List ℕ → Bool)
+        → AreOffers rules.now points ones board.now g (slice_index_or lines.now line []) rack.now dir line
+        → (h : ℕ) → h < SIDE → AreUnder rules.now board.now g (slice_index_or lines.now line []) rack.now dir line h (bound_in result line h) }
 {
     let mut bounds = [[0; SIDE]; SIDE];
     for line in 0..SIDE {
-        bounds[line] = line_bounds(rules, board, cross, dir, line, &lines[line], points, ones);
+        bounds[line] = line_bounds(
+            rules,
+            board,
+            cross,
+            dir,
+            line,
+            &lines[line],
+            rack,
+            points,
+            ones,
+        );
     }
     bounds
 }

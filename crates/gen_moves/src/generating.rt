@@ -12,7 +12,7 @@ ghost use Rattle.gen_moves.specs.Bounds.{HasScores};
 ghost use Rattle.gen_moves.specs.Starts.{IsGood, given_from};
 
 use crate::anchors::{all_bounds, points_of_rack, tiles_with_points};
-use crate::fronts::narrowed;
+use crate::fronts::{behind_olds, front_of};
 use crate::lines::all_cells;
 use crate::passing::passes;
 use crate::places::line_places;
@@ -42,8 +42,10 @@ fn cells_of<'a>(
     }
 }
 
-/// Gives a sink the plays of one start. They are not looked for where none of them would change what it has.
-fn from_start<L: PathLex, S: Sink>(
+/// Looks for the plays of one start, and gives them to a sink. It is never a part of its caller, since its arrays are set to zero each
+/// time that it is called.
+#[inline(never)]
+fn walk_start<L: PathLex, S: Sink>(
     rules: &Rules,
     board: &Board,
     cross: &Cross,
@@ -66,24 +68,47 @@ fn from_start<L: PathLex, S: Sink>(
         dir,
         line,
         place,
-        bound,
+        ..
     } = *start;
-    if passes(sink, dir, bound) {
+    let cells = cells_of(across, down, dir, line);
+    let Some(at) = front_of(lex, cells, place + 1) else {
         return Ok(());
-    }
-    let cells = narrowed(lex, cells_of(across, down, dir, line), place);
-    let spot = Spot {
-        board: *board,
-        dir,
-        line,
     };
+    let last = behind_olds(cells, place + 1) - 1;
+    let spot = Spot { board, dir, line };
     let places = line_places(rules, board, cross, dir, line);
     let plays = LinePlays {
         rules,
         spot: &spot,
         places: &places,
     };
-    walk_anchor(lex, &cells, place, rack, &plays, sink)
+    walk_anchor(lex, at, cells, place, last, rack, &plays, sink)
+}
+
+/// Gives a sink the plays of one start. They are not looked for where none of them would change what it has.
+fn from_start<L: PathLex, S: Sink>(
+    rules: &Rules,
+    board: &Board,
+    cross: &Cross,
+    across: &[[Cell; SIDE]; SIDE],
+    down: &[[Cell; SIDE]; SIDE],
+    rack: &[u8; KINDS],
+    lex: &L,
+    start: &Start,
+    sink: &mut S,
+) -> Result<(), NoMemory>
+    requires scores { HasScores rules.now board.now cross.now }
+    requires sink { IsFor (S.made_for sink.old) board.now }
+    requires good { IsGood rules.now board.now (L.language lex.now) (both_cells across.now down.now) rack.now start.now }
+    ensures made_for { S.made_for sink.new ≡ S.made_for sink.old }
+    ensures took { Took (S.add (S.made_for sink.old)) (S.items sink.old)
+        (given_from rules.now board.now (L.language lex.now) (both_cells across.now down.now) rack.now start.now) (S.items sink.new) result }
+    ensures steady { S.grows ≡ false → IsOk result }
+{
+    if passes(sink, start.dir, start.bound) {
+        return Ok(());
+    }
+    walk_start(rules, board, cross, across, down, rack, lex, start, sink)
 }
 
 /// Gives a sink the plays of all starts, one after another.
@@ -157,8 +182,26 @@ pub fn generate<L: PathLex, S: Sink>(
     let points = points_of_rack(rules, &numbers);
     let ones = tiles_with_points(rules, &numbers);
     let starts = best_first(all_starts(
-        &all_bounds(rules, board, cross, Dir::Across, &across, points, ones),
-        &all_bounds(rules, board, cross, Dir::Down, &down, points, ones),
+        &all_bounds(
+            rules,
+            board,
+            cross,
+            Dir::Across,
+            &across,
+            &numbers,
+            points,
+            ones,
+        ),
+        &all_bounds(
+            rules,
+            board,
+            cross,
+            Dir::Down,
+            &down,
+            &numbers,
+            points,
+            ones,
+        ),
     ));
     from_starts(
         rules, board, cross, &across, &down, &numbers, lex, &starts, sink,

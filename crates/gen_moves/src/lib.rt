@@ -3,6 +3,7 @@
 #![tactic(auto)]
 
 mod anchors;
+mod closing;
 mod entries;
 mod fronts;
 mod generating;

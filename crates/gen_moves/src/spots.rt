@@ -12,16 +12,16 @@ use ref_play::{Placed, Play, RACK, notation, shortened};
 
 /// A line of a board.
 #[derive(Clone, Copy)]
-pub struct Spot {
+pub struct Spot<'a> {
     /// The board.
-    pub board: Board,
+    pub board: &'a Board,
     /// The direction of the line.
     pub dir: Dir,
     /// Its row across, its column down, from 0.
     pub line: usize,
 }
 
-impl Spot {
+impl Spot<'_> {
     /// Some new tiles, each with its square.
     fn placed(&self, tiles: &LineTiles) -> ArrayVec<Placed, SIDE>
         requires { self.now.line < SIDE }
@@ -39,18 +39,18 @@ impl Spot {
 
     /// Whether a play that runs along the line is written in its direction.
     fn has_written(&self, play: &Play) -> bool
-        requires legal { IsLegal self.now.board play.now.tiles.items }
-        requires runs { RunsAlong self.now.dir self.now.board play.now.tiles.items }
-        ensures { result ≡ is_wanted self.now.board self.now.dir play.now.tiles.items }
+        requires legal { IsLegal self.now.board.now play.now.tiles.items }
+        requires runs { RunsAlong self.now.dir self.now.board.now play.now.tiles.items }
+        ensures { result ≡ is_wanted self.now.board.now self.now.dir play.now.tiles.items }
     {
         let _size = self.board.len();
-        play.tiles.len() > 1 || notation(&self.board, play).dir == self.dir
+        play.tiles.len() > 1 || notation(self.board, play).dir == self.dir
     }
 
     /// The play of some new tiles, where it is written in the direction of the line and has not too many of them.
     pub fn play_of(&self, tiles: &LineTiles) -> Option<Play>
-        requires { IsFit self.now tiles.now }
-        ensures { PlayIs self.now tiles.now result }
+        requires { IsFit self.now.board.now self.now.dir self.now.line tiles.now }
+        ensures { PlayIs self.now.board.now self.now.dir self.now.line tiles.now result }
     {
         let placed = self.placed(tiles);
         if placed.len() > RACK {

@@ -1,5 +1,6 @@
 //! Sums over stretches of places, and the bounds that they give.
 ghost use Rattle.std.specs.Prelude.{◌≡◌, ◌<◌, ◌≤◌, ◌+◌, ◌-◌, ◌*◌, ℕ, nat_le, if◌then◌else◌};
+ghost use Rattle.gen_moves.specs.Closing.{open_in};
 ghost use Rattle.gen_moves.specs.Bounds.{IsSmall, IsSmallSum, IsSum, IsBoundFrom, place_in, one_if, least};
 
 use crate::places::Place;
@@ -110,18 +111,29 @@ impl Sum {
     }
 }
 
-/// A number that no play passes whose stretch begins at a place: the bound of the longest stretch with seven free places.
-pub fn longest(places: &[Place; SIDE], first: usize, points: u64, ones: u64, bonus: u64) -> u64
+/// A number that no play passes whose stretch begins at a place: the bound of the longest stretch with seven free places and no
+/// place on which no tile can be laid.
+pub fn longest(
+    places: &[Place; SIDE],
+    opens: &[bool; SIDE],
+    first: usize,
+    points: u64,
+    ones: u64,
+    bonus: u64,
+) -> u64
     requires first { first < SIDE }
     requires small { (i : ℕ) → i < SIDE → IsSmall (place_in places.now i) }
     requires points { points ≤ 2000000 }
     requires ones { ones ≤ 2000000 }
     requires bonus { bonus ≤ 65535 }
-    ensures { IsBoundFrom bonus points ones (place_in places.now) first result }
+    ensures { IsBoundFrom bonus points ones (place_in places.now) (open_in opens.now) first result }
 {
     let mut sum = Sum::none();
     for place in first..SIDE {
         if sum.free == 7 && places[place].free {
+            return sum.bound(points, ones, bonus);
+        }
+        if !opens[place] {
             return sum.bound(points, ones, bonus);
         }
         sum = sum.with(&places[place]);

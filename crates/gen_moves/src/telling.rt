@@ -15,7 +15,7 @@ use ref_tiles::Rules;
 #[derive(Drop)]
 pub struct LinePlays<'a> {
     pub rules: &'a Rules,
-    pub spot: &'a Spot,
+    pub spot: &'a Spot<'a>,
     /// What each place of the line adds to a score.
     pub places: &'a [Place; SIDE],
 }
@@ -38,10 +38,11 @@ impl<S: Sink> Taker<S> for LinePlays<'_> {
     ghost made_for = { S.made_for };
 
     ghost can_take = { λ plays board entries.
-        (IsFor board plays.spot.now.board × AreSmall (place_in plays.places.now))
-        × (IsFitMove plays.spot.now entries × IsTallied plays.rules.now plays.spot.now (place_in plays.places.now) entries) };
+        (IsFor board plays.spot.now.board.now × AreSmall (place_in plays.places.now))
+        × (IsFitMove plays.spot.now.board.now plays.spot.now.dir plays.spot.now.line entries
+        × IsTallied plays.rules.now plays.spot.now.board.now plays.spot.now.dir plays.spot.now.line (place_in plays.places.now) entries) };
 
-    ghost tell = { λ plays board items entries. tell plays.rules.now plays.spot.now (S.add board) items entries };
+    ghost tell = { λ plays board items entries. tell plays.rules.now plays.spot.now.board.now plays.spot.now.dir plays.spot.now.line (S.add board) items entries };
 
     ghost grows = { S.grows };
 
@@ -57,7 +58,7 @@ impl<S: Sink> Taker<S> for LinePlays<'_> {
         let Some(play) = self.spot.play_of(&tiles) else {
             return Ok(());
         };
-        let points = score(self.rules, &self.spot.board, &play);
+        let points = score(self.rules, self.spot.board, &play);
         sink.take(&play, points)
     }
 }

@@ -10,8 +10,8 @@ loop-line-preserved c = record {
   size = search rules;
   passed =
       values_more
-      (λ k v. (g : List ℕ → Bool) (rack : List ℕ) → AreOffers c.args.rules.now c.args.points c.args.ones c.args.board.now g (get_or c.args.lines.now k []) rack c.args.dir k
-      → (h : ℕ) → h < 15 → AreUnder c.args.rules.now c.args.board.now g (get_or c.args.lines.now k []) rack c.args.dir k h (slice_index v h))
+      (λ k v. (g : List ℕ → Bool) → AreOffers c.args.rules.now c.args.points c.args.ones c.args.board.now g (get_or c.args.lines.now k []) c.args.rack.now c.args.dir k
+      → (h : ℕ) → h < 15 → AreUnder c.args.rules.now c.args.board.now g (get_or c.args.lines.now k []) c.args.rack.now c.args.dir k h (slice_index v h))
       c.loop-line.bounds [] c.line_bounds.result c.loop-line.line (omega arith) c.loop-line.invariant.passed c.line_bounds.ensures;
 }
 

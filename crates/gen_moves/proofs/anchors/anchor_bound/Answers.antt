@@ -1,9 +1,15 @@
-use Rattle.std.proofs.Common.{rules, ◌≡◌, ◌-◌, ◌+◌, ◌<◌, ◌≤◌, ℕ, arith, sym, ap, ◌∙◌, subst, ⊎_elim}
-use Rattle.std.proofs.lemmas.Bool.{cases_eq, cases_lt}
+use Rattle.std.proofs.Common.{rules, true, ◌≡◌, ◌-◌, ◌+◌, ◌<◌, ◌≤◌, ℕ, arith, sym, ap, ◌∙◌, subst, ⊎_elim}
+use Rattle.std.proofs.lemmas.Bool.{cases_eq, cases_lt, true≢false}
+use Rattle.gen_line.specs.Cells.{cell_at, is_anchor_cell}
+use Rattle.gen_moves.specs.Closing.{open_in}
 use Rattle.gen_moves.specs.Bounds.{IsBoundFrom, place_in, one_if, free_count}
 use Rattle.gen_moves.proofs.Longest.{bound_up, count_one, count_more, one_or_none, no_reach}
 use Rattle.gen_moves.proofs.anchors.anchor_bound.Goals as goal
 use Rattle.gen_moves.proofs.anchors.anchor_bound.Goals.{then-further-bound, else-further-bound}
+
+pub returns-then-not-opens-anchor : goal.returns-then-not-opens-anchor
+returns-then-not-opens-anchor c first high alone len inside within few passable =
+    absurd (true≢false (sym (passable c.args.anchor high inside) ∙ search rules))
 
 pub loop-back-init : goal.loop-back-init
 loop-back-init c =
@@ -13,13 +19,13 @@ loop-back-init c =
     record {
       bounds = λ first low high.
           let here : first ≡ c.args.anchor = omega arith in
-          subst (λ (f : ℕ). IsBoundFrom c.args.bonus c.args.points c.args.ones places f c.longest-bound.result) (sym here) c.longest-bound.ensures;
+          subst (λ (f : ℕ). IsBoundFrom c.args.bonus c.args.points c.args.ones places (open_in c.args.opens.now) f c.longest-bound.result) (sym here) c.longest-bound.ensures;
       free = is ∙ sym (count_one places c.args.anchor) ∙ ap (λ a. free_count places a 1) (sym start);
       few = let one = one_or_none (places c.args.anchor).free in omega arith;
     }
 
 pub returns-then-free-gt7 : goal.returns-then-free-gt7
-returns-then-free-gt7 c first high alone len inside within few =
+returns-then-free-gt7 c first high alone len inside within few passable =
     let places = place_in c.args.places.now in
     let further : ℕ = c.args.anchor - 1 - c.loop-back.back in
     let is : c.from-free-in-loop-back.result ≡ one_if (places further).free = search rules in
@@ -32,7 +38,24 @@ returns-then-free-gt7 c first high alone len inside within few =
     ∙ ap (λ n. c.loop-back.free + n) (sym is) in
     ⊎_elim
     (λ (far : first < c.args.anchor - c.loop-back.back). absurd (no_reach places first further c.args.anchor len (omega arith) (omega arith) inside (omega arith) few))
-    (λ (near : c.args.anchor - c.loop-back.back ≤ first). c.loop-back.invariant.bounds first near high len within few)
+    (λ (near : c.args.anchor - c.loop-back.back ≤ first). c.loop-back.invariant.bounds first near high len within few passable)
+    (cases_lt first (c.args.anchor - c.loop-back.back))
+
+pub returns-then-is_anchor : goal.returns-then-is_anchor
+returns-then-is_anchor c first high alone len inside within few passable =
+    let further : ℕ = c.args.anchor - 1 - c.loop-back.back in
+    let is : is_anchor_cell (cell_at c.args.cells.now further) ≡ true = search rules in
+    ⊎_elim
+    (λ (far : first < c.args.anchor - c.loop-back.back). absurd (true≢false (sym is ∙ alone further (omega arith) (omega arith))))
+    (λ (near : c.args.anchor - c.loop-back.back ≤ first). c.loop-back.invariant.bounds first near high len within few passable)
+    (cases_lt first (c.args.anchor - c.loop-back.back))
+
+pub returns-then-not-opens-first : goal.returns-then-not-opens-first
+returns-then-not-opens-first c first high alone len inside within few passable =
+    let further : ℕ = c.args.anchor - 1 - c.loop-back.back in
+    ⊎_elim
+    (λ (far : first < c.args.anchor - c.loop-back.back). absurd (true≢false (sym (passable further (omega arith) (omega arith)) ∙ search rules)))
+    (λ (near : c.args.anchor - c.loop-back.back ≤ first). c.loop-back.invariant.bounds first near high len within few passable)
     (cases_lt first (c.args.anchor - c.loop-back.back))
 
 pub loop-back-preserved : goal.loop-back-preserved
@@ -52,10 +75,10 @@ loop-back-preserved c =
       bounds = λ first low high.
           ⊎_elim
           (λ (here : first ≡ further).
-          subst (λ (f : ℕ). IsBoundFrom c.args.bonus c.args.points c.args.ones places f more) (sym here)
-          (bound_up c.args.bonus c.args.points c.args.ones places further c.longest-further.result more both.1 c.longest-further.ensures))
+          subst (λ (f : ℕ). IsBoundFrom c.args.bonus c.args.points c.args.ones places (open_in c.args.opens.now) f more) (sym here)
+          (bound_up c.args.bonus c.args.points c.args.ones places (open_in c.args.opens.now) further c.longest-further.result more both.1 c.longest-further.ensures))
           (λ (ne : first ≡ further → ⊥).
-          bound_up c.args.bonus c.args.points c.args.ones places first c.loop-back.bound more both.0 (c.loop-back.invariant.bounds first (omega arith) high))
+          bound_up c.args.bonus c.args.points c.args.ones places (open_in c.args.opens.now) first c.loop-back.bound more both.0 (c.loop-back.invariant.bounds first (omega arith) high))
           (cases_eq first further);
       free = ap (λ n. c.loop-back.free + n) is
           ∙ ap (λ n. n + one_if (places further).free) c.loop-back.invariant.free

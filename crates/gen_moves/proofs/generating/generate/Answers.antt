@@ -41,8 +41,8 @@ from_starts-requires-clause-good g c =
     let size : length c.all_starts.result ≡ 450 = omega arith in
     All-permutation (IsGood rules board path (both_cells a b) rack) c.all_starts.result c.best_first-starts.result c.best_first-starts.ensures
     (all_good rules g.words board path (lists g.words) (both_cells a b) s rack c.all_bounds.result c.all_bounds-2.result c.all_starts.result size c.all_starts.ensures
-    (λ line low h below. c.all_bounds.ensures line low path rack (offers Across line low) h below)
-    (λ line low h below. c.all_bounds-2.ensures line low path rack (offers Down line low) h below))
+    (λ line low h below. c.all_bounds.ensures line low path (offers Across line low) h below)
+    (λ line low h below. c.all_bounds-2.ensures line low path (offers Down line low) h below))
 
 pub returns-clause-all : goal.returns-clause-all
 returns-clause-all g c =

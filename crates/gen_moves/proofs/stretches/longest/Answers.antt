@@ -1,6 +1,7 @@
-use Rattle.std.proofs.Common.{◌≡◌, ◌+◌, ◌-◌, suc, sym, subst, arith}
+use Rattle.std.proofs.Common.{rules, ◌≡◌, ◌+◌, ◌-◌, suc, sym, subst, arith}
 use Rattle.gen_moves.specs.Bounds.{IsSum, IsSmallSum, place_in}
-use Rattle.gen_moves.proofs.Longest.{sum_more, small_more, sum_bound, reach_stop, sum_up}
+use Rattle.gen_moves.specs.Closing.{open_in}
+use Rattle.gen_moves.proofs.Longest.{sum_more, small_more, sum_bound, reach_stop, reach_closed, sum_up}
 use Rattle.gen_moves.proofs.stretches.longest.Goals as goal
 
 pub bound-requires-clause-small : goal.bound-requires-clause-small
@@ -11,8 +12,8 @@ returns-then-places-place c =
     let places = place_in c.args.places.now in
     let n = c.loop-place.place - c.args.first in
     let at : c.loop-place.place ≡ c.args.first + n = omega arith in
-    sum_bound c.args.bonus c.args.points c.args.ones places c.args.first n c.loop-place.sum c.bound.result (omega arith) c.loop-place.invariant.sum c.requires.small c.bound.ensures
-    (reach_stop places c.args.first n c.loop-place.place c.loop-place.sum at c.loop-place.invariant.sum c.if-sum-eq7.true c.if-places-place.true)
+    sum_bound c.args.bonus c.args.points c.args.ones places (open_in c.args.opens.now) c.args.first n c.loop-place.sum c.bound.result (omega arith) c.loop-place.invariant.sum c.requires.small c.bound.ensures
+    (λ len inside few passable. reach_stop places c.args.first n c.loop-place.place c.loop-place.sum at c.loop-place.invariant.sum c.if-sum-eq7.true c.if-places-place.true len inside few)
 
 pub with-sum-requires-clause-small : goal.with-sum-requires-clause-small
 with-sum-requires-clause-small c = sum_up (c.loop-place.place - c.args.first) 14 c.loop-place.sum (omega arith) c.loop-place.invariant.small
@@ -38,9 +39,21 @@ loop-place-preserved c =
 pub bound-requires-2-clause-small : goal.bound-requires-2-clause-small
 bound-requires-2-clause-small c = sum_up (c.loop-place.place - c.args.first) 15 c.loop-place.sum (omega arith) c.loop-place.invariant.small
 
+pub bound-requires-then-not-opens-place-clause-small : goal.bound-requires-then-not-opens-place-clause-small
+bound-requires-then-not-opens-place-clause-small c = sum_up (c.loop-place.place - c.args.first) 15 c.loop-place.sum (omega arith) c.loop-place.invariant.small
+
+pub returns-then-not-opens-place : goal.returns-then-not-opens-place
+returns-then-not-opens-place c =
+    let places = place_in c.args.places.now in
+    let n = c.loop-place.place - c.args.first in
+    let at : c.loop-place.place ≡ c.args.first + n = omega arith in
+    sum_bound c.args.bonus c.args.points c.args.ones places (open_in c.args.opens.now) c.args.first n c.loop-place.sum c.bound-then-not-opens-place.result (omega arith) c.loop-place.invariant.sum
+    c.requires.small c.bound-then-not-opens-place.ensures
+    (λ len inside few. reach_closed (open_in c.args.opens.now) c.args.first n c.loop-place.place at (search rules) len)
+
 pub returns : goal.returns
 returns c =
     let places = place_in c.args.places.now in
     let n = c.loop-place.place - c.args.first in
-    sum_bound c.args.bonus c.args.points c.args.ones places c.args.first n c.loop-place.sum c.bound-2.result (omega arith) c.loop-place.invariant.sum c.requires.small c.bound-2.ensures
-    (λ len inside few. omega arith)
+    sum_bound c.args.bonus c.args.points c.args.ones places (open_in c.args.opens.now) c.args.first n c.loop-place.sum c.bound-2.result (omega arith) c.loop-place.invariant.sum c.requires.small c.bound-2.ensures
+    (λ len inside few passable. omega arith)

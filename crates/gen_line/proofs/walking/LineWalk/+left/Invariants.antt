@@ -23,7 +23,7 @@ invariant-tries_left-loop-on g l = record {
   rest : g.L.PathLex.is_rest l.self.lex.now l.node l.from l.rest;
   made_for : g.T.Taker.made_for l.sink ≡ g.T.Taker.made_for l.initial.sink;
   took : g.T.Taker.items l.sink ≡ add_all (g.T.Taker.tell l.self.taker.now (g.T.Taker.made_for l.initial.sink)) (g.T.Taker.items l.initial.sink)
-      (join_range (gives_one_left (strings (g.L.PathLex.tail l.self.lex.now) l.fn.at) l.self.line.now l.self.anchor l.place l.free l.tiles) 1 (2 * (l.from - 1)));
+      (join_range (gives_one_left (strings (g.L.PathLex.tail l.self.lex.now) l.fn.at) l.self.line.now l.self.last l.place l.free l.tiles) 1 (2 * (l.from - 1)));
 }
 
 abbrev pub decreases-tries_left-loop-on : goal.decreases-tries_left-loop-on

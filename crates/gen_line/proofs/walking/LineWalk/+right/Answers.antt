@@ -1,17 +1,16 @@
-use Rattle.std.proofs.Common.{rules, arith, ◌≡◌, ◌<◌, ◌≤◌, ◌+◌, ◌++◌, ◌-◌, ◌*◌, ℕ, Bool, true, false, List, length, is_some, sym, ap, ◌∙◌}
+use Rattle.std.proofs.Common.{rules, arith, ◌≡◌, ◌<◌, ◌≤◌, ◌+◌, ◌++◌, ◌-◌, ◌*◌, ℕ, Bool, true, false, List, length, is_some, ap, ◌∙◌}
 use Rattle.gen_line.specs.Model.{may}
 use Rattle.lex_file.specs.Walking.{strings}
 use Rattle.gen_line.specs.Walk.{Every, gives_leaf, gives_right, gives_tries_right, gives_letter_right, gives_one_right, gives_try_right}
 use Rattle.gen_line.proofs.Sinks.{all-same, every-left, every-right, every-same, every-for, front-less, front-same, front-for, took-more, took-same, took-for, took-refused, all-for, nothing-took}
 use Rattle.gen_line.proofs.Walks.{gives_right-end, right-old-dead, right-old-goes, gives_right-free, tries_right-is, tries_right-dead, may-left, no_more}
 use Rattle.gen_line.proofs.Branching.{try_right-yes, try_right-no, goes_right, ends_right, labels-every, labels-took, labels-front}
-use Rattle.gen_line.proofs.Spent.{tries_right-spent}
 use Rattle.gen_line.proofs.walking.LineWalk.+right.Goals as goal
 
 -- ---- one entry
 
-pub one_right-with-requires-clause-left : goal.one_right-with-requires-clause-left
-one_right-with-requires-clause-left g t c =
+pub one_right-put-requires-clause-left : goal.one_right-put-requires-clause-left
+one_right-put-requires-clause-left g t c =
     let allowed : may c.args.free.now c.args.tiles.now.rack c.args.entry ≡ true = cc in
     may-left c.args.free.now c.args.tiles.now.rack c.args.entry allowed
 
@@ -19,8 +18,8 @@ pub one_right-right-requires : goal.one_right-right-requires
 one_right-right-requires g t c κs within =
     let next : List ℕ → Bool = strings (g.L.PathLex.tail c.args.self.now.lex.now) c.args.next in
     let allowed : may c.args.free.now c.args.tiles.now.rack c.args.entry ≡ true = cc in
-    let goes = try_right-yes next c.args.self.now.line.now c.args.place c.args.free.now c.args.tiles.now c.args.entry c.with.result allowed c.with.ensures.fresh c.with.ensures.rack in
-    let can : Every (g.T.Taker.can_take c.args.self.now.taker.now (g.T.Taker.made_for c.args.sink.now)) (gives_right next c.args.self.now.line.now (c.args.place + 1) c.with.result) =
+    let goes = try_right-yes next c.args.self.now.line.now c.args.place c.args.free.now c.args.tiles.now c.args.entry c.put.new.self allowed c.put.ensures.fresh c.put.ensures.rack in
+    let can : Every (g.T.Taker.can_take c.args.self.now.taker.now (g.T.Taker.made_for c.args.sink.now)) (gives_right next c.args.self.now.line.now (c.args.place + 1) c.put.new.self) =
     every-same _ _ _ goes c.requires.can in
     search (rules, arith, can)
 
@@ -29,7 +28,7 @@ one_right-returns-then-allow-clause-took g t c =
     let next : List ℕ → Bool = strings (g.L.PathLex.tail c.args.self.now.lex.now) c.args.next in
     let allowed : may c.args.free.now c.args.tiles.now.rack c.args.entry ≡ true = cc in
     took-same _ _ _ _ _ _
-    (try_right-yes next c.args.self.now.line.now c.args.place c.args.free.now c.args.tiles.now c.args.entry c.with.result allowed c.with.ensures.fresh c.with.ensures.rack)
+    (try_right-yes next c.args.self.now.line.now c.args.place c.args.free.now c.args.tiles.now c.args.entry c.put.new.self allowed c.put.ensures.fresh c.put.ensures.rack)
     c.right.ensures.took
 
 pub one_right-returns-clause-took : goal.one_right-returns-clause-took
@@ -130,9 +129,6 @@ right-returns-in_ok-offer-in-Free-clause-took g t c =
     (took-for tells _ _ _ tried _ _ c.in_ok-offer-in-Free.ensures.made_for c.tries_right.ensures.took))
 
 -- ---- the entries of a cell
-
-pub tries_right-returns-then-left-eq0-clause-took : goal.tries_right-returns-then-left-eq0-clause-took
-tries_right-returns-then-left-eq0-clause-took g t c = nothing-took _ _ _ (tries_right-spent _ _ _ _ _ (sym c.left.ensures ∙ c.if-left-eq0.true))
 
 pub tries_right-returns-in_default-clause-took : goal.tries_right-returns-in_default-clause-took
 tries_right-returns-in_default-clause-took g t c =

@@ -1,6 +1,6 @@
 use Rattle.std.proofs.Common.{rules}
 use Rattle.gen_line.specs.Model.{less}
-use Rattle.gen_line.proofs.tiles.Tiles.with.Goals as goal
+use Rattle.gen_line.proofs.tiles.Tiles.put.Goals as goal
 
 pub returns-clause-rack : goal.returns-clause-rack
 unfolding less

@@ -1,5 +1,5 @@
--- The letters that can stand right before old tiles, and the moves of an anchor before them.
-use Rattle.std.specs.Prelude.{◌≡◌, ℕ, ◌+◌, ◌<◌, Bool, false, List, [], ◌∷◌, ◌⊎◌, slice_index_or}
+-- The old tiles right behind an anchor, with which the walk from there begins.
+use Rattle.std.specs.Prelude.{ℕ, Bool, List, [], ◌∷◌}
 use Rattle.gen_line.specs.declared.cells.Cell.{Cell}
 use Rattle.gen_line.specs.declared.cells.Cell.TheVariants.{Old, Free}
 use Rattle.gen_line.specs.Moves.{Labelled, AreSplits}
@@ -15,8 +15,3 @@ pub record IsSpelt (g : List ℕ → Bool) (line : List Cell) : Type 0 where
   pub listed : List ℕ → Bool
   pub splits : AreSplits g listed
   pub labels : Labelled line
-
--- Letters that are allowed, but for some with which no string of a test begins.
-abbrev pub IsNarrower : (List ℕ → Bool) → List Bool → List Bool → Type 0
-IsNarrower f allowed letters =
-    (l : ℕ) → l < 26 → (slice_index_or letters l false ≡ slice_index_or allowed l false) ⊎ ((slice_index_or letters l false ≡ false) × ((t : List ℕ) → f ((l + 1) ∷ t) ≡ false))
