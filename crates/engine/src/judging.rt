@@ -1,17 +1,12 @@
 //! Whether the game of a record is legal, with its report.
 ghost use Rattle.std.specs.Prelude.{◌≡◌, ◌↔◌, IsTrue, IfOk, None};
-ghost use Rattle.game_turns.specs.Passing.{rules_in, record_in};
-ghost use Rattle.game_turns.specs.Places.{AreAllowed};
+ghost use Rattle.game_turns.specs.{Passing.{rules_in, record_in}, Places.{AreAllowed}};
 ghost use Rattle.deal_steps.specs.Bounds.{first_bound};
-ghost use Rattle.game_deal.specs.Plain.{HaveNoExchange};
-ghost use Rattle.game_deal.specs.Recorded.{steps_of};
-ghost use Rattle.game_deal.specs.Stepping.{passed_in};
+ghost use Rattle.game_deal.specs.{Plain.{HaveNoExchange}, Recorded.{steps_of}, Stepping.{passed_in}};
 ghost use Rattle.lex_check.specs.Pairs as pairs;
 ghost use Rattle.engine.specs.declared.verdicts.Verdict.TheVariants as verdict;
-ghost use Rattle.engine.specs.Judging.{IsJudged, IsToldBound, IsToldLegal};
+ghost use Rattle.engine.specs.{Judging.{IsJudged, IsToldBound, IsToldLegal}, Telling.{IsTold}, Verdicts.{IsDealt}};
 ghost use Rattle.engine.specs.Reports as reports;
-ghost use Rattle.engine.specs.Telling.{IsTold};
-ghost use Rattle.engine.specs.Verdicts.{IsDealt};
 
 use crate::decisions::Decision;
 use crate::questions::Question;

@@ -1,9 +1,7 @@
 //! What is found of the racks of a record that passed.
 ghost use Rattle.std.specs.Prelude.{IfOk};
 ghost use Rattle.game_turns.specs.Passing.{record_in};
-ghost use Rattle.game_deal.specs.Bounded.{IsBounded};
-ghost use Rattle.game_deal.specs.Plain.{HaveNoExchange};
-ghost use Rattle.game_deal.specs.Stepping.{passed_in};
+ghost use Rattle.game_deal.specs.{Bounded.{IsBounded}, Plain.{HaveNoExchange}, Stepping.{passed_in}};
 ghost use Rattle.engine.specs.Racks.{AreFound};
 
 use crate::judging::is_dealt;

@@ -1,13 +1,10 @@
 //! A board and its cross-sets that follow a game.
 ghost use Rattle.std.specs.Prelude.{◌≡◌, Some, option_map};
 ghost use Rattle.ref_board.specs.Cells.{empty_board};
-ghost use Rattle.ref_play.specs.Placements.{with_tiles, without_tiles, HasTiles, EmptiesSquares};
-ghost use Rattle.ref_play.specs.Legality.{IsLegal};
-ghost use Rattle.ref_play.specs.Best.{IsAnnotation};
+ghost use Rattle.ref_play.specs.{Placements.{with_tiles, without_tiles, HasTiles, EmptiesSquares}, Legality.{IsLegal}, Best.{IsAnnotation}};
 ghost use Rattle.lex_check.specs.Pairs.{list_in};
 ghost use Rattle.gen_cross.specs.Values.{value_at};
-ghost use Rattle.game_notes.specs.Keeping.{given_by};
-ghost use Rattle.game_notes.specs.Tops.{AreTop};
+ghost use Rattle.game_notes.specs.{Keeping.{given_by}, Tops.{AreTop}};
 
 use crate::annotating::annotate;
 use crate::crossing::cross_sets;

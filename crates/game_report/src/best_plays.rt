@@ -1,16 +1,10 @@
 //! The best play of a turn, as its line tells it.
-ghost use Rattle.std.specs.Prelude.{◌≡◌, ◌++◌, ◌∷◌, OnOk, option_map};
-ghost use Rattle.std.specs.Fmt.{signed_decimal};
-ghost use Rattle.ref_play.specs.Legality.{IsLegal};
-ghost use Rattle.ref_play.specs.Notations.{notation_of};
-ghost use Rattle.ref_play.specs.Best.{IsAnnotation};
-ghost use Rattle.game_turns.specs.Machines.{state_of};
-ghost use Rattle.game_turns.specs.Passing.{rules_in};
+ghost use Rattle.std.specs.{Prelude.{◌≡◌, ◌++◌, ◌∷◌, OnOk, option_map}, Fmt.{signed_decimal}};
+ghost use Rattle.ref_play.specs.{Legality.{IsLegal}, Notations.{notation_of}, Best.{IsAnnotation}};
+ghost use Rattle.game_turns.specs.{Machines.{state_of}, Passing.{rules_in}};
 ghost use Rattle.lex_check.specs.Pairs.{list_in};
-ghost use Rattle.game_report.specs.Beside.{StandsBeside};
-ghost use Rattle.game_report.specs.BestPlays.{is_judged, full_rack, notation_text, best_text, TellsByRack, TellsBest, Appends};
-ghost use Rattle.game_notes.specs.Keeping.{given_by};
-ghost use Rattle.game_notes.specs.Following.{board_of, Follows};
+ghost use Rattle.game_report.specs.{Beside.{StandsBeside}, BestPlays.{is_judged, full_rack, notation_text, best_text, TellsByRack, TellsBest, Appends}};
+ghost use Rattle.game_notes.specs.{Keeping.{given_by}, Following.{board_of, Follows}};
 
 use game_notes::Follow;
 use game_turns::{Machine, Passed};
