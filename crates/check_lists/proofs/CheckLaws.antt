@@ -1,8 +1,8 @@
 -- What it says of checks that none of them fails, or that one is the first.
-use Rattle.std.proofs.Common.{◌≡◌, Bool, true, false, List, [], ◌∷◌, ◌++◌, Option, Some, None, refl, ap, sym, ◌∙◌}
-use Rattle.std.specs.Option.{option_or}
+use Rattle.std.proofs.Common.{◌≡◌, Bool, true, false, List, [], ◌∷◌, ◌++◌, Option, Some, None, Ok, Err, refl, ap, sym, ◌∙◌}
+use Rattle.std.specs.Option.{option_or, option_map}
 use Rattle.std.proofs.lemmas.List.Elements.{All-nil, All-cons, All-head, All-tail}
-use Rattle.check_lists.specs.Checks.{fails, passes, first_fault}
+use Rattle.check_lists.specs.Checks.{fails, passes, first_fault, or_fault}
 use Rattle.check_lists.specs.Laws.{IsFirstFault, NoFaultIsNowhere, FaultIsFirst}
 
 -- a fault is not none
@@ -38,6 +38,16 @@ checked false fault rest e = absurd (some_fault fault e)
 pub or_none : {F : Type 0} (a b : Option F) → option_or a b ≡ None → (a ≡ None) × (b ≡ None)
 or_none None b e = (refl, e)
 or_none (Some fault) b e = absurd (some_fault fault e)
+
+-- a value where a check is named as a fault: the check did not fail
+pub or_fault_none : {W F A : Type 0} (named : W → F) (check : Option W) (x y : A) → or_fault (option_map named check) x ≡ Ok y → (check ≡ None) × (x ≡ y)
+or_fault_none named None x y e = (refl, cc)
+or_fault_none named (Some fault) x y e = absurd cc
+
+-- a fault in place of a value: it is that of the check
+pub or_fault_some : {F A : Type 0} (check : Option F) (x : A) (fault : F) → or_fault check x ≡ Err fault → check ≡ Some fault
+or_fault_some None x fault e = absurd cc
+or_fault_some (Some other) x fault e = cc
 
 -- ---- the first fault
 

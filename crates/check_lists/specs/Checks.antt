@@ -21,3 +21,8 @@ first_fault (Some fault ∷ checks) = Some fault
 abbrev pub Refuses : {A F : Type 0} → Result A F → Option F → Type 0
 Refuses (Ok _) fault = fault ≡ None
 Refuses (Err here) fault = fault ≡ Some here
+
+-- the value, or the fault where there is one
+abbrev pub or_fault : {A F : Type 0} → Option F → A → Result A F
+or_fault None x = Ok x
+or_fault (Some fault) x = Err fault

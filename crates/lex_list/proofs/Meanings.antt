@@ -13,15 +13,15 @@ use Rattle.std.proofs.lemmas.Bool.Decides.{nat_tests}
 use Rattle.std.proofs.lemmas.List.{length-map}
 use Rattle.std.proofs.lemmas.List.Folds.{Any-from_list_any, list_any-from_Any}
 use Rattle.std.proofs.lemmas.Slice.Eq.{bytes_eq-Decides}
-use Rattle.check_lists.specs.Checks.{passes}
-use Rattle.check_lists.proofs.CheckLaws.{checked, none_first}
+use Rattle.check_lists.specs.Checks.{passes, or_fault}
+use Rattle.check_lists.proofs.CheckLaws.{checked, none_first, or_fault_some}
 use Rattle.lex_list.specs.declared.faults.ListWhy.{ListWhy}
 use Rattle.lex_list.specs.declared.faults.ListWhy.TheVariants as why
 use Rattle.lex_list.specs.declared.faults.ListFault.{ListFault}
 use Rattle.lex_list.specs.Faults.{no_memory}
 use Rattle.lex_list.specs.Lines.{lines_of}
 use Rattle.lex_list.specs.Words.{most_words, has_word_length, is_word, word_order, is_listed, IsWordList}
-use Rattle.lex_list.specs.Lists.{list_of, spelling_fault, capitals, with_line, words_in, fault_of, first_bad_line, at_line, or_fault, list_in, Holds, HoldsWordsOf, IsFirstFault, IsFaultOf, most_list_bytes}
+use Rattle.lex_list.specs.Lists.{list_of, spelling_fault, capitals, with_line, words_in, fault_of, first_bad_line, at_line, list_in, Holds, HoldsWordsOf, IsFirstFault, IsFaultOf, most_list_bytes}
 use Rattle.lex_list.proofs.Orders.{ordered_more, all_more, any_more, listed_from_member, member_from_listed}
 use Rattle.lex_list.proofs.Steps.{words_in_more}
 
@@ -166,14 +166,10 @@ first_from before (line ∷ rest) fault none e =
           fails = here ∙ ap (λ f. Some f.why) is;
         }
 
-fault_parts : (o : Option ListFault) (words : List (List ℕ)) (fault : ListFault) → or_fault o words ≡ Err fault → o ≡ Some fault
-fault_parts None words fault e = absurd cc
-fault_parts (Some f) words fault e = cc
-
 -- the fault of lines is that of the first with one
 pub list_first : (lines : List (List ℕ)) (fault : ListFault) → list_in lines ≡ Err fault → IsFirstFault lines fault
 unfolding list_in first_bad_line
-list_first lines fault e = first_from [] lines fault refl (fault_parts (first_bad_line [] lines) (words_in lines) fault e)
+list_first lines fault e = first_from [] lines fault refl (or_fault_some (first_bad_line [] lines) (words_in lines) fault e)
 
 -- the fault of a text that is not too long
 pub text_fault : (text : List ℕ) (lines : List (List ℕ)) (fault : ListFault) → length text ≤ most_list_bytes → lines ≡ lines_of text

@@ -5,6 +5,7 @@ use Rattle.std.proofs.lemmas.Bool.{lt-leb, le-leb}
 use Rattle.std.specs.Borrow.{Bor}
 use Rattle.std.proofs.lemmas.List.{length_push}
 use Rattle.std.proofs.lemmas.List.Sums.{fold-append}
+use Rattle.check_lists.proofs.CheckLaws.{or_fault_none, or_fault_some}
 use Rattle.lex_list.specs.declared.faults.ListWhy.{ListWhy}
 use Rattle.lex_list.specs.declared.faults.ListFault.{ListFault}
 use Rattle.lex_list.specs.Faults.{no_memory}
@@ -13,7 +14,7 @@ use Rattle.std.specs.BTreeSet.{insert_key}
 use Rattle.std.proofs.Common.{leb}
 use Rattle.lex_list.specs.declared.faults.ListWhy.TheVariants as why
 use Rattle.lex_list.specs.Words.{word_order, most_words}
-use Rattle.lex_list.specs.Lists.{with_line, words_in, spelling_fault, fault_of, first_bad_line, at_line, or_fault, list_in, line_in, capitals}
+use Rattle.lex_list.specs.Lists.{with_line, words_in, spelling_fault, fault_of, first_bad_line, at_line, list_in, line_in, capitals}
 
 -- how much of a text is left
 abbrev pub size_of : Option (Bor (List ℕ)) → ℕ
@@ -37,17 +38,6 @@ progress_none lines = record { before = []; count = refl; there = refl; same = r
 pub progress_empty : (lines words : List (List ℕ)) → words ≡ [] → Progress lines words 0 lines
 progress_empty lines words none = subst (λ words. Progress lines words 0 lines) (sym none) (progress_none lines)
 
--- a line without a fault
-no_fault : (o : Option ListWhy) (n : ℕ) (words next : List (List ℕ)) → or_fault (option_map (at_line n) o) words ≡ Ok next → (o ≡ None) × (words ≡ next)
-no_fault None n words next e = (refl, cc)
-no_fault (Some w) n words next e = absurd cc
-
--- a line with a fault
-some_fault : (o : Option ListWhy) (n : ℕ) (words : List (List ℕ)) (fault : ListFault) → or_fault (option_map (at_line n) o) words ≡ Err fault
-    → option_map (at_line n) o ≡ Some fault
-some_fault None n words fault e = absurd cc
-some_fault (Some w) n words fault e = cc
-
 pub words_in_more : (before : List (List ℕ)) (line : List ℕ) → words_in (before ++ line ∷ []) ≡ with_line (words_in before) line
 unfolding words_in
 words_in_more before line = fold-append with_line [] before (line ∷ [])
@@ -58,7 +48,7 @@ pub progress_more : (lines words next : List (List ℕ)) (n : ℕ) (left : Optio
     → Progress lines words n (lines_behind left) → Progress lines next (n + 1) others
 unfolding first_bad_line
 progress_more lines words next n left rest text others at cut step p =
-    let fine = no_fault (fault_of words text) (n + 1) (with_line words text) next step in
+    let fine = or_fault_none (at_line (n + 1)) (fault_of words text) (with_line words text) next step in
     let behind : lines_behind left ≡ text ∷ others = rw at cut in
     let none : fault_of (words_in p.before) text ≡ None = rw p.there at fine.0 in
     let here : first_bad_line p.before (text ∷ others) ≡ first_bad_line (p.before ++ text ∷ []) others = rw none refl in
@@ -77,7 +67,7 @@ pub progress_fails : (lines words : List (List ℕ)) (n : ℕ) (left : Option (B
 unfolding first_bad_line list_in
 progress_fails lines words n left rest text others fault at cut (inl memory) p = inl memory
 progress_fails lines words n left rest text others fault at cut (inr step) p =
-    let found = some_fault (fault_of words text) (n + 1) (with_line words text) fault step in
+    let found = or_fault_some (option_map (at_line (n + 1)) (fault_of words text)) (with_line words text) fault step in
     let behind : lines_behind left ≡ text ∷ others = rw at cut in
     let here : option_map (at_line (length p.before + 1)) (fault_of (words_in p.before) text) ≡ Some fault = rw (p.count, ← p.there) found in
     let first : first_bad_line p.before (text ∷ others) ≡ Some fault = rw here refl in

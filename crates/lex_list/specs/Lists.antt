@@ -5,7 +5,7 @@ use Rattle.std.specs.Char.{is_ascii_alphabetic, to_ascii_uppercase}
 use Rattle.std.specs.List.{fold, list_all, Any, Contains}
 use Rattle.std.specs.Option.{option_or}
 use Rattle.std.specs.Prelude.{option_map}
-use Rattle.check_lists.specs.Checks.{passes, first_fault}
+use Rattle.check_lists.specs.Checks.{passes, first_fault, or_fault}
 use Rattle.lex_list.specs.declared.faults.ListWhy.{ListWhy}
 use Rattle.lex_list.specs.declared.faults.ListWhy.TheVariants as why
 use Rattle.lex_list.specs.declared.faults.ListFault.{ListFault}
@@ -51,11 +51,6 @@ unfoldable pub first_bad_line : List (List ℕ) → List (List ℕ) → Option L
 first_bad_line before [] = None
 first_bad_line before (line ∷ rest) =
     option_or (option_map (at_line (length before + 1)) (fault_of (words_in before) line)) (first_bad_line (before ++ line ∷ []) rest)
-
--- a value, unless there is a fault
-abbrev pub or_fault : {A : Type 0} → Option ListFault → A → Result A ListFault
-or_fault None x = Ok x
-or_fault (Some fault) x = Err fault
 
 -- the words of lines, or their first fault
 unfoldable pub list_in : List (List ℕ) → Result (List (List ℕ)) ListFault

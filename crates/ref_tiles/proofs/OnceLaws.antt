@@ -5,7 +5,7 @@ use Rattle.std.specs.List.{list_all}
 use Rattle.std.specs.Option.{option_or, IsSomeAnd}
 use Rattle.std.proofs.lemmas.Bool.Decides.{eqb_tells}
 use Rattle.std.proofs.lemmas.List.Folds.{list_all_at}
-use Rattle.check_lists.specs.Checks.{passes, first_fault}
+use Rattle.check_lists.specs.Checks.{passes, first_fault, or_fault}
 use Rattle.text_lines.specs.Lines.{lines_of}
 use Rattle.ref_tiles.specs.declared.rules_faults.RulesWhy.{RulesWhy}
 use Rattle.ref_tiles.specs.declared.rules_faults.RulesWhy.TheVariants as why
@@ -17,7 +17,7 @@ use Rattle.ref_tiles.specs.declared.statements.Entry.{Entry}
 use Rattle.ref_tiles.specs.Parts.{are_in_limits}
 use Rattle.ref_tiles.specs.RulesFaults.{at_line}
 use Rattle.ref_tiles.specs.Statements.{statement_of}
-use Rattle.ref_tiles.specs.RulesTexts.{stated_by, entry_in, entries_in, repeats, fault_behind, first_bad_line, parts_with, whole_fault, or_fault, drafted, ended, Gives, IsOnce, AreOnce}
+use Rattle.ref_tiles.specs.RulesTexts.{stated_by, entry_in, entries_in, repeats, fault_behind, first_bad_line, parts_with, whole_fault, drafted, ended, Gives, IsOnce, AreOnce}
 use Rattle.ref_tiles.proofs.RulesSteps.{entry_in-append, entries_at, length-entries}
 use Rattle.ref_tiles.proofs.RulesMeanings.{no_earlier}
 

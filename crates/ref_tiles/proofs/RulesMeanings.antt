@@ -4,13 +4,14 @@ use Rattle.std.proofs.Common.{◌≡◌, ℕ, ◌+◌, ◌<◌, ◌≤◌, Bool,
 use Rattle.std.specs.Option.{option_or}
 use Rattle.std.proofs.lemmas.Bool.Decides.{nat_tests}
 use Rattle.text_lines.specs.Lines.{lines_of}
+use Rattle.check_lists.specs.Checks.{or_fault}
 use Rattle.ref_tiles.specs.declared.rules_faults.RulesWhy.{RulesWhy}
 use Rattle.ref_tiles.specs.declared.rules_faults.RulesWhy.TheVariants as why
 use Rattle.ref_tiles.specs.declared.rules_faults.RulesFault.{RulesFault}
 use Rattle.ref_tiles.specs.declared.rulebook.Rules.{Rules}
 use Rattle.ref_tiles.specs.declared.statements.Entry.{Entry}
 use Rattle.ref_tiles.specs.RulesFaults.{at_line}
-use Rattle.ref_tiles.specs.RulesTexts.{most_text_bytes, entries_in, fault_behind, first_bad_line, parts_with, whole_fault, or_fault, parts_in, meaning_of, drafted, ended, Gives, IsFirstFault, IsWholeFault, IsFaultOf}
+use Rattle.ref_tiles.specs.RulesTexts.{most_text_bytes, entries_in, fault_behind, first_bad_line, parts_with, whole_fault, parts_in, meaning_of, drafted, ended, Gives, IsFirstFault, IsWholeFault, IsFaultOf}
 
 -- ---- the meaning, by what is read
 

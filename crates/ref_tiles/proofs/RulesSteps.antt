@@ -7,6 +7,8 @@ use Rattle.std.proofs.lemmas.List.{length_push, get_or-set_same, get_or-set_othe
 use Rattle.std.proofs.lemmas.List.FromFn.{length-map-range_with_len, get_or-map-range_with_len, fill_by_all}
 use Rattle.std.proofs.lemmas.Bool.Decides.{eqb_tells, nat_tests}
 use Rattle.text_lines.specs.Lines.{lines_in, lines_behind}
+use Rattle.check_lists.specs.Checks.{or_fault}
+use Rattle.check_lists.proofs.CheckLaws.{or_fault_none, or_fault_some}
 use Rattle.ref_tiles.specs.declared.rules_faults.RulesWhy.{RulesWhy}
 use Rattle.ref_tiles.specs.declared.rules_faults.RulesWhy.TheVariants as why
 use Rattle.ref_tiles.specs.declared.rules_faults.RulesFault.{RulesFault}
@@ -14,7 +16,7 @@ use Rattle.ref_tiles.specs.declared.statements.Statement.{Statement}
 use Rattle.ref_tiles.specs.declared.statements.Entry.{Entry}
 use Rattle.ref_tiles.specs.RulesFaults.{at_line}
 use Rattle.ref_tiles.specs.Statements.{statement_of, IsLinePlace}
-use Rattle.ref_tiles.specs.RulesTexts.{stated_by, entry_in, entries_in, repeats, fault_behind, first_bad_line, or_fault, more_by, drafted}
+use Rattle.ref_tiles.specs.RulesTexts.{stated_by, entry_in, entries_in, repeats, fault_behind, first_bad_line, more_by, drafted}
 
 -- ---- what one more line states
 
@@ -119,17 +121,6 @@ pub progress_empty : (lines : List (List ℕ)) (entries : List (Option Entry)) �
 unfolding entries_in entry_in
 progress_empty lines entries none = record { before = []; count = refl; there = none ∙ refl; same = refl; whole = refl }
 
--- a line without a fault
-no_fault : (o : Option RulesWhy) (n : ℕ) (entries next : List (Option Entry)) → or_fault (option_map (at_line n) o) entries ≡ Ok next → (o ≡ None) × (entries ≡ next)
-no_fault None n entries next e = (refl, cc)
-no_fault (Some w) n entries next e = absurd cc
-
--- a line with a fault
-some_fault : (o : Option RulesWhy) (n : ℕ) (entries : List (Option Entry)) (fault : RulesFault) → or_fault (option_map (at_line n) o) entries ≡ Err fault
-    → option_map (at_line n) o ≡ Some fault
-some_fault None n entries fault e = absurd cc
-some_fault (Some w) n entries fault e = cc
-
 -- one more line
 pub progress_more : (lines : List (List ℕ)) (entries next : List (Option Entry)) (n : ℕ) (left : Option (Bor (List ℕ))) (rest : Bor (List ℕ)) (text : List ℕ) (others : List (List ℕ))
     → left ≡ Some rest → lines_in rest.now ≡ text ∷ others → IsLinePlace (statement_of text) → more_by entries (n + 1) (statement_of text) ≡ Ok next
@@ -137,7 +128,7 @@ pub progress_more : (lines : List (List ℕ)) (entries next : List (Option Entry
 unfolding first_bad_line
 progress_more lines entries next n left rest text others at cut place step p =
     let made = sym (line_more p.before text (n + 1) place) ∙ ap (λ d. more_by d (n + 1) (statement_of text)) (sym p.there) ∙ step in
-    let fine = no_fault (fault_behind p.before text) (n + 1) (entries_in (p.before ++ text ∷ [])) next made in
+    let fine = or_fault_none (at_line (n + 1)) (fault_behind p.before text) (entries_in (p.before ++ text ∷ [])) next made in
     let behind : lines_behind left ≡ text ∷ others = rw at cut in
     let here : first_bad_line p.before (text ∷ others) ≡ first_bad_line (p.before ++ text ∷ []) others = rw fine.0 refl in
     record {
@@ -155,7 +146,7 @@ pub progress_fails : (lines : List (List ℕ)) (entries : List (Option Entry)) (
 unfolding first_bad_line drafted
 progress_fails lines entries n left rest text others fault at cut place step p =
     let made = sym (line_more p.before text (n + 1) place) ∙ ap (λ d. more_by d (n + 1) (statement_of text)) (sym p.there) ∙ step in
-    let found = some_fault (fault_behind p.before text) (n + 1) (entries_in (p.before ++ text ∷ [])) fault made in
+    let found = or_fault_some (option_map (at_line (n + 1)) (fault_behind p.before text)) (entries_in (p.before ++ text ∷ [])) fault made in
     let behind : lines_behind left ≡ text ∷ others = rw at cut in
     let here : option_map (at_line (length p.before + 1)) (fault_behind p.before text) ≡ Some fault = rw p.count found in
     let first : first_bad_line p.before (text ∷ others) ≡ Some fault = rw here refl in

@@ -2,7 +2,7 @@
 use Rattle.std.specs.Prelude.{◌≡◌, ◌⊎◌, ℕ, ◌+◌, ◌/◌, ◌%◌, ◌<◌, ◌≤◌, ◌==◌, nat_lt, List, [], ◌∷◌, ◌++◌, length, map, slice_index_or, slice_set, Option, Some, None, is_some, Result, Ok, Err, if◌then◌else◌}
 use Rattle.std.specs.List.{list_all, range_with_len}
 use Rattle.std.specs.Option.{option_or, option_map, IsSomeAnd}
-use Rattle.check_lists.specs.Checks.{passes, first_fault}
+use Rattle.check_lists.specs.Checks.{passes, first_fault, or_fault}
 use Rattle.text_lines.specs.Lines.{lines_of}
 use Rattle.ref_tiles.specs.declared.rules_faults.RulesWhy.{RulesWhy}
 use Rattle.ref_tiles.specs.declared.rules_faults.RulesWhy.TheVariants as why
@@ -117,11 +117,6 @@ parts_with entries =
 unfoldable pub whole_fault : List (Option Entry) → Option RulesWhy
 whole_fault entries =
     first_fault (passes (list_all is_some entries) why.Missing ∷ passes (are_in_limits (parts_with entries)) why.Limits ∷ [])
-
--- a value, unless there is a fault
-abbrev pub or_fault : {A : Type 0} → Option RulesFault → A → Result A RulesFault
-or_fault None x = Ok x
-or_fault (Some fault) x = Err fault
 
 -- the parts of the rules that lines state, or their first fault: that of the first line that has one, or else of the whole
 unfoldable pub parts_in : List (List ℕ) → Result RuleParts RulesFault
