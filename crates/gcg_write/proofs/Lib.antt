@@ -1,7 +1,6 @@
 pub mod Each
 pub mod Inversions
 pub mod Parts
-pub mod Outputs
 pub mod Texts
 pub mod Splitting
 pub mod Digits

@@ -2,7 +2,7 @@
 ghost use Rattle.std.specs.Prelude.{◌≡◌, ◌++◌, ◌∷◌, OnOk, replicate};
 ghost use Rattle.std.specs.Fmt.{signed_decimal};
 ghost use Rattle.gcg_write.specs.Fields.{letters_text, tiles_text, position_text, word_text, play_text, score_text, points_text};
-ghost use Rattle.gcg_write.specs.Fronts.{IsFront};
+ghost use Rattle.text_lines.specs.Fronts.{IsFront};
 
 use gcg_read::Points;
 use itoa::Buffer;

@@ -2,7 +2,7 @@
 ghost use Rattle.std.specs.Prelude.{◌≡◌, ◌++◌, ◌∷◌, [], OnOk, decimal};
 ghost use Rattle.gcg_write.specs.Fields.{kind_text, points_text, tiles_text, position_text, word_text};
 ghost use Rattle.gcg_write.specs.Normal.{event_text_of, rack_text, head_text, event_line, events_text, full_text, player_lines, text_of_lines, normal_of};
-ghost use Rattle.gcg_write.specs.Fronts.{IsFront};
+ghost use Rattle.text_lines.specs.Fronts.{IsFront};
 
 use crate::fields::{push_play, push_points, push_tiles};
 use gcg_read::{Event, EventKind, Player, Players, Record};

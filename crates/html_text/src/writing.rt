@@ -2,7 +2,7 @@
 ghost use Rattle.std.specs.Prelude.{◌≡◌, ◌++◌, OnOk};
 ghost use Rattle.std.specs.Str.Lossy.{utf8_lossy};
 ghost use Rattle.html_text.specs.Texts.{written, html_text};
-ghost use Rattle.html_text.specs.Fronts.{IsFront};
+ghost use Rattle.text_lines.specs.Fronts.{IsFront};
 
 use std::alloc::{AllocError, Global};
 
@@ -33,7 +33,7 @@ fn push_byte(out: &mut Vec<u8>, byte: u8) -> Result<(), AllocError>
 /// # Errors
 ///
 /// Memory was refused; `out` then begins with what it had.
-#[tactic(auto, using(crate::proofs::Fronts::front_through))]
+#[tactic(auto, using(text_lines::proofs::Outputs::front_through))]
 pub fn push_text(alloc: Global, out: &mut Vec<u8>, text: &[u8]) -> Result<(), AllocError>
     ensures done { OnOk result (out.new.items ≡ out.old.items ++ html_text (utf8_lossy text.now)) }
     ensures kept { IsFront out.old.items out.new.items }

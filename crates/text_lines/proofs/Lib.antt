@@ -3,3 +3,4 @@ pub mod LineCuts
 pub mod FieldCuts
 pub mod Decimals
 pub mod Fronts
+pub mod Outputs

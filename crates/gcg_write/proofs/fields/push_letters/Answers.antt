@@ -2,7 +2,7 @@ use Rattle.std.proofs.Common.{◌≡◌, ◌+◌, arith, refl, ◌∙◌}
 use Rattle.std.proofs.lemmas.List.{append-nil, append_assoc}
 use Rattle.gcg_write.specs.Fields.{letter_text, letters_to}
 use Rattle.gcg_write.proofs.Texts.{letters_start, letters_more}
-use Rattle.gcg_write.proofs.Outputs.{front_through}
+use Rattle.text_lines.proofs.Outputs.{front_through}
 use Rattle.gcg_write.proofs.fields.push_letters.Goals as goal
 
 pub loop-index-init : goal.loop-index-init

@@ -1,6 +1,6 @@
 use Rattle.std.proofs.Common.{take}
 use Rattle.gcg_write.specs.Normal.{events_text}
-use Rattle.gcg_write.proofs.Outputs.{front_through}
+use Rattle.text_lines.proofs.Outputs.{front_through}
 use Rattle.gcg_write.proofs.lines.push_events.Goals as goal
 
 pub returns-in_err-push_event_line-clause-kept : goal.returns-in_err-push_event_line-clause-kept

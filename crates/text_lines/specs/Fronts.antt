@@ -1,4 +1,4 @@
--- What an output begins with.
+-- What a text begins with.
 use Rattle.std.specs.Prelude.{◌≡◌, ℕ, List, length, take}
 
 -- the text begins with this one

@@ -1,7 +1,7 @@
 -- What an output begins with, after several appends.
 use Rattle.std.proofs.Common.{◌≡◌, ℕ, List, ◌++◌, arith}
 use Rattle.std.proofs.lemmas.Grind.{common_steps}
-use Rattle.gcg_write.specs.Fronts.{IsFront}
+use Rattle.text_lines.specs.Fronts.{IsFront}
 
 -- what begins with a text that begins with another
 front_of_front : (a b c : List ℕ) → IsFront a b → IsFront b c → IsFront a c
