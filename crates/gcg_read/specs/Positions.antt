@@ -2,14 +2,10 @@
 use Rattle.std.specs.Prelude.{ℕ, ◌-◌, ◌&&◌, nat_le, List, [], ◌∷◌, length, take, slice_index, Option, Some, None, if◌then◌else◌}
 use Rattle.std.specs.Option.{option_and_then, option_map}
 use Rattle.std.specs.Char.{is_ascii_digit}
+use Rattle.ref_tiles.specs.Statements.{row_in}
 use Rattle.ref_board.specs.Lines.{square_in}
 use Rattle.ref_board.specs.declared.directions.Dir.TheVariants.{Across, Down}
 use Rattle.gcg_read.specs.declared.positions.Position.{Position}
-use Rattle.gcg_read.specs.Numerals.{numeral}
-
--- a row, 1 to 15 in one or two digits, counted from 0
-abbrev pub row_of : List ℕ → Option ℕ
-row_of digits = option_and_then (λ n. if nat_le 1 n && nat_le n 15 then Some (n - 1) else None) (numeral 2 digits)
 
 -- a column, A to O in either case, counted from 0
 abbrev pub column_of : ℕ → Option ℕ
@@ -20,12 +16,12 @@ column_of byte =
 -- a row and then a column: across
 abbrev pub across_of : List ℕ → ℕ → Option Position
 across_of digits letter =
-    option_and_then (λ row. option_map (λ column. record { at = square_in row column; dir = Across }) (column_of letter)) (row_of digits)
+    option_and_then (λ row. option_map (λ column. record { at = square_in row column; dir = Across }) (column_of letter)) (row_in digits)
 
 -- a column and then a row: down
 abbrev pub down_of : ℕ → List ℕ → Option Position
 down_of letter digits =
-    option_and_then (λ row. option_map (λ column. record { at = square_in row column; dir = Down }) (column_of letter)) (row_of digits)
+    option_and_then (λ row. option_map (λ column. record { at = square_in row column; dir = Down }) (column_of letter)) (row_in digits)
 
 -- What begins with a digit is a row and then a column, and all else a column and then a row.
 abbrev pub position_of : List ℕ → Option Position

@@ -1,9 +1,9 @@
 //! Where a play begins, and its direction.
 ghost use Rattle.std.specs.Prelude.{◌≡◌, ◌<◌, IfSome, option_map};
-ghost use Rattle.gcg_read.specs.Positions.{row_of, column_of, across_of, down_of, position_of};
+ghost use Rattle.gcg_read.specs.Positions.{column_of, across_of, down_of, position_of};
 
-use ref_board::{Dir, SIDE, Square};
-use text_lines::numeral;
+use ref_board::{Dir, Square};
+use ref_tiles::row_of_digits;
 
 /// Where a play begins, and in which direction it goes.
 #[derive(Clone, Copy)]
@@ -12,19 +12,6 @@ pub struct Position {
     pub at: Square,
     /// Whether it goes across or down.
     pub dir: Dir,
-}
-
-/// The row that one or two digits write, 1 to 15, counted from 0.
-fn row(digits: &[u8]) -> Option<usize>
-    ensures row { result ≡ row_of digits.now }
-    ensures in_range { IfSome result (λ n. n < 15) }
-{
-    let number = numeral(2, digits)? as usize;
-    if 1 <= number && number <= SIDE {
-        Some(number - 1)
-    } else {
-        None
-    }
 }
 
 /// The column that a letter of either case writes, A to O, counted from 0.
@@ -54,7 +41,7 @@ pub fn read_position(bytes: &[u8]) -> Option<Position>
 fn across(digits: &[u8], letter: u8) -> Option<Position>
     ensures { result ≡ across_of digits.now letter }
 {
-    let row = row(digits)?;
+    let row = row_of_digits(digits)?;
     let column = column(letter)?;
     Some(Position {
         at: Square::on_line(Dir::Across, row, column),
@@ -65,7 +52,7 @@ fn across(digits: &[u8], letter: u8) -> Option<Position>
 fn down(letter: u8, digits: &[u8]) -> Option<Position>
     ensures { result ≡ down_of letter digits.now }
 {
-    let row = row(digits)?;
+    let row = row_of_digits(digits)?;
     let column = column(letter)?;
     Some(Position {
         at: Square::on_line(Dir::Down, column, row),

@@ -4,12 +4,13 @@ use Rattle.std.specs.Prelude.{decimal}
 use Rattle.std.specs.Char.{is_ascii_digit}
 use Rattle.std.specs.Option.{option_map, option_and_then}
 use Rattle.std.proofs.lemmas.Bool.Decides.{nat_tests}
+use Rattle.ref_tiles.specs.Statements.{row_in}
 use Rattle.ref_board.specs.Lines.{square_in}
 use Rattle.ref_board.specs.declared.directions.Dir.{Dir}
 use Rattle.ref_board.specs.declared.directions.Dir.TheVariants.{Across, Down}
 use Rattle.gcg_read.specs.declared.positions.Position.{Position}
 use Rattle.gcg_read.specs.Numerals.{numeral}
-use Rattle.gcg_read.specs.Positions.{row_of, column_of, across_of, down_of, position_of}
+use Rattle.gcg_read.specs.Positions.{column_of, across_of, down_of, position_of}
 use Rattle.gcg_write.specs.Fields.{row_text, column_byte, position_text}
 use Rattle.gcg_write.proofs.Each.{Each}
 use Rattle.gcg_write.proofs.Inversions.{both, le_from, chosen, chosen_or, one_of, chained, mapped}
@@ -38,7 +39,7 @@ not_digit c = grind (arith, nat_tests)
 within : (n : ℕ) → n < 15 → (nat_le 1 (n + 1) && nat_le (n + 1) 15) ≡ true
 within n h = grind (arith, nat_tests)
 
-row_again : (n : ℕ) → n < 15 → row_of (decimal (n + 1)) ≡ Some n
+row_again : (n : ℕ) → n < 15 → row_in (decimal (n + 1)) ≡ Some n
 row_again n h =
     let read = numeral_decimal 2 (n + 1) (omega arith) (omega arith) (omega arith) in
     rw (read, within n h) (ap Some (omega arith))
@@ -65,7 +66,7 @@ position_again at Down h =
 
 -- ---- what is read as a position
 
-row_small : (digits : List ℕ) (row : ℕ) → row_of digits ≡ Some row → row < 15
+row_small : (digits : List ℕ) (row : ℕ) → row_in digits ≡ Some row → row < 15
 row_small digits row e =
     let read = chained (λ n. if nat_le 1 n && nat_le n 15 then Some (n - 1) else None) (numeral 2 digits) row e in
     let n = read.0 in
@@ -86,10 +87,10 @@ column_small byte column e =
     ]
 
 spot_small : (dir : Dir) (digits : List ℕ) (letter : ℕ) (place : Position)
-    → option_and_then (λ row. option_map (λ column. let spot : Position = record { at = square_in row column; dir = dir } in spot) (column_of letter)) (row_of digits) ≡ Some place
+    → option_and_then (λ row. option_map (λ column. let spot : Position = record { at = square_in row column; dir = dir } in spot) (column_of letter)) (row_in digits) ≡ Some place
     → place.at < 225
 spot_small dir digits letter place e =
-    let outer = chained (λ row. option_map (λ column. let spot : Position = record { at = square_in row column; dir = dir } in spot) (column_of letter)) (row_of digits) place e in
+    let outer = chained (λ row. option_map (λ column. let spot : Position = record { at = square_in row column; dir = dir } in spot) (column_of letter)) (row_in digits) place e in
     let inner = mapped (λ column. let spot : Position = record { at = square_in outer.0 column; dir = dir } in spot) (column_of letter) place outer.1.1 in
     let square : square_in outer.0 inner.0 ≡ place.at = ap (λ (p : Position). p.at) inner.1.1 in
     omega (arith, row_small digits outer.0 outer.1.0, column_small letter inner.0 inner.1.0, square)

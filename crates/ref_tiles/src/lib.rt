@@ -29,5 +29,6 @@ pub use premiums::Premium;
 pub use rulebook::{Rules, SIDE, SQUARES};
 pub use rules_faults::{RulesFault, RulesWhy};
 pub use rules_reading::MAX_RULES_BYTES;
+pub use statements::row_of_digits;
 pub use symbols::Symbol;
 pub use tiles::Tile;

@@ -64,8 +64,8 @@ fn kind(name: &[u8]) -> Option<Kind>
     }
 }
 
-/// The row that one or two digits name, 1 to 15, counted from 0.
-fn row(digits: &[u8]) -> Option<usize>
+/// The row that one or two digits name, 1 to 15, counted from 0; none for any other bytes.
+pub fn row_of_digits(digits: &[u8]) -> Option<usize>
     ensures row { result ≡ row_in digits.now }
     ensures in_range { IfSome result (λ n. n < 15) }
 {
@@ -172,7 +172,7 @@ fn read_row(text: &[u8]) -> Result<Statement, RulesWhy>
     if next_field(codes.after).is_some() {
         return Err(RulesWhy::Fields);
     }
-    let Some(row) = row(number.bytes) else {
+    let Some(row) = row_of_digits(number.bytes) else {
         return Err(RulesWhy::Name);
     };
     let Some(premiums) = premiums(codes.bytes) else {
