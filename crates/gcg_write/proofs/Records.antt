@@ -56,23 +56,18 @@ player_line front nick full lead some h a b =
       leads = inl refl;
     }
 
-first_lines : (p : Player) → IsPlayer p.nick p.full → EndsInNoReturn p → Each IsLine (player_lines (codes "#player1 ") p)
-first_lines p h calm =
+lines_of_player : (front : List ℕ) → Each (Fails is_feed) (35 ∷ front) → (p : Player) → IsPlayer p.nick p.full → EndsInNoReturn p → Each IsLine (player_lines (35 ∷ front) p)
+lines_of_player front lead p h calm =
     elim (two (is_unnamed p)) [
-      | inl none ↦ rw (unnamed_lines (codes "#player1 ") p none) tt
-      | inr some ↦
-          rw (named_lines (codes "#player1 ") p some)
-          (player_line (codes "player1 ") p.nick p.full (refl, (refl, (refl, (refl, (refl, (refl, (refl, (refl, (refl, tt))))))))) (is_named p some) h calm.0 calm.1, tt)
+      | inl none ↦ rw (unnamed_lines (35 ∷ front) p none) tt
+      | inr some ↦ rw (named_lines (35 ∷ front) p some) (player_line front p.nick p.full lead (is_named p some) h calm.0 calm.1, tt)
     ]
 
+first_lines : (p : Player) → IsPlayer p.nick p.full → EndsInNoReturn p → Each IsLine (player_lines (codes "#player1 ") p)
+first_lines p h calm = lines_of_player (codes "player1 ") (refl, (refl, (refl, (refl, (refl, (refl, (refl, (refl, (refl, tt))))))))) p h calm
+
 second_lines : (p : Player) → IsPlayer p.nick p.full → EndsInNoReturn p → Each IsLine (player_lines (codes "#player2 ") p)
-second_lines p h calm =
-    elim (two (is_unnamed p)) [
-      | inl none ↦ rw (unnamed_lines (codes "#player2 ") p none) tt
-      | inr some ↦
-          rw (named_lines (codes "#player2 ") p some)
-          (player_line (codes "player2 ") p.nick p.full (refl, (refl, (refl, (refl, (refl, (refl, (refl, (refl, (refl, tt))))))))) (is_named p some) h calm.0 calm.1, tt)
-    ]
+second_lines p h calm = lines_of_player (codes "player2 ") (refl, (refl, (refl, (refl, (refl, (refl, (refl, (refl, (refl, tt))))))))) p h calm
 
 rack_no_feed : (e : Event) → IsEvent e → Each (Fails is_feed) (rack_text e.rack)
 rack_no_feed e h = ink_stated is_feed refl (λ byte ink. grind (arith, nat_tests)) e.rack

@@ -67,14 +67,10 @@ touches-beside board a h e =
 touches-from : (d : Dir) (board : List (Option Tile)) (a : ℕ) → (follows_tile d board a || precedes_tile d board a 1) ≡ true → touches board a ≡ true
 touches-from Across board a e = or_left _ _ (or_left _ _ e)
 touches-from Down board a e =
-    let fa = follows_tile Across board a in
-    let pa = precedes_tile Across board a 1 in
-    let fd = follows_tile Down board a in
-    let pd = precedes_tile Down board a 1 in
     ⊎_elim
-    (λ (s : fd ≡ true). or_left (fa || pa || fd) pd (or_right (fa || pa) fd s))
-    (λ (s : pd ≡ true). or_right (fa || pa || fd) pd s)
-    (or_cases fd pd e)
+    (λ (s : follows_tile Down board a ≡ true). or_left _ _ (or_right _ _ s))
+    (λ (s : precedes_tile Down board a 1 ≡ true). or_right _ _ s)
+    (or_cases _ _ e)
 
 pub beside-touches : (board : List (Option Tile)) (a b : ℕ) → length board ≡ 225 → AreBeside a b → holds board b ≡ true → touches board a ≡ true
 beside-touches board a b size (d, line, near) e =

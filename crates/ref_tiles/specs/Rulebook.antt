@@ -19,14 +19,10 @@ premium_at rules square = slice_index_or rules.premiums square premium.Plain
 abbrev pub letter_factor : Premium → ℕ
 letter_factor premium.DoubleLetter = 2
 letter_factor premium.TripleLetter = 3
-letter_factor premium.Plain = 1
-letter_factor premium.DoubleWord = 1
-letter_factor premium.TripleWord = 1
+letter_factor _ = 1
 
 -- by what a premium multiplies the words through a tile put there
 abbrev pub word_factor : Premium → ℕ
 word_factor premium.DoubleWord = 2
 word_factor premium.TripleWord = 3
-word_factor premium.Plain = 1
-word_factor premium.DoubleLetter = 1
-word_factor premium.TripleLetter = 1
+word_factor _ = 1
