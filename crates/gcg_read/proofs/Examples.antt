@@ -2,6 +2,7 @@
 use Rattle.std.proofs.Common.{◌≡◌, ℕ, pos, negsuc, List, [], ◌∷◌, ◌++◌, map, Some, None, Result, Ok, Err, refl, replicate}
 use Rattle.std.specs.Prelude.{codes}
 use Rattle.std.specs.List.{filter_map}
+use Rattle.check_lists.proofs.Rows.{Agree}
 use Rattle.ref_tiles.specs.declared.kinds.Kind.{Kind}
 use Rattle.ref_tiles.specs.Counting.{counted}
 use Rattle.ref_tiles.specs.Letters.{letter_at}
@@ -56,61 +57,26 @@ nothing : record_of [] ≡ Ok no_record
 unfolding record_of record_from with_line lines_in
 nothing = refl
 
-blank_in_nick : record_of (codes ">A B: 8E WORD +16 16") ≡ fails_as 1 why.NoColon
-unfolding record_of record_from with_line with_event entry_of head_of fields_of lines_in
-blank_in_nick = refl
-
-one_field : record_of (codes ">A: 8E") ≡ fails_as 1 why.Fields
-unfolding record_of record_from with_line with_event with_pragma naming_of names_of players_with entry_of head_of fields_of lines_in event_of played_of scored_of coded_of dashed_of bracketed_of counted letter_at
-one_field = refl
-
-three_fields : record_of (codes ">A: 8E WORD +16") ≡ fails_as 1 why.Code
-unfolding record_of record_from with_line with_event with_pragma naming_of names_of players_with entry_of head_of fields_of lines_in event_of played_of scored_of coded_of dashed_of bracketed_of counted letter_at
-three_fields = refl
-
-eight_tiles : record_of (codes ">A: AAAAAAAA - +0 0") ≡ fails_as 1 why.Rack
-unfolding record_of record_from with_line with_event with_pragma naming_of names_of players_with entry_of head_of fields_of lines_in event_of played_of scored_of coded_of dashed_of bracketed_of counted letter_at
-eight_tiles = refl
-
-row_sixteen : record_of (codes ">A: 16A AT +4 4") ≡ fails_as 1 why.Position
-unfolding record_of record_from with_line with_event with_pragma naming_of names_of players_with entry_of head_of fields_of lines_in event_of played_of scored_of coded_of dashed_of bracketed_of counted letter_at
-row_sixteen = refl
-
-digit_in_word : record_of (codes ">A: 8E W0RD +16 16") ≡ fails_as 1 why.Word
-unfolding record_of record_from with_line with_event with_pragma naming_of names_of players_with entry_of head_of fields_of lines_in event_of played_of scored_of coded_of dashed_of bracketed_of counted letter_at
-digit_in_word = refl
-
-letter_in_score : record_of (codes ">A: 8E WORD +x 16") ≡ fails_as 1 why.Number
-unfolding record_of record_from with_line with_event with_pragma naming_of names_of players_with entry_of head_of fields_of lines_in event_of played_of scored_of coded_of dashed_of bracketed_of counted letter_at
-letter_in_score = refl
-
-number_after_code : record_of (codes ">A: - +1234567 0") ≡ fails_as 1 why.Number
-unfolding record_of record_from with_line with_event with_pragma naming_of names_of players_with entry_of head_of fields_of lines_in event_of played_of scored_of coded_of dashed_of bracketed_of counted letter_at
-number_after_code = refl
-
-no_colon : record_of (codes ">A 8E WORD +16 16") ≡ fails_as 1 why.NoColon
-unfolding record_of record_from with_line with_event with_pragma naming_of names_of players_with entry_of head_of fields_of lines_in event_of played_of scored_of coded_of dashed_of bracketed_of counted letter_at
-no_colon = refl
-
-six_fields : record_of (codes ">A: A 8A AT +4 4 4") ≡ fails_as 1 why.Fields
-unfolding record_of record_from with_line with_event with_pragma naming_of names_of players_with entry_of head_of fields_of lines_in event_of played_of scored_of coded_of dashed_of bracketed_of counted letter_at
-six_fields = refl
-
-seven_digits : record_of (codes ">A: 8E WORD +16 1000000") ≡ fails_as 1 why.Number
-unfolding record_of record_from with_line with_event with_pragma naming_of names_of players_with entry_of head_of fields_of lines_in event_of played_of scored_of coded_of dashed_of bracketed_of counted letter_at
-seven_digits = refl
-
-rack_before_position : record_of (codes ">A: a 16A A- x 0") ≡ fails_as 1 why.Rack
-unfolding record_of record_from with_line with_event with_pragma naming_of names_of players_with entry_of head_of fields_of lines_in event_of played_of scored_of coded_of dashed_of bracketed_of counted letter_at
-rack_before_position = refl
-
-long_word : record_of (codes ">A: 8A ABCDEFGHIJKLMNOP +4 4") ≡ fails_as 1 why.Word
-unfolding record_of record_from with_line with_event with_pragma naming_of names_of players_with entry_of head_of fields_of lines_in event_of played_of scored_of coded_of dashed_of bracketed_of counted letter_at
-long_word = refl
-
-only_brackets : record_of (codes ">A: 8A () +4 4") ≡ fails_as 1 why.Word
-unfolding record_of record_from with_line with_event with_pragma naming_of names_of players_with entry_of head_of fields_of lines_in event_of played_of scored_of coded_of dashed_of bracketed_of counted letter_at
-only_brackets = refl
+-- the first fault of each line: the first colon ends the nickname
+first_faults : Agree (
+    (record_of (codes ">A B: 8E WORD +16 16"), fails_as 1 why.NoColon)
+    ∷ (record_of (codes ">A: 8E"), fails_as 1 why.Fields)
+    ∷ (record_of (codes ">A: 8E WORD +16"), fails_as 1 why.Code)
+    ∷ (record_of (codes ">A: AAAAAAAA - +0 0"), fails_as 1 why.Rack)
+    ∷ (record_of (codes ">A: 16A AT +4 4"), fails_as 1 why.Position)
+    ∷ (record_of (codes ">A: 8E W0RD +16 16"), fails_as 1 why.Word)
+    ∷ (record_of (codes ">A: 8E WORD +x 16"), fails_as 1 why.Number)
+    ∷ (record_of (codes ">A: - +1234567 0"), fails_as 1 why.Number)
+    ∷ (record_of (codes ">A 8E WORD +16 16"), fails_as 1 why.NoColon)
+    ∷ (record_of (codes ">A: A 8A AT +4 4 4"), fails_as 1 why.Fields)
+    ∷ (record_of (codes ">A: 8E WORD +16 1000000"), fails_as 1 why.Number)
+    ∷ (record_of (codes ">A: a 16A A- x 0"), fails_as 1 why.Rack)
+    ∷ (record_of (codes ">A: 8A ABCDEFGHIJKLMNOP +4 4"), fails_as 1 why.Word)
+    ∷ (record_of (codes ">A: 8A () +4 4"), fails_as 1 why.Word)
+    ∷ (record_of (codes ">B:: 8E WORD +16 16"), fails_as 1 why.Rack)
+    ∷ [])
+unfolding record_of record_from with_line with_event entry_of head_of fields_of lines_in with_pragma naming_of names_of players_with event_of played_of scored_of coded_of dashed_of bracketed_of counted letter_at
+first_faults = refl
 
 -- A mark at the front, lines that are read over and are counted, a CR at each end, tabs, a column before its row,
 -- brackets, a minus sign and leading zeros; and then a third nickname.
@@ -144,11 +110,6 @@ third_player = refl
 too_many : (r : Record) (line : ℕ) (text : List ℕ) (e : Event) → entry_of (record r { events = replicate 1000 e }) line text ≡ Err why.TooManyEvents
 unfolding entry_of
 too_many r line text e = refl
-
--- the first colon ends the nickname
-second_colon : record_of (codes ">B:: 8E WORD +16 16") ≡ fails_as 1 why.Rack
-unfolding record_of record_from with_line with_event with_pragma naming_of names_of players_with entry_of head_of fields_of lines_in event_of played_of scored_of coded_of dashed_of bracketed_of counted letter_at
-second_colon = refl
 
 -- ---- codes
 

@@ -1,6 +1,7 @@
 -- Rules texts as the definitions give them, computed: the English game, and the first fault of others.
 use Rattle.std.proofs.Common.{◌≡◌, ℕ, List, [], ◌∷◌, ◌++◌, drop, refl}
 use Rattle.std.specs.Prelude.{Ok, Err, codes}
+use Rattle.check_lists.proofs.Rows.{Agree}
 use Rattle.text_lines.specs.Lines.{lines_in}
 use Rattle.text_lines.specs.Fields.{fields_of}
 use Rattle.ref_tiles.specs.declared.rules_faults.RulesWhy.TheVariants as why
@@ -25,20 +26,16 @@ tiles_from_b =
     codes "tile V 2 4" ++ 10 ∷ codes "tile W 2 4" ++ 10 ∷ codes "tile X 1 8" ++ 10 ∷ codes "tile Y 2 4" ++ 10 ∷
     codes "tile Z 1 10" ++ 10 ∷ codes "tile ? 2 0" ++ 10 ∷ []
 
-abbrev rows_to_7 : List ℕ
-rows_to_7 =
-    codes "row 1 T..d...T...d..T" ++ 10 ∷ codes "row 2 .D...t...t...D." ++ 10 ∷ codes "row 3 ..D...d.d...D.." ++ 10 ∷
-    codes "row 4 d..D...d...D..d" ++ 10 ∷ codes "row 5 ....D.....D...." ++ 10 ∷ codes "row 6 .t...t...t...t." ++ 10 ∷
-    codes "row 7 ..d...d.d...d.." ++ 10 ∷ []
-
 abbrev row_8 : List ℕ
 row_8 = codes "row 8 T..d...D...d..T" ++ 10 ∷ []
 
-abbrev rows_from_9 : List ℕ
-rows_from_9 =
-    codes "row 9 ..d...d.d...d.." ++ 10 ∷ codes "row 10 .t...t...t...t." ++ 10 ∷ codes "row 11 ....D.....D...." ++ 10 ∷
-    codes "row 12 d..D...d...D..d" ++ 10 ∷ codes "row 13 ..D...d.d...D.." ++ 10 ∷ codes "row 14 .D...t...t...D." ++ 10 ∷
-    codes "row 15 T..d...T...d..T" ++ 10 ∷ []
+abbrev other_rows : List ℕ
+other_rows =
+    codes "row 1 T..d...T...d..T" ++ 10 ∷ codes "row 2 .D...t...t...D." ++ 10 ∷ codes "row 3 ..D...d.d...D.." ++ 10 ∷
+    codes "row 4 d..D...d...D..d" ++ 10 ∷ codes "row 5 ....D.....D...." ++ 10 ∷ codes "row 6 .t...t...t...t." ++ 10 ∷
+    codes "row 7 ..d...d.d...d.." ++ 10 ∷ codes "row 9 ..d...d.d...d.." ++ 10 ∷ codes "row 10 .t...t...t...t." ++ 10 ∷
+    codes "row 11 ....D.....D...." ++ 10 ∷ codes "row 12 d..D...d...D..d" ++ 10 ∷ codes "row 13 ..D...d.d...D.." ++ 10 ∷
+    codes "row 14 .D...t...t...D." ++ 10 ∷ codes "row 15 T..d...T...d..T" ++ 10 ∷ []
 
 abbrev parameters : List ℕ
 parameters =
@@ -47,7 +44,7 @@ parameters =
 
 -- the text of the English game, with another line of the tile A
 abbrev text_with : List ℕ → List ℕ
-text_with a = a ++ tiles_from_b ++ rows_to_7 ++ row_8 ++ rows_from_9 ++ parameters
+text_with a = a ++ tiles_from_b ++ row_8 ++ other_rows ++ parameters
 
 abbrev english_text : List ℕ
 english_text = text_with (codes "tile A 9 1" ++ 10 ∷ [])
@@ -65,7 +62,7 @@ tile_more : meaning_of (text_with (codes "tile A 110 1" ++ 10 ∷ [])) ≡ Err (
 unfolding meaning_of parts_in first_bad_line fault_behind whole_fault entries_in entry_in counts_with points_with premiums_with statement_of statement_in tile_in tile_of row_of number_in parameter_in lines_in fields_of premium_of letter_at most_tiles
 tile_more = refl
 
-no_row_8 : meaning_of (codes "tile A 9 1" ++ 10 ∷ tiles_from_b ++ rows_to_7 ++ rows_from_9 ++ parameters) ≡ Err (at_line 0 why.Missing)
+no_row_8 : meaning_of (codes "tile A 9 1" ++ 10 ∷ tiles_from_b ++ other_rows ++ parameters) ≡ Err (at_line 0 why.Missing)
 unfolding meaning_of parts_in first_bad_line fault_behind whole_fault entries_in entry_in counts_with points_with premiums_with statement_of statement_in tile_in tile_of row_of number_in parameter_in lines_in fields_of premium_of letter_at most_tiles
 no_row_8 = refl
 
@@ -81,60 +78,23 @@ blank_first = refl
 
 -- ---- short texts
 
-unknown : meaning_of (codes "tiles A 9 1") ≡ Err (at_line 1 why.Unknown)
-unfolding meaning_of parts_in first_bad_line fault_behind statement_of statement_in parameter_in lines_in fields_of
-unknown = refl
-
--- empty lines, lines of blanks and lines that begin with # are read over, and counted
-unknown_behind : meaning_of (codes "# tiles" ++ 10 ∷ 13 ∷ 10 ∷ 32 ∷ 9 ∷ 10 ∷ codes "Tile A 9 1") ≡ Err (at_line 4 why.Unknown)
-unfolding meaning_of parts_in first_bad_line fault_behind statement_of statement_in parameter_in lines_in fields_of
-unknown_behind = refl
-
-no_points : meaning_of (codes "tile A 9") ≡ Err (at_line 1 why.Fields)
-unfolding meaning_of parts_in first_bad_line fault_behind statement_of statement_in tile_in lines_in fields_of
-no_points = refl
-
-field_more : meaning_of (codes "bonus 50 50") ≡ Err (at_line 1 why.Fields)
-unfolding meaning_of parts_in first_bad_line fault_behind statement_of statement_in number_in parameter_in lines_in fields_of
-field_more = refl
-
-small_letter : meaning_of (codes "tile a 9 1") ≡ Err (at_line 1 why.Name)
-unfolding meaning_of parts_in first_bad_line fault_behind statement_of statement_in tile_in tile_of letter_at lines_in fields_of
-small_letter = refl
-
-row_16 : meaning_of (codes "row 16 T..d...T...d..T") ≡ Err (at_line 1 why.Name)
-unfolding meaning_of parts_in first_bad_line fault_behind statement_of statement_in row_of lines_in fields_of
-row_16 = refl
-
-code_missing : meaning_of (codes "row 1 T..d...T...d..") ≡ Err (at_line 1 why.Name)
-unfolding meaning_of parts_in first_bad_line fault_behind statement_of statement_in row_of lines_in fields_of
-code_missing = refl
-
-other_code : meaning_of (codes "row 1 T..d...T...d..X") ≡ Err (at_line 1 why.Name)
-unfolding meaning_of parts_in first_bad_line fault_behind statement_of statement_in row_of premium_of lines_in fields_of
-other_code = refl
-
-four_digits : meaning_of (codes "tile A 0009 1") ≡ Err (at_line 1 why.Number)
-unfolding meaning_of parts_in first_bad_line fault_behind statement_of statement_in tile_in tile_of letter_at lines_in fields_of
-four_digits = refl
-
-blank_with_points : meaning_of (codes "tile ? 2 1") ≡ Err (at_line 1 why.Number)
-unfolding meaning_of parts_in first_bad_line fault_behind statement_of statement_in tile_in tile_of lines_in fields_of
-blank_with_points = refl
-
-twice : meaning_of (codes "bonus 50" ++ 10 ∷ codes "bonus 50") ≡ Err (at_line 2 why.Twice)
-unfolding meaning_of parts_in first_bad_line fault_behind statement_of statement_in number_in parameter_in entry_in lines_in fields_of
-twice = refl
-
--- a line with a fault of its own, and about the item of an earlier line, has its own
-number_before_twice : meaning_of (codes "bonus 50" ++ 10 ∷ codes "bonus x") ≡ Err (at_line 2 why.Number)
-unfolding meaning_of parts_in first_bad_line fault_behind statement_of statement_in number_in parameter_in entry_in lines_in fields_of
-number_before_twice = refl
-
-empty : meaning_of [] ≡ Err (at_line 0 why.Missing)
-unfolding meaning_of parts_in first_bad_line fault_behind whole_fault entries_in entry_in statement_of lines_in fields_of
-empty = refl
-
-one_line : meaning_of (codes "bonus 50") ≡ Err (at_line 0 why.Missing)
-unfolding meaning_of parts_in first_bad_line fault_behind whole_fault entries_in entry_in statement_of statement_in number_in parameter_in lines_in fields_of
-one_line = refl
+-- the first fault of each text: empty lines, lines of blanks and lines that begin with # are read over, and counted; and a line with a fault of
+-- its own, and about the item of an earlier line, has its own
+first_faults : Agree (
+    (meaning_of (codes "tiles A 9 1"), Err (at_line 1 why.Unknown))
+    ∷ (meaning_of (codes "# tiles" ++ 10 ∷ 13 ∷ 10 ∷ 32 ∷ 9 ∷ 10 ∷ codes "Tile A 9 1"), Err (at_line 4 why.Unknown))
+    ∷ (meaning_of (codes "tile A 9"), Err (at_line 1 why.Fields))
+    ∷ (meaning_of (codes "bonus 50 50"), Err (at_line 1 why.Fields))
+    ∷ (meaning_of (codes "tile a 9 1"), Err (at_line 1 why.Name))
+    ∷ (meaning_of (codes "row 16 T..d...T...d..T"), Err (at_line 1 why.Name))
+    ∷ (meaning_of (codes "row 1 T..d...T...d.."), Err (at_line 1 why.Name))
+    ∷ (meaning_of (codes "row 1 T..d...T...d..X"), Err (at_line 1 why.Name))
+    ∷ (meaning_of (codes "tile A 0009 1"), Err (at_line 1 why.Number))
+    ∷ (meaning_of (codes "tile ? 2 1"), Err (at_line 1 why.Number))
+    ∷ (meaning_of (codes "bonus 50" ++ 10 ∷ codes "bonus 50"), Err (at_line 2 why.Twice))
+    ∷ (meaning_of (codes "bonus 50" ++ 10 ∷ codes "bonus x"), Err (at_line 2 why.Number))
+    ∷ (meaning_of [], Err (at_line 0 why.Missing))
+    ∷ (meaning_of (codes "bonus 50"), Err (at_line 0 why.Missing))
+    ∷ [])
+unfolding meaning_of parts_in first_bad_line fault_behind statement_of statement_in parameter_in lines_in fields_of tile_in number_in tile_of letter_at row_of premium_of entry_in whole_fault entries_in
+first_faults = refl
