@@ -3,6 +3,7 @@
 use Rattle.std.proofs.Common.{◌≡◌, ℕ, List, [], ◌∷◌, map, Option, Some, None, inr, refl, lit<}
 use Rattle.std.specs.Prelude.{codes}
 use Rattle.std.specs.List.{flat_map}
+use Rattle.check_lists.proofs.Rows.{Agree}
 use Rattle.ref_tiles.specs.declared.tiles.Tile.{Tile}
 use Rattle.ref_tiles.specs.declared.symbols.Symbol.{Symbol}
 use Rattle.ref_tiles.specs.declared.letters.Letter.{Letter}
@@ -64,123 +65,64 @@ abbrev notates : List (Option Tile) → Dir → ℕ → List ℕ → Written
 notates board d at bytes = notation_of board (tiles_of board d at bytes)
 
 -- the faults of texts
-word_names_a_play : text_fails empty_board Across 109 (codes "WORD") ≡ None
+texts_fail : Agree (
+    (text_fails empty_board Across 109 (codes "WORD"), None)
+    ∷ (text_fails empty_board Across 118 (codes "ABC"), Some fault.OffBoard)
+    ∷ (text_fails after_word Across 108 (codes "QUA"), Some fault.Mismatch)
+    ∷ (text_fails after_word Across 109 (codes "...."), Some fault.NoNewTile)
+    ∷ (text_fails after_word Across 0 (codes "ABCDEFGH"), Some fault.TooManyTiles)
+    ∷ (text_fails after_word Across 108 (codes "S"), Some fault.NotWhole)
+    ∷ (text_fails after_word Across 113 (codes "S"), Some fault.NotWhole)
+    ∷ [])
 unfolding text_fault empty_board mismatches text_cells placement_of is_open_ended letter_at
-word_names_a_play = refl
-
-row_is_left : text_fails empty_board Across 118 (codes "ABC") ≡ Some fault.OffBoard
-unfolding text_fault empty_board mismatches text_cells placement_of is_open_ended letter_at
-row_is_left = refl
-
-letter_on_another : text_fails after_word Across 108 (codes "QUA") ≡ Some fault.Mismatch
-unfolding text_fault empty_board mismatches text_cells placement_of is_open_ended letter_at
-letter_on_another = refl
-
-dots_alone : text_fails after_word Across 109 (codes "....") ≡ Some fault.NoNewTile
-unfolding text_fault empty_board mismatches text_cells placement_of is_open_ended letter_at
-dots_alone = refl
-
-eight_tiles : text_fails after_word Across 0 (codes "ABCDEFGH") ≡ Some fault.TooManyTiles
-unfolding text_fault empty_board mismatches text_cells placement_of is_open_ended letter_at
-eight_tiles = refl
-
-front_of_a_word : text_fails after_word Across 108 (codes "S") ≡ Some fault.NotWhole
-unfolding text_fault empty_board mismatches text_cells placement_of is_open_ended letter_at
-front_of_a_word = refl
-
-back_of_a_word : text_fails after_word Across 113 (codes "S") ≡ Some fault.NotWhole
-unfolding text_fault empty_board mismatches text_cells placement_of is_open_ended letter_at
-back_of_a_word = refl
+texts_fail = refl
 
 -- the faults of plays
-word_is_legal : play_fails empty_board Across 109 (codes "WORD") ≡ None
+plays_fail : Agree (
+    (play_fails empty_board Across 109 (codes "WORD"), None)
+    ∷ (play_fails empty_board Across 108 (codes "WORD"), Some fault.MissesCentre)
+    ∷ (play_fails empty_board Across 224 (codes "A"), Some fault.MissesCentre)
+    ∷ (play_fails empty_board Across 112 (codes "A"), Some fault.TooShort)
+    ∷ (play_fails after_word Across 0 (codes "AT"), Some fault.Apart)
+    ∷ (play_fails after_word Across 126 (codes "AT"), None)
+    ∷ [])
 unfolding fault_of empty_board overlaps has_gap has_no_tile misses_centre is_too_short is_apart runs_along stretches_on text_cells placement_of letter_at
-word_is_legal = refl
-
-beside_the_centre : play_fails empty_board Across 108 (codes "WORD") ≡ Some fault.MissesCentre
-unfolding fault_of empty_board overlaps has_gap has_no_tile misses_centre is_too_short is_apart runs_along stretches_on text_cells placement_of letter_at
-beside_the_centre = refl
-
-in_a_corner : play_fails empty_board Across 224 (codes "A") ≡ Some fault.MissesCentre
-unfolding fault_of empty_board overlaps has_gap has_no_tile misses_centre is_too_short is_apart runs_along stretches_on text_cells placement_of letter_at
-in_a_corner = refl
-
-one_letter : play_fails empty_board Across 112 (codes "A") ≡ Some fault.TooShort
-unfolding fault_of empty_board overlaps has_gap has_no_tile misses_centre is_too_short is_apart runs_along stretches_on text_cells placement_of letter_at
-one_letter = refl
-
-far_away : play_fails after_word Across 0 (codes "AT") ≡ Some fault.Apart
-unfolding fault_of empty_board overlaps has_gap has_no_tile misses_centre is_too_short is_apart runs_along stretches_on text_cells placement_of letter_at
-far_away = refl
-
-below_a_word : play_fails after_word Across 126 (codes "AT") ≡ None
-unfolding fault_of empty_board overlaps has_gap has_no_tile misses_centre is_too_short is_apart runs_along stretches_on text_cells placement_of letter_at
-below_a_word = refl
+plays_fail = refl
 
 -- the words, that of the direction first
-word_forms : words_formed Across empty_board (tiles_of empty_board Across 109 (codes "WOrD")) ≡ codes "WORD" ∷ []
+plays_form : Agree (
+    (words_formed Across empty_board (tiles_of empty_board Across 109 (codes "WOrD")), codes "WORD" ∷ [])
+    ∷ (words_formed Across after_word (tiles_of after_word Across 126 (codes "AT")), codes "AT" ∷ codes "RA" ∷ codes "DT" ∷ [])
+    ∷ (words_formed Across after_at (tiles_of after_at Across 125 (codes "E..")), codes "EAT" ∷ codes "OE" ∷ [])
+    ∷ (words_formed Down after_at (tiles_of after_at Down 110 (codes ".E")), codes "OE" ∷ codes "EAT" ∷ [])
+    ∷ [])
 unfolding words_formed letters_of empty_board runs_along stretches_on text_cells placement_of letter_at
-word_forms = refl
-
-at_forms : words_formed Across after_word (tiles_of after_word Across 126 (codes "AT")) ≡ codes "AT" ∷ codes "RA" ∷ codes "DT" ∷ []
-unfolding words_formed letters_of empty_board runs_along stretches_on text_cells placement_of letter_at
-at_forms = refl
-
-eat_forms : words_formed Across after_at (tiles_of after_at Across 125 (codes "E..")) ≡ codes "EAT" ∷ codes "OE" ∷ []
-unfolding words_formed letters_of empty_board runs_along stretches_on text_cells placement_of letter_at
-eat_forms = refl
-
-oe_forms : words_formed Down after_at (tiles_of after_at Down 110 (codes ".E")) ≡ codes "OE" ∷ codes "EAT" ∷ []
-unfolding words_formed letters_of empty_board runs_along stretches_on text_cells placement_of letter_at
-oe_forms = refl
+plays_form = refl
 
 -- the scores
-word_scores : scores empty_board Across 109 (codes "WORD") ≡ 16
+plays_score : Agree (
+    (scores empty_board Across 109 (codes "WORD"), 16)
+    ∷ (scores empty_board Across 109 (codes "WOrD"), 14)
+    ∷ (scores empty_board Across 106 (codes "RETAINS"), 66)
+    ∷ (scores empty_board Across 108 (codes "RETAIN"), 14)
+    ∷ (scores after_word Across 126 (codes "AT"), 9)
+    ∷ (scores after_at Across 125 (codes "E.."), 5)
+    ∷ (scores after_at Down 110 (codes ".E"), 5)
+    ∷ [])
 unfolding score_of letters_score words_factor english english_premiums empty_board runs_along stretches_on text_cells placement_of letter_at
-word_scores = refl
+plays_score = refl
 
-blank_r_scores : scores empty_board Across 109 (codes "WOrD") ≡ 14
-unfolding score_of letters_score words_factor english english_premiums empty_board runs_along stretches_on text_cells placement_of letter_at
-blank_r_scores = refl
-
-seven_tiles_score : scores empty_board Across 106 (codes "RETAINS") ≡ 66
-unfolding score_of letters_score words_factor english english_premiums empty_board runs_along stretches_on text_cells placement_of letter_at
-seven_tiles_score = refl
-
-six_tiles_score : scores empty_board Across 108 (codes "RETAIN") ≡ 14
-unfolding score_of letters_score words_factor english english_premiums empty_board runs_along stretches_on text_cells placement_of letter_at
-six_tiles_score = refl
-
-at_scores : scores after_word Across 126 (codes "AT") ≡ 9
-unfolding score_of letters_score words_factor english english_premiums empty_board runs_along stretches_on text_cells placement_of letter_at
-at_scores = refl
-
-eat_scores : scores after_at Across 125 (codes "E..") ≡ 5
-unfolding score_of letters_score words_factor english english_premiums empty_board runs_along stretches_on text_cells placement_of letter_at
-eat_scores = refl
-
-oe_scores : scores after_at Down 110 (codes ".E") ≡ 5
-unfolding score_of letters_score words_factor english english_premiums empty_board runs_along stretches_on text_cells placement_of letter_at
-oe_scores = refl
-
--- the notations: a blank is a small letter, an old tile is a dot
-word_is_written : notates empty_board Across 109 (codes "WOrD") ≡ written Across 109 (codes "WOrD")
+-- The notations: a blank is a small letter, an old tile is a dot. A lone tile is written across where its run across has
+-- two tiles, whichever text put it down, and else down: what F8 `.E` puts down is 9F `E..`, and an A below the W of 8E
+-- WORD, alone in its row, is E8 `.A`.
+plays_are_written : Agree (
+    (notates empty_board Across 109 (codes "WOrD"), written Across 109 (codes "WOrD"))
+    ∷ (notates after_at Across 125 (codes "E.."), written Across 125 (codes "E.."))
+    ∷ (notates after_at Down 110 (codes ".E"), written Across 125 (codes "E.."))
+    ∷ (notates after_word Across 124 (codes "A"), written Down 109 (codes ".A"))
+    ∷ [])
 unfolding notation_of empty_board runs_along stretches_on text_cells placement_of letter_at
-word_is_written = refl
-
-eat_is_written : notates after_at Across 125 (codes "E..") ≡ written Across 125 (codes "E..")
-unfolding notation_of empty_board runs_along stretches_on text_cells placement_of letter_at
-eat_is_written = refl
-
--- A lone tile is written across where its run across has two tiles, whichever text put it down, and else down: what
--- F8 `.E` puts down is 9F `E..`, and an A below the W of 8E WORD, alone in its row, is E8 `.A`.
-oe_is_written_across : notates after_at Down 110 (codes ".E") ≡ written Across 125 (codes "E..")
-unfolding notation_of empty_board runs_along stretches_on text_cells placement_of letter_at
-oe_is_written_across = refl
-
-lone_tile_is_written_down : notates after_word Across 124 (codes "A") ≡ written Down 109 (codes ".A")
-unfolding notation_of empty_board runs_along stretches_on text_cells placement_of letter_at
-lone_tile_is_written_down = refl
+plays_are_written = refl
 
 -- A new tile on 8H between an A on 8G and an A on 8I: across it makes one run of three tiles, two points of them old, and
 -- an S there scores three points on the double word score of the centre. Down it makes no run.
@@ -190,17 +132,13 @@ between_two = with_tiles (with_tiles empty_board (tiles_of empty_board Across 11
 abbrev letter_s : Letter
 letter_s = record { index = 18; in_range = lit< tt }
 
-s_crosses : cross_words Across between_two 112 (letter_tile letter_s) ≡ codes "ASA" ∷ []
+s_crosses : Agree (
+    (cross_words Across between_two 112 (letter_tile letter_s), codes "ASA" ∷ [])
+    ∷ (cross_words Across between_two 112 (blank_tile letter_s), codes "ASA" ∷ [])
+    ∷ (cross_words Down between_two 112 (letter_tile letter_s), [])
+    ∷ [])
 unfolding letters_of empty_board stretches_on text_cells placement_of letter_at
 s_crosses = refl
-
-blank_s_crosses : cross_words Across between_two 112 (blank_tile letter_s) ≡ codes "ASA" ∷ []
-unfolding letters_of empty_board stretches_on text_cells placement_of letter_at
-blank_s_crosses = refl
-
-s_has_no_word_down : cross_words Down between_two 112 (letter_tile letter_s) ≡ []
-unfolding letters_of empty_board stretches_on text_cells placement_of letter_at
-s_has_no_word_down = refl
 
 two_points_are_old : map (old_points english between_two) (cross_runs Across between_two 112 (letter_tile letter_s)) ≡ 2 ∷ []
 unfolding english english_premiums empty_board stretches_on text_cells placement_of letter_at

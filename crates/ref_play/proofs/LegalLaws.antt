@@ -49,7 +49,8 @@ dir_cases Across Down = inr refl
 dir_cases Down Across = inr refl
 dir_cases Down Down = inl refl
 
-place_follows : (d : Dir) (a b : ℕ) → line_of d a ≡ line_of d b → a ≤ b → place_of d a ≤ place_of d b
+-- along a line, a square after another has a place after its place
+pub place_follows : (d : Dir) (a b : ℕ) → line_of d a ≡ line_of d b → a ≤ b → place_of d a ≤ place_of d b
 place_follows d a b l h =
     ⊎_elim
     (λ (e : a ≡ b). let same = ap (place_of d) e in omega arith)

@@ -31,6 +31,7 @@ pub fn law_of_undoing()
 
 /// A legal placement has one notation: it lies in one run along the direction in which it is written, the text on that
 /// run has no fault and names the placement, and no other placement has the same notation.
+#[tactic(auto, using(crate::proofs::Naming::notation_tells))]
 pub fn law_of_notations()
     ensures along { WrittenAlongItsRun }
     ensures read_back { NotationsReadBack }
@@ -40,6 +41,7 @@ pub fn law_of_notations()
 /// The order of plays by their notations is a strict total order on the legal placements of a board: none comes before
 /// itself, what comes before a placement comes before all that this one comes before, and of two that differ one
 /// comes before the other.
+#[tactic(auto, using(crate::proofs::Ordering::irreflexive, crate::proofs::Ordering::transitive, crate::proofs::Ordering::one_first))]
 pub fn law_of_before()
     ensures irreflexive { NoneBeforeItself }
     ensures transitive { BeforeIsTransitive }
@@ -51,6 +53,7 @@ pub fn law_of_before()
 /// The World's Fastest Scrabble Program). Its words are that of the stretch, where it has two tiles, and then the cross
 /// word of each new tile, which the board and that tile alone tell, and whether the tile is a blank does not matter.
 /// Its score is that of the stretch, those of the cross runs, and the bonus.
+#[tactic(auto, using(crate::proofs::PlayLines::score_of_lines, crate::proofs::PlayLines::blanks_alike))]
 pub fn law_of_lines()
     ensures sound { LegalIsSound }
     ensures words { WordsAreOfLines }

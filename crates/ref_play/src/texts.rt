@@ -1,12 +1,7 @@
 //! The play that a text names.
-ghost use Rattle.std.specs.Prelude.{◌≡◌, ◌+◌, ◌<◌, ◌≤◌, length, Some, None, IfErr, IfOk};
-ghost use Rattle.std.specs.List.{list_all};
-ghost use Rattle.ref_board.specs.Lines.{line_of, place_of};
-ghost use Rattle.ref_board.specs.Cells.{occupied_on};
-ghost use Rattle.ref_board.specs.Runs.{IsWhole};
-ghost use Rattle.ref_play.specs.Placements.{with_tiles};
-ghost use Rattle.ref_play.specs.Formed.{along};
-ghost use Rattle.ref_play.specs.Texts.{symbol_fits, tile_of, fits_board, text_cells, placement_of, is_open_ended, text_fault};
+ghost use Rattle.std.specs.{Prelude.{◌≡◌, ◌+◌, ◌<◌, ◌≤◌, length, Some, None, IfErr, IfOk}, List.{list_all}};
+ghost use Rattle.ref_board.specs.{Lines.{line_of, place_of}, Cells.{occupied_on}, Runs.{IsWhole}};
+ghost use Rattle.ref_play.specs.{Placements.{with_tiles}, Formed.{along}, Texts.{symbol_fits, tile_of, fits_board, text_cells, placement_of, is_open_ended, text_fault}};
 
 use crate::faults::PlayFault;
 use crate::placed::Placed;

@@ -1,14 +1,7 @@
 //! The notation of a play, and which of two comes first.
 ghost use Rattle.std.specs.Prelude.{◌≡◌, ◌↔◌, true, IsTrue, [], ◌∷◌};
-ghost use Rattle.ref_board.specs.declared.directions.Dir.TheVariants.{Across};
-ghost use Rattle.ref_board.specs.Cells.{holds};
-ghost use Rattle.ref_board.specs.Runs.{IsRunThrough};
-ghost use Rattle.ref_play.specs.Placements.{with_tiles, are_in_line};
-ghost use Rattle.ref_play.specs.Formed.{runs_along};
-ghost use Rattle.ref_play.specs.Words.{IsWithin};
-ghost use Rattle.ref_play.specs.Legality.{IsLegal};
-ghost use Rattle.ref_play.specs.Directions.{direction_of};
-ghost use Rattle.ref_play.specs.Notations.{symbol_by, symbol_for, tile_in, text_on, notation_of, written, ComesBefore};
+ghost use Rattle.ref_board.specs.{declared.directions.Dir.TheVariants.{Across}, Cells.{holds}, Runs.{IsRunThrough}};
+ghost use Rattle.ref_play.specs.{Placements.{with_tiles, are_in_line}, Formed.{runs_along}, Words.{IsWithin}, Legality.{IsLegal}, Directions.{direction_of}, Notations.{symbol_by, symbol_for, tile_in, text_on, notation_of, written, ComesBefore}};
 
 use crate::judging::laid;
 use crate::notations::Notation;
