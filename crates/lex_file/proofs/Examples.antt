@@ -1,6 +1,7 @@
 -- Files, their languages and their faults as the definitions give them, computed.
 use Rattle.std.proofs.Common.{◌≡◌, ℕ, Bool, true, false, List, [], ◌∷◌, ◌++◌, Some, None, map, take, drop, refl}
 use Rattle.std.specs.Prelude.{codes, ◌-◌, ◌==◌, if◌then◌else◌}
+use Rattle.check_lists.proofs.Rows.{Agree}
 use Rattle.lex_file.specs.declared.faults.FileFault.TheVariants as why
 use Rattle.lex_file.specs.FileWords.{words_in}
 use Rattle.lex_file.specs.Nodes.{run_of, start_at}
@@ -65,68 +66,24 @@ at_counts : (word_count_of at_file ∷ arc_count_of at_file ∷ []) ≡ 1 ∷ 5 
 unfolding words_in arc_count_of
 at_counts = refl
 
--- ---- changes of the file of AT, and their faults
-
-no_byte : fault_of ([]) ≡ Some why.Short
+-- changes of the file of AT, and their faults
+faults_of_changes : Agree (
+    (fault_of ([]), Some why.Short)
+    ∷ (fault_of (take 15 at_file), Some why.Short)
+    ∷ (fault_of (take 16 at_file), Some why.Length)
+    ∷ (fault_of (take 35 at_file), Some why.Length)
+    ∷ (fault_of (at_file ++ 0 ∷ []), Some why.Length)
+    ∷ (fault_of (0x48 ∷ drop 1 at_file), Some why.Magic)
+    ∷ (fault_of (header 5 5 1 ++ arcs_of_at), Some why.Root)
+    ∷ (fault_of (header 5 0 1 ++ arcs_of_at), Some why.Root)
+    ∷ (fault_of (header 5 6 1 ++ arcs_of_at), Some why.Root)
+    ∷ (fault_of (header 0 1 0), Some why.Root)
+    ∷ (fault_of (header 5 4 1 ++ word 0x7b 0 ++ drop 20 at_file), Some why.Label)
+    ∷ (fault_of (take 32 at_file ++ word 0xc1 1), Some why.Order)
+    ∷ (fault_of (take 20 at_file ++ word 0x40 1 ++ drop 24 at_file), Some why.Target)
+    ∷ (fault_of (take 32 at_file ++ word 0x54 2), Some why.Target)
+    ∷ (fault_of (header 5 4 1 ++ word 0x54 0 ++ drop 20 at_file), Some why.DeadArc)
+    ∷ (fault_of (take 32 at_file ++ word 0x94 1), Some why.OpenRun)
+    ∷ [])
 unfolding fault_of form_fault header_fault body_fault arcs_fault arc_fault words_in start_at
-no_byte = refl
-
-fifteen_bytes : fault_of (take 15 at_file) ≡ Some why.Short
-unfolding fault_of form_fault header_fault body_fault arcs_fault arc_fault words_in start_at
-fifteen_bytes = refl
-
-sixteen_bytes : fault_of (take 16 at_file) ≡ Some why.Length
-unfolding fault_of form_fault header_fault body_fault arcs_fault arc_fault words_in start_at
-sixteen_bytes = refl
-
-last_byte_missing : fault_of (take 35 at_file) ≡ Some why.Length
-unfolding fault_of form_fault header_fault body_fault arcs_fault arc_fault words_in start_at
-last_byte_missing = refl
-
-byte_more : fault_of (at_file ++ 0 ∷ []) ≡ Some why.Length
-unfolding fault_of form_fault header_fault body_fault arcs_fault arc_fault words_in start_at
-byte_more = refl
-
-other_magic : fault_of (0x48 ∷ drop 1 at_file) ≡ Some why.Magic
-unfolding fault_of form_fault header_fault body_fault arcs_fault arc_fault words_in start_at
-other_magic = refl
-
-root_in_a_node : fault_of (header 5 5 1 ++ arcs_of_at) ≡ Some why.Root
-unfolding fault_of form_fault header_fault body_fault arcs_fault arc_fault words_in start_at
-root_in_a_node = refl
-
-no_root : fault_of (header 5 0 1 ++ arcs_of_at) ≡ Some why.Root
-unfolding fault_of form_fault header_fault body_fault arcs_fault arc_fault words_in start_at
-no_root = refl
-
-root_past_the_end : fault_of (header 5 6 1 ++ arcs_of_at) ≡ Some why.Root
-unfolding fault_of form_fault header_fault body_fault arcs_fault arc_fault words_in start_at
-root_past_the_end = refl
-
-root_of_no_arcs : fault_of (header 0 1 0) ≡ Some why.Root
-unfolding fault_of form_fault header_fault body_fault arcs_fault arc_fault words_in start_at
-root_of_no_arcs = refl
-
-label_27 : fault_of (header 5 4 1 ++ word 0x7b 0 ++ drop 20 at_file) ≡ Some why.Label
-unfolding fault_of form_fault header_fault body_fault arcs_fault arc_fault words_in start_at
-label_27 = refl
-
-label_repeated : fault_of (take 32 at_file ++ word 0xc1 1) ≡ Some why.Order
-unfolding fault_of form_fault header_fault body_fault arcs_fault arc_fault words_in start_at
-label_repeated = refl
-
-target_ahead : fault_of (take 20 at_file ++ word 0x40 1 ++ drop 24 at_file) ≡ Some why.Target
-unfolding fault_of form_fault header_fault body_fault arcs_fault arc_fault words_in start_at
-target_ahead = refl
-
-target_own_node : fault_of (take 32 at_file ++ word 0x54 2) ≡ Some why.Target
-unfolding fault_of form_fault header_fault body_fault arcs_fault arc_fault words_in start_at
-target_own_node = refl
-
-dead_arc : fault_of (header 5 4 1 ++ word 0x54 0 ++ drop 20 at_file) ≡ Some why.DeadArc
-unfolding fault_of form_fault header_fault body_fault arcs_fault arc_fault words_in start_at
-dead_arc = refl
-
-open_run : fault_of (take 32 at_file ++ word 0x94 1) ≡ Some why.OpenRun
-unfolding fault_of form_fault header_fault body_fault arcs_fault arc_fault words_in start_at
-open_run = refl
+faults_of_changes = refl

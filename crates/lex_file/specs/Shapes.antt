@@ -71,23 +71,23 @@ arcs_fault words (suc place) = option_or (arcs_fault words place) (arc_fault wor
 unfoldable pub body_fault : List ℕ → Option FileFault
 body_fault words = option_or (arcs_fault words (length words)) (passes (begins words (length words)) why.OpenRun)
 
--- the faults of the header: too many arcs or a length that is not that of the arcs, and a root that is no node
-unfoldable pub header_fault : List ℕ → Option FileFault
-header_fault bytes =
+-- the faults of a header: more than these many arcs or words, or a length that is not that of them, and a root that is no node
+abbrev pub header_fault_by : (most : ℕ) (has_root : Bool) → List ℕ → Option FileFault
+header_fault_by most has_root bytes =
     first_fault
-    (passes (nat_le (count_of bytes) most_arcs && length bytes == header_bytes + 4 * count_of bytes) why.Length
-    ∷ passes (is_node (body_of bytes) (root_of bytes)) why.Root
+    (passes (nat_le (count_of bytes) most && length bytes == header_bytes + 4 * count_of bytes) why.Length
+    ∷ passes has_root why.Root
     ∷ [])
+
+-- those of the header of arcs
+unfoldable pub header_fault : List ℕ → Option FileFault
+header_fault bytes = header_fault_by most_arcs (is_node (body_of bytes) (root_of bytes)) bytes
 
 -- ---- GAD2
 
--- the faults of the header: too many words or a length that is not that of the words, and a root that is no node
+-- the faults of the header of words
 unfoldable pub mask_header_fault : List ℕ → Option FileFault
-mask_header_fault bytes =
-    first_fault
-    (passes (nat_le (count_of bytes) most_body_words && length bytes == header_bytes + 4 * count_of bytes) why.Length
-    ∷ passes (is_mask_node (body_of bytes) (root_of bytes)) why.Root
-    ∷ [])
+mask_header_fault bytes = header_fault_by most_body_words (is_mask_node (body_of bytes) (root_of bytes)) bytes
 
 -- ---- every format
 

@@ -15,7 +15,7 @@ use Rattle.lex_file.specs.Formats.{header_bytes, most_arcs, most_body_words}
 use Rattle.lex_file.specs.Nodes.{node_at, begins, is_node}
 use Rattle.lex_file.specs.Masks.{is_mask_node, HasRoom}
 use Rattle.lex_file.specs.MaskShapes.{nodes_fault}
-use Rattle.lex_file.specs.Shapes.{format_of, arcs_fault, body_fault, header_fault, mask_header_fault, form_fault, fault_of, root_of, count_of, nodes_by, names_node, file_node, is_file_node}
+use Rattle.lex_file.specs.Shapes.{format_of, arcs_fault, body_fault, header_fault_by, header_fault, mask_header_fault, form_fault, fault_of, root_of, count_of, nodes_by, names_node, file_node, is_file_node}
 use Rattle.lex_file.specs.Lexicons.{is_label}
 use Rattle.lex_file.specs.Languages.{tail_in, file_tail}
 use Rattle.lex_file.specs.Graphs.{IsSoundGraph, labels_in, bounded_in}
@@ -58,6 +58,22 @@ pub record IsFormed (bytes : List ℕ) : Type 0 where
   pub named : format_of bytes ≡ Some format
   pub sound : IsSoundBy format bytes
 
+-- what a header without a fault says
+record IsSoundHeader (most : ℕ) (has_root : Bool) (bytes : List ℕ) : Type 0 where
+  pub few : count_of bytes ≤ most
+  pub size : length bytes ≡ header_bytes + 4 * count_of bytes
+  pub root : has_root ≡ true
+
+header_sound : (most : ℕ) (has_root : Bool) (bytes : List ℕ) → header_fault_by most has_root bytes ≡ None → IsSoundHeader most has_root bytes
+header_sound most has_root bytes none =
+    let size = checked (leb (count_of bytes) most && eqb (length bytes) (header_bytes + 4 * count_of bytes)) why.Length _ none in
+    let sizes = and_parts (leb (count_of bytes) most) (eqb (length bytes) (header_bytes + 4 * count_of bytes)) size.0 in
+    record {
+      few = leb-true (count_of bytes) most sizes.0;
+      size = eqb-true (length bytes) (header_bytes + 4 * count_of bytes) sizes.1;
+      root = (checked has_root why.Root _ size.1).0;
+    }
+
 not_some : (o : Option FileFault) → IsTrue (is_none o) → o ≡ None
 not_some None e = refl
 not_some (Some fault) e = absurd (false≢true e)
@@ -70,36 +86,22 @@ formed bytes e = short (ltb (length bytes) header_bytes) refl (not_some (fault_o
     by None is long h = absurd cc
     by (Some form.Gad1) is long h =
         let parts = or_none (header_fault bytes) (body_fault (body_of bytes)) h in
-        let size = checked (leb (count_of bytes) most_arcs && eqb (length bytes) (header_bytes + 4 * count_of bytes)) why.Length _ parts.0 in
-        let root = checked (is_node (body_of bytes) (root_of bytes)) why.Root _ size.1 in
+        let header = header_sound most_arcs (is_node (body_of bytes) (root_of bytes)) bytes parts.0 in
         let arcs = or_none (arcs_fault (body_of bytes) (length (body_of bytes))) (passes (begins (body_of bytes) (length (body_of bytes))) why.OpenRun) parts.1 in
-        let sizes = and_parts (leb (count_of bytes) most_arcs) (eqb (length bytes) (header_bytes + 4 * count_of bytes)) size.0 in
         record {
           long = long;
           format = form.Gad1;
           named = is;
-          sound = record {
-            few = leb-true (count_of bytes) most_arcs sizes.0;
-            size = eqb-true (length bytes) (header_bytes + 4 * count_of bytes) sizes.1;
-            root = root.0;
-            fine = arcs.0;
-          };
+          sound = record { few = header.few; size = header.size; root = header.root; fine = arcs.0 };
         }
     by (Some form.Gad2) is long h =
         let parts = or_none (mask_header_fault bytes) (nodes_fault (body_of bytes) (length (body_of bytes)) 0) h in
-        let size = checked (leb (count_of bytes) most_body_words && eqb (length bytes) (header_bytes + 4 * count_of bytes)) why.Length _ parts.0 in
-        let root = checked (is_mask_node (body_of bytes) (root_of bytes)) why.Root _ size.1 in
-        let sizes = and_parts (leb (count_of bytes) most_body_words) (eqb (length bytes) (header_bytes + 4 * count_of bytes)) size.0 in
+        let header = header_sound most_body_words (is_mask_node (body_of bytes) (root_of bytes)) bytes parts.0 in
         record {
           long = long;
           format = form.Gad2;
           named = is;
-          sound = record {
-            few = leb-true (count_of bytes) most_body_words sizes.0;
-            size = eqb-true (length bytes) (header_bytes + 4 * count_of bytes) sizes.1;
-            root = root.0;
-            fine = parts.1;
-          };
+          sound = record { few = header.few; size = header.size; root = header.root; fine = parts.1 };
         }
 
     short : (under : Bool) → ltb (length bytes) header_bytes ≡ under → cond under (Some why.Short) (form_fault (format_of bytes) bytes) ≡ None → IsFormed bytes
