@@ -3,6 +3,7 @@
 use Rattle.std.proofs.Common.{◌≡◌, ℕ, Bool, true, false, List, [], ◌∷◌, map, Option, Some, refl, lit<}
 use Rattle.std.specs.Prelude.{codes}
 use Rattle.std.specs.List.{list_all}
+use Rattle.check_lists.proofs.Rows.{Agree}
 use Rattle.ref_tiles.specs.declared.tiles.Tile.{Tile}
 use Rattle.ref_tiles.specs.declared.letters.Letter.{Letter}
 use Rattle.ref_tiles.specs.English.{english}
@@ -31,31 +32,23 @@ letter_t = record { index = 19; in_range = lit< tt }
 abbrev allowed : ℕ → List Bool
 allowed square = map (λ l. list_all (is_listed four_words) (cross_words Across two_tiles square (letter_tile l))) (letter_a ∷ letter_b ∷ letter_t ∷ [])
 
-before_both : allowed 110 ≡ false ∷ false ∷ true ∷ []
+-- before, between and behind the tiles, and a row below, where no tile lies beside: any letter
+letters_allowed : Agree (
+    (allowed 110, false ∷ false ∷ true ∷ [])
+    ∷ (allowed 112, false ∷ false ∷ false ∷ [])
+    ∷ (allowed 114, false ∷ false ∷ true ∷ [])
+    ∷ (allowed 127, true ∷ true ∷ true ∷ [])
+    ∷ [])
 unfolding is_listed empty_board stretches_on letters_of
-before_both = refl
-
-between_both : allowed 112 ≡ false ∷ false ∷ false ∷ []
-unfolding is_listed empty_board stretches_on letters_of
-between_both = refl
-
-behind_both : allowed 114 ≡ false ∷ false ∷ true ∷ []
-unfolding is_listed empty_board stretches_on letters_of
-behind_both = refl
-
--- a row below, no tile lies beside: any letter
-apart : allowed 127 ≡ true ∷ true ∷ true ∷ []
-unfolding is_listed empty_board stretches_on letters_of
-apart = refl
+letters_allowed = refl
 
 -- the points beside, in a play down, and in a play across
-sides_down : map (side_points english Down two_tiles) (110 ∷ 112 ∷ 114 ∷ 127 ∷ []) ≡ 1 ∷ 2 ∷ 1 ∷ 0 ∷ []
+sides : Agree (
+    (map (side_points english Down two_tiles) (110 ∷ 112 ∷ 114 ∷ 127 ∷ []), 1 ∷ 2 ∷ 1 ∷ 0 ∷ [])
+    ∷ (map (side_points english Across two_tiles) (110 ∷ 112 ∷ 114 ∷ 127 ∷ []), 0 ∷ 0 ∷ 0 ∷ 0 ∷ [])
+    ∷ [])
 unfolding english empty_board stretches_on
-sides_down = refl
-
-sides_across : map (side_points english Across two_tiles) (110 ∷ 112 ∷ 114 ∷ 127 ∷ []) ≡ 0 ∷ 0 ∷ 0 ∷ 0 ∷ []
-unfolding english empty_board stretches_on
-sides_across = refl
+sides = refl
 
 -- blanks count nothing
 blanks_beside : side_points english Down (with_tile empty_board 111 (Some (blank_tile letter_b))) 112 ≡ 0

@@ -12,7 +12,8 @@ use Rattle.ref_play.specs.declared.placed.Placed.{Placed}
 use Rattle.ref_play.specs.Placements.{is_play, covers}
 use Rattle.ref_play.specs.Legality.{last_square}
 use Rattle.ref_play.proofs.RangeLaws.{Contains-cases, Contains-here, Contains-there}
-use Rattle.ref_play.proofs.LineLaws.{line_of-square_at, place_of-square_at, line_below, place_rises}
+use Rattle.ref_play.proofs.LineLaws.{line_of-square_at, place_of-square_at, line_below}
+use Rattle.ref_play.proofs.LegalLaws.{place_follows}
 use Rattle.ref_play.proofs.PlaceLaws.{is_play-parts, on_one_line, behind_first, before_last, last_is_there}
 use Rattle.ref_play.proofs.FormedRuns.{same_by_lines, covering, none_contained}
 use Rattle.ref_play.proofs.Laying.{on_same_line}
@@ -100,13 +101,6 @@ module _ (rules : Rules) (words : List (List ℕ)) (d : Dir) (before after : Lis
 
 -- ---- the line of the play
 
-follows : (d : Dir) (a b : ℕ) → line_of d a ≡ line_of d b → a ≤ b → place_of d a ≤ place_of d b
-follows d a b l h =
-    ⊎_elim
-    (λ (e : a ≡ b). let same = ap (place_of d) e in omega arith)
-    (λ (ne : a ≡ b → ⊥). let less = place_rises d a b l (omega arith) in omega arith)
-    (cases_eq a b)
-
 last_at : (first : Placed) (ps : List Placed) (d : Placed) → (get_or (first ∷ ps) (length ps) d).square ≡ last_square first ps
 last_at first [] d = refl
 last_at first (q ∷ ps) d = last_at q ps d
@@ -122,8 +116,8 @@ spans d first ps last play is_last q has =
     let low = behind_first first ps q parts.2 has in
     let high = before_last first ps q parts.2 has in (
       on,
-      follows d first.square q.square (sym on) low,
-      follows d q.square last (on ∙ sym on_last) (omega arith),
+      place_follows d first.square q.square (sym on) low,
+      place_follows d q.square last (on ∙ sym on_last) (omega arith),
     )
 
 -- the same of a list, by the places of its first and its last in it
