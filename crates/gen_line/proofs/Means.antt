@@ -10,20 +10,16 @@ use Rattle.gen_line.specs.Model.{zeros, after, longer, may, less, starts_free}
 use Rattle.gen_line.proofs.Tests.{same, fits_right, fits_turn, behind_zeros, fits_left}
 use Rattle.gen_line.proofs.Meaning.{word, shape, rack_ok, rack_after, no_bar, at_anchor}
 
--- no tile is taken for no entries
-rack_ok-zeros : (n : ℕ) (rack os : List ℕ) → same os (zeros n) ≡ true → rack_ok rack os ≡ true
-rack_ok-zeros n rack [] e = refl
-rack_ok-zeros zero rack (d ∷ os) e = absurd (false≢true e)
-rack_ok-zeros (suc n) rack (d ∷ os) e =
+-- no tile is taken for no entries: the rack has them, and stays
+rack-zeros : (n : ℕ) (rack os : List ℕ) → same os (zeros n) ≡ true → (rack_ok rack os ≡ true) × (rack_after rack os ≡ rack)
+rack-zeros n rack [] e = (refl, refl)
+rack-zeros zero rack (d ∷ os) e = absurd (false≢true e)
+rack-zeros (suc n) rack (d ∷ os) e =
     let parts = and_parts (d == 0) (same os (zeros n)) e in
-    rw parts.0 (rack_ok-zeros n rack os parts.1)
+    rw parts.0 (rack-zeros n rack os parts.1)
 
-rack_after-zeros : (n : ℕ) (rack os : List ℕ) → same os (zeros n) ≡ true → rack_after rack os ≡ rack
-rack_after-zeros n rack [] e = refl
-rack_after-zeros zero rack (d ∷ os) e = absurd (false≢true e)
-rack_after-zeros (suc n) rack (d ∷ os) e =
-    let parts = and_parts (d == 0) (same os (zeros n)) e in
-    rw parts.0 (rack_after-zeros n rack os parts.1)
+rack_ok-zeros : (n : ℕ) (rack os : List ℕ) → same os (zeros n) ≡ true → rack_ok rack os ≡ true
+rack_ok-zeros n rack os e = (rack-zeros n rack os e).0
 
 -- ---- to the right
 
@@ -151,7 +147,7 @@ fits_left-is g (Free m ∷ ls) cs rack (e ∷ xs) ys size = by (e == 0) (omega a
         behind_zeros-append (length ls) (fits_turn g cs rack) xs ys same_size
         ∙ ⊎_elim
         (λ (z : same xs (zeros (length ls)) ≡ true).
-        rw (z, rack_ok-zeros (length ls) rack xs z, rack_after-zeros (length ls) rack xs z))
+        rw (z, rack_ok-zeros (length ls) rack xs z, (rack-zeros (length ls) rack xs z).1))
         (λ (z : same xs (zeros (length ls)) ≡ false). rw z)
         (cases_Bool (same xs (zeros (length ls))))
     by false same_size h =
