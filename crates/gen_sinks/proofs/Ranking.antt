@@ -8,7 +8,7 @@ none : {A : Type 0} (z : A) → Contains [] z → ⊥
 none z h = let lt = h.1 in absurd (omega arith)
 
 -- elements of the front are elements
-front_in : {A : Type 0} (n : ℕ) (xs : List A) (z : A) → Contains (take n xs) z → Contains xs z
+pub front_in : {A : Type 0} (n : ℕ) (xs : List A) (z : A) → Contains (take n xs) z → Contains xs z
 front_in zero xs z h = absurd (none z h)
 front_in (suc n) [] z h = absurd (none z h)
 front_in (suc n) (x ∷ xs) z h =

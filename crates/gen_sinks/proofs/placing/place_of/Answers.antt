@@ -42,15 +42,12 @@ returns-then-ranks_before-clause-place c =
 
 pub loop-place-preserved : goal.loop-place-preserved
 loop-place-preserved c k d lt =
-    let board = c.args.board.now in
     let kept = c.args.kept.now in
-    let play = c.args.play.now in
     let place = c.loop-place.place in
     let scored = c.index-kept-place.result in
-    let score = to_z w32 (of_z w32 c.args.score) in
     ⊎_elim
     (λ (same : k ≡ place).
-    ap (λ (p : Play × ℤ). ranks_before board (seen play score) (seen_pair p))
+    ap (λ (p : Play × ℤ). ranks_before c.args.board.now (seen c.args.play.now (to_z w32 (of_z w32 c.args.score))) (seen_pair p))
     (ap (λ (j : ℕ). slice_index_or kept j d) same ∙ get_or_default kept place d scored c.loop-place-test.true ∙ sym c.index-kept-place.is)
     ∙ sym c.ranks_before.ensures ∙ c.if-ranks_before.false)
     (λ (other : k ≡ place → ⊥). c.loop-place.invariant k d (omega arith))
