@@ -215,6 +215,14 @@ chosen : (anchor : Bool) → (let none : List (List ℕ) = [] in if anchor then 
 chosen true = refl
 chosen false = refl
 
+-- the same where the line is that of other cells, and the last of the old tiles has a place of its own
+pub moves_from : (g f : List ℕ → Bool) (line cells : List Cell) (rack : List ℕ) (h last : ℕ) → line ≡ cells → IsSpelt g cells → h < 15
+    → ((label : ℕ) (t : List ℕ) → g (back (olds (drop (h + 1) line)) (label ∷ t)) ≡ f (label ∷ t))
+    → last ≡ h + length (olds (drop (h + 1) line)) → behind_moves f line last rack h ≡ anchor_moves g cells rack h
+moves_from g f line cells rack h last is spelt below same end =
+    ap (λ (n : ℕ). behind_moves f line n rack h) end ∙ same_moves g f line rack h (subst (IsSpelt g) (sym is) spelt) below same
+    ∙ ap (λ (ds : List Cell). anchor_moves g ds rack h) is
+
 -- where no word has the old tiles behind it, an anchor has no moves
 pub no_moves : (g : List ℕ → Bool) (line : List Cell) (rack : List ℕ) (h : ℕ) → IsSpelt g line → h < 15
     → ((label : ℕ) (t : List ℕ) → g (back (olds (drop (h + 1) line)) (label ∷ t)) ≡ false) → anchor_moves g line rack h ≡ []

@@ -56,23 +56,30 @@ unfolding total
 none_used w zero = refl
 none_used w (suc n) = let fewer = none_used w n in omega arith
 
-pub worth_by_kinds : (rules : Rules) (ps : List Placed) → sum_by (worth rules) ps ≡ total (λ k. used ps k * kind_points rules k) 0 27
-worth_by_kinds rules [] = sym (none_used (kind_points rules) 27)
-worth_by_kinds rules (p ∷ ps) =
-    sum_by-cons (worth rules) p ps
-    ∙ ap (λ m. worth rules p + m) (worth_by_kinds rules ps)
-    ∙ ap (λ m. m + total (λ k. used ps k * kind_points rules k) 0 27) (points_by_number rules p.tile.kind)
-    ∙ sym ((one_more (used ps) (kind_points rules) (number_of p.tile.kind) 27).0 (number_low p.tile.kind))
-    ∙ sym (total-same (λ k. used (p ∷ ps) k * kind_points rules k) (λ k. ((if number_of p.tile.kind == k then 1 else 0) + used ps k) * kind_points rules k) 0 27
-    (λ k low high. ap (λ m. m * kind_points rules k) (sum_by-cons (λ (q : Placed). if number_of q.tile.kind == k then 1 else 0) p ps)))
+-- the sum of what the tiles of a placement count, where each counts what its kind does
+sum_by_kinds : (value : Placed → ℕ) (each : ℕ → ℕ) → ((p : Placed) → value p ≡ each (number_of p.tile.kind)) → (ps : List Placed)
+    → sum_by value ps ≡ total (λ k. used ps k * each k) 0 27
+sum_by_kinds value each same [] = sym (none_used each 27)
+sum_by_kinds value each same (p ∷ ps) =
+    sum_by-cons value p ps
+    ∙ ap (λ m. value p + m) (sum_by_kinds value each same ps)
+    ∙ ap (λ m. m + total (λ k. used ps k * each k) 0 27) (same p)
+    ∙ sym ((one_more (used ps) each (number_of p.tile.kind) 27).0 (number_low p.tile.kind))
+    ∙ sym (total-same (λ k. used (p ∷ ps) k * each k) (λ k. ((if number_of p.tile.kind == k then 1 else 0) + used ps k) * each k) 0 27
+    (λ k low high. ap (λ m. m * each k) (sum_by-cons (λ (q : Placed). if number_of q.tile.kind == k then 1 else 0) p ps)))
+
+-- tiles that are on the rack count no more than it
+sum_within : (value : Placed → ℕ) (each : ℕ → ℕ) → ((p : Placed) → value p ≡ each (number_of p.tile.kind)) → (rack : List ℕ) (ps : List Placed)
+    → ((k : ℕ) → used ps k ≤ slice_index rack k) → sum_by value ps ≤ total (λ k. slice_index rack k * each k) 0 27
+sum_within value each same rack ps from =
+    let e = sum_by_kinds value each same ps in
+    let le = total-mono (λ k. used ps k * each k) (λ k. slice_index rack k * each k) 0 27 (λ k low high. mul-le-mul (from k) (omega arith)) in
+    omega arith
 
 -- tiles that are on the rack have no more points above one than it
 pub worth_within : (rules : Rules) (rack : List ℕ) (ps : List Placed) → ((k : ℕ) → used ps k ≤ slice_index rack k) → sum_by (worth rules) ps ≤ rack_points rules rack 27
 unfolding rack_points
-worth_within rules rack ps from =
-    let e = worth_by_kinds rules ps in
-    let le = total-mono (λ k. used ps k * kind_points rules k) (λ k. slice_index rack k * kind_points rules k) 0 27 (λ k low high. mul-le-mul (from k) (omega arith)) in
-    omega arith
+worth_within rules rack ps from = sum_within (worth rules) (kind_points rules) (λ p. points_by_number rules p.tile.kind) rack ps from
 
 -- ---- one for each tile that has points
 abbrev pub one : Rules → Placed → ℕ
@@ -85,23 +92,21 @@ one_by_number rules (kind.Letter l) =
     sym (ap (λ (b : Bool). (if b then 0 else slice_index rules.points l.index) - ((if b then 0 else slice_index rules.points l.index) - 1)) other)
 one_by_number rules kind.Blank = refl
 
-ones_by_kinds : (rules : Rules) (ps : List Placed) → sum_by (one rules) ps ≡ total (λ k. used ps k * kind_one rules k) 0 27
-ones_by_kinds rules [] = sym (none_used (kind_one rules) 27)
-ones_by_kinds rules (p ∷ ps) =
-    sum_by-cons (one rules) p ps
-    ∙ ap (λ m. one rules p + m) (ones_by_kinds rules ps)
-    ∙ ap (λ m. m + total (λ k. used ps k * kind_one rules k) 0 27) (one_by_number rules p.tile.kind)
-    ∙ sym ((one_more (used ps) (kind_one rules) (number_of p.tile.kind) 27).0 (number_low p.tile.kind))
-    ∙ sym (total-same (λ k. used (p ∷ ps) k * kind_one rules k) (λ k. ((if number_of p.tile.kind == k then 1 else 0) + used ps k) * kind_one rules k) 0 27
-    (λ k low high. ap (λ m. m * kind_one rules k) (sum_by-cons (λ (q : Placed). if number_of q.tile.kind == k then 1 else 0) p ps)))
-
 -- no more of them are laid than the rack has
 pub ones_within : (rules : Rules) (rack : List ℕ) (ps : List Placed) → ((k : ℕ) → used ps k ≤ slice_index rack k) → sum_by (one rules) ps ≤ rack_ones rules rack 27
 unfolding rack_ones
-ones_within rules rack ps from =
-    let e = ones_by_kinds rules ps in
-    let le = total-mono (λ k. used ps k * kind_one rules k) (λ k. slice_index rack k * kind_one rules k) 0 27 (λ k low high. mul-le-mul (from k) (omega arith)) in
-    omega arith
+ones_within rules rack ps from = sum_within (one rules) (kind_one rules) (λ p. one_by_number rules p.tile.kind) rack ps from
+
+-- ---- kind by kind
+kinds_more : (rack : List ℕ) (each : ℕ → ℕ) (k value : ℕ) → each k ≡ value
+    → total (λ j. get_or rack j 0 * each j) 0 (k + 1) ≡ total (λ j. get_or rack j 0 * each j) 0 k + get_or rack k 0 * value
+unfolding total
+kinds_more rack each k value is =
+    let next : k + 1 ≡ suc k = omega arith in
+    let at : 0 + k ≡ k = omega arith in
+    ap (λ n. total (λ j. get_or rack j 0 * each j) 0 n) next
+    ∙ ap (λ i. total (λ j. get_or rack j 0 * each j) 0 k + get_or rack i 0 * each i) at
+    ∙ ap (λ m. total (λ j. get_or rack j 0 * each j) 0 k + get_or rack k 0 * m) is
 
 pub ones_none : (rules : Rules) (rack : List ℕ) → rack_ones rules rack 0 ≡ 0
 unfolding rack_ones total
@@ -109,34 +114,23 @@ ones_none rules rack = refl
 
 pub ones_more : (rules : Rules) (rack : List ℕ) (k : ℕ) → k < 26
     → rack_ones rules rack (k + 1) ≡ rack_ones rules rack k + get_or rack k 0 * (get_or rules.points k 0 - (get_or rules.points k 0 - 1))
-unfolding rack_ones total
+unfolding rack_ones
 ones_more rules rack k few =
-    let next : k + 1 ≡ suc k = omega arith in
-    let at : 0 + k ≡ k = omega arith in
-    let letter : kind_one rules k ≡ get_or rules.points k 0 - (get_or rules.points k 0 - 1) =
-    ap (λ (b : Bool). (if b then 0 else get_or rules.points k 0) - ((if b then 0 else get_or rules.points k 0) - 1)) (ne_eqb k 26 (omega arith)) in
-    ap (λ n. total (λ j. get_or rack j 0 * kind_one rules j) 0 n) next
-    ∙ ap (λ j. total (λ j. get_or rack j 0 * kind_one rules j) 0 k + get_or rack j 0 * kind_one rules j) at
-    ∙ ap (λ w. total (λ j. get_or rack j 0 * kind_one rules j) 0 k + get_or rack k 0 * w) letter
+    kinds_more rack (kind_one rules) k (get_or rules.points k 0 - (get_or rules.points k 0 - 1))
+    (ap (λ (b : Bool). (if b then 0 else get_or rules.points k 0) - ((if b then 0 else get_or rules.points k 0) - 1)) (ne_eqb k 26 (omega arith)))
 
 pub ones_all : (rules : Rules) (rack : List ℕ) → rack_ones rules rack 26 ≡ rack_ones rules rack 27
 unfolding rack_ones total
 ones_all rules rack = let none : get_or rack 26 0 * 0 ≡ 0 = omega arith in omega arith
 
--- ---- kind by kind
 pub rack_none : (rules : Rules) (rack : List ℕ) → rack_points rules rack 0 ≡ 0
 unfolding rack_points total
 rack_none rules rack = refl
 
 pub rack_more : (rules : Rules) (rack : List ℕ) (k : ℕ) → k < 26 → rack_points rules rack (k + 1) ≡ rack_points rules rack k + get_or rack k 0 * (get_or rules.points k 0 - 1)
-unfolding rack_points total
+unfolding rack_points
 rack_more rules rack k few =
-    let next : k + 1 ≡ suc k = omega arith in
-    let at : 0 + k ≡ k = omega arith in
-    let letter : kind_points rules k ≡ get_or rules.points k 0 - 1 = ap (λ (b : Bool). (if b then 0 else get_or rules.points k 0) - 1) (ne_eqb k 26 (omega arith)) in
-    ap (λ n. total (λ j. get_or rack j 0 * kind_points rules j) 0 n) next
-    ∙ ap (λ j. total (λ j. get_or rack j 0 * kind_points rules j) 0 k + get_or rack j 0 * kind_points rules j) at
-    ∙ ap (λ w. total (λ j. get_or rack j 0 * kind_points rules j) 0 k + get_or rack k 0 * w) letter
+    kinds_more rack (kind_points rules) k (get_or rules.points k 0 - 1) (ap (λ (b : Bool). (if b then 0 else get_or rules.points k 0) - 1) (ne_eqb k 26 (omega arith)))
 
 -- blanks have no points
 pub rack_all : (rules : Rules) (rack : List ℕ) → rack_points rules rack 26 ≡ rack_points rules rack 27

@@ -7,7 +7,7 @@ use Rattle.gen_sinks.specs.Sinks.{IsFor}
 use Rattle.gen_moves.specs.Telling.{IsFitMove, both_cells, tell}
 use Rattle.gen_moves.specs.Findings.{told}
 use Rattle.gen_moves.specs.OldTiles.{olds, IsSpelt}
-use Rattle.gen_moves.proofs.Behind.{same_moves, no_moves}
+use Rattle.gen_moves.proofs.Behind.{moves_from, no_moves}
 use Rattle.gen_moves.proofs.Fitting.{every_with, took_told}
 use Rattle.gen_moves.specs.Bounds.{place_in}
 use Rattle.gen_moves.specs.Tallies.{AreSmall, IsTallied}
@@ -18,43 +18,31 @@ pub walk_anchor-requires-clause-can : goal.walk_anchor-requires-clause-can
 walk_anchor-requires-clause-can g c =
     let s = c.args.start.now in
     let path = g.L.PathLex.language c.args.lex.now in
-    let front : List ℕ → Bool = strings (g.L.PathLex.tail c.args.lex.now) c.in-Some.at in
     let board = c.args.board.now in
-    let rack = c.args.rack.now in
-    let line = c.cells_of-cells.result.now in
-    let cells = both_cells c.args.across.now c.args.down.now s.dir s.line in
-    let end : c.behind_olds-last.result - 1 ≡ s.place + length (olds (drop (s.place + 1) line)) = omega (arith, c.behind_olds-last.ensures.place) in
-    let same : behind_moves front line (c.behind_olds-last.result - 1) rack s.place ≡ anchor_moves path cells rack s.place =
-    ap (λ (n : ℕ). behind_moves front line n rack s.place) end
-    ∙ same_moves path front line rack s.place (subst (IsSpelt path) (sym c.cells_of-cells.ensures) c.requires.good.spelt) c.requires.good.place c.in-Some.ensures.some
-    ∙ ap (λ (ds : List Cell). anchor_moves path ds rack s.place) c.cells_of-cells.ensures in
+    let moves = anchor_moves path (both_cells c.args.across.now c.args.down.now s.dir s.line) c.args.rack.now s.place in
     let places = place_in c.line_places-places.result in
     let fit = IsFitMove board s.dir s.line in
     let summed = IsTallied c.args.rules.now board s.dir s.line places in
     let asked = IsFor (g.S.Sink.made_for c.args.sink.now) board × AreSmall places in
-    subst (λ (ys : List (List ℕ)). Every (λ y. asked × (fit y × summed y)) ys) (sym same)
-    (every_with asked (λ y. fit y × summed y) (anchor_moves path cells rack s.place) (c.requires.sink, c.line_places-places.ensures.small)
-    (every-both fit summed (anchor_moves path cells rack s.place) c.requires.good.fits (c.requires.good.tallied places (c.line_places-places.ensures.places c.requires.scores))))
+    subst (λ (ys : List (List ℕ)). Every (λ y. asked × (fit y × summed y)) ys) (sym (moves_from path (strings (g.L.PathLex.tail c.args.lex.now) c.in-Some.at) c.cells_of-cells.result.now _ c.args.rack.now s.place (c.behind_olds-last.result - 1)
+    c.cells_of-cells.ensures c.requires.good.spelt c.requires.good.place c.in-Some.ensures.some (omega (arith, c.behind_olds-last.ensures.place))))
+    (every_with asked (λ y. fit y × summed y) moves (c.requires.sink, c.line_places-places.ensures.small)
+    (every-both fit summed moves c.requires.good.fits (c.requires.good.tallied places (c.line_places-places.ensures.places c.requires.scores))))
 
 pub returns-clause-took : goal.returns-clause-took
 returns-clause-took g c =
     let s = c.args.start.now in
     let path = g.L.PathLex.language c.args.lex.now in
-    let front : List ℕ → Bool = strings (g.L.PathLex.tail c.args.lex.now) c.in-Some.at in
     let board = c.args.board.now in
-    let rack = c.args.rack.now in
-    let line = c.cells_of-cells.result.now in
-    let cells = both_cells c.args.across.now c.args.down.now s.dir s.line in
+    let moves = anchor_moves path (both_cells c.args.across.now c.args.down.now s.dir s.line) c.args.rack.now s.place in
     let add = g.S.Sink.add (g.S.Sink.made_for c.args.sink.now) in
     let old = g.S.Sink.items c.args.sink.now in
     let new = g.S.Sink.items c.walk_anchor.new.sink in
-    let end : c.behind_olds-last.result - 1 ≡ s.place + length (olds (drop (s.place + 1) line)) = omega (arith, c.behind_olds-last.ensures.place) in
-    let same : behind_moves front line (c.behind_olds-last.result - 1) rack s.place ≡ anchor_moves path cells rack s.place =
-    ap (λ (n : ℕ). behind_moves front line n rack s.place) end
-    ∙ same_moves path front line rack s.place (subst (IsSpelt path) (sym c.cells_of-cells.ensures) c.requires.good.spelt) c.requires.good.place c.in-Some.ensures.some
-    ∙ ap (λ (ds : List Cell). anchor_moves path ds rack s.place) c.cells_of-cells.ensures in
-    took_told c.args.rules.now board s.dir s.line add old (anchor_moves path cells rack s.place) new c.walk_anchor.result
-    (subst (λ (ys : List (List ℕ)). Took (tell c.args.rules.now board s.dir s.line add) old ys new c.walk_anchor.result) same c.walk_anchor.ensures.took)
+    took_told c.args.rules.now board s.dir s.line add old moves new c.walk_anchor.result
+    (subst (λ (ys : List (List ℕ)). Took (tell c.args.rules.now board s.dir s.line add) old ys new c.walk_anchor.result)
+    (moves_from path (strings (g.L.PathLex.tail c.args.lex.now) c.in-Some.at) c.cells_of-cells.result.now _ c.args.rack.now s.place (c.behind_olds-last.result - 1)
+    c.cells_of-cells.ensures c.requires.good.spelt c.requires.good.place c.in-Some.ensures.some (omega (arith, c.behind_olds-last.ensures.place)))
+    c.walk_anchor.ensures.took)
 
 pub returns-in_default-clause-took : goal.returns-in_default-clause-took
 returns-in_default-clause-took g c =
