@@ -13,6 +13,15 @@ use gen_line::Cell;
 use ref_board::{Board, Dir, SIDE};
 use ref_tiles::{KINDS, Rules};
 
+/// What the tiles of a rack count in bounds.
+#[derive(Clone, Copy, Debug)]
+pub struct RackWorth {
+    /// What their points are above one for each tile.
+    pub points: u64,
+    /// How many of them have points.
+    pub ones: u64,
+}
+
 /// Whether a cell is an anchor.
 fn is_anchor(cell: &Cell) -> bool
     ensures { result ≡ is_anchor_cell cell.now }
@@ -29,21 +38,20 @@ fn anchor_bound(
     places: &[Place; SIDE],
     opens: &[bool; SIDE],
     anchor: usize,
-    points: u64,
-    ones: u64,
+    worth: RackWorth,
     bonus: u64,
 ) -> u64
     requires anchor { anchor < SIDE }
     requires small { (i : ℕ) → i < SIDE → IsSmall (place_in places.now i) }
-    requires points { points ≤ 2000000 }
-    requires ones { ones ≤ 2000000 }
+    requires points { worth.points ≤ 2000000 }
+    requires ones { worth.ones ≤ 2000000 }
     requires bonus { bonus ≤ 65535 }
-    ensures { IsAnchorBound bonus points ones cells.now (place_in places.now) (open_in opens.now) anchor result }
+    ensures { IsAnchorBound bonus worth.points worth.ones cells.now (place_in places.now) (open_in opens.now) anchor result }
 {
     if !opens[anchor] {
         return 0;
     }
-    let mut bound = longest(places, opens, anchor, points, ones, bonus);
+    let mut bound = longest(places, opens, anchor, worth.points, worth.ones, bonus);
     let mut free = u64::from(places[anchor].free);
     for back in 0..anchor {
         let first = anchor - 1 - back;
@@ -57,7 +65,7 @@ fn anchor_bound(
         if !opens[first] {
             return bound;
         }
-        let further = longest(places, opens, first, points, ones, bonus);
+        let further = longest(places, opens, first, worth.points, worth.ones, bonus);
         if further > bound {
             bound = further;
         }
@@ -70,21 +78,20 @@ fn anchor_bounds(
     cells: &[Cell; SIDE],
     places: &[Place; SIDE],
     opens: &[bool; SIDE],
-    points: u64,
-    ones: u64,
+    worth: RackWorth,
     bonus: u64,
 ) -> [u64; SIDE]
     requires small { (i : ℕ) → i < SIDE → IsSmall (place_in places.now i) }
-    requires points { points ≤ 2000000 }
-    requires ones { ones ≤ 2000000 }
+    requires points { worth.points ≤ 2000000 }
+    requires ones { worth.ones ≤ 2000000 }
     requires bonus { bonus ≤ 65535 }
     ensures { (h : ℕ) → h < SIDE → is_anchor_cell (cell_at cells.now h) ≡ true
-        → IsAnchorBound bonus points ones cells.now (place_in places.now) (open_in opens.now) h (slice_index result h) }
+        → IsAnchorBound bonus worth.points worth.ones cells.now (place_in places.now) (open_in opens.now) h (slice_index result h) }
 {
     let mut bounds = [0; SIDE];
     for anchor in 0..SIDE {
         if is_anchor(&cells[anchor]) {
-            bounds[anchor] = anchor_bound(cells, places, opens, anchor, points, ones, bonus);
+            bounds[anchor] = anchor_bound(cells, places, opens, anchor, worth, bonus);
         }
     }
     bounds
@@ -99,19 +106,18 @@ fn line_bounds(
     line: usize,
     cells: &[Cell; SIDE],
     rack: &[u8; KINDS],
-    points: u64,
-    ones: u64,
+    worth: RackWorth,
 ) -> [u64; SIDE]
     requires line { line < SIDE }
-    requires points { points ≤ 2000000 }
-    requires ones { ones ≤ 2000000 }
+    requires points { worth.points ≤ 2000000 }
+    requires ones { worth.ones ≤ 2000000 }
     requires scores { HasScores rules.now board.now cross.now }
-    ensures { (g : List ℕ → Bool) → AreOffers rules.now points ones board.now g cells.now rack.now dir line
+    ensures { (g : List ℕ → Bool) → AreOffers rules.now worth.points worth.ones board.now g cells.now rack.now dir line
         → (h : ℕ) → h < SIDE → AreUnder rules.now board.now g cells.now rack.now dir line h (slice_index result h) }
 {
     let places = line_places(rules, board, cross, dir, line);
     let opens = open_places(cells, rack);
-    anchor_bounds(cells, &places, &opens, points, ones, rules.bonus as u64)
+    anchor_bounds(cells, &places, &opens, worth, rules.bonus as u64)
 }
 
 /// Such numbers for all lines of a direction.
@@ -122,29 +128,18 @@ pub fn all_bounds(
     dir: Dir,
     lines: &[[Cell; SIDE]; SIDE],
     rack: &[u8; KINDS],
-    points: u64,
-    ones: u64,
+    worth: RackWorth,
 ) -> [[u64; SIDE]; SIDE]
-    requires points { points ≤ 2000000 }
-    requires ones { ones ≤ 2000000 }
+    requires points { worth.points ≤ 2000000 }
+    requires ones { worth.ones ≤ 2000000 }
     requires scores { HasScores rules.now board.now cross.now }
     ensures { (line : ℕ) → line < SIDE → (g : List ℕ → Bool)
-        → AreOffers rules.now points ones board.now g (slice_index_or lines.now line []) rack.now dir line
+        → AreOffers rules.now worth.points worth.ones board.now g (slice_index_or lines.now line []) rack.now dir line
         → (h : ℕ) → h < SIDE → AreUnder rules.now board.now g (slice_index_or lines.now line []) rack.now dir line h (bound_in result line h) }
 {
     let mut bounds = [[0; SIDE]; SIDE];
     for line in 0..SIDE {
-        bounds[line] = line_bounds(
-            rules,
-            board,
-            cross,
-            dir,
-            line,
-            &lines[line],
-            rack,
-            points,
-            ones,
-        );
+        bounds[line] = line_bounds(rules, board, cross, dir, line, &lines[line], rack, worth);
     }
     bounds
 }
@@ -164,18 +159,6 @@ fn points_of_tiles(number: u8, points: u8) -> u64
     number as u64 * points as u64
 }
 
-/// What the points of the tiles of a rack are above one for each tile.
-pub fn points_of_rack(rules: &Rules, rack: &[u8; KINDS]) -> u64
-    ensures points { result ≡ rack_points rules.now rack.now KINDS }
-    ensures limit { result ≤ 2000000 }
-{
-    let mut points = 0;
-    for kind in 0..rules.points.len() {
-        points += points_of_tiles(rack[kind], above_one(rules.points[kind]));
-    }
-    points
-}
-
 /// One where a tile has points.
 fn one_for(points: u8) -> u8
     ensures { result ≡ points - (points - 1) }
@@ -183,14 +166,18 @@ fn one_for(points: u8) -> u8
     u8::from(points > 0)
 }
 
-/// How many tiles of a rack have points.
-pub fn tiles_with_points(rules: &Rules, rack: &[u8; KINDS]) -> u64
-    ensures ones { result ≡ rack_ones rules.now rack.now KINDS }
-    ensures limit { result ≤ 2000000 }
+/// What the tiles of a rack count.
+pub fn rack_worth(rules: &Rules, rack: &[u8; KINDS]) -> RackWorth
+    ensures points { result.points ≡ rack_points rules.now rack.now KINDS }
+    ensures ones { result.ones ≡ rack_ones rules.now rack.now KINDS }
+    ensures few_points { result.points ≤ 2000000 }
+    ensures few_ones { result.ones ≤ 2000000 }
 {
+    let mut points = 0;
     let mut ones = 0;
     for kind in 0..rules.points.len() {
+        points += points_of_tiles(rack[kind], above_one(rules.points[kind]));
         ones += points_of_tiles(rack[kind], one_for(rules.points[kind]));
     }
-    ones
+    RackWorth { points, ones }
 }

@@ -1,17 +1,13 @@
 //! Every legal, valid play that a rack allows on a board.
-ghost use Rattle.std.specs.Prelude.{◌≡◌, ℕ, ◌<◌, List, false, All, IsOk};
-ghost use Rattle.std.specs.List.{flat_map};
+ghost use Rattle.std.specs.{Prelude.{◌≡◌, ℕ, ◌<◌, List, false, All, IsOk}, List.{flat_map}};
 ghost use Rattle.lex_list.specs.RotatedPaths.{StandsFor};
 ghost use Rattle.ref_play.specs.Best.{Given, AreAll};
 ghost use Rattle.gen_cross.specs.Values.{IsRight};
 ghost use Rattle.gen_line.specs.Walk.{Took};
 ghost use Rattle.gen_sinks.specs.Sinks.{IsFor};
-ghost use Rattle.gen_moves.specs.Laws.{AreLong};
-ghost use Rattle.gen_moves.specs.Telling.{both_cells};
-ghost use Rattle.gen_moves.specs.Bounds.{HasScores};
-ghost use Rattle.gen_moves.specs.Starts.{IsGood, given_from};
+ghost use Rattle.gen_moves.specs.{Laws.{AreLong}, Telling.{both_cells}, Bounds.{HasScores}, Starts.{IsGood, given_from}};
 
-use crate::anchors::{all_bounds, points_of_rack, tiles_with_points};
+use crate::anchors::{all_bounds, rack_worth};
 use crate::fronts::{behind_olds, front_of};
 use crate::lines::all_cells;
 use crate::passing::passes;
@@ -179,29 +175,10 @@ pub fn generate<L: PathLex, S: Sink>(
     let across = all_cells(board, cross, Dir::Across);
     let down = all_cells(board, cross, Dir::Down);
     let numbers = rack.numbers();
-    let points = points_of_rack(rules, &numbers);
-    let ones = tiles_with_points(rules, &numbers);
+    let worth = rack_worth(rules, &numbers);
     let starts = best_first(all_starts(
-        &all_bounds(
-            rules,
-            board,
-            cross,
-            Dir::Across,
-            &across,
-            &numbers,
-            points,
-            ones,
-        ),
-        &all_bounds(
-            rules,
-            board,
-            cross,
-            Dir::Down,
-            &down,
-            &numbers,
-            points,
-            ones,
-        ),
+        &all_bounds(rules, board, cross, Dir::Across, &across, &numbers, worth),
+        &all_bounds(rules, board, cross, Dir::Down, &down, &numbers, worth),
     ));
     from_starts(
         rules, board, cross, &across, &down, &numbers, lex, &starts, sink,

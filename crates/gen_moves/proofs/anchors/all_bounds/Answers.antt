@@ -10,7 +10,7 @@ loop-line-preserved c = record {
   size = search rules;
   passed =
       values_more
-      (λ k v. (g : List ℕ → Bool) → AreOffers c.args.rules.now c.args.points c.args.ones c.args.board.now g (get_or c.args.lines.now k []) c.args.rack.now c.args.dir k
+      (λ k v. (g : List ℕ → Bool) → AreOffers c.args.rules.now c.args.worth.points c.args.worth.ones c.args.board.now g (get_or c.args.lines.now k []) c.args.rack.now c.args.dir k
       → (h : ℕ) → h < 15 → AreUnder c.args.rules.now c.args.board.now g (get_or c.args.lines.now k []) c.args.rack.now c.args.dir k h (slice_index v h))
       c.loop-line.bounds [] c.line_bounds.result c.loop-line.line (omega arith) c.loop-line.invariant.passed c.line_bounds.ensures;
 }

@@ -19,7 +19,7 @@ loop-back-init c =
     record {
       bounds = λ first low high.
           let here : first ≡ c.args.anchor = omega arith in
-          subst (λ (f : ℕ). IsBoundFrom c.args.bonus c.args.points c.args.ones places (open_in c.args.opens.now) f c.longest-bound.result) (sym here) c.longest-bound.ensures;
+          subst (λ (f : ℕ). IsBoundFrom c.args.bonus c.args.worth.points c.args.worth.ones places (open_in c.args.opens.now) f c.longest-bound.result) (sym here) c.longest-bound.ensures;
       free = is ∙ sym (count_one places c.args.anchor) ∙ ap (λ a. free_count places a 1) (sym start);
       few = let one = one_or_none (places c.args.anchor).free in omega arith;
     }
@@ -75,10 +75,10 @@ loop-back-preserved c =
       bounds = λ first low high.
           ⊎_elim
           (λ (here : first ≡ further).
-          subst (λ (f : ℕ). IsBoundFrom c.args.bonus c.args.points c.args.ones places (open_in c.args.opens.now) f more) (sym here)
-          (bound_up c.args.bonus c.args.points c.args.ones places (open_in c.args.opens.now) further c.longest-further.result more both.1 c.longest-further.ensures))
+          subst (λ (f : ℕ). IsBoundFrom c.args.bonus c.args.worth.points c.args.worth.ones places (open_in c.args.opens.now) f more) (sym here)
+          (bound_up c.args.bonus c.args.worth.points c.args.worth.ones places (open_in c.args.opens.now) further c.longest-further.result more both.1 c.longest-further.ensures))
           (λ (ne : first ≡ further → ⊥).
-          bound_up c.args.bonus c.args.points c.args.ones places (open_in c.args.opens.now) first c.loop-back.bound more both.0 (c.loop-back.invariant.bounds first (omega arith) high))
+          bound_up c.args.bonus c.args.worth.points c.args.worth.ones places (open_in c.args.opens.now) first c.loop-back.bound more both.0 (c.loop-back.invariant.bounds first (omega arith) high))
           (cases_eq first further);
       free = ap (λ n. c.loop-back.free + n) is
           ∙ ap (λ n. n + one_if (places further).free) c.loop-back.invariant.free

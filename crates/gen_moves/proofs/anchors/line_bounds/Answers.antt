@@ -16,7 +16,7 @@ returns c path offers h below =
     let under : List ℕ → Type 0 = λ y. TellsUnder c.args.rules.now c.args.board.now c.args.dir c.args.line y bound in
     ⊎_elim
     (λ (is : is_anchor_cell (cell_at cells h) ≡ true).
-    every-more (IsOffer c.args.rules.now c.args.points c.args.ones c.args.board.now c.args.dir c.args.line cells places (open_in c.open_places-opens.result) h) under (anchor_moves path cells rack h)
+    every-more (IsOffer c.args.rules.now c.args.worth.points c.args.worth.ones c.args.board.now c.args.dir c.args.line cells places (open_in c.open_places-opens.result) h) under (anchor_moves path cells rack h)
     (λ y offer. offer bound (c.anchor_bounds.ensures h below is))
     (offers places (c.line_places-places.ensures.places c.requires.scores) (open_in c.open_places-opens.result) c.open_places-opens.ensures h below))
     (λ (not_one : is_anchor_cell (cell_at cells h) ≡ false). no_offers under path cells rack h not_one)

@@ -33,10 +33,10 @@ from_starts-requires-clause-good g c =
     let b = c.all_cells-down.result in
     let rack = c.numbers-numbers.result in
     let s = setting_of rules g.words board c.args.cross.now path a b c.len-size.ensures.size c.requires.1.1.1.1.0 c.requires.1.1.1.1.1.0 c.requires.1.1.1.1.1.1.0 (c.all_cells-across.ensures g.words) (c.all_cells-down.ensures g.words) in
-    let offers : (d : Dir) (line : ℕ) → line < 15 → AreOffers rules c.points_of_rack-points.result c.tiles_with_points-ones.result board path (both_cells a b d line) rack d line =
+    let offers : (d : Dir) (line : ℕ) → line < 15 → AreOffers rules c.rack_worth-worth.result.points c.rack_worth-worth.result.ones board path (both_cells a b d line) rack d line =
     λ d line low.
-    subst (λ n. AreOffers rules n c.tiles_with_points-ones.result board path (both_cells a b d line) rack d line) (sym c.points_of_rack-points.ensures.points)
-    (subst (λ n. AreOffers rules (rack_points rules rack 27) n board path (both_cells a b d line) rack d line) (sym c.tiles_with_points-ones.ensures.ones)
+    subst (λ n. AreOffers rules n c.rack_worth-worth.result.ones board path (both_cells a b d line) rack d line) (sym c.rack_worth-worth.ensures.points)
+    (subst (λ n. AreOffers rules (rack_points rules rack 27) n board path (both_cells a b d line) rack d line) (sym c.rack_worth-worth.ensures.ones)
     (all_offers rules g.words board path (lists g.words) (both_cells a b) s rack d line low)) in
     let size : length c.all_starts.result ≡ 450 = omega arith in
     All-permutation (IsGood rules board path (both_cells a b) rack) c.all_starts.result c.best_first-starts.result c.best_first-starts.ensures
