@@ -1,13 +1,8 @@
 //! The paths of words whose front is the first letter, in a file.
-ghost use Rattle.std.specs.Prelude.{◌≡◌, ◌+◌, ◌<◌, ◌≤◌, [], ℕ, IsTrue, length, slice_index_or, slice_index, take, true};
-ghost use Rattle.std.specs.Bool.{OnTrue};
-ghost use Rattle.std.specs.Char.{is_ascii_uppercase};
+ghost use Rattle.std.specs.{Prelude.{◌≡◌, ◌+◌, ◌<◌, ◌≤◌, [], ℕ, IsTrue, length, slice_index_or, slice_index, take, true}, Bool.{OnTrue}, Char.{is_ascii_uppercase}};
 ghost use Rattle.lex_list.specs.Words.{is_word};
-ghost use Rattle.lex_file.specs.Files.{bytes_of};
-ghost use Rattle.lex_file.specs.Languages.{language_of};
-ghost use Rattle.lex_file.specs.Walking.{IsOpen};
-ghost use Rattle.lex_agree.specs.Chains.{first_path};
-ghost use Rattle.lex_agree.specs.Walks.{IsNodeOf, IsPast, AreSteps, AreAlike};
+ghost use Rattle.lex_file.specs.{Files.{bytes_of}, Languages.{language_of}, Walking.{IsOpen}};
+ghost use Rattle.lex_agree.specs.{Chains.{first_path}, Walks.{IsNodeOf, IsPast, AreSteps, AreAlike}};
 
 use crate::steps::{MARK, follow, label_of, start};
 use lex_file::{LexFile, Node, Step};
