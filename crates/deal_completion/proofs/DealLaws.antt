@@ -10,7 +10,7 @@ use Rattle.gcg_read.specs.Players.{other_seat}
 use Rattle.gcg_read.specs.declared.events.Seat.{Seat}
 use Rattle.gcg_read.specs.declared.events.Seat.TheVariants.{First, Second}
 use Rattle.deal_steps.specs.Piles.{kinds, joined, without, greater}
-use Rattle.deal_steps.specs.Fitting.{rack_of}
+use Rattle.deal_steps.specs.Fitting.{rack_of, with_rack}
 use Rattle.deal_steps.specs.Runs.{Course, MayAct, act_course, turn_course, size_in, with_size, waits, none_waiting, IsRun, first_course}
 use Rattle.deal_steps.specs.declared.steps.Motion.{Motion}
 use Rattle.deal_steps.specs.declared.steps.Motion.TheVariants as motion
@@ -22,7 +22,7 @@ use Rattle.deal_steps.specs.declared.deals.Held.{Held}
 use Rattle.deal_steps.proofs.PileLaws.{get-joined, get-without, get-greater, get-no_tiles, length-joined, length-without}
 use Rattle.deal_completion.specs.declared.picking.Pick.{Pick}
 use Rattle.deal_completion.specs.declared.hands.Hands.{Hands}
-use Rattle.deal_completion.specs.Completion.{want_list, pick, with_rack, take_off, put_on, put_drawn, drawn, draw, back_to_bag, exchange, chosen, throws, acted, is_within, is_met, held_at, dealt_from, opener, undealt, start, dealt}
+use Rattle.deal_completion.specs.Completion.{want_list, pick, take_off, put_on, put_drawn, drawn, draw, back_to_bag, exchange, chosen, throws, acted, is_within, is_met, held_at, dealt_from, opener, undealt, start, dealt}
 use Rattle.deal_completion.specs.Taking.{HasRoomToDraw, MayMove}
 use Rattle.deal_completion.proofs.PickLaws.{IsOf, pick_of}
 use Rattle.deal_completion.proofs.DealStates.{IsWhole, IsDealing}
@@ -91,23 +91,20 @@ pub record Draws (seat : Seat) (h after : Hands) : Type 0 where
   pub long : length (rack_of after.racks seat) ≡ 27
   pub bag_long : length after.bag ≡ 27
 
+draws_to : (seat : Seat) (h after : Hands) (p : Pick) → IsOf h.bag p → rack_of after.racks seat ≡ joined (rack_of h.racks seat) p.taken → after.bag ≡ p.left
+    → rack_of after.racks (other_seat seat) ≡ rack_of h.racks (other_seat seat) → Draws seat h after
+draws_to seat h after p is own left stays =
+    record {
+      whole = λ k below. let e = ap (at k) own ∙ get-joined (rack_of h.racks seat) p.taken k below in let l = ap (at k) left in let w = is.whole k below in omega arith;
+      more = λ k below. let e = ap (at k) own ∙ get-joined (rack_of h.racks seat) p.taken k below in omega arith;
+      stays = stays;
+      long = ap length own ∙ length-joined (rack_of h.racks seat) p.taken;
+      bag_long = ap length left ∙ is.left_long;
+    }
+
 draws_by : (seat : Seat) (h : Hands) (p : Pick) → IsOf h.bag p → Draws seat h (put_drawn seat h p)
-draws_by First h p is =
-    record {
-      whole = λ k below. let e = get-joined h.racks.first p.taken k below in let w = is.whole k below in omega arith;
-      more = λ k below. let e = get-joined h.racks.first p.taken k below in omega arith;
-      stays = refl;
-      long = length-joined h.racks.first p.taken;
-      bag_long = is.left_long;
-    }
-draws_by Second h p is =
-    record {
-      whole = λ k below. let e = get-joined h.racks.second p.taken k below in let w = is.whole k below in omega arith;
-      more = λ k below. let e = get-joined h.racks.second p.taken k below in omega arith;
-      stays = refl;
-      long = length-joined h.racks.second p.taken;
-      bag_long = is.left_long;
-    }
+draws_by First h p is = draws_to First h (put_drawn First h p) p is refl refl refl
+draws_by Second h p is = draws_to Second h (put_drawn Second h p) p is refl refl refl
 
 pub draw_keeps : (seat : Seat) (number : ℕ) (steps : List Step) (h : Hands) → length h.bag ≡ 27 → Draws seat h (draw seat number steps h)
 unfolding draw

@@ -7,7 +7,6 @@ use Rattle.ref_tiles.specs.Counting.{no_tiles, counted as counts_of}
 use Rattle.ref_tiles.specs.English.{english}
 use Rattle.ref_tiles.specs.Letters.{letter_at}
 use Rattle.ref_tiles.specs.Limits.{most_tiles}
-use Rattle.ref_tiles.specs.declared.rulebook.Rules.{Rules}
 use Rattle.ref_tiles.specs.declared.kinds.Kind.TheVariants as kind
 use Rattle.gcg_read.specs.Racks.{kind_of}
 use Rattle.gcg_read.specs.declared.events.Seat.{Seat}
@@ -21,34 +20,18 @@ use Rattle.deal_steps.specs.declared.deals.Held.{Held}
 use Rattle.deal_steps.specs.Piles.{kinds, joined, without, greater}
 use Rattle.deal_steps.specs.Bounds.{kind_at, bound_at, first_bound}
 use Rattle.deal_steps.specs.Runs.{IsRun}
+use Rattle.deal_steps.proofs.Examples.{short, line}
 use Rattle.deal_completion.specs.Completion.{lacking, with_one, pick, draw, exchange, chosen, start, dealt}
 use Rattle.deal_completion.proofs.DealStates.{IsDealtFitting}
 use Rattle.deal_completion.proofs.PlainDeals.{plain_games_are_dealt}
-
--- a tile set of 14: two each of A, E, R and T, one each of D, I, N, O, S and W
-short : Rules
-unfolding english most_tiles
-short = record english {
-  counts = 2 ∷ 0 ∷ 0 ∷ 1 ∷ 2 ∷ 0 ∷ 0 ∷ 0 ∷ 1 ∷ 0 ∷ 0 ∷ 0 ∷ 0 ∷ 1 ∷ 1 ∷ 0 ∷ 0 ∷ 2 ∷ 1 ∷ 2 ∷ 0 ∷ 0 ∷ 1 ∷ 0 ∷ 0 ∷ 0 ∷ 0 ∷ [];
-  tiles_in_limits = refl;
-}
 
 -- how many of each kind some letters are
 abbrev tiles : List ℕ → List ℕ
 tiles letters = counts_of (filter_map kind_of letters)
 
 -- a turn, before which both racks have seven tiles
-abbrev turn : (line : ℕ) → Seat → (shown : List ℕ) → Motion → (board : List ℕ) → (bag : ℕ) → Step
-turn line player shown what board bag = record {
-  line = line;
-  player = player;
-  counted = true;
-  act = act.Turns shown what;
-  board = board;
-  first = 7;
-  second = 7;
-  bag = bag;
-}
+abbrev turn : ℕ → Seat → (shown : List ℕ) → Motion → (board : List ℕ) → (bag : ℕ) → Step
+turn n player shown what board bag = record (line n player (act.Turns shown what)) { board = board; bag = bag }
 
 -- what both players hold, where nothing is thrown
 abbrev hold : (first second : List ℕ) → Held
@@ -60,16 +43,7 @@ abbrev retains : Step
 retains = turn 1 First (tiles (codes "AEINRST")) (motion.Lays (tiles (codes "AEINRST")) 0) no_tiles 0
 
 abbrev last_rack : List ℕ → Step
-last_rack rack = record {
-  line = 2;
-  player = First;
-  counted = false;
-  act = act.Ends Second rack;
-  board = tiles (codes "AEINRST");
-  first = 0;
-  second = 7;
-  bag = 0;
-}
+last_rack rack = record (line 2 First (act.Ends Second rack)) { counted = false; board = tiles (codes "AEINRST"); first = 0; bag = 0 }
 
 abbrev ended : List Step
 ended = retains ∷ last_rack (tiles (codes "ADEORTW")) ∷ []
@@ -102,20 +76,11 @@ ended_fits = plain_games_are_dealt short ended refl ended_is_run (refl, (refl, t
 
 -- ---- passes, and both last racks
 
-abbrev pass : (line : ℕ) → Seat → Step
-pass line player = turn line player no_tiles motion.Keeps no_tiles 86
+abbrev pass : ℕ → Seat → Step
+pass n player = turn n player no_tiles motion.Keeps no_tiles 86
 
-abbrev own_rack : (line : ℕ) → Seat → List ℕ → Step
-own_rack line player rack = record {
-  line = line;
-  player = player;
-  counted = false;
-  act = act.Ends player rack;
-  board = no_tiles;
-  first = 7;
-  second = 7;
-  bag = 86;
-}
+abbrev own_rack : ℕ → Seat → List ℕ → Step
+own_rack n player rack = record (line n player (act.Ends player rack)) { counted = false }
 
 abbrev passed : List Step
 passed =

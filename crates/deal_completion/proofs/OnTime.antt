@@ -11,7 +11,7 @@ use Rattle.deal_steps.specs.declared.steps.Act.{Act}
 use Rattle.deal_steps.specs.declared.steps.Act.TheVariants as act
 use Rattle.deal_steps.specs.declared.steps.Step.{Step}
 use Rattle.deal_steps.specs.Piles.{kinds, joined, without}
-use Rattle.deal_steps.specs.Steps.{is_by, left_in, needed}
+use Rattle.deal_steps.specs.Steps.{of_turn, is_by, left_in, needed}
 use Rattle.deal_steps.proofs.PileLaws.{get-joined, get-without, get-no_tiles, sum_kinds_same, sum_kinds_le, zero_kinds}
 use Rattle.deal_completion.specs.declared.picking.Pick.{Pick}
 use Rattle.deal_completion.specs.Completion.{want_list}
@@ -29,10 +29,7 @@ drawn_by (motion.Throws tiles) = sum tiles
 drawn_by (motion.ThrowsUnknown n) = n
 
 abbrev pub drawn_at : Act → ℕ
-drawn_at (act.Turns shown what) = drawn_by what
-drawn_at (act.TakesBack used) = 0
-drawn_at (act.Ends holder tiles) = 0
-drawn_at act.Rests = 0
+drawn_at what = of_turn 0 drawn_by what
 
 -- how many tiles a player draws at a step, and at steps
 abbrev pub drawn_in : Seat → Step → ℕ

@@ -18,7 +18,7 @@ use Rattle.deal_steps.specs.declared.steps.Step.{Step}
 use Rattle.deal_steps.specs.declared.deals.Racks.{Racks}
 use Rattle.deal_steps.specs.declared.deals.Held.{Held}
 use Rattle.deal_steps.specs.Piles.{kinds, joined, without, greater}
-use Rattle.deal_steps.specs.Steps.{used_by, left_by, of_act, left_in, needed, needed_of, size_of}
+use Rattle.deal_steps.specs.Steps.{used_by, left_by, of_act, left_in, needed, needed_of, size_of, swaps_by, swaps}
 use Rattle.deal_steps.specs.Fitting.{rack_of, in_bag, AddsUp, IsThrownBy, HasTurn, AllowsAct, FitsAt, ActsTo, Follows, FollowsTo, Fits}
 use Rattle.deal_steps.specs.Bounds.{gone, first_bound}
 use Rattle.deal_steps.specs.Runs.{Course, none_waiting, size_in, MayAct, turn_course, act_course, IsOnCourse, IsRunFrom, first_course, IsRun, HasKindsBy, HasKinds, HaveKinds}
@@ -27,7 +27,7 @@ use Rattle.deal_steps.proofs.Refills.{refilled_from}
 use Rattle.deal_completion.specs.declared.picking.Pick.{Pick}
 use Rattle.deal_completion.specs.declared.hands.Hands.{Hands}
 use Rattle.deal_completion.specs.Completion.{want_list, pick, take_off, put_on, draw, throws, acted, is_within, is_met, held_at, dealt_from, opener, undealt, start, dealt}
-use Rattle.deal_completion.specs.Plain.{swaps_by, swaps, IsPlain}
+use Rattle.deal_completion.specs.Plain.{IsPlain}
 use Rattle.deal_completion.proofs.Demand.{demand}
 use Rattle.deal_completion.proofs.DealStates.{IsWhole, IsDealtFitting}
 use Rattle.deal_completion.proofs.DealLaws.{within_test, rack_with, rack_beside, rack_long, draw_keeps, acted_whole, start_whole}
@@ -454,6 +454,20 @@ starts_well rules seat other steps long plain on other_on covered room =
 beside_none : (rack : List ℕ) (k : ℕ) → k < 27 → get_or (joined rack no_tiles) k 0 ≡ get_or rack k 0
 beside_none rack k h = sym (with_none rack no_tiles refl k h)
 
+-- racks and a bag beside which nothing waits
+ready_from : (rules : Rules) (steps : List Step) (first second bag : List ℕ) → sum first ≡ 7 → sum second ≡ 7 → sum bag + 14 ≡ sum rules.counts
+    → IsOnTime First steps first 0 → IsOnTime Second steps second 0 → IsCovered (demand First steps) (demand Second steps) first second bag
+    → IsReady (first_course rules) steps (record { bag = bag; racks = record { first = first; second = second } })
+ready_from rules steps first second bag first_size second_size bag_size on second_on covered =
+    record {
+      first_size = first_size;
+      second_size = second_size;
+      bag_size = omega arith;
+      first_on = on_time_same First steps first (joined first no_tiles) 0 on (beside_none first);
+      second_on = on_time_same Second steps second (joined second no_tiles) 0 second_on (beside_none second);
+      covered = covered_same (demand First steps) (demand Second steps) first (joined first no_tiles) second (joined second no_tiles) bag covered (beside_none first) (beside_none second);
+    }
+
 ready_at_start : (rules : Rules) (seat : Seat) (steps : List Step) → length rules.counts ≡ 27 → IsPlain steps → IsOnTime First steps no_tiles 7 → IsOnTime Second steps no_tiles 7
     → IsCovered (demand First steps) (demand Second steps) no_tiles no_tiles rules.counts
     → to_come First steps + to_come Second steps + 14 ≤ sum rules.counts
@@ -461,34 +475,12 @@ ready_at_start : (rules : Rules) (seat : Seat) (steps : List Step) → length ru
 unfolding draw
 ready_at_start rules First steps long plain on second_on covered room =
     let well = starts_well rules First Second steps long plain on second_on covered room in
-    let first = joined no_tiles (first_pick rules First Second steps).taken in
-    let second = joined no_tiles (second_pick rules First Second steps).taken in
-    let bag = (second_pick rules First Second steps).left in
-    let bag_size = well.bag_size in
-    record {
-      first_size = well.own_size;
-      second_size = well.others_size;
-      bag_size = omega arith;
-      first_on = on_time_same First steps first (joined first no_tiles) 0 well.own_on (beside_none first);
-      second_on = on_time_same Second steps second (joined second no_tiles) 0 well.others_on (beside_none second);
-      covered = covered_same (demand First steps) (demand Second steps) first (joined first no_tiles) second (joined second no_tiles) bag well.covered (beside_none first) (beside_none second);
-    }
+    ready_from rules steps _ _ _ well.own_size well.others_size well.bag_size well.own_on well.others_on well.covered
 ready_at_start rules Second steps long plain on second_on covered room =
     let well = starts_well rules Second First steps long plain second_on on
     (covered_swapped (demand First steps) (demand Second steps) no_tiles no_tiles rules.counts covered) (omega arith) in
-    let second = joined no_tiles (first_pick rules Second First steps).taken in
-    let first = joined no_tiles (second_pick rules Second First steps).taken in
-    let bag = (second_pick rules Second First steps).left in
-    let bag_size = well.bag_size in
-    record {
-      first_size = well.others_size;
-      second_size = well.own_size;
-      bag_size = omega arith;
-      first_on = on_time_same First steps first (joined first no_tiles) 0 well.others_on (beside_none first);
-      second_on = on_time_same Second steps second (joined second no_tiles) 0 well.own_on (beside_none second);
-      covered = covered_same (demand First steps) (demand Second steps) first (joined first no_tiles) second (joined second no_tiles) bag
-          (covered_swapped (demand Second steps) (demand First steps) second first bag well.covered) (beside_none first) (beside_none second);
-    }
+    ready_from rules steps _ _ _ well.others_size well.own_size well.bag_size well.others_on well.own_on
+    (covered_swapped (demand Second steps) (demand First steps) _ _ _ well.covered)
 
 pub plain_games_are_dealt : (rules : Rules) (steps : List Step) → length rules.counts ≡ 27 → IsRun rules steps → IsPlain steps → HaveKinds steps → first_bound rules steps ≡ None → IsDealtFitting rules steps
 unfolding dealt start

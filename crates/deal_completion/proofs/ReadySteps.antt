@@ -15,7 +15,7 @@ use Rattle.deal_steps.specs.declared.steps.Act.TheVariants as act
 use Rattle.deal_steps.specs.declared.steps.Step.{Step}
 use Rattle.deal_steps.specs.declared.deals.Racks.{Racks}
 use Rattle.deal_steps.specs.Piles.{kinds, joined, without, greater}
-use Rattle.deal_steps.specs.Steps.{left_by, of_act, left_in, ends_epoch, needed, needed_of}
+use Rattle.deal_steps.specs.Steps.{left_by, of_act, left_in, ends_epoch, needed, needed_of, swaps_by, swaps}
 use Rattle.deal_steps.specs.Fitting.{rack_of}
 use Rattle.deal_steps.specs.Bounds.{gone}
 use Rattle.deal_steps.specs.Runs.{Course, none_waiting, waits, size_in, with_size, MayTurn, MayAct, turn_course, act_course, IsRunFrom, HasKinds}
@@ -23,7 +23,7 @@ use Rattle.deal_steps.proofs.PileLaws.{get-joined, get-without, get-greater, get
 use Rattle.deal_completion.specs.declared.picking.Pick.{Pick}
 use Rattle.deal_completion.specs.declared.hands.Hands.{Hands}
 use Rattle.deal_completion.specs.Completion.{lacking, with_gone, wanted, want_list, pick, take_off, put_on, drawn, draw, throws, acted, is_within, is_met}
-use Rattle.deal_completion.specs.Plain.{swaps_by, swaps, IsPlain}
+use Rattle.deal_completion.specs.Plain.{IsPlain}
 use Rattle.deal_completion.proofs.WantLaws.{lacks_from}
 use Rattle.deal_completion.proofs.Demand.{demand}
 use Rattle.deal_completion.proofs.PickLaws.{AreKinds, IsOf, picks, sum_left}

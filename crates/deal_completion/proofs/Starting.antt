@@ -16,10 +16,10 @@ use Rattle.deal_steps.specs.declared.steps.Step.{Step}
 use Rattle.deal_steps.specs.declared.faults.DealFault.{DealFault}
 use Rattle.deal_steps.specs.declared.faults.DealFault.TheVariants as fault
 use Rattle.deal_steps.specs.Piles.{kinds, joined}
-use Rattle.deal_steps.specs.Steps.{thrown_by, of_act, is_by, is_unknown, throws_unknown, left_in, thrown_in, ends_epoch, needed, needed_of, size_of}
+use Rattle.deal_steps.specs.Steps.{thrown_by, of_act, is_by, is_unknown, throws_unknown, left_in, thrown_in, ends_epoch, needed, needed_of, size_of, swaps_by, swaps}
 use Rattle.deal_steps.specs.Bounds.{gone, raised, low, low_at, laid_earlier, thrown, held, is_too_big, short_kind, kind_at, bound_of, bound_for, bound_at, first_bound_after, first_bound}
 use Rattle.deal_steps.proofs.PileLaws.{get-joined, get-without, get-greater, get-no_tiles, length-no_tiles, length-greater, sum_is, sum_kinds_same}
-use Rattle.deal_completion.specs.Plain.{swaps, swaps_by, IsPlain}
+use Rattle.deal_completion.specs.Plain.{IsPlain}
 use Rattle.deal_completion.proofs.WantLaws.{asked_or_none, left_asked}
 use Rattle.deal_completion.proofs.Demand.{demand, IsKnownThroughout}
 use Rattle.deal_completion.proofs.PickLaws.{find_range}

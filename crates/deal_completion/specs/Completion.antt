@@ -9,7 +9,7 @@ use Rattle.gcg_read.specs.declared.events.Seat.{Seat}
 use Rattle.gcg_read.specs.declared.events.Seat.TheVariants.{First, Second}
 use Rattle.deal_steps.specs.Piles.{kinds, joined, without, greater}
 use Rattle.deal_steps.specs.Steps.{used_by, needed, left_in, ends_epoch}
-use Rattle.deal_steps.specs.Fitting.{rack_of}
+use Rattle.deal_steps.specs.Fitting.{rack_of, with_rack}
 use Rattle.deal_steps.specs.declared.steps.Motion.{Motion}
 use Rattle.deal_steps.specs.declared.steps.Motion.TheVariants as motion
 use Rattle.deal_steps.specs.declared.steps.Act.{Act}
@@ -80,10 +80,6 @@ unfoldable pub pick : (list reserved : List ℕ) (number : ℕ) (tiles : List �
 pick list reserved number tiles = pick_then reserved number (pick_listed list number (record { taken = no_tiles; left = tiles }))
 
 -- ---- draws
-
-abbrev pub with_rack : Racks → Seat → List ℕ → Racks
-with_rack racks First rack = record racks { first = rack }
-with_rack racks Second rack = record racks { second = rack }
 
 abbrev pub take_off : Seat → List ℕ → Hands → Hands
 take_off seat tiles h = record h { racks = with_rack h.racks seat (without (rack_of h.racks seat) tiles) }

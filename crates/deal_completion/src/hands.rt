@@ -1,7 +1,7 @@
 //! The bag and the racks, and tiles that move between them.
 ghost use Rattle.std.specs.Prelude.{◌≡◌, ℕ, ◌+◌, ◌<◌, slice_index};
 ghost use Rattle.deal_steps.specs.Fitting.{rack_of};
-ghost use Rattle.deal_completion.specs.Completion.{with_rack, take_off, put_on, undealt};
+ghost use Rattle.deal_completion.specs.Completion.{take_off, put_on, undealt};
 
 use deal_steps::{Racks, joined, without};
 use gcg_read::Seat;
@@ -14,22 +14,6 @@ pub struct Hands {
     pub bag: Counts,
     /// The tiles of the players.
     pub racks: Racks,
-}
-
-/// The racks with another one for a player.
-fn with_rack(racks: &Racks, seat: Seat, rack: Counts) -> Racks
-    ensures { result ≡ with_rack racks.now seat rack }
-{
-    match seat {
-        Seat::First => Racks {
-            first: rack,
-            second: racks.second,
-        },
-        Seat::Second => Racks {
-            first: racks.first,
-            second: rack,
-        },
-    }
 }
 
 impl Hands {
@@ -52,7 +36,9 @@ impl Hands {
     {
         Hands {
             bag: self.bag,
-            racks: with_rack(&self.racks, seat, without(self.racks.of(seat), tiles)),
+            racks: self
+                .racks
+                .with_rack(seat, without(self.racks.of(seat), tiles)),
         }
     }
 
@@ -63,7 +49,9 @@ impl Hands {
     {
         Hands {
             bag: self.bag,
-            racks: with_rack(&self.racks, seat, joined(self.racks.of(seat), tiles)),
+            racks: self
+                .racks
+                .with_rack(seat, joined(self.racks.of(seat), tiles)),
         }
     }
 }

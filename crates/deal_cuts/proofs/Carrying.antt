@@ -6,12 +6,12 @@ use Rattle.gcg_read.specs.declared.events.Seat.TheVariants.{First, Second}
 use Rattle.deal_steps.specs.declared.steps.Step.{Step}
 use Rattle.deal_steps.specs.declared.deals.Racks.{Racks}
 use Rattle.deal_steps.specs.declared.deals.Held.{Held}
-use Rattle.deal_steps.specs.Steps.{size_of}
+use Rattle.deal_steps.specs.Steps.{size_of, swaps}
 use Rattle.deal_steps.specs.Fitting.{rack_of, in_bag, AddsUp}
 use Rattle.deal_cuts.specs.declared.cuts.Places.{Places}
 use Rattle.deal_cuts.specs.declared.flows.Flow.{Flow}
 use Rattle.deal_cuts.specs.Cutting.{where_so, number_in, number_beside, inside_of, Carries}
-use Rattle.deal_cuts.specs.Flowing.{throws, leaving, coming, known_at, unknown_at, flow_of, gained_by, lost_by, BoardFollows, carried_to}
+use Rattle.deal_cuts.specs.Flowing.{leaving, coming, known_at, unknown_at, flow_of, gained_by, lost_by, BoardFollows, carried_to}
 use Rattle.deal_cuts.proofs.Numbers.{bag_law}
 use Rattle.deal_cuts.proofs.Parts.{counting_in, counting_beside, whole, bag_is, bag_size}
 use Rattle.deal_cuts.proofs.RackFlows.{Passes, drawn_in, rack_law, drawn_law}
@@ -100,9 +100,9 @@ carries_on chosen s next from to inside long follows_board rules held next_held 
     let after = bag_is (number_in chosen) (counting_in chosen) rules next racks2 adds2 in
     let whole_bag = bag_size chosen rules s racks all long adds in
     let both = drawn_law f g _ _ _ _ _ _ _ _ _ _ _ _ _ _ (number_in chosen bag) (number_beside chosen bag) s.bag first second moved.drawn beside.drawn whole_bag in
-    let bags = bag_law from.bag to.bag (throws s.act) (number_in chosen (in_bag rules s racks)) (number_in chosen (in_bag rules next racks2))
+    let bags = bag_law from.bag to.bag (swaps s.act) (number_in chosen (in_bag rules s racks)) (number_in chosen (in_bag rules next racks2))
     drawn1 drawn2 (number_in chosen (stray First s held)) (number_in chosen (stray Second s held)) f.left_in g.left_in s.bag (f.drawn + g.drawn)
-    (bag_after (throws s.act) _ _ _ _ _ _ _ _ _ _ _ _ _ _ _ _ _ before after follows_board moved.first.gone moved.second.gone refl refl)
+    (bag_after (swaps s.act) _ _ _ _ _ _ _ _ _ _ _ _ _ _ _ _ _ before after follows_board moved.first.gone moved.second.gone refl refl)
     both.0 both.1
     in
     omega (arith, bags, law1, law2, below)

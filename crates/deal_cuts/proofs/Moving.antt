@@ -149,8 +149,14 @@ drawn_by n counting bag rack new left thrown back moves =
     (λ k small. let zero_there = get-no_tiles k small in let here = moves.drawn k small in omega (arith, zero_there, here)) in
     omega (arith, none, drawn)
 
-same_number : (n : List ℕ → ℕ) (new rack : List ℕ) → new ≡ rack → n new ≡ n rack
-same_number n new rack same = ap n same
+-- and what is drawn to one rack where the other stays
+drawn_beside : (n : List ℕ → ℕ) → IsCounting n → (bag rack new left thrown back other next : List ℕ) → Moves bag rack new left thrown back → next ≡ other
+    → n new + n left + n thrown + (n next + n no_tiles + n no_tiles) ≤ n rack + n back + (n other + n no_tiles) + n bag
+drawn_beside n counting bag rack new left thrown back other next moves same =
+    let drawn = drawn_by n counting bag rack new left thrown back moves in
+    let number = ap n same in
+    let none = counting.none in
+    omega (arith, drawn, number, none)
 
 -- Both racks at a step, and what comes from the bag to them.
 pub record BothMoved (n : List ℕ → ℕ) (bag : List ℕ) (player : Seat) (what : Act) (held : Held) (next : Racks) : Type 0 where
@@ -167,24 +173,19 @@ pub both_moved : (n : List ℕ → ℕ) → IsCounting n → (bag : List ℕ) (p
 both_moved n counting bag First what held next allows acts same =
     let own = moves_own bag First what held next.first allows acts in
     let other = stays bag held.racks.second next.second same in
-    let drawn = drawn_by n counting bag _ _ _ _ _ own in
-    let number = same_number n next.second held.racks.second same in
-    let none = counting.none in
     record {
       first = off_by n counting bag _ _ _ _ _ own;
       second = off_by n counting bag _ _ _ _ _ other;
-      drawn = omega (arith, drawn, number, none);
+      drawn = drawn_beside n counting bag _ _ _ _ _ held.racks.second next.second own same;
     }
 both_moved n counting bag Second what held next allows acts same =
     let own = moves_own bag Second what held next.second allows acts in
     let other = stays bag held.racks.first next.first same in
-    let drawn = drawn_by n counting bag _ _ _ _ _ own in
-    let number = same_number n next.first held.racks.first same in
-    let none = counting.none in
+    let drawn = drawn_beside n counting bag _ _ _ _ _ held.racks.first next.first own same in
     record {
       first = off_by n counting bag _ _ _ _ _ other;
       second = off_by n counting bag _ _ _ _ _ own;
-      drawn = omega (arith, drawn, number, none);
+      drawn = omega (arith, drawn);
     }
 
 -- ---- what is thrown without being known

@@ -9,7 +9,7 @@ use Rattle.deal_steps.specs.declared.steps.Motion.TheVariants as motion
 use Rattle.deal_steps.specs.declared.steps.Act.{Act}
 use Rattle.deal_steps.specs.declared.steps.Act.TheVariants as act
 use Rattle.deal_steps.specs.declared.steps.Step.{Step}
-use Rattle.deal_steps.specs.Steps.{used_by, of_act, is_by, needed, size_of}
+use Rattle.deal_steps.specs.Steps.{used_by, of_turn, of_act, swaps, is_by, needed, size_of}
 use Rattle.deal_cuts.specs.declared.cuts.Places.{Places}
 use Rattle.deal_cuts.specs.declared.flows.Flow.{Flow}
 use Rattle.deal_cuts.specs.Cutting.{where_so, number_in, number_beside}
@@ -44,28 +44,11 @@ unknown_by (motion.Throws tiles) = 0
 unknown_by (motion.ThrowsUnknown n) = n
 
 abbrev pub unknown_of : Act → ℕ
-unknown_of (act.Turns shown what) = unknown_by what
-unknown_of (act.TakesBack used) = 0
-unknown_of (act.Ends holder tiles) = 0
-unknown_of act.Rests = 0
+unknown_of what = of_turn 0 unknown_by what
 
 -- how many tiles that are not known are thrown off a rack at a step
 abbrev pub unknown_at : Seat → Step → ℕ
 unknown_at seat s = if is_by seat s then unknown_of s.act else 0
-
-abbrev pub throws_by : Motion → Bool
-throws_by motion.Keeps = false
-throws_by (motion.Lays used drawn) = false
-throws_by (motion.Tries used) = false
-throws_by (motion.Throws tiles) = true
-throws_by (motion.ThrowsUnknown n) = true
-
--- whether the tiles that leave a rack go to the bag, and not to the board
-abbrev pub throws : Act → Bool
-throws (act.Turns shown what) = throws_by what
-throws (act.TakesBack used) = false
-throws (act.Ends holder tiles) = false
-throws act.Rests = false
 
 -- what passes through a rack from before a step to before the next
 unfoldable pub flow_of : (chosen : List Bool) → Seat → (s next : Step) → Flow
@@ -76,7 +59,7 @@ flow_of chosen seat s next =
       known_beside = number_beside chosen (known_at seat s);
       left_in = number_in chosen (leaving seat s);
       left_beside = number_beside chosen (leaving seat s);
-      to_bag = throws s.act;
+      to_bag = swaps s.act;
       unknown = unknown_at seat s;
       back_in = number_in chosen (coming seat s);
       drawn =
@@ -107,7 +90,7 @@ lost_by f bag_was was stays bag =
 unfoldable pub BoardFollows : (chosen : List Bool) → (s next : Step) → Type 0
 BoardFollows chosen s next =
     number_in chosen next.board + ((flow_of chosen First s next).back_in + (flow_of chosen Second s next).back_in)
-    ≡ number_in chosen s.board + where_so (not (throws s.act)) ((flow_of chosen First s next).left_in + (flow_of chosen Second s next).left_in)
+    ≡ number_in chosen s.board + where_so (not (swaps s.act)) ((flow_of chosen First s next).left_in + (flow_of chosen Second s next).left_in)
 
 -- so many are inside at least before the next step, where so many are before a step; no more than 2^32 are counted
 unfoldable pub carried_to : (chosen : List Bool) → (s next : Step) → (from to : Places) → (inside : ℕ) → ℕ

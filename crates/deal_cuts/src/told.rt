@@ -1,6 +1,7 @@
 //! What a step tells of the tiles of a rack.
 ghost use Rattle.std.specs.Prelude.{◌≡◌};
-ghost use Rattle.deal_cuts.specs.Flowing.{known_at, leaving, coming, unknown_at, throws};
+ghost use Rattle.deal_steps.specs.Steps.{swaps};
+ghost use Rattle.deal_cuts.specs.Flowing.{known_at, leaving, coming, unknown_at};
 
 use deal_steps::{Act, Motion, Step, greater, used_by};
 use gcg_read::{Seat, same_seat};
@@ -54,7 +55,7 @@ pub fn unknown_at(seat: Seat, step: &Step) -> usize
 
 /// Whether the tiles that leave a rack at a step go to the bag.
 pub fn throws(act: &Act) -> bool
-    ensures { result ≡ throws act.now }
+    ensures { result ≡ swaps act.now }
 {
     match act {
         Act::Turns {

@@ -4,7 +4,6 @@ use crate::moves::Move;
 use crate::nets::{ARCS, Net};
 use crate::piles::{Pile, counts_of, plus};
 use deal_steps::{Act, Deal, Held, Racks, Step, without};
-use gcg_read::Seat;
 use ref_tiles::{Counts, KINDS};
 use std::alloc::{AllocError, Global};
 
@@ -38,26 +37,12 @@ fn thrown_by(arcs: &[Arc], turn: &Move, place: usize) -> Counts {
     }
 }
 
-/// The racks with another one for a player.
-fn with_rack(racks: &Racks, seat: Seat, rack: Counts) -> Racks {
-    match seat {
-        Seat::First => Racks {
-            first: rack,
-            second: racks.second,
-        },
-        Seat::Second => Racks {
-            first: racks.first,
-            second: rack,
-        },
-    }
-}
-
 /// What the players hold at a step. Where a play is taken back, its tiles are on the board and not on the rack.
 fn racks_at(step: &Step, racks: &Racks) -> Racks {
     match &step.act {
         Act::TakesBack(used) => {
             let rest = without(racks.of(step.player), used);
-            with_rack(racks, step.player, rest)
+            racks.with_rack(step.player, rest)
         }
         Act::Turns { .. } | Act::Ends { .. } | Act::Rests => *racks,
     }
@@ -71,7 +56,7 @@ fn first_racks(net: &Net) -> Racks {
     };
     for place in 0..2 {
         if place < net.moves.len() {
-            racks = with_rack(&racks, net.moves[place].seat, rack_after(&net.arcs, place));
+            racks = racks.with_rack(net.moves[place].seat, rack_after(&net.arcs, place));
         }
     }
     racks
@@ -88,7 +73,7 @@ pub fn deal_of(alloc: Global, net: &Net, steps: &[Step]) -> Result<Deal, AllocEr
             let now = racks_at(step, &racks);
             let thrown = thrown_by(&net.arcs, turn, place);
             held.push(Held { racks: now, thrown })?;
-            racks = with_rack(&racks, turn.seat, rack_after(&net.arcs, place));
+            racks = racks.with_rack(turn.seat, rack_after(&net.arcs, place));
         }
     }
     Ok(Deal::of(held))

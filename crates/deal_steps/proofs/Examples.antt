@@ -18,7 +18,7 @@ use Rattle.deal_steps.specs.Piles.{kinds, joined, without, greater}
 use Rattle.deal_steps.specs.Bounds.{gone, low, held, kind_at, bound_at, first_bound}
 
 -- a tile set of 14: two each of A, E, R and T, one each of D, I, N, O, S and W
-short : Rules
+unfoldable pub short : Rules
 unfolding english most_tiles
 short = record english {
   counts = 2 ∷ 0 ∷ 0 ∷ 1 ∷ 2 ∷ 0 ∷ 0 ∷ 0 ∷ 1 ∷ 0 ∷ 0 ∷ 0 ∷ 0 ∷ 1 ∷ 1 ∷ 0 ∷ 0 ∷ 2 ∷ 1 ∷ 2 ∷ 0 ∷ 0 ∷ 1 ∷ 0 ∷ 0 ∷ 0 ∷ 0 ∷ [];
@@ -30,7 +30,7 @@ abbrev tiles : List ℕ → List ℕ
 tiles letters = map (λ k. count_by (λ letter. letter == k) letters) (range_with_len 65 27)
 
 -- what a line does where both racks are full; what is on the board and in the bag is nothing to the bounds
-abbrev line : ℕ → Seat → Act → Step
+abbrev pub line : ℕ → Seat → Act → Step
 line n player what = record { line = n; player = player; counted = true; act = what; board = no_tiles; first = 7; second = 7; bag = 86 }
 
 -- a player shows some tiles and passes

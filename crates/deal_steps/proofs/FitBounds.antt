@@ -14,10 +14,10 @@ use Rattle.deal_steps.specs.declared.deals.Racks.{Racks}
 use Rattle.deal_steps.specs.declared.deals.Held.{Held}
 use Rattle.deal_steps.specs.declared.known.Known.{Known}
 use Rattle.deal_steps.specs.Piles.{joined, without, greater}
-use Rattle.deal_steps.specs.Steps.{used_by}
+use Rattle.deal_steps.specs.Steps.{used_by, size_of}
 use Rattle.deal_steps.specs.Fitting.{rack_of, in_bag, AddsUp, AllowsAct, ActsTo, FollowsTo, Fits}
 use Rattle.deal_steps.specs.Bounds.{first_bound_after, first_bound, bound_at}
-use Rattle.deal_steps.specs.Knowing.{IsKnown, excess_of, excess, shown_by, moved_by}
+use Rattle.deal_steps.specs.Knowing.{known_of, IsKnown, excess_of, excess, shown_by, moved_by}
 use Rattle.deal_steps.specs.Runs.{Course, none_waiting, MayAct, act_course, IsOnCourse, IsRunFrom, first_course, IsRun}
 use Rattle.deal_steps.proofs.PileLaws.{get-joined, get-without, get-greater, get-no_tiles, sum_is, sum_kinds_le}
 use Rattle.deal_steps.proofs.Refills.{refilled_kinds}
@@ -105,22 +105,26 @@ known_within rules c s known racks on adds had k below =
     let two = had.second k below in
     omega (arith, whole, board, parts, waits, laid, one, two)
 
--- where what is known is had, and nothing waits, no bound is exceeded
+-- where as much as is known of a rack fits on it, no bound is exceeded
+fitting_exceeds_none : (rules : Rules) (c : Course) (s : Step) (seat : Seat) (known : Known) (racks : Racks) → IsOnCourse c s → AddsUp rules s racks → IsHad c known racks
+    → sum (known_of known seat) ≤ size_of s seat → excess_of rules seat s known ≡ None
+unfolding excess_of
+fitting_exceeds_none rules c s seat known racks on adds had fewer =
+    let fits = le-ltb (size_of s seat) (sum (known_of known seat)) fewer in
+    let short = no_short rules known (known_within rules c s known racks on adds had) in
+    rw fits (rw short refl)
+
+-- and so where what is known is had, and nothing waits
 none_exceeded : (rules : Rules) (c : Course) (s : Step) (seat : Seat) (known : Known) (racks : Racks) → IsOnCourse c s → AddsUp rules s racks → IsHad c known racks
     → length known.first ≡ 27 → length known.second ≡ 27 → c.waiting ≡ none_waiting → excess_of rules seat s known ≡ None
-unfolding excess_of
 none_exceeded rules c s First known racks on adds had long long2 none =
     let fewer = fewer_known known.first racks.first c.waiting.first long adds.first_kinds had.first (ap (λ (w : Racks). w.first) none) in
     let size = adds.first in
-    let fits = le-ltb s.first (sum known.first) (omega (arith, fewer, size)) in
-    let short = no_short rules known (known_within rules c s known racks on adds had) in
-    rw fits (rw short refl)
+    fitting_exceeds_none rules c s First known racks on adds had (omega (arith, fewer, size))
 none_exceeded rules c s Second known racks on adds had long long2 none =
     let fewer = fewer_known known.second racks.second c.waiting.second long2 adds.second_kinds had.second (ap (λ (w : Racks). w.second) none) in
     let size = adds.second in
-    let fits = le-ltb s.second (sum known.second) (omega (arith, fewer, size)) in
-    let short = no_short rules known (known_within rules c s known racks on adds had) in
-    rw fits (rw short refl)
+    fitting_exceeds_none rules c s Second known racks on adds had (omega (arith, fewer, size))
 
 none_at : (rules : Rules) (c : Course) (s : Step) (what : Act) (known : Known) (racks : Racks) → IsOnCourse c s → AddsUp rules s racks → IsHad c known racks
     → length known.first ≡ 27 → length known.second ≡ 27 → MayAct c s.player what → excess rules s what known ≡ None
@@ -169,17 +173,21 @@ anew_had new waiting k below = let none = get-no_tiles k below in omega (arith, 
 off_is : (thrown tiles rack new : List ℕ) (k : ℕ) → thrown ≡ tiles → get_or rack k 0 ≤ get_or new k 0 + get_or thrown k 0 → get_or rack k 0 ≤ get_or new k 0 + get_or tiles k 0
 off_is thrown tiles rack new k is gone = let same = ap (λ (xs : List ℕ). get_or xs k 0) is in omega (arith, gone, same)
 
+-- neither rack changes, nor the tiles that wait
+same_had : (c : Course) (known : Known) (racks next : Racks) → IsHad c known racks → next.first ≡ racks.first → next.second ≡ racks.second → IsHad c known next
+same_had c known racks next had first second =
+    record {
+      first = λ k below. stays_had known.first racks.first next.first c.waiting.first c.waiting.first k (had.first k below) first refl;
+      second = λ k below. stays_had known.second racks.second next.second c.waiting.second c.waiting.second k (had.second k below) second refl;
+      laid = had.laid;
+    }
+
 had_after : (bag : List ℕ) (c : Course) (player : Seat) (what : Act) (known : Known) (held : Held) (next : Racks)
     → IsHad c known held.racks → MayAct c player what → AllowsAct player what held
     → ActsTo bag what held.thrown (rack_of held.racks player) (rack_of next player)
     → rack_of next (other_seat player) ≡ rack_of held.racks (other_seat player)
     → IsHad (act_course c player what) (moved_by player what known) next
-had_after bag c First (act.Turns shown motion.Keeps) known held next had may allows acts stays =
-    record {
-      first = λ k below. stays_had known.first held.racks.first next.first c.waiting.first _ k (had.first k below) acts refl;
-      second = λ k below. stays_had known.second held.racks.second next.second c.waiting.second _ k (had.second k below) stays refl;
-      laid = had.laid;
-    }
+had_after bag c First (act.Turns shown motion.Keeps) known held next had may allows acts stays = same_had c known held.racks next had acts stays
 had_after bag c First (act.Turns shown (motion.Lays used drawn)) known held next had may allows acts stays =
     record {
       first = λ k below. refilled_is_had known.first used held.racks.first next.first c.waiting.first k below (had.first k below) (refilled_kinds bag drawn used _ _ acts k below).0;
@@ -210,24 +218,9 @@ had_after bag c First (act.TakesBack used) known held next had may allows acts s
       second = λ k below. stays_had known.second held.racks.second next.second c.waiting.second _ k (had.second k below) stays (ap (λ (w : Racks). w.second) may);
       laid = had.laid;
     }
-had_after bag c First (act.Ends holder tiles) known held next had may allows acts stays =
-    record {
-      first = λ k below. stays_had known.first held.racks.first next.first c.waiting.first _ k (had.first k below) acts refl;
-      second = λ k below. stays_had known.second held.racks.second next.second c.waiting.second _ k (had.second k below) stays refl;
-      laid = had.laid;
-    }
-had_after bag c First act.Rests known held next had may allows acts stays =
-    record {
-      first = λ k below. stays_had known.first held.racks.first next.first c.waiting.first _ k (had.first k below) acts refl;
-      second = λ k below. stays_had known.second held.racks.second next.second c.waiting.second _ k (had.second k below) stays refl;
-      laid = had.laid;
-    }
-had_after bag c Second (act.Turns shown motion.Keeps) known held next had may allows acts stays =
-    record {
-      first = λ k below. stays_had known.first held.racks.first next.first c.waiting.first _ k (had.first k below) stays refl;
-      second = λ k below. stays_had known.second held.racks.second next.second c.waiting.second _ k (had.second k below) acts refl;
-      laid = had.laid;
-    }
+had_after bag c First (act.Ends holder tiles) known held next had may allows acts stays = same_had c known held.racks next had acts stays
+had_after bag c First act.Rests known held next had may allows acts stays = same_had c known held.racks next had acts stays
+had_after bag c Second (act.Turns shown motion.Keeps) known held next had may allows acts stays = same_had c known held.racks next had stays acts
 had_after bag c Second (act.Turns shown (motion.Lays used drawn)) known held next had may allows acts stays =
     record {
       first = λ k below. stays_had known.first held.racks.first next.first c.waiting.first _ k (had.first k below) stays refl;
@@ -258,18 +251,8 @@ had_after bag c Second (act.TakesBack used) known held next had may allows acts 
       second = λ k below. back_had known.second used held.racks.second next.second c.waiting.second k (had.second k below) (ap (λ (w : Racks). w.second) may) (acts k below);
       laid = had.laid;
     }
-had_after bag c Second (act.Ends holder tiles) known held next had may allows acts stays =
-    record {
-      first = λ k below. stays_had known.first held.racks.first next.first c.waiting.first _ k (had.first k below) stays refl;
-      second = λ k below. stays_had known.second held.racks.second next.second c.waiting.second _ k (had.second k below) acts refl;
-      laid = had.laid;
-    }
-had_after bag c Second act.Rests known held next had may allows acts stays =
-    record {
-      first = λ k below. stays_had known.first held.racks.first next.first c.waiting.first _ k (had.first k below) stays refl;
-      second = λ k below. stays_had known.second held.racks.second next.second c.waiting.second _ k (had.second k below) acts refl;
-      laid = had.laid;
-    }
+had_after bag c Second (act.Ends holder tiles) known held next had may allows acts stays = same_had c known held.racks next had stays acts
+had_after bag c Second act.Rests known held next had may allows acts stays = same_had c known held.racks next had stays acts
 
 -- ---- step by step
 

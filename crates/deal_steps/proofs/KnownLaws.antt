@@ -194,32 +194,20 @@ laid_known Second act.Rests first second known e = none_laid known.laid first se
 
 -- ---- epochs
 
+-- the tiles that leave a rack are those that are laid and those that are thrown
+even_after : (earlier gone laid thrown left used tiles : List ℕ) (k : ℕ) → k < 27 → get_or earlier k 0 + get_or gone k 0 ≡ get_or laid k 0 + get_or thrown k 0
+    → get_or left k 0 ≡ get_or used k 0 + get_or tiles k 0
+    → get_or earlier k 0 + get_or (joined gone left) k 0 ≡ get_or (joined laid used) k 0 + get_or (joined thrown tiles) k 0
+even_after earlier gone laid thrown left used tiles k below e parts =
+    let one = get-joined gone left k below in
+    let two = get-joined laid used k below in
+    let three = get-joined thrown tiles k below in
+    omega (arith, e, parts, one, two, three)
+
 even_stays : (earlier gone laid thrown : List ℕ) (k : ℕ) → k < 27 → get_or earlier k 0 + get_or gone k 0 ≡ get_or laid k 0 + get_or thrown k 0
     → get_or earlier k 0 + get_or (joined gone no_tiles) k 0 ≡ get_or (joined laid no_tiles) k 0 + get_or (joined thrown no_tiles) k 0
 even_stays earlier gone laid thrown k below e =
-    let one = get-joined gone no_tiles k below in
-    let two = get-joined laid no_tiles k below in
-    let three = get-joined thrown no_tiles k below in
-    let none = get-no_tiles k below in
-    omega (arith, e, one, two, three, none)
-
-even_lays : (earlier gone laid thrown used : List ℕ) (k : ℕ) → k < 27 → get_or earlier k 0 + get_or gone k 0 ≡ get_or laid k 0 + get_or thrown k 0
-    → get_or earlier k 0 + get_or (joined gone used) k 0 ≡ get_or (joined laid used) k 0 + get_or (joined thrown no_tiles) k 0
-even_lays earlier gone laid thrown used k below e =
-    let one = get-joined gone used k below in
-    let two = get-joined laid used k below in
-    let three = get-joined thrown no_tiles k below in
-    let none = get-no_tiles k below in
-    omega (arith, e, one, two, three, none)
-
-even_throws : (earlier gone laid thrown tiles : List ℕ) (k : ℕ) → k < 27 → get_or earlier k 0 + get_or gone k 0 ≡ get_or laid k 0 + get_or thrown k 0
-    → get_or earlier k 0 + get_or (joined gone tiles) k 0 ≡ get_or (joined laid no_tiles) k 0 + get_or (joined thrown tiles) k 0
-even_throws earlier gone laid thrown tiles k below e =
-    let one = get-joined gone tiles k below in
-    let two = get-joined laid no_tiles k below in
-    let three = get-joined thrown tiles k below in
-    let none = get-no_tiles k below in
-    omega (arith, e, one, two, three, none)
+    even_after earlier gone laid thrown no_tiles no_tiles no_tiles k below e (let none = get-no_tiles k below in omega (arith, none))
 
 even_anew : (laid : List ℕ) (k : ℕ) → k < 27 → get_or laid k 0 + get_or no_tiles k 0 ≡ get_or (joined laid no_tiles) k 0 + get_or no_tiles k 0
 even_anew laid k below =
@@ -241,9 +229,11 @@ epoch_step seat player what earlier gone laid thrown k below e = by (same_seat p
         + get_or (if own && throws_unknown what then no_tiles else joined thrown (if own then of_act thrown_by what else no_tiles)) k 0
     by false what = even_stays earlier gone laid thrown k below e
     by true (act.Turns shown motion.Keeps) = even_stays earlier gone laid thrown k below e
-    by true (act.Turns shown (motion.Lays used drawn)) = even_lays earlier gone laid thrown used k below e
+    by true (act.Turns shown (motion.Lays used drawn)) =
+        even_after earlier gone laid thrown used used no_tiles k below e (let none = get-no_tiles k below in omega (arith, none))
     by true (act.Turns shown (motion.Tries used)) = even_stays earlier gone laid thrown k below e
-    by true (act.Turns shown (motion.Throws tiles)) = even_throws earlier gone laid thrown tiles k below e
+    by true (act.Turns shown (motion.Throws tiles)) =
+        even_after earlier gone laid thrown tiles no_tiles tiles k below e (let none = get-no_tiles k below in omega (arith, none))
     by true (act.Turns shown (motion.ThrowsUnknown n)) = even_anew laid k below
     by true (act.TakesBack used) = even_stays earlier gone laid thrown k below e
     by true (act.Ends holder tiles) = even_stays earlier gone laid thrown k below e

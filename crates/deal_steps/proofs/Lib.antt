@@ -4,4 +4,4 @@ pub mod EpochLaws
 pub mod KnownLaws
 pub mod FitLaws
 pub mod FitBounds
-mod Examples
+pub mod Examples

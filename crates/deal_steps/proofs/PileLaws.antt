@@ -115,15 +115,6 @@ sum_is xs long = ap sum (table_is (λ k. get_or xs k 0) xs long (λ k below. ref
 
 -- ---- sums over the kinds
 
-range_same : (f g : ℕ → ℕ) (a n : ℕ) → ((k : ℕ) → a ≤ k → k < a + n → f k ≡ g k) → sum_by f (range_with_len a n) ≡ sum_by g (range_with_len a n)
-range_same f g a zero same = refl
-range_same f g a (suc n) same =
-    let first : sum_by f (range_with_len a (suc n)) ≡ f a + sum_by f (range_with_len (a + 1) n) = sum_by-cons f a (range_with_len (a + 1) n) in
-    let second : sum_by g (range_with_len a (suc n)) ≡ g a + sum_by g (range_with_len (a + 1) n) = sum_by-cons g a (range_with_len (a + 1) n) in
-    let more = range_same f g (a + 1) n (λ k after before. same k (omega arith) (omega arith)) in
-    let here = same a (omega arith) (omega arith) in
-    omega (arith, first, second, more, here)
-
 range_le : (f g : ℕ → ℕ) (a n : ℕ) → ((k : ℕ) → a ≤ k → k < a + n → f k ≤ g k) → sum_by f (range_with_len a n) ≤ sum_by g (range_with_len a n)
 range_le f g a zero below = omega arith
 range_le f g a (suc n) below =
@@ -132,6 +123,12 @@ range_le f g a (suc n) below =
     let more = range_le f g (a + 1) n (λ k after before. below k (omega arith) (omega arith)) in
     let here = below a (omega arith) (omega arith) in
     omega (arith, first, second, more, here)
+
+range_same : (f g : ℕ → ℕ) (a n : ℕ) → ((k : ℕ) → a ≤ k → k < a + n → f k ≡ g k) → sum_by f (range_with_len a n) ≡ sum_by g (range_with_len a n)
+range_same f g a n same =
+    let fewer = range_le f g a n (λ k after before. let here = same k after before in omega (arith, here)) in
+    let more = range_le g f a n (λ k after before. let here = same k after before in omega (arith, here)) in
+    omega (arith, fewer, more)
 
 range_part : (f : ℕ → ℕ) (a n k : ℕ) → a ≤ k → k < a + n → f k ≤ sum_by f (range_with_len a n)
 range_part f a zero k after before = absurd (omega arith)

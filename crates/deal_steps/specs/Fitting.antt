@@ -20,6 +20,11 @@ abbrev pub rack_of : Racks → Seat → List ℕ
 rack_of racks First = racks.first
 rack_of racks Second = racks.second
 
+-- the racks with another one for a player
+abbrev pub with_rack : Racks → Seat → List ℕ → Racks
+with_rack racks First rack = record racks { first = rack }
+with_rack racks Second rack = record racks { second = rack }
+
 -- the tiles in the bag: all that are neither on the board nor on a rack
 abbrev pub in_bag : Rules → Step → Racks → List ℕ
 in_bag rules s racks = without (without (without rules.counts s.board) racks.first) racks.second

@@ -13,55 +13,56 @@ use Rattle.deal_steps.specs.Piles.{greater}
 
 -- the tiles that a turn uses, where they are known
 abbrev pub used_by : Motion → List ℕ
-used_by motion.Keeps = no_tiles
 used_by (motion.Lays used drawn) = used
 used_by (motion.Tries used) = used
 used_by (motion.Throws tiles) = tiles
-used_by (motion.ThrowsUnknown n) = no_tiles
+used_by other = no_tiles
 
 -- the tiles of a play that stands
 abbrev pub laid_by : Motion → List ℕ
-laid_by motion.Keeps = no_tiles
 laid_by (motion.Lays used drawn) = used
-laid_by (motion.Tries used) = no_tiles
-laid_by (motion.Throws tiles) = no_tiles
-laid_by (motion.ThrowsUnknown n) = no_tiles
+laid_by other = no_tiles
 
 -- the tiles of an exchange, where they are known
 abbrev pub thrown_by : Motion → List ℕ
-thrown_by motion.Keeps = no_tiles
-thrown_by (motion.Lays used drawn) = no_tiles
-thrown_by (motion.Tries used) = no_tiles
 thrown_by (motion.Throws tiles) = tiles
-thrown_by (motion.ThrowsUnknown n) = no_tiles
+thrown_by other = no_tiles
 
 -- the known tiles that leave a rack for good: those of a play that stands, and of an exchange
 abbrev pub left_by : Motion → List ℕ
-left_by motion.Keeps = no_tiles
 left_by (motion.Lays used drawn) = used
-left_by (motion.Tries used) = no_tiles
 left_by (motion.Throws tiles) = tiles
-left_by (motion.ThrowsUnknown n) = no_tiles
+left_by other = no_tiles
 
+-- whether a turn is an exchange
+abbrev pub swaps_by : Motion → Bool
+swaps_by motion.Keeps = false
+swaps_by (motion.Lays used drawn) = false
+swaps_by (motion.Tries used) = false
+swaps_by (motion.Throws tiles) = true
+swaps_by (motion.ThrowsUnknown n) = true
+
+-- whether a turn is an exchange of tiles that are not known
 abbrev pub is_unknown : Motion → Bool
-is_unknown motion.Keeps = false
-is_unknown (motion.Lays used drawn) = false
-is_unknown (motion.Tries used) = false
-is_unknown (motion.Throws tiles) = false
 is_unknown (motion.ThrowsUnknown n) = true
+is_unknown other = false
 
--- the same of an act
+-- what an act comes to where only turns come to anything, and every other act to nothing
+abbrev pub of_turn : {A : Type 0} → (nothing : A) → (Motion → A) → Act → A
+of_turn nothing f (act.Turns shown what) = f what
+of_turn nothing f (act.TakesBack used) = nothing
+of_turn nothing f (act.Ends holder tiles) = nothing
+of_turn nothing f act.Rests = nothing
+
+-- the tiles of an act
 abbrev pub of_act : (Motion → List ℕ) → Act → List ℕ
-of_act f (act.Turns shown what) = f what
-of_act f (act.TakesBack used) = no_tiles
-of_act f (act.Ends holder tiles) = no_tiles
-of_act f act.Rests = no_tiles
+of_act f what = of_turn no_tiles f what
+
+abbrev pub swaps : Act → Bool
+swaps what = of_turn false swaps_by what
 
 abbrev pub throws_unknown : Act → Bool
-throws_unknown (act.Turns shown what) = is_unknown what
-throws_unknown (act.TakesBack used) = false
-throws_unknown (act.Ends holder tiles) = false
-throws_unknown act.Rests = false
+throws_unknown what = of_turn false is_unknown what
 
 -- whether the step is a player's
 abbrev pub is_by : Seat → Step → Bool

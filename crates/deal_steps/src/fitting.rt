@@ -1,7 +1,7 @@
 //! Whether racks fit the steps of a game: before each step, and from each step to the next.
 ghost use Rattle.std.specs.Prelude.{◌≡◌, ◌+◌, ◌<◌, ◌≤◌, ◌↔◌, ℕ, IsTrue, slice_index};
 ghost use Rattle.deal_steps.specs.Steps.{used_by};
-ghost use Rattle.deal_steps.specs.Fitting.{rack_of, in_bag, IsWithinSet, AddsUp, IsThrownBy, HasTurn, AllowsAct, FitsAt, IsRefilled, IsLess, TurnsTo, ActsTo, Follows, FollowsTo, Fits};
+ghost use Rattle.deal_steps.specs.Fitting.{rack_of, with_rack, in_bag, IsWithinSet, AddsUp, IsThrownBy, HasTurn, AllowsAct, FitsAt, IsRefilled, IsLess, TurnsTo, ActsTo, Follows, FollowsTo, Fits};
 
 use crate::deals::{Held, Racks};
 use crate::piles::without;
@@ -17,6 +17,22 @@ impl Racks {
         match seat {
             Seat::First => &self.first,
             Seat::Second => &self.second,
+        }
+    }
+
+    /// The racks with another one for a player.
+    pub fn with_rack(&self, seat: Seat, rack: Counts) -> Racks
+        ensures { result ≡ with_rack self.now seat rack }
+    {
+        match seat {
+            Seat::First => Racks {
+                first: rack,
+                second: self.second,
+            },
+            Seat::Second => Racks {
+                first: self.first,
+                second: rack,
+            },
         }
     }
 }

@@ -18,7 +18,8 @@ use Rattle.deal_steps.specs.Fitting.{Fits}
 use Rattle.deal_steps.specs.Runs.{IsRun}
 use Rattle.game_turns.specs.Places.{AreAllowed}
 use Rattle.game_deal.specs.Laws.{AllowedIsRun}
-use Rattle.deal_completion.specs.Plain.{swaps, IsPlain}
+use Rattle.deal_steps.specs.Steps.{swaps}
+use Rattle.deal_completion.specs.Plain.{IsPlain}
 use Rattle.game_deal.specs.Recorded.{stated, taken_back_act, act_of, step_in, steps_after, steps_of}
 use Rattle.game_deal.specs.Plain.{is_exchange, HaveNoExchange}
 
