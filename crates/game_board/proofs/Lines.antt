@@ -6,7 +6,7 @@ use Rattle.std.proofs.lemmas.List.Concat.{flat_map-append}
 use Rattle.ref_tiles.specs.declared.tiles.Tile.{Tile}
 use Rattle.ref_tiles.specs.declared.rulebook.Rules.{Rules}
 use Rattle.ref_play.proofs.Ranges.{range_push}
-use Rattle.game_turns.proofs.Lists.{sum_range_more}
+use Rattle.ref_play.proofs.ScoreLemmas.{sum_range_more}
 use Rattle.game_board.specs.Texts.{cell_text, cells_text, row_line, rows_text, kind_text, kinds_text}
 use Rattle.game_board.specs.Tiles.{off_board, all_off}
 

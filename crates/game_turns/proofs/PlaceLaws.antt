@@ -1,5 +1,5 @@
 -- The tally at the next place of a record.
-use Rattle.std.proofs.Common.{◌≡◌, ℕ, zero, suc, ◌+◌, ◌≤◌, Bool, true, false, nat_lt, List, [], ◌∷◌, length, reverse, take, get_or, slice_get, Option, Some, None, refl, sym, ap, ◌∙◌, subst, arith, ⊎_elim}
+use Rattle.std.proofs.Common.{◌≡◌, ℕ, zero, suc, ◌+◌, ◌<◌, ◌≤◌, Bool, true, false, nat_lt, List, [], ◌∷◌, length, reverse, take, get_or, slice_get, Option, Some, None, refl, sym, ap, ◌∙◌, subst, arith, ⊎_elim}
 use Rattle.std.proofs.lemmas.List.{take_more, reverse-append}
 use Rattle.std.specs.Borrow.{Bor}
 use Rattle.std.specs.Option.{option_copied, is_some, IfSome}
@@ -10,6 +10,8 @@ use Rattle.ref_tiles.specs.declared.rulebook.Rules.{Rules}
 use Rattle.gcg_read.specs.declared.events.Event.{Event}
 use Rattle.std.proofs.lemmas.Bool.{cases_eq, ltb-true, ltb-false}
 use Rattle.game_turns.specs.declared.faults.RuleFault.{RuleFault}
+use Rattle.game_turns.specs.declared.machine.Machine.{Machine}
+use Rattle.game_turns.specs.Machines.{rules_of, state_of}
 use Rattle.game_turns.specs.Tallies.{State, tally, tally_at, withdraws}
 use Rattle.game_turns.specs.Checks.{fault_in}
 use Rattle.game_turns.specs.Places.{fault_of_event, fault_at, AreAllowedTo}
@@ -76,20 +78,24 @@ allowed_more rules list events end before here place below =
     (λ (ne : place ≡ end → ⊥). before place (omega arith))
     (cases_eq place end)
 
--- a step from the tally at a place: its answer tells the fault there
-pub fault_told : (rules : Rules) (list : List (List ℕ)) (events : List Event) (place : ℕ) (e : Event) (own : Rules) (s : State) (o : Option RuleFault)
-    → slice_get events place ≡ Some e → own ≡ rules → s ≡ tally_at rules events place → fault_in own list s e ≡ o → fault_at rules list events place ≡ o
-fault_told rules list events place e own s o is same_rules same_state told =
-    fault_here rules list events place e is ∙ sym (ap (λ r. fault_in r list (tally_at rules events place) e) same_rules)
-    ∙ sym (ap (λ t. fault_in own list t e) same_state) ∙ told
+-- a step of a machine from the tally at a place: its answer tells the fault there
+pub fault_told : (rules : Rules) (list : List (List ℕ)) (events : List Event) (place : ℕ) (e : Event) (machine : Machine) (o : Option RuleFault)
+    → place < length events → e ≡ get_or events place e → rules_of machine ≡ rules → state_of machine ≡ tally_at rules events place
+    → fault_in (rules_of machine) list (state_of machine) e ≡ o → fault_at rules list events place ≡ o
+fault_told rules list events place e machine o within is same_rules same_state told =
+    fault_here rules list events place e (slice_get_read events (length events) place e refl within is)
+    ∙ sym (ap (λ r. fault_in r list (tally_at rules events place) e) same_rules)
+    ∙ sym (ap (λ t. fault_in (rules_of machine) list t e) same_state) ∙ told
 
 -- and leaves the tally at the next place
-pub state_left : NextTallyIsAfter → (rules : Rules) (list : List (List ℕ)) (events : List Event) (place : ℕ) (e : Event) (own : Rules) (s new : State) (next : Option Event)
-    → slice_get events place ≡ Some e → own ≡ rules → s ≡ tally_at rules events place → next ≡ slice_get events (place + 1)
-    → AreAllowedTo rules list events (place + 1) → new ≡ after own s e (withdraws next) → new ≡ tally_at rules events (place + 1)
-state_left law rules list events place e own s new next is same_rules same_state same_next allowed left =
-    left ∙ ap (λ r. after r s e (withdraws next)) same_rules ∙ ap (λ t. after rules t e (withdraws next)) same_state
-    ∙ ap (λ o. after rules (tally_at rules events place) e (withdraws o)) same_next ∙ law rules list events place e is allowed
+pub state_left : NextTallyIsAfter → (rules : Rules) (list : List (List ℕ)) (events : List Event) (place : ℕ) (e : Event) (machine : Machine) (new : State) (next : Option Event)
+    → place < length events → e ≡ get_or events place e → rules_of machine ≡ rules → state_of machine ≡ tally_at rules events place
+    → next ≡ slice_get events (place + 1) → AreAllowedTo rules list events (place + 1) → new ≡ after (rules_of machine) (state_of machine) e (withdraws next)
+    → new ≡ tally_at rules events (place + 1)
+state_left law rules list events place e machine new next within is same_rules same_state same_next allowed left =
+    left ∙ ap (λ r. after r (state_of machine) e (withdraws next)) same_rules ∙ ap (λ t. after rules t e (withdraws next)) same_state
+    ∙ ap (λ o. after rules (tally_at rules events place) e (withdraws o)) same_next
+    ∙ law rules list events place e (slice_get_read events (length events) place e refl within is) allowed
 
 -- what a look-up in the events gives
 pub copied_get : (events : List Event) (place : ℕ) (o : Option (Bor Event)) → is_some o ≡ nat_lt place (length events) → IfSome o (λ x. x.now ≡ get_or events place x.now)

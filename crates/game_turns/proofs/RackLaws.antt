@@ -9,6 +9,7 @@ use Rattle.gcg_read.specs.declared.events.Seat.TheVariants.{First, Second}
 use Rattle.game_turns.specs.declared.latest.Laid.{Laid}
 use Rattle.game_turns.specs.declared.latest.LatestEvent.{LatestEvent}
 use Rattle.game_turns.specs.declared.latest.LatestEvent.TheVariants as latest
+use Rattle.game_turns.specs.declared.sides.Side.{Side}
 use Rattle.game_turns.specs.declared.sides.Sides.{Sides}
 use Rattle.game_turns.specs.Seats.{same_seat, side_of, with_side, with_total, with_rack}
 use Rattle.game_turns.specs.LatestEvents.{waiting_tiles, FitRacks, HoldsLatest}
@@ -27,31 +28,22 @@ total_racks sides First total Second = refl
 total_racks sides Second total First = refl
 total_racks sides Second total Second = refl
 
--- a side with another flag
-timed_racks : (sides : Sides) (seat : Seat) → SameRacks sides (with_side sides seat (record (side_of sides seat) { timed = true }))
-timed_racks sides First First = refl
-timed_racks sides First Second = refl
-timed_racks sides Second First = refl
-timed_racks sides Second Second = refl
+-- a side with other flags
+flagged_racks : (sides : Sides) (seat : Seat) (side : Side) → side.rack ≡ (side_of sides seat).rack → SameRacks sides (with_side sides seat side)
+flagged_racks sides First side is First = is
+flagged_racks sides First side is Second = refl
+flagged_racks sides Second side is First = refl
+flagged_racks sides Second side is Second = is
 
-ended_racks : (sides : Sides) (seat : Seat) → SameRacks sides (with_side sides seat (record (side_of sides seat) { ended = true }))
-ended_racks sides First First = refl
-ended_racks sides First Second = refl
-ended_racks sides Second First = refl
-ended_racks sides Second Second = refl
-
--- what the changes leave
 pub fit_scored : (sides new : Sides) (event : LatestEvent) (seat : Seat) (total : ℤ) → FitRacks sides event → new ≡ with_total sides seat total → FitRacks new latest.Other
 fit_scored sides new event seat total fit is =
     subst (λ s. FitRacks s latest.Other) (sym is) (idle_racks sides (with_total sides seat total) event (total_racks sides seat total) fit)
 
-pub fit_timed : (sides new : Sides) (seat : Seat) → FitRacks sides latest.Other → new ≡ with_side sides seat (record (side_of sides seat) { timed = true }) → FitRacks new latest.Other
-fit_timed sides new seat fit is =
-    subst (λ s. FitRacks s latest.Other) (sym is) (idle_racks sides (with_side sides seat (record (side_of sides seat) { timed = true })) latest.Other (timed_racks sides seat) fit)
-
-pub fit_ended : (sides new : Sides) (seat : Seat) → FitRacks sides latest.Other → new ≡ with_side sides seat (record (side_of sides seat) { ended = true }) → FitRacks new latest.Other
-fit_ended sides new seat fit is =
-    subst (λ s. FitRacks s latest.Other) (sym is) (idle_racks sides (with_side sides seat (record (side_of sides seat) { ended = true })) latest.Other (ended_racks sides seat) fit)
+pub fit_flagged : (sides between new : Sides) (event : LatestEvent) (seat : Seat) (total : ℤ) (side : Side) → FitRacks sides event → between ≡ with_total sides seat total
+    → side.rack ≡ (side_of between seat).rack → new ≡ with_side between seat side → FitRacks new latest.Other
+fit_flagged sides between new event seat total side fit scored same is =
+    subst (λ s. FitRacks s latest.Other) (sym is)
+    (idle_racks between (with_side between seat side) latest.Other (flagged_racks between seat side same) (fit_scored sides between event seat total fit scored))
 
 rack_same : (sides : Sides) (seat : Seat) (rack : ℕ) → (side_of (with_rack sides seat rack) seat).rack ≡ rack
 rack_same sides First rack = refl

@@ -175,33 +175,44 @@ laid_at past dir at word = placement_of (board_at false past) dir at word
 abbrev pub play_made : ℕ → Seat → Option (List ℕ) → Dir → ℕ → List Symbol → ℤ → ℤ → Event
 play_made line player rack dir at word score total = made line player rack (kind.Play at dir word) score total
 
+-- a state behind a play that stands, as the change makes it and as it is read from the events
+played_from : (seat : Seat) (before : Option Seat) (whole laid own drawn n limit : ℕ) (t : State) → n ≤ 7 + drawn - own
+    → record t {
+      sides = with_rack t.sides seat (7 + drawn - own - 0 - n + min n (whole - laid));
+      bag = whole - laid - min n (whole - laid);
+      out = out_with seat before (whole - laid - min n (whole - laid)) (7 + drawn - own - 0 - n + min n (whole - laid));
+      zero_run = 0;
+    }
+    ≡ record t {
+      sides = with_rack t.sides seat (7 + ((whole - laid - (whole - (n + laid))) + drawn) - (n + own) - 0);
+      bag = whole - (n + laid);
+      out = out_with seat before (whole - (n + laid)) (7 + ((whole - laid - (whole - (n + laid))) + drawn) - (n + own));
+      zero_run = min limit 0;
+    }
+played_from seat before whole laid own drawn n limit t within =
+    let bags = bag_falls whole laid n in
+    let racks = rack_refills whole laid drawn own n within in
+    played_alike t
+    (with_rack t.sides seat (7 + drawn - own - 0 - n + min n (whole - laid)))
+    (with_rack t.sides seat (7 + ((whole - laid - (whole - (n + laid))) + drawn) - (n + own) - 0))
+    (whole - laid - min n (whole - laid)) (whole - (n + laid))
+    (out_with seat before (whole - laid - min n (whole - laid)) (7 + drawn - own - 0 - n + min n (whole - laid)))
+    (out_with seat before (whole - (n + laid)) (7 + ((whole - laid - (whole - (n + laid))) + drawn) - (n + own)))
+    0 (min limit 0)
+    (ap (λ (r : ℕ). with_rack t.sides seat r) (rack_refilled_at whole laid drawn own n within))
+    bags
+    (ap (λ (b : ℕ). out_with seat before b (7 + drawn - own - 0 - n + min n (whole - laid))) bags
+    ∙ ap (out_with seat before (whole - (n + laid))) racks)
+    (run_none limit)
+
 pub first_plays : (rules : Rules) (past : List Event) (line : ℕ) (rack : Option (List ℕ)) (dir : Dir) (at : ℕ) (word : List Symbol) (score total : ℤ)
     → length (laid_at past dir at word) ≤ rack_at rules First false past
     → after rules (tally rules false past) (play_made line First rack dir at word score total) false ≡ tally rules false ((play_made line First rack dir at word score total) ∷ past)
 unfolding tally after after_standing
 first_plays rules past line rack dir at word score total fits =
     let plays = standing false past in
-    let n = length (laid_at past dir at word) in
-    let whole = sum rules.counts - 14 in
-    let laid = tiles_laid plays in
-    let own = laid_by First plays in
-    let drawn = drawn_by rules First plays in
-    let t = tally rules false ((play_made line First rack dir at word score total) ∷ past) in
-    let within : n ≤ 7 + drawn - own = omega arith in
-    let bags = bag_falls whole laid n in
-    let racks = rack_refills whole laid drawn own n within in
-    played_alike t
-    (with_rack t.sides First (7 + drawn - own - 0 - n + min n (whole - laid)))
-    (with_rack t.sides First (7 + ((whole - laid - (whole - (n + laid))) + drawn) - (n + own) - 0))
-    (whole - laid - min n (whole - laid)) (whole - (n + laid))
-    (out_with First (out_after rules plays) (whole - laid - min n (whole - laid)) (7 + drawn - own - 0 - n + min n (whole - laid)))
-    (out_with First (out_after rules plays) (whole - (n + laid)) (7 + ((whole - laid - (whole - (n + laid))) + drawn) - (n + own)))
-    0 (min rules.zero_limit 0)
-    (ap (λ (r : ℕ). with_rack t.sides First r) (rack_refilled_at whole laid drawn own n within))
-    bags
-    (ap (λ (b : ℕ). out_with First (out_after rules plays) b (7 + drawn - own - 0 - n + min n (whole - laid))) bags
-    ∙ ap (out_with First (out_after rules plays) (whole - (n + laid))) racks)
-    (run_none rules.zero_limit)
+    played_from First (out_after rules plays) (sum rules.counts - 14) (tiles_laid plays) (laid_by First plays) (drawn_by rules First plays) (length (laid_at past dir at word)) rules.zero_limit
+    (tally rules false ((play_made line First rack dir at word score total) ∷ past)) (omega arith)
 
 pub second_plays : (rules : Rules) (past : List Event) (line : ℕ) (rack : Option (List ℕ)) (dir : Dir) (at : ℕ) (word : List Symbol) (score total : ℤ)
     → length (laid_at past dir at word) ≤ rack_at rules Second false past
@@ -209,27 +220,8 @@ pub second_plays : (rules : Rules) (past : List Event) (line : ℕ) (rack : Opti
 unfolding tally after after_standing
 second_plays rules past line rack dir at word score total fits =
     let plays = standing false past in
-    let n = length (laid_at past dir at word) in
-    let whole = sum rules.counts - 14 in
-    let laid = tiles_laid plays in
-    let own = laid_by Second plays in
-    let drawn = drawn_by rules Second plays in
-    let t = tally rules false ((play_made line Second rack dir at word score total) ∷ past) in
-    let within : n ≤ 7 + drawn - own = omega arith in
-    let bags = bag_falls whole laid n in
-    let racks = rack_refills whole laid drawn own n within in
-    played_alike t
-    (with_rack t.sides Second (7 + drawn - own - 0 - n + min n (whole - laid)))
-    (with_rack t.sides Second (7 + ((whole - laid - (whole - (n + laid))) + drawn) - (n + own) - 0))
-    (whole - laid - min n (whole - laid)) (whole - (n + laid))
-    (out_with Second (out_after rules plays) (whole - laid - min n (whole - laid)) (7 + drawn - own - 0 - n + min n (whole - laid)))
-    (out_with Second (out_after rules plays) (whole - (n + laid)) (7 + ((whole - laid - (whole - (n + laid))) + drawn) - (n + own)))
-    0 (min rules.zero_limit 0)
-    (ap (λ (r : ℕ). with_rack t.sides Second r) (rack_refilled_at whole laid drawn own n within))
-    bags
-    (ap (λ (b : ℕ). out_with Second (out_after rules plays) b (7 + drawn - own - 0 - n + min n (whole - laid))) bags
-    ∙ ap (out_with Second (out_after rules plays) (whole - (n + laid))) racks)
-    (run_none rules.zero_limit)
+    played_from Second (out_after rules plays) (sum rules.counts - 14) (tiles_laid plays) (laid_by Second plays) (drawn_by rules Second plays) (length (laid_at past dir at word)) rules.zero_limit
+    (tally rules false ((play_made line Second rack dir at word score total) ∷ past)) (omega arith)
 
 pub first_waits : (rules : Rules) (past : List Event) (line : ℕ) (rack : Option (List ℕ)) (dir : Dir) (at : ℕ) (word : List Symbol) (score total : ℤ)
     → after rules (tally rules false past) (play_made line First rack dir at word score total) true ≡ tally rules true ((play_made line First rack dir at word score total) ∷ past)
@@ -260,6 +252,31 @@ withdrawn_alike t a b x y u v boards sides runs =
 abbrev pub withdraw_made : ℕ → Seat → Option (List ℕ) → ℤ → ℤ → Event
 withdraw_made line player rack score total = made line player rack kind.Withdraw score total
 
+-- a state behind a withdrawal, as the change makes it and as it is read from the events
+withdrawn_from : TakingBackRestores → (rules : Rules) (past : List Event) (seat : Seat) (dir : Dir) (at : ℕ) (word : List Symbol) (t : State)
+    → length (laid_at past dir at word) ≤ rack_after rules seat (standing false past)
+    → overlaps (board_at false past) (laid_at past dir at word) ≡ false
+    → record t {
+      board = without_tiles (with_tiles (board_at false past) (laid_at past dir at word)) (laid_at past dir at word);
+      sides = with_rack t.sides seat (rack_after rules seat (standing false past) - (length (laid_at past dir at word) + 0) + length (laid_at past dir at word));
+      zero_run = min rules.zero_limit (min rules.zero_limit (idle_turns rules false past) + 1);
+    }
+    ≡ record t {
+      board = board_at false past;
+      sides = with_rack t.sides seat (rack_after rules seat (standing false past) - 0);
+      zero_run = min rules.zero_limit (idle_turns rules false past + 1);
+    }
+withdrawn_from restores rules past seat dir at word t within free =
+    let ps = laid_at past dir at word in
+    let whole = rack_after rules seat (standing false past) in
+    withdrawn_alike t
+    (without_tiles (with_tiles (board_at false past) ps) ps) (board_at false past)
+    (with_rack t.sides seat (whole - (length ps + 0) + length ps)) (with_rack t.sides seat (whole - 0))
+    (min rules.zero_limit (min rules.zero_limit (idle_turns rules false past) + 1)) (min rules.zero_limit (idle_turns rules false past + 1))
+    (restores (board_at false past) ps free)
+    (ap (λ (r : ℕ). with_rack t.sides seat r) (rack_restored whole (length ps) within))
+    (run_more rules.zero_limit (idle_turns rules false past))
+
 pub first_withdraws : TakingBackRestores → (rules : Rules) (past : List Event) (line : ℕ) (rack : Option (List ℕ)) (dir : Dir) (at : ℕ) (word : List Symbol) (score total : ℤ)
     (line2 : ℕ) (rack2 : Option (List ℕ)) (score2 total2 : ℤ) (w : Bool)
     → length (laid_at past dir at word) ≤ rack_at rules First false past
@@ -267,29 +284,9 @@ pub first_withdraws : TakingBackRestores → (rules : Rules) (past : List Event)
     → after rules (tally rules true ((play_made line First rack dir at word score total) ∷ past)) (withdraw_made line2 First rack2 score2 total2) w ≡ tally rules w ((withdraw_made line2 First rack2 score2 total2) ∷ (play_made line First rack dir at word score total) ∷ past)
 unfolding tally after after_withdraw
 first_withdraws restores rules past line rack dir at word score total line2 rack2 score2 total2 true fits free =
-    let ps = laid_at past dir at word in
-    let whole = rack_after rules First (standing false past) in
-    let t = tally rules true ((withdraw_made line2 First rack2 score2 total2) ∷ (play_made line First rack dir at word score total) ∷ past) in
-    let within : length ps ≤ whole = omega arith in
-    withdrawn_alike t
-    (without_tiles (with_tiles (board_at false past) ps) ps) (board_at false past)
-    (with_rack t.sides First (whole - (length ps + 0) + length ps)) (with_rack t.sides First (whole - 0))
-    (min rules.zero_limit (min rules.zero_limit (idle_turns rules false past) + 1)) (min rules.zero_limit (idle_turns rules false past + 1))
-    (restores (board_at false past) ps free)
-    (ap (λ (r : ℕ). with_rack t.sides First r) (rack_restored whole (length ps) within))
-    (run_more rules.zero_limit (idle_turns rules false past))
+    withdrawn_from restores rules past First dir at word (tally rules true ((withdraw_made line2 First rack2 score2 total2) ∷ (play_made line First rack dir at word score total) ∷ past)) (omega arith) free
 first_withdraws restores rules past line rack dir at word score total line2 rack2 score2 total2 false fits free =
-    let ps = laid_at past dir at word in
-    let whole = rack_after rules First (standing false past) in
-    let t = tally rules false ((withdraw_made line2 First rack2 score2 total2) ∷ (play_made line First rack dir at word score total) ∷ past) in
-    let within : length ps ≤ whole = omega arith in
-    withdrawn_alike t
-    (without_tiles (with_tiles (board_at false past) ps) ps) (board_at false past)
-    (with_rack t.sides First (whole - (length ps + 0) + length ps)) (with_rack t.sides First (whole - 0))
-    (min rules.zero_limit (min rules.zero_limit (idle_turns rules false past) + 1)) (min rules.zero_limit (idle_turns rules false past + 1))
-    (restores (board_at false past) ps free)
-    (ap (λ (r : ℕ). with_rack t.sides First r) (rack_restored whole (length ps) within))
-    (run_more rules.zero_limit (idle_turns rules false past))
+    withdrawn_from restores rules past First dir at word (tally rules false ((withdraw_made line2 First rack2 score2 total2) ∷ (play_made line First rack dir at word score total) ∷ past)) (omega arith) free
 
 pub second_withdraws : TakingBackRestores → (rules : Rules) (past : List Event) (line : ℕ) (rack : Option (List ℕ)) (dir : Dir) (at : ℕ) (word : List Symbol) (score total : ℤ)
     (line2 : ℕ) (rack2 : Option (List ℕ)) (score2 total2 : ℤ) (w : Bool)
@@ -298,26 +295,6 @@ pub second_withdraws : TakingBackRestores → (rules : Rules) (past : List Event
     → after rules (tally rules true ((play_made line Second rack dir at word score total) ∷ past)) (withdraw_made line2 Second rack2 score2 total2) w ≡ tally rules w ((withdraw_made line2 Second rack2 score2 total2) ∷ (play_made line Second rack dir at word score total) ∷ past)
 unfolding tally after after_withdraw
 second_withdraws restores rules past line rack dir at word score total line2 rack2 score2 total2 true fits free =
-    let ps = laid_at past dir at word in
-    let whole = rack_after rules Second (standing false past) in
-    let t = tally rules true ((withdraw_made line2 Second rack2 score2 total2) ∷ (play_made line Second rack dir at word score total) ∷ past) in
-    let within : length ps ≤ whole = omega arith in
-    withdrawn_alike t
-    (without_tiles (with_tiles (board_at false past) ps) ps) (board_at false past)
-    (with_rack t.sides Second (whole - (length ps + 0) + length ps)) (with_rack t.sides Second (whole - 0))
-    (min rules.zero_limit (min rules.zero_limit (idle_turns rules false past) + 1)) (min rules.zero_limit (idle_turns rules false past + 1))
-    (restores (board_at false past) ps free)
-    (ap (λ (r : ℕ). with_rack t.sides Second r) (rack_restored whole (length ps) within))
-    (run_more rules.zero_limit (idle_turns rules false past))
+    withdrawn_from restores rules past Second dir at word (tally rules true ((withdraw_made line2 Second rack2 score2 total2) ∷ (play_made line Second rack dir at word score total) ∷ past)) (omega arith) free
 second_withdraws restores rules past line rack dir at word score total line2 rack2 score2 total2 false fits free =
-    let ps = laid_at past dir at word in
-    let whole = rack_after rules Second (standing false past) in
-    let t = tally rules false ((withdraw_made line2 Second rack2 score2 total2) ∷ (play_made line Second rack dir at word score total) ∷ past) in
-    let within : length ps ≤ whole = omega arith in
-    withdrawn_alike t
-    (without_tiles (with_tiles (board_at false past) ps) ps) (board_at false past)
-    (with_rack t.sides Second (whole - (length ps + 0) + length ps)) (with_rack t.sides Second (whole - 0))
-    (min rules.zero_limit (min rules.zero_limit (idle_turns rules false past) + 1)) (min rules.zero_limit (idle_turns rules false past + 1))
-    (restores (board_at false past) ps free)
-    (ap (λ (r : ℕ). with_rack t.sides Second r) (rack_restored whole (length ps) within))
-    (run_more rules.zero_limit (idle_turns rules false past))
+    withdrawn_from restores rules past Second dir at word (tally rules false ((withdraw_made line2 Second rack2 score2 total2) ∷ (play_made line Second rack dir at word score total) ∷ past)) (omega arith) free

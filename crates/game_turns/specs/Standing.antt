@@ -17,14 +17,8 @@ use Rattle.gcg_read.specs.declared.events.EventKind.TheVariants as kind
 use Rattle.game_turns.specs.Seats.{same_seat}
 
 abbrev pub is_withdraw : EventKind → Bool
-is_withdraw (kind.Play at dir word) = false
-is_withdraw kind.Pass = false
-is_withdraw (kind.Exchange tiles) = false
-is_withdraw (kind.ExchangeUnknown n) = false
 is_withdraw kind.Withdraw = true
-is_withdraw kind.Challenge = false
-is_withdraw kind.Time = false
-is_withdraw (kind.LastRack tiles) = false
+is_withdraw other = false
 
 -- a play: who made it, and its new tiles
 pub record Stood : Type 0 where

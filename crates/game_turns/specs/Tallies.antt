@@ -24,43 +24,19 @@ use Rattle.game_turns.specs.Standing.{Stood, is_withdraw, standing, waiting, boa
 
 abbrev pub is_play : EventKind → Bool
 is_play (kind.Play at dir word) = true
-is_play kind.Pass = false
-is_play (kind.Exchange tiles) = false
-is_play (kind.ExchangeUnknown n) = false
-is_play kind.Withdraw = false
-is_play kind.Challenge = false
-is_play kind.Time = false
-is_play (kind.LastRack tiles) = false
+is_play other = false
 
 abbrev pub is_pass : EventKind → Bool
-is_pass (kind.Play at dir word) = false
 is_pass kind.Pass = true
-is_pass (kind.Exchange tiles) = false
-is_pass (kind.ExchangeUnknown n) = false
-is_pass kind.Withdraw = false
-is_pass kind.Challenge = false
-is_pass kind.Time = false
-is_pass (kind.LastRack tiles) = false
+is_pass other = false
 
 abbrev pub is_time : EventKind → Bool
-is_time (kind.Play at dir word) = false
-is_time kind.Pass = false
-is_time (kind.Exchange tiles) = false
-is_time (kind.ExchangeUnknown n) = false
-is_time kind.Withdraw = false
-is_time kind.Challenge = false
 is_time kind.Time = true
-is_time (kind.LastRack tiles) = false
+is_time other = false
 
 abbrev pub is_last_rack : EventKind → Bool
-is_last_rack (kind.Play at dir word) = false
-is_last_rack kind.Pass = false
-is_last_rack (kind.Exchange tiles) = false
-is_last_rack (kind.ExchangeUnknown n) = false
-is_last_rack kind.Withdraw = false
-is_last_rack kind.Challenge = false
-is_last_rack kind.Time = false
 is_last_rack (kind.LastRack tiles) = true
+is_last_rack other = false
 
 -- Whether an event is a turn: a play that stands, a withdrawal, an exchange of either kind, or a pass. A pass after a
 -- player is out is none.

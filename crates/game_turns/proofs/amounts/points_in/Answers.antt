@@ -1,6 +1,7 @@
 use Rattle.std.proofs.Common.{◌≤◌, ◌<◌, ℕ, ◌+◌, ◌*◌, ap, sym, ◌∙◌, arith, slice_index, sum_by}
 use Rattle.std.specs.List.{range_with_len}
-use Rattle.game_turns.proofs.Lists.{sum_range_more, points_limit}
+use Rattle.ref_play.proofs.ScoreLemmas.{sum_range_more}
+use Rattle.game_turns.proofs.Lists.{points_limit}
 use Rattle.game_turns.proofs.amounts.points_in.Goals as goal
 
 pub loop-index-preserved : goal.loop-index-preserved

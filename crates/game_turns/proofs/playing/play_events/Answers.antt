@@ -1,8 +1,8 @@
-use Rattle.std.proofs.Common.{◌≡◌, ◌<◌, length, refl, sym, ap, ◌∙◌, arith, Some, None}
+use Rattle.std.proofs.Common.{◌≡◌, length, refl, sym, ap, ◌∙◌, arith, Some, None}
 use Rattle.std.specs.Option.{option_copied}
 use Rattle.std.proofs.lemmas.Option.{slice_get_read}
 use Rattle.game_turns.specs.declared.playing.Refusal.{Refusal}
-use Rattle.game_turns.specs.Machines.{rules_of, state_of}
+use Rattle.game_turns.specs.Machines.{state_of}
 use Rattle.game_turns.specs.Places.{fault_at}
 use Rattle.game_turns.proofs.PlaceLaws.{start_tally, allowed_more, fault_told, state_left}
 use Rattle.game_turns.proofs.playing.play_events.Goals as goal
@@ -13,23 +13,18 @@ loop-place-init c =
 
 pub returns-in-Err-clause-refused : goal.returns-in-Err-clause-refused
 returns-in-Err-clause-refused c =
-    let rules = c.args.rules.now in
-    let list = c.args.list.now in
     let events = c.args.events.now in
     let place = c.loop-place.place in
     let event = c.index-events-place.result in
-    let machine = c.loop-place.machine in
-    let within : place < length events = omega arith in
-    let is = slice_get_read events (length events) place event refl within c.index-events-place.is in
     record {
       first = record {
         place = place;
         event = event;
-        stands = is;
+        stands = slice_get_read events (length events) place event refl (omega arith) c.index-events-place.is;
         on_line = sym (ap (λ (r : Refusal). r.line) c.of.ensures);
         fails =
-            fault_told rules list events place event (rules_of machine) (state_of machine) (Some c.in-Err.fault) is c.loop-place.invariant.rules c.loop-place.invariant.state
-            c.in-Err.ensures.told
+            fault_told c.args.rules.now c.args.list.now events place event c.loop-place.machine (Some c.in-Err.fault) (omega arith) c.index-events-place.is
+            c.loop-place.invariant.rules c.loop-place.invariant.state c.in-Err.ensures.told
             ∙ sym (ap (λ (r : Refusal). Some r.fault) c.of.ensures);
         earlier = c.loop-place.invariant.allowed;
       };
@@ -44,13 +39,12 @@ loop-place-preserved c =
     let place = c.loop-place.place in
     let event = c.index-events-place.result in
     let machine = c.loop-place.machine in
-    let within : place < length events = omega arith in
-    let is = slice_get_read events (length events) place event refl within c.index-events-place.is in
-    let here : fault_at rules list events place ≡ None = fault_told rules list events place event (rules_of machine) (state_of machine) None is c.loop-place.invariant.rules c.loop-place.invariant.state c.in_default.ensures.told in
+    let here : fault_at rules list events place ≡ None = fault_told rules list events place event machine None (omega arith) c.index-events-place.is
+    c.loop-place.invariant.rules c.loop-place.invariant.state c.in_default.ensures.told in
     let allowed = allowed_more rules list events place c.loop-place.invariant.allowed here in
     record {
       rules = c.in_default.ensures.rules ∙ c.loop-place.invariant.rules;
-      state = state_left c.law_of_tallies.ensures rules list events place event (rules_of machine) (state_of machine) (state_of c.step.new.self) (option_copied c.event_behind.result) is
+      state = state_left c.law_of_tallies.ensures rules list events place event machine (state_of c.step.new.self) (option_copied c.event_behind.result) (omega arith) c.index-events-place.is
           c.loop-place.invariant.rules c.loop-place.invariant.state c.event_behind.ensures allowed c.in_default.ensures.state;
       allowed = allowed;
     }

@@ -1,8 +1,7 @@
-use Rattle.std.proofs.Common.{◌≡◌, ◌<◌, length, refl, sym, ◌∙◌, arith, Some, None}
+use Rattle.std.proofs.Common.{◌≡◌, sym, ◌∙◌, arith, Some, None}
 use Rattle.std.specs.Option.{option_copied}
-use Rattle.std.proofs.lemmas.Option.{slice_get_read}
 use Rattle.game_turns.specs.declared.faults.RuleFault.{RuleFault}
-use Rattle.game_turns.specs.Machines.{rules_of, state_of}
+use Rattle.game_turns.specs.Machines.{state_of}
 use Rattle.game_turns.proofs.PlaceLaws.{fault_told, state_left}
 use Rattle.game_turns.proofs.passed.Passed.take_event.Goals as goal
 
@@ -14,12 +13,8 @@ unreachable-requires c =
     let passed = c.args.self.now in
     let events = c.as_slice-events.result.now in
     let place = c.args.place in
-    let event = c.index-events-place.result in
-    let machine = c.args.machine.now in
-    let within : place < length events = rw c.as_slice-events.ensures c.requires.place in
-    let is = slice_get_read events (length events) place event refl within c.index-events-place.is in
-    let told = fault_told passed.rules.now passed.list.now events place event (rules_of machine) (state_of machine) (Some c.in_default.field-0) is c.requires.rules
-    (rw c.as_slice-events.ensures c.requires.state) c.in_default.ensures.told in
+    let told = fault_told passed.rules.now passed.list.now events place c.index-events-place.result c.args.machine.now (Some c.in_default.field-0) (rw c.as_slice-events.ensures c.requires.place)
+    c.index-events-place.is c.requires.rules (rw c.as_slice-events.ensures c.requires.state) c.in_default.ensures.told in
     no_fault c.in_default.field-0 (sym told ∙ rw c.as_slice-events.ensures (passed.allowed place c.requires.place))
 
 pub returns-clause-state : goal.returns-clause-state
@@ -27,9 +22,6 @@ returns-clause-state c =
     let passed = c.args.self.now in
     let events = c.as_slice-events.result.now in
     let place = c.args.place in
-    let event = c.index-events-place.result in
-    let machine = c.args.machine.now in
-    let within : place < length events = rw c.as_slice-events.ensures c.requires.place in
-    let is = slice_get_read events (length events) place event refl within c.index-events-place.is in
-    rw (sym c.as_slice-events.ensures) (state_left c.law_of_tallies.ensures passed.rules.now passed.list.now events place event (rules_of machine) (state_of machine) (state_of c.step.new.self) (option_copied c.event_behind.result) is
-    c.requires.rules (rw c.as_slice-events.ensures c.requires.state) c.event_behind.ensures (λ k below. rw c.as_slice-events.ensures (passed.allowed k (omega arith))) c.in-Ok.ensures.state)
+    rw (sym c.as_slice-events.ensures) (state_left c.law_of_tallies.ensures passed.rules.now passed.list.now events place c.index-events-place.result c.args.machine.now (state_of c.step.new.self) (option_copied c.event_behind.result)
+    (rw c.as_slice-events.ensures c.requires.place) c.index-events-place.is c.requires.rules (rw c.as_slice-events.ensures c.requires.state) c.event_behind.ensures
+    (λ k below. rw c.as_slice-events.ensures (passed.allowed k (omega arith))) c.in-Ok.ensures.state)
