@@ -140,15 +140,18 @@ score_set rules list s events new place score told made =
 
 -- ---- answers
 
-pub never : (rules : Rules) (list : List (List ℕ)) (s : State) (o : Option Event) (P : RuleFault → Type 0) (result : Result ⊤ RuleFault) → fault_of_event rules list s o ≡ None
+never : (rules : Rules) (list : List (List ℕ)) (s : State) (o : Option Event) (P : RuleFault → Type 0) (result : Result ⊤ RuleFault) → fault_of_event rules list s o ≡ None
     → Tells result (fault_of_event rules list s o) → IfErr result P
 never rules list s o P (Ok x) none told = tt
 never rules list s o P (Err why) none told = absurd (some_fault why (sym told ∙ none))
 
-pub never_same : (rules : Rules) (list : List (List ℕ)) (s : State) (o : Option Event) (P : Type 0) (result : Result ⊤ RuleFault) → fault_of_event rules list s o ≡ None
-    → Tells result (fault_of_event rules list s o) → OnErr result P
-never_same rules list s o P (Ok x) none told = tt
-never_same rules list s o P (Err why) none told = absurd (some_fault why (sym told ∙ none))
+-- where the event is taken with the right total, nothing is owed of a refusal
+pub total_taken : (rules : Rules) (list : List (List ℕ)) (s : State) (events new : List Event) (place : ℕ) (why : RuleFault) (right total : ℤ) (P : RuleFault → Type 0) (result : Result ⊤ RuleFault)
+    → fault_of_event rules list s (slice_get events place) ≡ Some why → right_total why ≡ Some right → total ≡ right
+    → ((e : Event) → slice_get events place ≡ Some e → new ≡ set events place (record e { total = total }))
+    → Tells result (fault_of_event rules list s (slice_get new place)) → IfErr result P
+total_taken rules list s events new place why right total P result told named same made tells =
+    never rules list s (slice_get new place) P result (total_set rules list s events new place why right total told named same made).told tells
 
 left_number : (why : RuleFault) → right_score why ≡ None → ((right : ℤ) → right_total why ≡ Some right → IsPoints right → ⊥) → IsLeft why
 left_number why none left right named = left right (sym (ap (λ o. option_or o (right_total why)) none) ∙ named)

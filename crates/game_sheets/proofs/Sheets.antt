@@ -3,6 +3,8 @@ use Rattle.std.proofs.Common.{◌≡◌, ℕ, zero, suc, ◌+◌, ◌<◌, ◌�
 use Rattle.std.proofs.lemmas.Option.{slice_get-get_or, slice_get_read, same_Some}
 use Rattle.ref_tiles.specs.declared.rulebook.Rules.{Rules}
 use Rattle.gcg_read.specs.declared.events.Event.{Event}
+use Rattle.game_turns.specs.declared.machine.Machine.{Machine}
+use Rattle.game_turns.specs.Machines.{rules_of, state_of}
 use Rattle.game_turns.specs.declared.faults.RuleFault.{RuleFault}
 use Rattle.game_turns.specs.Laws.{NextTallyIsAfter}
 use Rattle.game_turns.specs.Tallies.{State, tally_at, withdraws}
@@ -131,3 +133,11 @@ pub item_there : (rules : Rules) (list : List (List ℕ)) (written a b items : L
     → place < length written → items ≡ b → e ≡ get_or items place e → slice_get b place ≡ Some e
 item_there rules list written a b items place e up is within same read =
     slice_get_read b (length b) place e refl (subst (λ n. place < n) (sym (is.renumbered.as_many ∙ up.renumbered.as_many)) within) (read ∙ ap (λ es. get_or es place e) same)
+
+-- where an event stays refused, whatever its numbers
+pub stopped : (rules : Rules) (list : List (List ℕ)) (written a b items : List Event) (place : ℕ) (e : Event) (machine : Machine) (why : RuleFault) → IsUpTo rules list written a place
+    → IsMendedAt a b place → place < length written → items ≡ b → e ≡ get_or items place e → rules_of machine ≡ rules → state_of machine ≡ tally_at rules a place
+    → Some why ≡ fault_of_event (rules_of machine) list (state_of machine) (slice_get b place) → IsLeft why → StopsAt rules list written b e.line why
+stopped rules list written a b items place e machine why up is within same read same_rules same_state told left =
+    stops rules list written a b place e why up is (item_there rules list written a b items place e up is within same read)
+    (fault_mended rules (rules_of machine) list a b place (state_of machine) (Some why) is same_rules same_state told) left

@@ -13,14 +13,9 @@ use Rattle.game_turns.specs.Places.{fault_at, AreAllowed, AreAllowedTo}
 -- Whether the score of an event is taken as it is written: the rules allow more than one bonus for a challenge, and more than
 -- one penalty for time. Of every other event they give the score.
 abbrev pub is_given : EventKind → Bool
-is_given (kind.Play at dir word) = false
-is_given kind.Pass = false
-is_given (kind.Exchange tiles) = false
-is_given (kind.ExchangeUnknown n) = false
-is_given kind.Withdraw = false
 is_given kind.Challenge = true
 is_given kind.Time = true
-is_given (kind.LastRack tiles) = false
+is_given other = false
 
 -- the same event, with another score or total or with its own
 pub record IsRenumbered (written right : Event) : Type 0 where

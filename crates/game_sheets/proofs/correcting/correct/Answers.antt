@@ -4,7 +4,7 @@ use Rattle.game_turns.specs.Machines.{rules_of, state_of}
 use Rattle.game_turns.specs.Places.{fault_at}
 use Rattle.game_turns.proofs.PlaceLaws.{start_tally}
 use Rattle.game_sheets.specs.Corrections.{StopsAt}
-use Rattle.game_sheets.proofs.Sheets.{at_start, fault_mended, one_more, state_more, stops, none_left, event_there, item_there}
+use Rattle.game_sheets.proofs.Sheets.{at_start, fault_mended, one_more, state_more, stopped, none_left, event_there}
 use Rattle.game_sheets.proofs.correcting.correct.Goals as goal
 
 pub loop-place-init : goal.loop-place-init
@@ -17,35 +17,17 @@ loop-place-init c =
 
 pub returns-in-Err-clause-none : goal.returns-in-Err-clause-none
 returns-in-Err-clause-none c =
-    let rules = c.args.rules.now in
-    let list = c.args.list.now in
-    let b = c.mend.new.events in
-    let place = c.loop-place.place in
-    let machine = c.loop-place.machine in
-    let e = c.index-as_slice-place.result in
-    let within : place < length c.args.events.now = omega arith in
-    let stands = item_there rules list c.args.events.now c.loop-place.events b c.as_slice.result.now place e c.loop-place.invariant.up c.in-Err.ensures.mended within c.as_slice.ensures
-    c.index-as_slice-place.is in
-    let fails = fault_mended rules (rules_of machine) list c.loop-place.events b place (state_of machine) (Some c.in-Err.fault) c.in-Err.ensures.mended c.loop-place.invariant.rules
-    c.loop-place.invariant.state (sym c.in-Err.ensures.told) in
-    let at = stops rules list c.args.events.now c.loop-place.events b place e c.in-Err.fault c.loop-place.invariant.up c.in-Err.ensures.mended stands fails c.in-Err.ensures.left in
-    none_left rules list c.args.events.now b e.line c.in-Err.fault at
+    none_left c.args.rules.now c.args.list.now c.args.events.now c.mend.new.events c.index-as_slice-place.result.line c.in-Err.fault
+    (stopped c.args.rules.now c.args.list.now c.args.events.now c.loop-place.events c.mend.new.events c.as_slice.result.now c.loop-place.place c.index-as_slice-place.result
+    c.loop-place.machine c.in-Err.fault c.loop-place.invariant.up c.in-Err.ensures.mended (omega arith) c.as_slice.ensures c.index-as_slice-place.is
+    c.loop-place.invariant.rules c.loop-place.invariant.state (sym c.in-Err.ensures.told) c.in-Err.ensures.left)
 
 pub returns-in-Err-clause-stops : goal.returns-in-Err-clause-stops
 returns-in-Err-clause-stops c =
-    let rules = c.args.rules.now in
-    let list = c.args.list.now in
-    let b = c.mend.new.events in
-    let place = c.loop-place.place in
-    let machine = c.loop-place.machine in
-    let e = c.index-as_slice-place.result in
-    let within : place < length c.args.events.now = omega arith in
-    let stands = item_there rules list c.args.events.now c.loop-place.events b c.as_slice.result.now place e c.loop-place.invariant.up c.in-Err.ensures.mended within c.as_slice.ensures
-    c.index-as_slice-place.is in
-    let fails = fault_mended rules (rules_of machine) list c.loop-place.events b place (state_of machine) (Some c.in-Err.fault) c.in-Err.ensures.mended c.loop-place.invariant.rules
-    c.loop-place.invariant.state (sym c.in-Err.ensures.told) in
-    subst (λ (x : Event). StopsAt rules list c.args.events.now b x.line c.in-Err.fault) c.index-as_slice-place.is
-    (stops rules list c.args.events.now c.loop-place.events b place e c.in-Err.fault c.loop-place.invariant.up c.in-Err.ensures.mended stands fails c.in-Err.ensures.left)
+    subst (λ (x : Event). StopsAt c.args.rules.now c.args.list.now c.args.events.now c.mend.new.events x.line c.in-Err.fault) c.index-as_slice-place.is
+    (stopped c.args.rules.now c.args.list.now c.args.events.now c.loop-place.events c.mend.new.events c.as_slice.result.now c.loop-place.place c.index-as_slice-place.result
+    c.loop-place.machine c.in-Err.fault c.loop-place.invariant.up c.in-Err.ensures.mended (omega arith) c.as_slice.ensures c.index-as_slice-place.is
+    c.loop-place.invariant.rules c.loop-place.invariant.state (sym c.in-Err.ensures.told) c.in-Err.ensures.left)
 
 pub loop-place-preserved : goal.loop-place-preserved
 loop-place-preserved c =

@@ -4,7 +4,7 @@ use Rattle.gcg_read.specs.Numerals.{IsPoints}
 use Rattle.game_turns.specs.Machines.{rules_of, state_of}
 use Rattle.game_turns.specs.Places.{fault_of_event}
 use Rattle.game_sheets.specs.Corrections.{right_total}
-use Rattle.game_sheets.proofs.Mends.{total_set, never, never_same}
+use Rattle.game_sheets.proofs.Mends.{total_set, total_taken}
 use Rattle.game_sheets.proofs.mending.take_with_total.Goals as goal
 
 pub returns-clause-mended : goal.returns-clause-mended
@@ -14,19 +14,14 @@ returns-clause-mended c =
 
 pub returns-clause-left : goal.returns-clause-left
 returns-clause-left c =
-    let rules = rules_of c.take.new.machine in
-    let s = state_of c.take.new.machine in
-    let cured = total_set rules c.args.list.now s c.args.events.now c.set_total.new.self c.args.place c.in-Err.fault c.in-Some.right c.in-Some-new.total
+    total_taken (rules_of c.take.new.machine) c.args.list.now (state_of c.take.new.machine) c.args.events.now c.set_total.new.self c.args.place c.in-Err.fault c.in-Some.right c.in-Some-new.total
+    (λ why. (right : ℤ) → right_total why ≡ Some right → IsPoints right → ⊥) c.take-2.result
     (ap (λ m. fault_of_event (rules_of m) c.args.list.now (state_of m) (slice_get c.args.events.now c.args.place)) c.in-Err.ensures.refused ∙ c.in-Err.ensures.told)
-    (sym c.right_total.ensures ∙ c.in-Some.is) (c.in-Some-new.ensures.value ∙ to_z-of_z {w = w32} (search (rules, ints))) c.set_total.ensures.there in
-    never rules c.args.list.now s (slice_get c.set_total.new.self c.args.place) (λ why. (right : ℤ) → right_total why ≡ Some right → IsPoints right → ⊥) c.take-2.result cured.told
-    c.take-2.ensures.told
+    (sym c.right_total.ensures ∙ c.in-Some.is) (c.in-Some-new.ensures.value ∙ to_z-of_z {w = w32} (search (rules, ints))) c.set_total.ensures.there c.take-2.ensures.told
 
 pub returns-clause-same : goal.returns-clause-same
 returns-clause-same c =
-    let rules = rules_of c.take.new.machine in
-    let s = state_of c.take.new.machine in
-    let cured = total_set rules c.args.list.now s c.args.events.now c.set_total.new.self c.args.place c.in-Err.fault c.in-Some.right c.in-Some-new.total
+    total_taken (rules_of c.take.new.machine) c.args.list.now (state_of c.take.new.machine) c.args.events.now c.set_total.new.self c.args.place c.in-Err.fault c.in-Some.right c.in-Some-new.total
+    (λ why. c.set_total.new.self ≡ c.args.events.now) c.take-2.result
     (ap (λ m. fault_of_event (rules_of m) c.args.list.now (state_of m) (slice_get c.args.events.now c.args.place)) c.in-Err.ensures.refused ∙ c.in-Err.ensures.told)
-    (sym c.right_total.ensures ∙ c.in-Some.is) (c.in-Some-new.ensures.value ∙ to_z-of_z {w = w32} (search (rules, ints))) c.set_total.ensures.there in
-    never_same rules c.args.list.now s (slice_get c.set_total.new.self c.args.place) (c.set_total.new.self ≡ c.args.events.now) c.take-2.result cured.told c.take-2.ensures.told
+    (sym c.right_total.ensures ∙ c.in-Some.is) (c.in-Some-new.ensures.value ∙ to_z-of_z {w = w32} (search (rules, ints))) c.set_total.ensures.there c.take-2.ensures.told
