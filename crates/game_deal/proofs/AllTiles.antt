@@ -1,5 +1,5 @@
 -- Where every event of a record is allowed, the racks, the bag and the board have all the tiles at each step.
-use Rattle.std.proofs.Common.{◌≡◌, ℕ, ◌+◌, ◌≤◌, Bool, true, false, List, [], ◌∷◌, length, sum, slice_get, ap, ◌∙◌, arith, Option, Some, None, is_some, leb}
+use Rattle.std.proofs.Common.{◌≡◌, ℕ, ◌+◌, ◌≤◌, Bool, true, false, List, [], ◌∷◌, length, sum, slice_get, refl, ap, ◌∙◌, arith, Option, Some, None, is_some, leb}
 use Rattle.std.specs.Prelude.{All, if◌then◌else◌}
 use Rattle.std.proofs.lemmas.Bool.{and_parts, leb-true}
 use Rattle.std.proofs.lemmas.List.Elements.{All-nil, All-cons}
@@ -80,23 +80,29 @@ record HasAll (total : ℕ) (c : Course) : Type 0 where
   pub second : length c.waiting.second ≡ 27
   pub all : c.first + c.second + c.bag + sum c.laid + sum c.waiting.first + sum c.waiting.second ≡ total
 
+-- a play that stands puts its tiles on the board
+laid_down : (total : ℕ) (c new : Course) (used : List ℕ) → length used ≡ 27 → HasAll total c → new.laid ≡ joined c.laid used → new.waiting ≡ c.waiting
+    → new.first + new.second + new.bag + sum used ≡ c.first + c.second + c.bag → HasAll total new
+laid_down total c new used long is laid waits sizes =
+    record {
+      laid = ap length laid ∙ length-joined _ _;
+      first = ap (λ (w : Racks). length w.first) waits ∙ is.first;
+      second = ap (λ (w : Racks). length w.second) waits ∙ is.second;
+      all =
+          let whole = is.all in
+          let on_board = ap sum laid ∙ sum-joined c.laid used is.laid long in
+          let first = ap (λ (w : Racks). sum w.first) waits in
+          let second = ap (λ (w : Racks). sum w.second) waits in
+          omega arith;
+    }
+
 -- a turn moves tiles, and loses none
 turn_keeps : (total : ℕ) (c : Course) (seat : Seat) (what : Motion) → c.waiting ≡ none_waiting → MayTurn c seat what → UsesKindsBy what → HasAll total c → HasAll total (turn_course c seat what)
 turn_keeps total c seat motion.Keeps none may long is = is
 turn_keeps total c First (motion.Lays used drawn) none may long is =
-    record {
-      laid = length-joined _ _;
-      first = is.first;
-      second = is.second;
-      all = let whole = is.all in let drawn_is = may.0 in let fits = may.1 in let sums = sum-joined c.laid used is.laid long in omega arith;
-    }
+    laid_down total c (turn_course c First (motion.Lays used drawn)) used long is refl refl (let drawn_is = may.0 in let fits = may.1 in omega arith)
 turn_keeps total c Second (motion.Lays used drawn) none may long is =
-    record {
-      laid = length-joined _ _;
-      first = is.first;
-      second = is.second;
-      all = let whole = is.all in let drawn_is = may.0 in let fits = may.1 in let sums = sum-joined c.laid used is.laid long in omega arith;
-    }
+    laid_down total c (turn_course c Second (motion.Lays used drawn)) used long is refl refl (let drawn_is = may.0 in let fits = may.1 in omega arith)
 turn_keeps total c First (motion.Tries used) none may long is =
     record {
       laid = is.laid;
@@ -124,32 +130,36 @@ turn_keeps total c Second (motion.Tries used) none may long is =
 turn_keeps total c seat (motion.Throws tiles) none may long is = is
 turn_keeps total c seat (motion.ThrowsUnknown n) none may long is = is
 
+-- as many tiles wait as the play used
+waits_sum : (waiting : Racks) (seat : Seat) (used : List ℕ) → waiting ≡ waits seat used → sum waiting.first + sum waiting.second ≡ sum used
+waits_sum waiting First used is =
+    let first : sum waiting.first ≡ sum used = ap (λ (w : Racks). sum w.first) is in
+    let second : sum waiting.second ≡ 0 = ap (λ (w : Racks). sum w.second) is ∙ sum-no_tiles in
+    omega arith
+waits_sum waiting Second used is =
+    let first : sum waiting.first ≡ 0 = ap (λ (w : Racks). sum w.first) is ∙ sum-no_tiles in
+    let second : sum waiting.second ≡ sum used = ap (λ (w : Racks). sum w.second) is in
+    omega arith
+
 -- a withdrawal gives the tiles that wait back to their player
+given_back : (total : ℕ) (c new : Course) (used : List ℕ) → sum c.waiting.first + sum c.waiting.second ≡ sum used → new.laid ≡ c.laid → new.waiting ≡ none_waiting
+    → new.first + new.second + new.bag ≡ c.first + c.second + c.bag + sum used → HasAll total c → HasAll total new
+given_back total c new used waited laid none sizes is =
+    record {
+      laid = ap length laid ∙ is.laid;
+      first = ap (λ (w : Racks). length w.first) none ∙ length-no_tiles;
+      second = ap (λ (w : Racks). length w.second) none ∙ length-no_tiles;
+      all =
+          let whole = is.all in
+          let on_board = ap sum laid in
+          let first : sum new.waiting.first ≡ 0 = ap (λ (w : Racks). sum w.first) none ∙ sum-no_tiles in
+          let second : sum new.waiting.second ≡ 0 = ap (λ (w : Racks). sum w.second) none ∙ sum-no_tiles in
+          omega arith;
+    }
+
 back_keeps : (total : ℕ) (c : Course) (seat : Seat) (used : List ℕ) → c.waiting ≡ waits seat used → HasAll total c → HasAll total (act_course c seat (act.TakesBack used))
-back_keeps total c First used waiting is =
-    record {
-      laid = is.laid;
-      first = length-no_tiles;
-      second = length-no_tiles;
-      all =
-          let whole = is.all in
-          let first : sum c.waiting.first ≡ sum used = ap (λ (w : Racks). sum w.first) waiting in
-          let second : sum c.waiting.second ≡ 0 = ap (λ (w : Racks). sum w.second) waiting ∙ sum-no_tiles in
-          let empty = sum-no_tiles in
-          omega arith;
-    }
-back_keeps total c Second used waiting is =
-    record {
-      laid = is.laid;
-      first = length-no_tiles;
-      second = length-no_tiles;
-      all =
-          let whole = is.all in
-          let first : sum c.waiting.first ≡ 0 = ap (λ (w : Racks). sum w.first) waiting ∙ sum-no_tiles in
-          let second : sum c.waiting.second ≡ sum used = ap (λ (w : Racks). sum w.second) waiting in
-          let empty = sum-no_tiles in
-          omega arith;
-    }
+back_keeps total c First used waiting is = given_back total c (act_course c First (act.TakesBack used)) used (waits_sum c.waiting First used waiting) refl refl (omega arith) is
+back_keeps total c Second used waiting is = given_back total c (act_course c Second (act.TakesBack used)) used (waits_sum c.waiting Second used waiting) refl refl (omega arith) is
 
 act_keeps : (total : ℕ) (c : Course) (seat : Seat) (what : Act) → MayAct c seat what → UsesKinds what → HasAll total c → HasAll total (act_course c seat what)
 act_keeps total c seat (act.Turns shown what) may long is = turn_keeps total c seat what may.0 may.1 long is

@@ -1,5 +1,5 @@
 -- Where every event of a record is allowed, its steps are a run.
-use Rattle.std.proofs.Common.{◌≡◌, ℕ, ℤ, ◌≤◌, Bool, true, false, List, [], ◌∷◌, ◌++◌, length, refl, ap, ◌∙◌, arith, Option, Some, None}
+use Rattle.std.proofs.Common.{◌≡◌, ℕ, ℤ, ◌+◌, ◌<◌, ◌≤◌, Bool, true, false, List, [], ◌∷◌, ◌++◌, length, get_or, refl, ap, ◌∙◌, arith, Option, Some, None}
 use Rattle.std.proofs.lemmas.List.{length-set}
 use Rattle.ref_tiles.specs.declared.rulebook.Rules.{Rules}
 use Rattle.ref_tiles.specs.declared.symbols.Symbol.{Symbol}
@@ -136,21 +136,17 @@ none_joined laid long =
     let c = get-no_tiles k below in
     omega arith)
 
+get-waits : (seat : Seat) (tiles : List ℕ) (k : ℕ) → k < 27 → get_or (waits seat tiles).first k 0 + get_or (waits seat tiles).second k 0 ≡ get_or tiles k 0
+get-waits First tiles k below = let none = get-no_tiles k below in omega arith
+get-waits Second tiles k below = let none = get-no_tiles k below in omega arith
+
 waits_joined : (laid tiles : List ℕ) (seat : Seat) → length laid ≡ 27 → joined laid tiles ≡ whole_board laid (waits seat tiles)
-waits_joined laid tiles First long =
-    same_numbers (joined laid tiles) (whole_board laid (waits First tiles)) (length-joined _ _) (length-joined _ _)
+waits_joined laid tiles seat long =
+    same_numbers (joined laid tiles) (whole_board laid (waits seat tiles)) (length-joined _ _) (length-joined _ _)
     (λ k below.
-    let a = get-joined laid (joined tiles no_tiles) k below in
-    let b = get-joined tiles no_tiles k below in
-    let c = get-no_tiles k below in
-    let d = get-joined laid tiles k below in
-    omega arith)
-waits_joined laid tiles Second long =
-    same_numbers (joined laid tiles) (whole_board laid (waits Second tiles)) (length-joined _ _) (length-joined _ _)
-    (λ k below.
-    let a = get-joined laid (joined no_tiles tiles) k below in
-    let b = get-joined no_tiles tiles k below in
-    let c = get-no_tiles k below in
+    let a = get-joined laid (joined (waits seat tiles).first (waits seat tiles).second) k below in
+    let b = get-joined (waits seat tiles).first (waits seat tiles).second k below in
+    let c = get-waits seat tiles k below in
     let d = get-joined laid tiles k below in
     omega arith)
 

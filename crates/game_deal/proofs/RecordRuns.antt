@@ -28,7 +28,7 @@ use Rattle.game_turns.proofs.PlaceLaws.{fault_here}
 use Rattle.deal_steps.specs.declared.steps.Motion.TheVariants as motion
 use Rattle.deal_steps.specs.declared.steps.Act.{Act}
 use Rattle.deal_steps.specs.declared.steps.Act.TheVariants as act
-use Rattle.deal_steps.specs.Runs.{size_in, MayAct, act_course, IsOnCourse, IsRunFrom, first_course, IsRun}
+use Rattle.deal_steps.specs.Runs.{Course, size_in, MayAct, act_course, IsOnCourse, IsRunFrom, first_course, IsRun}
 use Rattle.game_deal.specs.Recorded.{placed_tiles, last_holder, stated, taken_back_act, act_of, step_in, steps_after, steps_of}
 use Rattle.game_deal.proofs.PlacedLaws.{sum-placed}
 use Rattle.game_deal.proofs.CheckLaws.{exchange_parts, last_rack_parts}
@@ -100,24 +100,22 @@ last_rack_goes rules past line player rack tiles score total false holder whole 
 waits_size : (rack n used : ℕ) → used ≡ n → rack - 0 - used ≡ rack - (n + 0)
 waits_size rack n used e = omega arith
 
+used_fits : (rules : Rules) (past : List Event) (seat : Seat) (dir : Dir) (at : ℕ) (word : List Symbol) → length (laid_at past dir at word) ≤ rack_at rules seat false past
+    → sum (placed_tiles (laid_at past dir at word)) ≤ rack_at rules seat false past
+used_fits rules past seat dir at word fits = let used = sum-placed (laid_at past dir at word) in omega arith
+
 tries_goes : (rules : Rules) (past : List Event) (line : ℕ) (player : Seat) (rack : Option (List ℕ)) (dir : Dir) (at : ℕ) (word : List Symbol) (score total : ℤ)
     → length (laid_at past dir at word) ≤ rack_at rules player false past
     → Goes rules false past (act.Turns (stated rack) (motion.Tries (placed_tiles (laid_at past dir at word)))) (made line player rack (kind.Play at dir word) score total) true
 tries_goes rules past line First rack dir at word score total fits =
-    let ps = laid_at past dir at word in
-    let used = sum-placed ps in
-    let e = made line First rack (kind.Play at dir word) score total in
-    let may : sum (placed_tiles ps) ≤ rack_at rules First false past = omega arith in (
-      (refl, may),
-      ap (λ (n : ℕ). record (course_at rules true (e ∷ past)) { first = n }) (waits_size (rack_after rules First (standing false past)) (length ps) (sum (placed_tiles ps)) used),
+    let e = made line First rack (kind.Play at dir word) score total in (
+      (refl, used_fits rules past First dir at word fits),
+      ap (λ (n : ℕ). record (course_at rules true (e ∷ past)) { first = n }) (waits_size (rack_after rules First (standing false past)) _ _ (sum-placed (laid_at past dir at word))),
     )
 tries_goes rules past line Second rack dir at word score total fits =
-    let ps = laid_at past dir at word in
-    let used = sum-placed ps in
-    let e = made line Second rack (kind.Play at dir word) score total in
-    let may : sum (placed_tiles ps) ≤ rack_at rules Second false past = omega arith in (
-      (refl, may),
-      ap (λ (n : ℕ). record (course_at rules true (e ∷ past)) { second = n }) (waits_size (rack_after rules Second (standing false past)) (length ps) (sum (placed_tiles ps)) used),
+    let e = made line Second rack (kind.Play at dir word) score total in (
+      (refl, used_fits rules past Second dir at word fits),
+      ap (λ (n : ℕ). record (course_at rules true (e ∷ past)) { second = n }) (waits_size (rack_after rules Second (standing false past)) _ _ (sum-placed (laid_at past dir at word))),
     )
 
 -- a rack and the bag after a play that stands
@@ -131,38 +129,30 @@ bag_left whole laid n = omega arith
 drawn_is : (n used bag : ℕ) → used ≡ n → min n bag ≡ min used bag
 drawn_is n used bag e = ap (λ (k : ℕ). min k bag) (sym e)
 
+-- the course behind a play that stands, by the rack of its player and the bag
+laid_course : (course : (rack bag : ℕ) → Course) (whole laid drawn own n used : ℕ) → used ≡ n → n ≤ 7 + drawn - own - 0
+    → course (7 + drawn - own - 0 - used + min n (whole - laid)) (whole - laid - min n (whole - laid))
+    ≡ course (7 + ((whole - laid - (whole - (n + laid))) + drawn) - (n + own) - 0) (whole - (n + laid))
+laid_course course whole laid drawn own n used e fits =
+    ap (λ (k : ℕ). course k (whole - laid - min n (whole - laid))) (refilled whole laid drawn own n used e fits)
+    ∙ ap (course (7 + ((whole - laid - (whole - (n + laid))) + drawn) - (n + own) - 0)) (bag_left whole laid n)
+
 lays_goes : (rules : Rules) (past : List Event) (line : ℕ) (player : Seat) (rack : Option (List ℕ)) (dir : Dir) (at : ℕ) (word : List Symbol) (score total : ℤ)
     → length (laid_at past dir at word) ≤ rack_at rules player false past
     → Goes rules false past
     (act.Turns (stated rack) (motion.Lays (placed_tiles (laid_at past dir at word)) (min (length (laid_at past dir at word)) (bag_after rules (standing false past)))))
     (made line player rack (kind.Play at dir word) score total) false
 lays_goes rules past line First rack dir at word score total fits =
-    let ps = laid_at past dir at word in
-    let plays = standing false past in
-    let whole = sum rules.counts - 14 in
-    let n = length ps in
-    let size = sum (placed_tiles ps) in
-    let used = sum-placed ps in
-    let next = course_at rules false (made line First rack (kind.Play at dir word) score total ∷ past) in
-    let may : size ≤ rack_at rules First false past = omega arith in (
-      (refl, (drawn_is n size (bag_after rules plays) used, may)),
-      ap (λ (k : ℕ). record next { first = k; bag = bag_after rules plays - min n (bag_after rules plays) })
-          (refilled whole (tiles_laid plays) (drawn_by rules First plays) (laid_by First plays) n size used fits)
-          ∙ ap (λ (k : ℕ). record next { bag = k }) (bag_left whole (tiles_laid plays) n),
+    let next = course_at rules false (made line First rack (kind.Play at dir word) score total ∷ past) in (
+      (refl, (drawn_is _ _ (bag_after rules (standing false past)) (sum-placed (laid_at past dir at word)), used_fits rules past First dir at word fits)),
+      laid_course (λ (k bag : ℕ). record next { first = k; bag = bag }) (sum rules.counts - 14) (tiles_laid (standing false past)) (drawn_by rules First (standing false past))
+          (laid_by First (standing false past)) (length (laid_at past dir at word)) (sum (placed_tiles (laid_at past dir at word))) (sum-placed (laid_at past dir at word)) fits,
     )
 lays_goes rules past line Second rack dir at word score total fits =
-    let ps = laid_at past dir at word in
-    let plays = standing false past in
-    let whole = sum rules.counts - 14 in
-    let n = length ps in
-    let size = sum (placed_tiles ps) in
-    let used = sum-placed ps in
-    let next = course_at rules false (made line Second rack (kind.Play at dir word) score total ∷ past) in
-    let may : size ≤ rack_at rules Second false past = omega arith in (
-      (refl, (drawn_is n size (bag_after rules plays) used, may)),
-      ap (λ (k : ℕ). record next { second = k; bag = bag_after rules plays - min n (bag_after rules plays) })
-          (refilled whole (tiles_laid plays) (drawn_by rules Second plays) (laid_by Second plays) n size used fits)
-          ∙ ap (λ (k : ℕ). record next { bag = k }) (bag_left whole (tiles_laid plays) n),
+    let next = course_at rules false (made line Second rack (kind.Play at dir word) score total ∷ past) in (
+      (refl, (drawn_is _ _ (bag_after rules (standing false past)) (sum-placed (laid_at past dir at word)), used_fits rules past Second dir at word fits)),
+      laid_course (λ (k bag : ℕ). record next { second = k; bag = bag }) (sum rules.counts - 14) (tiles_laid (standing false past)) (drawn_by rules Second (standing false past))
+          (laid_by Second (standing false past)) (length (laid_at past dir at word)) (sum (placed_tiles (laid_at past dir at word))) (sum-placed (laid_at past dir at word)) fits,
     )
 
 -- ---- withdrawals

@@ -5,14 +5,9 @@ use Rattle.gcg_read.specs.declared.events.EventKind.{EventKind}
 use Rattle.gcg_read.specs.declared.events.EventKind.TheVariants as kind
 
 abbrev pub is_exchange : EventKind → Bool
-is_exchange (kind.Play at dir word) = false
-is_exchange kind.Pass = false
 is_exchange (kind.Exchange tiles) = true
 is_exchange (kind.ExchangeUnknown n) = true
-is_exchange kind.Withdraw = false
-is_exchange kind.Challenge = false
-is_exchange kind.Time = false
-is_exchange (kind.LastRack tiles) = false
+is_exchange other = false
 
 -- no event of a record is an exchange of either kind
 abbrev pub HaveNoExchange : List Event → Type 0
