@@ -19,13 +19,7 @@ board_before events place = board_at (withdraws (slice_get events place)) (rever
 -- why the play of an event cannot be laid on a board: the first fault of its text, or of the placement that it names
 abbrev pub kind_fault : List (Option Tile) → EventKind → Option PlayFault
 kind_fault board (kind.Play at dir word) = play_fault board dir at word
-kind_fault board kind.Pass = None
-kind_fault board (kind.Exchange tiles) = None
-kind_fault board (kind.ExchangeUnknown n) = None
-kind_fault board kind.Withdraw = None
-kind_fault board kind.Challenge = None
-kind_fault board kind.Time = None
-kind_fault board (kind.LastRack tiles) = None
+kind_fault board other = None
 
 abbrev pub fault_on : List (Option Tile) → Option Event → Option PlayFault
 fault_on board None = None
@@ -38,13 +32,7 @@ laying_fault events place = fault_on (board_before events place) (slice_get even
 -- the board with the play of an event, where it is one
 abbrev pub laid_on : List (Option Tile) → EventKind → List (Option Tile)
 laid_on board (kind.Play at dir word) = with_tiles board (placement_of board dir at word)
-laid_on board kind.Pass = board
-laid_on board (kind.Exchange tiles) = board
-laid_on board (kind.ExchangeUnknown n) = board
-laid_on board kind.Withdraw = board
-laid_on board kind.Challenge = board
-laid_on board kind.Time = board
-laid_on board (kind.LastRack tiles) = board
+laid_on board other = board
 
 -- laying ends at the place that was asked for, or before it, at a play that cannot be laid
 abbrev pub EndsWith : List Event → (asked end : ℕ) → Option PlayFault → Type 0
