@@ -7,18 +7,20 @@ use Rattle.ref_play.specs.declared.placed.Placed.{Placed}
 use Rattle.ref_play.specs.Placements.{is_play, with_tiles, without_tiles, HasTiles}
 use Rattle.ref_play.specs.Legality.{IsLegal}
 use Rattle.gcg_read.specs.declared.events.Event.{Event}
+use Rattle.game_turns.specs.declared.machine.Machine.{Machine}
+use Rattle.game_turns.specs.Machines.{rules_of, state_of}
 use Rattle.game_turns.specs.Standing.{is_withdraw}
 use Rattle.game_turns.specs.Tallies.{State, LatestPlay, Latest, played, taken_back, other, tally, tally_at}
 use Rattle.game_turns.specs.LatestEvents.{latest_tiles}
 use Rattle.game_turns.specs.Places.{AreAllowed}
 use Rattle.game_notes.specs.declared.following.Follow.{Follow}
 use Rattle.game_notes.specs.Following.{board_of, Follows}
-use Rattle.game_report.specs.Beside.{StandsBeside}
+use Rattle.game_report.specs.Beside.{StandsBeside, StandAt}
 use Rattle.game_report.proofs.ReportLines.{start_of_game, read_there}
 use Rattle.game_report.proofs.BoardSteps.{PutDown, TookOff, Moves, moves_at}
 
 -- before the first event, on a machine and a board by the same rules
-pub start_beside : (rules own other_own : Rules) (words : List (List ℕ)) (s : State) (follow : Follow) → own ≡ rules → other_own ≡ rules → s ≡ tally own false [] → board_of follow ≡ empty_board
+start_beside : (rules own other_own : Rules) (words : List (List ℕ)) (s : State) (follow : Follow) → own ≡ rules → other_own ≡ rules → s ≡ tally own false [] → board_of follow ≡ empty_board
     → Follows other_own words follow → StandsBeside rules words s follow
 unfolding tally
 start_beside rules own other_own words s follow same same_too start none follows =
@@ -28,31 +30,43 @@ start_beside rules own other_own words s follow same same_too start none follows
       latest = λ p is. let no : other ≡ played p = sym (ap (λ (x : State). x.latest) start) ∙ is in cc;
     }
 
-pub start_tally : (rules own : Rules) (events : List Event) (s : State) → own ≡ rules → s ≡ tally own false [] → s ≡ tally_at rules events 0
+start_tally : (rules own : Rules) (events : List Event) (s : State) → own ≡ rules → s ≡ tally own false [] → s ≡ tally_at rules events 0
 start_tally rules own events s same start = start_of_game rules events s (start ∙ ap (λ r. tally r false []) same)
 
+pub start_together : (rules own other_own : Rules) (words : List (List ℕ)) (events : List Event) (machine : Machine) (follow : Follow) → own ≡ rules → other_own ≡ rules → rules_of machine ≡ own
+    → state_of machine ≡ tally own false [] → board_of follow ≡ empty_board → Follows other_own words follow → StandAt rules words events 0 machine follow
+start_together rules own other_own words events machine follow same same_too by start none follows =
+    record {
+      own = by ∙ same;
+      state = start_tally rules own events (state_of machine) same start;
+      beside = start_beside rules own other_own words (state_of machine) follow same same_too start none follows;
+    }
+
 -- and behind the last
-pub board_at_the_end : (rules : Rules) (words : List (List ℕ)) (events : List Event) (place : ℕ) (s : State) (follow : Follow) → s ≡ tally_at rules events place → StandsBeside rules words s follow
+pub board_at_the_end : (rules : Rules) (words : List (List ℕ)) (events : List Event) (place : ℕ) (machine : Machine) (follow : Follow) → StandAt rules words events place machine follow
     → place ≡ length events → board_of follow ≡ (tally_at rules events (length events)).board
-board_at_the_end rules words events place s follow is beside last =
-    beside.board ∙ ap (λ (x : State). x.board) is ∙ ap (λ k. (tally_at rules events k).board) last
+board_at_the_end rules words events place machine follow stand last =
+    stand.beside.board ∙ ap (λ (x : State). x.board) stand.state ∙ ap (λ k. (tally_at rules events k).board) last
+
+pub follows_at : (rules : Rules) (words : List (List ℕ)) (events : List Event) (place : ℕ) (machine : Machine) (follow : Follow) → StandAt rules words events place machine follow → Follows rules words follow
+follows_at rules words events place machine follow stand = stand.beside.follows
 
 -- what an event did, where the board stands beside the state before it
 pub record Step (rules : Rules) (words : List (List ℕ)) (s t : State) (follow : Follow) (withdraw : Bool) : Type 0 where
   pub moves : Moves s t withdraw (latest_tiles t.latest)
   pub beside : StandsBeside rules words s follow
 
-pub step_at : (rules : Rules) (list words : List (List ℕ)) (events shown : List Event) (place : ℕ) (e : Event) (s t : State) (follow : Follow)
+pub step_at : (rules : Rules) (list words : List (List ℕ)) (events shown : List Event) (place : ℕ) (e : Event) (machine : Machine) (t : State) (follow : Follow)
     → AreAllowed rules list events → place < length events → shown ≡ events → e ≡ get_or shown place e → length (board_of follow) ≡ 225
-    → s ≡ tally_at rules events place → t ≡ tally_at rules events (place + 1) → StandsBeside rules words s follow → Step rules words s t follow (is_withdraw e.kind)
-step_at rules list words events shown place e s t follow allowed below shows read size before behind beside =
-    let same : (tally_at rules events place).board ≡ board_of follow = sym (ap (λ (x : State). x.board) before) ∙ sym beside.board in
+    → StandAt rules words events place machine follow → t ≡ tally_at rules events (place + 1) → Step rules words (state_of machine) t follow (is_withdraw e.kind)
+step_at rules list words events shown place e machine t follow allowed below shows read size stand behind =
+    let same : (tally_at rules events place).board ≡ board_of follow = sym (ap (λ (x : State). x.board) stand.state) ∙ sym stand.beside.board in
     let moves = moves_at rules list events place e allowed below (read_there shown events place e shows below read) (ap length same ∙ size) in
     record {
       moves =
-          subst (λ (x : State). Moves x t (is_withdraw e.kind) (latest_tiles t.latest)) (sym before)
+          subst (λ (x : State). Moves x t (is_withdraw e.kind) (latest_tiles t.latest)) (sym stand.state)
           (subst (λ (x : State). Moves (tally_at rules events place) x (is_withdraw e.kind) (latest_tiles x.latest)) (sym behind) moves);
-      beside = beside;
+      beside = stand.beside;
     }
 
 -- a latest event without tiles

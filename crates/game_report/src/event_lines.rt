@@ -1,12 +1,10 @@
 //! The lines of a legal game's events, and the words in them that are not in the list.
 ghost use Rattle.std.specs.Prelude.{◌≡◌, ◌<◌, ◌∷◌, ◌++◌, ◌+◌, [], OnOk, OnErr, length, decimal};
 ghost use Rattle.ref_play.specs.Words.{items_of};
-ghost use Rattle.game_turns.specs.Machines.{rules_of, state_of};
 ghost use Rattle.game_turns.specs.Passing.{rules_in, record_in};
 ghost use Rattle.lex_check.specs.Pairs.{list_in};
-ghost use Rattle.game_turns.specs.Tallies.{tally_at};
 ghost use Rattle.game_report.specs.BestPlays.{Appends};
-ghost use Rattle.game_report.specs.Beside.{StandsBeside};
+ghost use Rattle.game_report.specs.Beside.{StandAt};
 ghost use Rattle.game_report.specs.EventLines.{unlisted_word, unlisted_text, AreEventLines, IsEventLine};
 
 use crate::best_plays::push_best;
@@ -70,12 +68,8 @@ fn push_event_line(
     place: usize,
 ) -> Result<(), AllocError>
     requires place { place < length (record_in passed.now).events }
-    requires rules { rules_of machine.old ≡ rules_in passed.now }
-    requires state { state_of machine.old ≡ tally_at (rules_in passed.now) (record_in passed.now).events place }
-    requires beside { StandsBeside (rules_in passed.now) (list_in pair.now) (state_of machine.old) follow.old }
-    ensures rules { rules_of machine.new ≡ rules_in passed.now }
-    ensures state { OnOk result (state_of machine.new ≡ tally_at (rules_in passed.now) (record_in passed.now).events (place + 1)) }
-    ensures beside { OnOk result (StandsBeside (rules_in passed.now) (list_in pair.now) (state_of machine.new) follow.new) }
+    requires stand { StandAt (rules_in passed.now) (list_in pair.now) (record_in passed.now).events place machine.old follow.old }
+    ensures stand { OnOk result (StandAt (rules_in passed.now) (list_in pair.now) (record_in passed.now).events (place + 1) machine.new follow.new) }
     ensures line { OnOk result (Appends (IsEventLine (rules_in passed.now) (list_in pair.now) (record_in passed.now) place)
         text.old.items text.new.items) }
 {

@@ -1,10 +1,8 @@
 //! An event taken by the machine and by the board that follows the game.
-ghost use Rattle.std.specs.Prelude.{◌≡◌, ◌<◌, ◌+◌, length};
-ghost use Rattle.game_turns.specs.Machines.{rules_of, state_of};
+ghost use Rattle.std.specs.Prelude.{◌<◌, ◌+◌, length};
 ghost use Rattle.game_turns.specs.Passing.{rules_in, record_in};
-ghost use Rattle.game_turns.specs.Tallies.{tally_at};
 ghost use Rattle.lex_check.specs.Pairs.{list_in};
-ghost use Rattle.game_report.specs.Beside.{StandsBeside};
+ghost use Rattle.game_report.specs.Beside.{StandAt};
 
 use game_notes::Follow;
 use game_turns::{Machine, Passed, withdraws};
@@ -20,12 +18,8 @@ pub fn follow_event(
     place: usize,
 )
     requires place { place < length (record_in passed.now).events }
-    requires rules { rules_of machine.old ≡ rules_in passed.now }
-    requires state { state_of machine.old ≡ tally_at (rules_in passed.now) (record_in passed.now).events place }
-    requires beside { StandsBeside (rules_in passed.now) (list_in pair.now) (state_of machine.old) follow.old }
-    ensures rules { rules_of machine.new ≡ rules_in passed.now }
-    ensures state { state_of machine.new ≡ tally_at (rules_in passed.now) (record_in passed.now).events (place + 1) }
-    ensures beside { StandsBeside (rules_in passed.now) (list_in pair.now) (state_of machine.new) follow.new }
+    requires stand { StandAt (rules_in passed.now) (list_in pair.now) (record_in passed.now).events place machine.old follow.old }
+    ensures { StandAt (rules_in passed.now) (list_in pair.now) (record_in passed.now).events (place + 1) machine.new follow.new }
 {
     let _squares = follow.board().len();
     let event = &passed.record().events.as_slice()[place];

@@ -19,7 +19,7 @@ use ref_tiles::{Counts, Rules};
 use std::alloc::{AllocError, Global};
 
 /// The board after the last event of a record that passed, with its cross-sets. A play that is the last event stands.
-#[tactic(auto, using(crate::proofs::BesideLaws::board_at_the_end))]
+#[tactic(auto, using(crate::proofs::BesideLaws::board_at_the_end, crate::proofs::BesideLaws::follows_at))]
 fn follow_all(passed: &Passed<'_>, pair: &Checked<'_>) -> Follow
     ensures board { board_of result ≡ board_after (rules_in passed.now) (record_in passed.now).events }
     ensures follows { Follows (rules_in passed.now) (list_in pair.now) result }
