@@ -82,17 +82,23 @@ pub record IsLegalGame (rules : Rules) (texts : Texts) (complete : Bool) (report
   pub best : (place : ℕ) (e : Event) (rack : List ℕ) → IsFullTurn rules game.events place e rack
       → IsBestPrinted rules list (tally_at rules game.events place).board rack (slice_index_or told place [])
 
--- the verdict that a game is legal, with its report, means that
-abbrev pub LegalMeansLegal : Type 0
-LegalMeansLegal =
-    (rules : Rules) (texts : Texts) (complete : Bool) (report : List ℕ) → IsDecided rules (in_order texts) (verdict.Legal complete) report
+-- where this is answered on the texts, the verdict that a game is legal, with its report, means that
+abbrev pub MeansLegal : (IsAnswer : Rules → (texts : List (List ℕ)) → Verdict → (report : List ℕ) → Type 0) → Type 0
+MeansLegal IsAnswer =
+    (rules : Rules) (texts : Texts) (complete : Bool) (report : List ℕ) → IsAnswer rules (in_order texts) (verdict.Legal complete) report
     → IsLegalGame rules texts complete report
 
--- The verdict that a game is illegal means that the record is no game by the words of the list.
-abbrev pub IllegalMeansNoGame : Type 0
-IllegalMeansNoGame =
-    (rules : Rules) (texts : Texts) (line : ℕ) (fault : GameFault) (report : List ℕ) → IsDecided rules (in_order texts) (verdict.Illegal line fault) report
+-- where this is answered on the texts, the verdict that a game is illegal means that the record is no game by the words of the list
+abbrev pub MeansNoGame : (IsAnswer : Rules → (texts : List (List ℕ)) → Verdict → (report : List ℕ) → Type 0) → Type 0
+MeansNoGame IsAnswer =
+    (rules : Rules) (texts : Texts) (line : ℕ) (fault : GameFault) (report : List ℕ) → IsAnswer rules (in_order texts) (verdict.Illegal line fault) report
     → (words : List (List ℕ)) (game : Record) → list_of texts.words ≡ Ok words → record_of texts.game ≡ Ok game → IsGame rules words game.events → ⊥
+
+abbrev pub LegalMeansLegal : Type 0
+LegalMeansLegal = MeansLegal IsDecided
+
+abbrev pub IllegalMeansNoGame : Type 0
+IllegalMeansNoGame = MeansNoGame IsDecided
 
 -- Of a record without an exchange the verdict is legal exactly where it is a game, once its inputs are good: a list, its
 -- lexicon, and a record.

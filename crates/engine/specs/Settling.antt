@@ -1,14 +1,11 @@
 -- The settled verdict on the inputs of a game: by any deal that is found, or by a proof that there is none.
-use Rattle.std.specs.Prelude.{◌≡◌, ◌⊎◌, ℕ, Bool, List, Ok}
+use Rattle.std.specs.Prelude.{◌⊎◌, ℕ, List}
 use Rattle.ref_tiles.specs.declared.rulebook.Rules.{Rules}
 use Rattle.gcg_read.specs.declared.records.Record.{Record}
-use Rattle.gcg_read.specs.Records.{record_of}
-use Rattle.lex_list.specs.Lists.{list_of}
-use Rattle.engine.specs.declared.verdicts.GameFault.{GameFault}
 use Rattle.engine.specs.declared.verdicts.GameFault.TheVariants as game
 use Rattle.engine.specs.declared.verdicts.Verdict.{Verdict}
 use Rattle.engine.specs.declared.verdicts.Verdict.TheVariants as verdict
-use Rattle.engine.specs.Headlines.{Texts, in_order, IsLegalGame}
+use Rattle.engine.specs.Headlines.{MeansLegal, MeansNoGame}
 use Rattle.engine.specs.Judging.{IsToldLegal, IsRefused, IsPastBound}
 use Rattle.engine.specs.Reading.{ReadsNoMore, ReadsList, ReadsLexicon, ReadsRecord, ReadsRules}
 use Rattle.engine.specs.Reports.{illegal_line, unsettled_line}
@@ -49,12 +46,8 @@ IsSettledByText = ReadsRules IsSettledBy
 
 -- that a game is legal means what the headline says, whichever deal was found
 abbrev pub SettledLegalMeansLegal : Type 0
-SettledLegalMeansLegal =
-    (rules : Rules) (texts : Texts) (complete : Bool) (report : List ℕ) → IsSettledBy rules (in_order texts) (verdict.Legal complete) report
-    → IsLegalGame rules texts complete report
+SettledLegalMeansLegal = MeansLegal IsSettledBy
 
 -- that it is illegal means that the record is no game by the words of the list
 abbrev pub SettledIllegalMeansNoGame : Type 0
-SettledIllegalMeansNoGame =
-    (rules : Rules) (texts : Texts) (line : ℕ) (fault : GameFault) (report : List ℕ) → IsSettledBy rules (in_order texts) (verdict.Illegal line fault) report
-    → (words : List (List ℕ)) (game : Record) → list_of texts.words ≡ Ok words → record_of texts.game ≡ Ok game → IsGame rules words game.events → ⊥
+SettledIllegalMeansNoGame = MeansNoGame IsSettledBy

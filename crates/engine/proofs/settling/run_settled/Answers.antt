@@ -11,11 +11,4 @@ returns-clause-run g c =
     (IsSettledBy c.args.rules.now) (g.O.Output.device c.args.out.now) (g.O.Output.device c.finish.new.out) c.decide_game-decided.result c.finish.result c.decide_game-decided.ensures c.finish.ensures
 
 pub returns-clause-legal : goal.returns-clause-legal
-returns-clause-legal g c =
-    let old = g.O.Output.device c.args.out.now in
-    let new = g.O.Output.device c.finish.new.out in
-    let first = words_source (g.W.Input.device c.args.words.now) (g.W.Input.device c.decide_game-decided.new.words) in
-    let second = lexicon_source (g.L.Input.device c.args.lexicon.now) (g.L.Input.device c.decide_game-decided.new.lexicon) in
-    let third = game_source (g.G.Input.device c.args.game.now) (g.G.Input.device c.decide_game-decided.new.game) in
-    settled_run c.law_of_settled_games.ensures c.args.rules.now first second third old new c.finish.result
-    (runs (first ∷ second ∷ third ∷ []) (IsSettledBy c.args.rules.now) old new c.decide_game-decided.result c.finish.result c.decide_game-decided.ensures c.finish.ensures)
+returns-clause-legal g c = settled_run c.law_of_settled_games.ensures c.args.rules.now _ _ _ _ _ c.finish.result (returns-clause-run g c)
