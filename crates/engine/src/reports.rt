@@ -126,17 +126,24 @@ pub fn unsettled_line(alloc: Global) -> Result<Vec<u8>, AllocError>
     Vec::from_slice(alloc, b"unsettled\n")
 }
 
+/// What is bad, ` line N`, or nothing where the fault lies on no line, and `: WHY`.
+fn bad_input_line(alloc: Global, what: &[u8], line: u32, why: &str) -> Result<Vec<u8>, AllocError>
+    ensures { IfOk result (λ text. text.items ≡ what.now ++ line_text line ++ codes ": " ++ why.now ++ 10 ∷ []) }
+{
+    let mut text = Vec::from_slice(alloc, what)?;
+    push_line(&mut text, line)?;
+    text.extend_from_slice(b": ")?;
+    text.extend_from_slice(why.as_bytes())?;
+    text.extend_from_slice(b"\n")?;
+    Ok(text)
+}
+
 /// `bad record line N: WHY`, without ` line N` where the fault lies on no line.
 #[tactic(auto, unfolding(crate::specs::Reports::bad_record_line))]
 pub fn bad_record_line(alloc: Global, fault: &ReadFault) -> Result<Vec<u8>, AllocError>
     ensures { IfOk result (λ text. text.items ≡ bad_record_line fault.now) }
 {
-    let mut text = Vec::from_slice(alloc, b"bad record")?;
-    push_line(&mut text, fault.line)?;
-    text.extend_from_slice(b": ")?;
-    text.extend_from_slice(fault.why.name().as_bytes())?;
-    text.extend_from_slice(b"\n")?;
-    Ok(text)
+    bad_input_line(alloc, b"bad record", fault.line, fault.why.name())
 }
 
 /// `bad rules line N: WHY`, without ` line N` where the fault lies on no line.
@@ -144,12 +151,7 @@ pub fn bad_record_line(alloc: Global, fault: &ReadFault) -> Result<Vec<u8>, Allo
 pub fn bad_rules_line(alloc: Global, fault: &RulesFault) -> Result<Vec<u8>, AllocError>
     ensures { IfOk result (λ text. text.items ≡ bad_rules_line fault.now) }
 {
-    let mut text = Vec::from_slice(alloc, b"bad rules")?;
-    push_line(&mut text, fault.line)?;
-    text.extend_from_slice(b": ")?;
-    text.extend_from_slice(fault.why.name().as_bytes())?;
-    text.extend_from_slice(b"\n")?;
-    Ok(text)
+    bad_input_line(alloc, b"bad rules", fault.line, fault.why.name())
 }
 
 /// `bad word list line N: WHY`, without ` line N` where the fault lies on no line.
@@ -157,12 +159,7 @@ pub fn bad_rules_line(alloc: Global, fault: &RulesFault) -> Result<Vec<u8>, Allo
 pub fn bad_list_line(alloc: Global, fault: &ListFault) -> Result<Vec<u8>, AllocError>
     ensures { IfOk result (λ text. text.items ≡ bad_list_line fault.now) }
 {
-    let mut text = Vec::from_slice(alloc, b"bad word list")?;
-    push_line(&mut text, fault.line)?;
-    text.extend_from_slice(b": ")?;
-    text.extend_from_slice(fault.why.name().as_bytes())?;
-    text.extend_from_slice(b"\n")?;
-    Ok(text)
+    bad_input_line(alloc, b"bad word list", fault.line, fault.why.name())
 }
 
 /// Appends a name and a path.
