@@ -52,7 +52,7 @@ fn past_bound(bound: &DealFault) -> Finding
     }
 }
 
-/// What is found of a record that passed.
+/// What is found of a record that passed, or that it has no event.
 #[tactic(auto, using(crate::proofs::FoundGames::by_deal, crate::proofs::FoundGames::past, crate::proofs::Settled::ends_on, crate::proofs::Settled::open_game))]
 fn find_passed(
     alloc: Global,
@@ -62,6 +62,9 @@ fn find_passed(
     requires { AreAllowed (rules_in passed.now) (pairs.list_in pair.now) (record_in passed.now).events }
     ensures { IfOk result (IsFinding (rules_in passed.now) (pairs.list_in pair.now) (record_in passed.now)) }
 {
+    if passed.record().events.is_empty() {
+        return Ok(Finding::NoGame);
+    }
     law_of_bounds();
     match settle_racks(alloc, passed)? {
         RackFinding::Dealt => Ok(Finding::Legal {
@@ -97,21 +100,6 @@ fn refused(line: u32, fault: RuleFault) -> Found
     }
 }
 
-/// What is found of a record that passed, or that it has no event.
-fn find_events(
-    alloc: Global,
-    passed: &Passed<'_>,
-    pair: &Checked<'_>,
-) -> Result<Finding, AllocError>
-    requires { AreAllowed (rules_in passed.now) (pairs.list_in pair.now) (record_in passed.now).events }
-    ensures { IfOk result (IsFinding (rules_in passed.now) (pairs.list_in pair.now) (record_in passed.now)) }
-{
-    if passed.record().events.is_empty() {
-        return Ok(Finding::NoGame);
-    }
-    find_passed(alloc, passed, pair)
-}
-
 /// What is found of a record of which every event is allowed.
 fn allowed(alloc: Global, passed: &Passed<'_>, pair: &Checked<'_>) -> Result<Found, AllocError>
     requires allowed { AreAllowed (rules_in passed.now) (pairs.list_in pair.now) (record_in passed.now).events }
@@ -119,7 +107,7 @@ fn allowed(alloc: Global, passed: &Passed<'_>, pair: &Checked<'_>) -> Result<Fou
     ensures found { IfOk result (λ f. IsFinding (rules_in passed.now) (pairs.list_in pair.now) (record_in passed.now) f.finding) }
     ensures unlisted { IfOk result (λ f. AreUnlisted (rules_in passed.now) (pairs.list_in pair.now) (record_in passed.now).events f.unlisted) }
 {
-    let finding = find_events(alloc, passed, pair)?;
+    let finding = find_passed(alloc, passed, pair)?;
     let plays = unlisted_plays(passed);
     Ok(Found {
         finding,
