@@ -7,13 +7,12 @@ ghost use Rattle.engine.specs.Topping.{IsToppedOn};
 
 use crate::decisions::Decision;
 use crate::judging::illegal;
-use crate::questions::Question;
+use crate::questions::{AskedGame, Question};
 use crate::verdicts::{GameFault, Verdict};
 use game_report::top_report;
 use game_turns::{Passed, play_through};
-use gcg_read::Record;
 use lex_check::Checked;
-use ref_tiles::{Counts, Rules};
+use ref_tiles::Counts;
 use std::alloc::{AllocError, Global};
 
 /// The best plays by a rack on the board after a record of which every event is allowed.
@@ -36,17 +35,11 @@ fn tell_top(
 
 /// The best plays by a rack on the board after a record, or the verdict that an event of it is not allowed.
 #[tactic(auto, using(crate::proofs::Toppings::topped_refused))]
-fn top_record(
-    alloc: Global,
-    rules: &Rules,
-    pair: &Checked<'_>,
-    game: &Record,
-    rack: &Counts,
-) -> Result<Decision, AllocError>
-    ensures { IfOk result (λ d. IsToppedOn rules.now (list_in pair.now) rack.now game.now d.verdict d.report.items) }
+fn top_record(alloc: Global, asked: &AskedGame<'_>, rack: &Counts) -> Result<Decision, AllocError>
+    ensures { IfOk result (λ d. IsToppedOn asked.now.rules.now (list_in asked.now.pair.now) rack.now asked.now.record.now d.verdict d.report.items) }
 {
-    match play_through(rules, game, pair.list()) {
-        Ok(passed) => tell_top(alloc, &passed, pair, rack),
+    match play_through(asked.rules, asked.record, asked.pair.list()) {
+        Ok(passed) => tell_top(alloc, &passed, asked.pair, rack),
         Err(refusal) => illegal(alloc, refusal.line, GameFault::Rule(refusal.fault)),
     }
 }
@@ -64,14 +57,8 @@ impl Question for BestPlays {
 
     ghost is_answer = { λ question rules words game v report. IsToppedOn rules words question.rack game v report };
 
-    fn answer(
-        &self,
-        alloc: Global,
-        rules: &Rules,
-        pair: &Checked<'_>,
-        game: &Record,
-    ) -> Result<Decision, AllocError> {
-        top_record(alloc, rules, pair, game, &self.rack)
+    fn answer(&self, alloc: Global, asked: &AskedGame<'_>) -> Result<Decision, AllocError> {
+        top_record(alloc, asked, &self.rack)
     }
 
     ghost own = { λ question rules words game v report is. topped_own rules words question.rack game v report is };

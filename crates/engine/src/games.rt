@@ -9,7 +9,7 @@ ghost use Rattle.engine.specs.Sources.{rules_source, words_source, lexicon_sourc
 use crate::decisions::Decision;
 use crate::faults::RunFault;
 use crate::lexicons::{pair_file, read_lexicon};
-use crate::questions::Question;
+use crate::questions::{AskedGame, Question};
 use crate::records::read_record;
 use crate::rules_texts::read_rules;
 use crate::words::read_list;
@@ -40,7 +40,12 @@ pub fn decide_by_pair<Q: Question, G: Input>(
         Ok(Err(decision)) => return Ok(decision),
         Err(fault) => return Err(fault),
     };
-    match question.answer(alloc, rules, pair, &record) {
+    let asked = AskedGame {
+        rules,
+        pair,
+        record: &record,
+    };
+    match question.answer(alloc, &asked) {
         Ok(decision) => Ok(decision),
         Err(_) => Err(RunFault::NoMemory),
     }

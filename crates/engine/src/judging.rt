@@ -9,14 +9,12 @@ ghost use Rattle.engine.specs.{Judging.{IsJudged, IsToldBound, IsToldLegal}, Tel
 ghost use Rattle.engine.specs.Reports as reports;
 
 use crate::decisions::Decision;
-use crate::questions::Question;
+use crate::questions::{AskedGame, Question};
 use crate::reports::{illegal_line, legal_report, unsettled_line};
 use crate::verdicts::{GameFault, Verdict};
 use game_deal::{DealFault, Steps, bounds, complete, fits, law_of_bounds};
 use game_turns::{Passed, play_through};
-use gcg_read::Record;
 use lex_check::Checked;
-use ref_tiles::Rules;
 use std::alloc::{AllocError, Global};
 
 /// The verdict that a game is illegal.
@@ -102,16 +100,11 @@ fn judge_passed(
 
 /// The verdict on a record, by the list of a pair.
 #[tactic(auto, using(crate::proofs::Deals::judged_refused))]
-fn judge_record(
-    alloc: Global,
-    rules: &Rules,
-    pair: &Checked<'_>,
-    game: &Record,
-) -> Result<Decision, AllocError>
-    ensures { IfOk result (λ d. IsJudged rules.now (pairs.list_in pair.now) game.now d.verdict d.report.items) }
+fn judge_record(alloc: Global, asked: &AskedGame<'_>) -> Result<Decision, AllocError>
+    ensures { IfOk result (λ d. IsJudged asked.now.rules.now (pairs.list_in asked.now.pair.now) asked.now.record.now d.verdict d.report.items) }
 {
-    match play_through(rules, game, pair.list()) {
-        Ok(passed) => judge_passed(alloc, &passed, pair),
+    match play_through(asked.rules, asked.record, asked.pair.list()) {
+        Ok(passed) => judge_passed(alloc, &passed, asked.pair),
         Err(refusal) => illegal(alloc, refusal.line, GameFault::Rule(refusal.fault)),
     }
 }
@@ -126,14 +119,8 @@ impl Question for Judging {
 
     ghost is_answer = { λ question rules words game v report. IsJudged rules words game v report };
 
-    fn answer(
-        &self,
-        alloc: Global,
-        rules: &Rules,
-        pair: &Checked<'_>,
-        game: &Record,
-    ) -> Result<Decision, AllocError> {
-        judge_record(alloc, rules, pair, game)
+    fn answer(&self, alloc: Global, asked: &AskedGame<'_>) -> Result<Decision, AllocError> {
+        judge_record(alloc, asked)
     }
 
     ghost own = { λ question rules words game v report is. judged_own rules words game v report is };

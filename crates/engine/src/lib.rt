@@ -5,8 +5,8 @@
 //! bytes of the inputs to the bytes of the output.
 //!
 //! They are made of stages, which other calls can be made of too. [`read_list`], [`read_rules`] and [`read_record`] read an input and
-//! take it for what it means; [`read_lexicon`] reads a file, and [`pair_file`] takes it and a list for a pair; a [`Question`] is answered on a record
-//! by a pair. [`decide_game`] puts these together, [`decide_by_pair`] does it for one game of many by the same pair, and [`finish`]
+//! take it for what it means; [`read_lexicon`] reads a file, and [`pair_file`] takes it and a list for a pair; a [`Question`] is answered on an
+//! [`AskedGame`], a record with rules and a pair. [`decide_game`] puts these together, [`decide_by_pair`] does it for one game of many by the same pair, and [`finish`]
 //! writes what was decided.
 #![tactic(auto)]
 
@@ -60,7 +60,7 @@ pub use laws::{
     law_of_ruled_games, law_of_settled_games, law_of_undealt_games,
 };
 pub use lexicons::{LexiconFault, pair_file, read_lexicon};
-pub use questions::Question;
+pub use questions::{AskedGame, Question};
 pub use racks::{RackFinding, settle_racks};
 pub use records::{game_from, read_record, record_from};
 pub use reports::{fault_text, legal_report};

@@ -16,14 +16,13 @@ use crate::faults::RunFault;
 use crate::games::{decide_by_rules, decide_game};
 use crate::judging::{illegal, legal, past_bound, unsettled};
 use crate::laws::law_of_settled_games;
-use crate::questions::Question;
+use crate::questions::{AskedGame, Question};
 use crate::racks::{RackFinding, settle_racks};
 use crate::transfers::finish;
 use crate::verdicts::{GameFault, Verdict};
 use devices::{Input, Output};
 use game_deal::law_of_bounds;
 use game_turns::{Passed, play_through};
-use gcg_read::Record;
 use lex_check::Checked;
 use ref_tiles::Rules;
 use std::alloc::{AllocError, Global};
@@ -49,16 +48,11 @@ fn settle_passed(
 
 /// The verdict on a record, by the list of a pair.
 #[tactic(auto, using(crate::proofs::Settled::refused))]
-fn settle_record(
-    alloc: Global,
-    rules: &Rules,
-    pair: &Checked<'_>,
-    game: &Record,
-) -> Result<Decision, AllocError>
-    ensures { IfOk result (λ d. IsSettled rules.now (pairs.list_in pair.now) game.now d.verdict d.report.items) }
+fn settle_record(alloc: Global, asked: &AskedGame<'_>) -> Result<Decision, AllocError>
+    ensures { IfOk result (λ d. IsSettled asked.now.rules.now (pairs.list_in asked.now.pair.now) asked.now.record.now d.verdict d.report.items) }
 {
-    match play_through(rules, game, pair.list()) {
-        Ok(passed) => settle_passed(alloc, &passed, pair),
+    match play_through(asked.rules, asked.record, asked.pair.list()) {
+        Ok(passed) => settle_passed(alloc, &passed, asked.pair),
         Err(refusal) => illegal(alloc, refusal.line, GameFault::Rule(refusal.fault)),
     }
 }
@@ -73,14 +67,8 @@ impl Question for Settling {
 
     ghost is_answer = { λ question rules words game v report. IsSettled rules words game v report };
 
-    fn answer(
-        &self,
-        alloc: Global,
-        rules: &Rules,
-        pair: &Checked<'_>,
-        game: &Record,
-    ) -> Result<Decision, AllocError> {
-        settle_record(alloc, rules, pair, game)
+    fn answer(&self, alloc: Global, asked: &AskedGame<'_>) -> Result<Decision, AllocError> {
+        settle_record(alloc, asked)
     }
 
     ghost own = { λ question rules words game v report is. settled_own rules words game v report is };

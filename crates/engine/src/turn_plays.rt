@@ -9,15 +9,14 @@ ghost use Rattle.engine.specs.TopBefore.{rack_asked, shown_rack, given_rack, ByR
 use crate::boards::{bad_line, place_asked};
 use crate::decisions::Decision;
 use crate::judging::illegal;
-use crate::questions::Question;
+use crate::questions::{AskedGame, Question};
 use crate::topping::bad_rack;
 use crate::verdicts::{GameFault, Verdict};
 use game_report::best_lines;
 use game_turns::board_before;
-use gcg_read::{Event, Record, read_rack};
-use lex_check::Checked;
+use gcg_read::{Event, read_rack};
 use ref_board::Board;
-use ref_tiles::{Counts, Rules};
+use ref_tiles::Counts;
 use std::alloc::{AllocError, Global};
 
 /// The best plays by a rack on the board before a line of the record.
@@ -78,16 +77,15 @@ fn rack_asked(given: Option<Counts>, event: Option<&Event>) -> Option<Counts>
 /// The best plays by a rack on a board.
 fn tell_first(
     alloc: Global,
-    rules: &Rules,
-    pair: &Checked<'_>,
+    asked: &AskedGame<'_>,
     board: &Board,
     rack: &Counts,
     number: usize,
 ) -> Result<Decision, AllocError>
     requires { number ≤ 100 }
-    ensures { IfOk result (λ d. (d.verdict ≡ verdict.Done) × TellsFirst number rules.now (list_in pair.now) board.now rack.now d.report.items) }
+    ensures { IfOk result (λ d. (d.verdict ≡ verdict.Done) × TellsFirst number asked.now.rules.now (list_in asked.now.pair.now) board.now rack.now d.report.items) }
 {
-    let report = best_lines(alloc, rules, pair, board, rack, number)?;
+    let report = best_lines(alloc, asked.rules, asked.pair, board, rack, number)?;
     Ok(Decision {
         verdict: Verdict::Done,
         report,
@@ -97,19 +95,18 @@ fn tell_first(
 /// The best plays by a rack on the board before a place, or the verdict that an event before it is not allowed.
 fn tell_before(
     alloc: Global,
-    rules: &Rules,
-    pair: &Checked<'_>,
-    game: &Record,
+    asked: &AskedGame<'_>,
     place: usize,
     rack: &Counts,
     number: usize,
 ) -> Result<Decision, AllocError>
     requires number { number ≤ 100 }
-    requires place { place ≤ length game.now.events }
-    ensures { IfOk result (λ d. ByRackAsked number rules.now (list_in pair.now) game.now place (Some rack.now) d.verdict d.report.items) }
+    requires place { place ≤ length asked.now.record.now.events }
+    ensures { IfOk result (λ d. ByRackAsked number asked.now.rules.now (list_in asked.now.pair.now) asked.now.record.now place (Some rack.now) d.verdict d.report.items) }
 {
-    match board_before(rules, game.events.as_slice(), pair.list(), place) {
-        Ok(board) => tell_first(alloc, rules, pair, &board, rack, number),
+    let events = asked.record.events.as_slice();
+    match board_before(asked.rules, events, asked.pair.list(), place) {
+        Ok(board) => tell_first(alloc, asked, &board, rack, number),
         Err(refusal) => illegal(alloc, refusal.line, GameFault::Rule(refusal.fault)),
     }
 }
@@ -117,17 +114,15 @@ fn tell_before(
 /// The same by the rack that is asked about; where there is none, that is the verdict.
 fn tell_by_rack(
     alloc: Global,
-    rules: &Rules,
-    pair: &Checked<'_>,
-    game: &Record,
+    asked: &AskedGame<'_>,
     place: usize,
     question: &TurnPlays,
 ) -> Result<Decision, AllocError>
-    requires { place ≤ length game.now.events }
-    ensures { IfOk result (λ d. ByPlaceAsked question.now.number rules.now (list_in pair.now) game.now question.now.rack (Some place) d.verdict d.report.items) }
+    requires { place ≤ length asked.now.record.now.events }
+    ensures { IfOk result (λ d. ByPlaceAsked question.now.number asked.now.rules.now (list_in asked.now.pair.now) asked.now.record.now question.now.rack (Some place) d.verdict d.report.items) }
 {
-    match rack_asked(question.rack, game.events.as_slice().get(place)) {
-        Some(rack) => tell_before(alloc, rules, pair, game, place, &rack, question.number),
+    match rack_asked(question.rack, asked.record.events.as_slice().get(place)) {
+        Some(rack) => tell_before(alloc, asked, place, &rack, question.number),
         None => bad_rack(alloc),
     }
 }
@@ -135,15 +130,13 @@ fn tell_by_rack(
 /// The same before the line that is asked about; where there is none, that is the verdict.
 fn tell_by_line(
     alloc: Global,
-    rules: &Rules,
-    pair: &Checked<'_>,
-    game: &Record,
+    asked: &AskedGame<'_>,
     question: &TurnPlays,
 ) -> Result<Decision, AllocError>
-    ensures { IfOk result (λ d. IsToppedBefore question.now.number question.now.before rules.now (list_in pair.now) question.now.rack game.now d.verdict d.report.items) }
+    ensures { IfOk result (λ d. IsToppedBefore question.now.number question.now.before asked.now.rules.now (list_in asked.now.pair.now) question.now.rack asked.now.record.now d.verdict d.report.items) }
 {
-    match place_asked(game.events.as_slice(), question.before) {
-        Some(place) => tell_by_rack(alloc, rules, pair, game, place, question),
+    match place_asked(asked.record.events.as_slice(), question.before) {
+        Some(place) => tell_by_rack(alloc, asked, place, question),
         None => bad_line(alloc),
     }
 }
@@ -154,14 +147,8 @@ impl Question for TurnPlays {
 
     ghost is_answer = { λ question rules words game v report. IsToppedBefore question.number question.before rules words question.rack game v report };
 
-    fn answer(
-        &self,
-        alloc: Global,
-        rules: &Rules,
-        pair: &Checked<'_>,
-        game: &Record,
-    ) -> Result<Decision, AllocError> {
-        tell_by_line(alloc, rules, pair, game, self)
+    fn answer(&self, alloc: Global, asked: &AskedGame<'_>) -> Result<Decision, AllocError> {
+        tell_by_line(alloc, asked, self)
     }
 
     ghost own = { λ question rules words game v report is. topped_before_own question.number question.before rules words question.rack game v report is };
