@@ -1,0 +1,6 @@
+//! Steps of a game that racks fit, and the bounds that they exceed (`steps`), records with the deal that they are tried with
+//! (`records`), and records with what settles them (`settling`).
+
+mod records;
+mod settling;
+mod steps;

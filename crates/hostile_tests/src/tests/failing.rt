@@ -1,0 +1,130 @@
+//! Devices that fail, or move few bytes at once.
+ghost use Rattle.std.specs.Prelude.{◌<◌};
+
+use super::feeds::{Mishap, NEVER};
+use super::jobs::{Call, JOBS, Job, attempt, working};
+use engine::{RunFault, Verdict};
+use gcg_read::{EventKind, read};
+use std::alloc::Global;
+use std::process::Abort;
+
+/// Whether tiles are exchanged in the record of a job.
+fn has_exchange(rt: &impl Abort, alloc: Global, job: &Job<'_>) -> bool {
+    let record = read(alloc, job.game).expect(rt, "a record");
+    record.events.as_slice().iter().any(|event| {
+        matches!(
+            event.kind,
+            EventKind::Exchange(_) | EventKind::ExchangeUnknown(_)
+        )
+    })
+}
+
+/// A record without an exchange is settled.
+#[test]
+fn unsettled_jobs(rt: HostRuntime) {
+    for job in &JOBS {
+        if job.verdict == Verdict::Unsettled {
+            assert!(rt; has_exchange(&rt, rt.alloc(), job), "{:?}", job.game);
+        }
+    }
+}
+
+/// Asserts that a job with working devices does what it is to do, however few bytes they move at once.
+fn assert_done(rt: &impl Abort, alloc: Global, job: &Job<'_>) {
+    for piece in [1, 7, 8192] {
+        let outcome = attempt(alloc, job, &working(piece));
+        assert_eq!(rt; outcome.answer, Ok(job.verdict));
+        assert_eq!(rt; outcome.out.as_slice(), job.wrote);
+    }
+}
+
+#[test]
+fn few_bytes_at_once(rt: HostRuntime) {
+    for job in &JOBS {
+        assert_done(&rt, rt.alloc(), job);
+    }
+}
+
+/// Whether a job reads the words, the lexicon, the record and the rules text.
+fn inputs_of(job: &Job<'_>) -> [bool; 4] {
+    match job.call {
+        Call::Judge | Call::Settle | Call::Top(_) | Call::TopBefore(_) => {
+            [true, true, true, job.rules.is_some()]
+        }
+        Call::Build => [true, false, false, false],
+        Call::Check => [true, true, false, false],
+        Call::Convert(_) => [false, true, false, false],
+        Call::Tidy => [false, false, true, false],
+        Call::Board(_) => [false, false, true, job.rules.is_some()],
+    }
+}
+
+/// Lets each read of an input fail once, where the other reads work, and tells how many reads there were.
+fn each_read_fails(rt: &impl Abort, alloc: Global, job: &Job<'_>, input: usize) -> usize
+    requires { input < 4 }
+{
+    for read in 0..1000 {
+        let mut manner = working(7);
+        manner.reads[input] = read;
+        let outcome = attempt(alloc, job, &manner);
+        if !outcome.failed {
+            assert_eq!(rt; outcome.answer, Ok(job.verdict));
+            assert_eq!(rt; outcome.out.as_slice(), job.wrote);
+            return read;
+        }
+        assert_eq!(rt; outcome.answer, Err(RunFault::ReadFailed));
+        assert!(rt; outcome.out.as_slice().is_empty());
+    }
+    NEVER
+}
+
+/// Asserts that a job reads the inputs of its call, and fails with each read of them.
+fn assert_reads(rt: &impl Abort, alloc: Global, job: &Job<'_>) {
+    let read = inputs_of(job);
+    for input in 0..4 {
+        let reads = each_read_fails(rt, alloc, job, input);
+        assert_eq!(rt; reads > 0, read[input], "{:?} {input}", job.call);
+    }
+}
+
+#[test]
+fn failing_reads(rt: HostRuntime) {
+    for job in &JOBS {
+        assert_reads(&rt, rt.alloc(), job);
+    }
+}
+
+/// Lets each write meet with a mishap once, where the other writes work, and tells how many writes there were.
+fn each_write_fails(rt: &impl Abort, alloc: Global, job: &Job<'_>, mishap: Mishap) -> usize {
+    for write in 0..1000 {
+        let mut manner = working(3);
+        manner.writes = write;
+        manner.mishap = mishap;
+        let outcome = attempt(alloc, job, &manner);
+        let wrote = outcome.out.as_slice();
+        if !outcome.out.has_failed() {
+            assert_eq!(rt; outcome.answer, Ok(job.verdict));
+            assert_eq!(rt; wrote, job.wrote);
+            return write;
+        }
+        assert_eq!(rt; outcome.answer, Err(RunFault::WriteFailed));
+        assert_eq!(rt; wrote.len(), 3 * write);
+        assert!(rt; job.wrote.starts_with(wrote));
+    }
+    NEVER
+}
+
+/// Asserts that a job fails with each write: three bytes a write, as many writes as the output has threes, and one for the rest.
+fn assert_writes(rt: &impl Abort, alloc: Global, job: &Job<'_>) {
+    for mishap in [Mishap::Fails, Mishap::TakesNone] {
+        let writes = each_write_fails(rt, alloc, job, mishap);
+        assert_eq!(rt; writes, job.wrote.len().div_ceil(3), "{mishap:?}");
+    }
+}
+
+#[test]
+fn failing_writes(rt: HostRuntime) {
+    for job in &JOBS {
+        assert_writes(&rt, rt.alloc(), job);
+    }
+}

@@ -1,0 +1,494 @@
+//! Worked rows, asked of the calls of the engine.
+use super::feeds::{Feed, Mishap, NEVER, Sheet};
+use engine::{
+    GameFault, RunFault, Verdict, run, run_board, run_board_ruled, run_build, run_check,
+    run_convert, run_ruled, run_settled, run_settled_ruled, run_tidy, run_top, run_top_before,
+    run_top_before_ruled, run_top_ruled,
+};
+use lex_file::Format;
+use ref_tiles::{ENGLISH_TEXT, english_rules};
+use std::alloc::Global;
+use test_samples::{AT, AT_BY_NODES};
+
+/// The file of the word WORD.
+pub const WORD: [u8; 80] = [
+    0x47, 0x41, 0x44, 0x31, 0x10, 0x00, 0x00, 0x00, 0x0d, 0x00, 0x00, 0x00, 0x01, 0x00, 0x00, 0x00,
+    0x77, 0x00, 0x00, 0x00, 0xcf, 0x00, 0x00, 0x00, 0x52, 0x01, 0x00, 0x00, 0x64, 0x00, 0x00, 0x00,
+    0x52, 0x02, 0x00, 0x00, 0xc0, 0x02, 0x00, 0x00, 0x57, 0x03, 0x00, 0x00, 0x40, 0x02, 0x00, 0x00,
+    0x57, 0x04, 0x00, 0x00, 0xcf, 0x04, 0x00, 0x00, 0xcf, 0x02, 0x00, 0x00, 0xc0, 0x05, 0x00, 0x00,
+    0x84, 0x01, 0x00, 0x00, 0x8f, 0x03, 0x00, 0x00, 0x12, 0x05, 0x00, 0x00, 0x57, 0x06, 0x00, 0x00,
+];
+
+/// The file of the words WORD, AT and RA.
+pub const WORD_AT_RA: [u8; 108] = [
+    0x47, 0x41, 0x44, 0x31, 0x17, 0x00, 0x00, 0x00, 0x12, 0x00, 0x00, 0x00, 0x03, 0x00, 0x00, 0x00,
+    0x74, 0x00, 0x00, 0x00, 0x80, 0x00, 0x00, 0x00, 0x72, 0x00, 0x00, 0x00, 0x77, 0x00, 0x00, 0x00,
+    0x4f, 0x02, 0x00, 0x00, 0xd2, 0x02, 0x00, 0x00, 0x64, 0x00, 0x00, 0x00, 0xd2, 0x03, 0x00, 0x00,
+    0x40, 0x04, 0x00, 0x00, 0xd7, 0x04, 0x00, 0x00, 0x61, 0x00, 0x00, 0x00, 0xc0, 0x03, 0x00, 0x00,
+    0x57, 0x06, 0x00, 0x00, 0x80, 0x05, 0x00, 0x00, 0xcf, 0x06, 0x00, 0x00, 0x4f, 0x04, 0x00, 0x00,
+    0x40, 0x08, 0x00, 0x00, 0x01, 0x01, 0x00, 0x00, 0x04, 0x03, 0x00, 0x00, 0x0f, 0x05, 0x00, 0x00,
+    0x12, 0x07, 0x00, 0x00, 0x94, 0x05, 0x00, 0x00, 0xd7, 0x08, 0x00, 0x00,
+];
+
+/// The file of the word RETAINS.
+pub const RETAINS: [u8; 176] = [
+    0x47, 0x41, 0x44, 0x31, 0x28, 0x00, 0x00, 0x00, 0x22, 0x00, 0x00, 0x00, 0x01, 0x00, 0x00, 0x00,
+    0x73, 0x00, 0x00, 0x00, 0xce, 0x00, 0x00, 0x00, 0x49, 0x01, 0x00, 0x00, 0xc0, 0x01, 0x00, 0x00,
+    0x52, 0x02, 0x00, 0x00, 0xc5, 0x02, 0x00, 0x00, 0x54, 0x03, 0x00, 0x00, 0xc1, 0x01, 0x00, 0x00,
+    0x54, 0x04, 0x00, 0x00, 0xc0, 0x04, 0x00, 0x00, 0x52, 0x05, 0x00, 0x00, 0x40, 0x01, 0x00, 0x00,
+    0x52, 0x06, 0x00, 0x00, 0xc5, 0x06, 0x00, 0x00, 0x54, 0x07, 0x00, 0x00, 0xc1, 0x07, 0x00, 0x00,
+    0xc0, 0x00, 0x00, 0x00, 0xd2, 0x08, 0x00, 0x00, 0x45, 0x09, 0x00, 0x00, 0xd4, 0x09, 0x00, 0x00,
+    0x41, 0x0a, 0x00, 0x00, 0xc9, 0x0a, 0x00, 0x00, 0xc5, 0x04, 0x00, 0x00, 0xc0, 0x0b, 0x00, 0x00,
+    0x72, 0x00, 0x00, 0x00, 0xc5, 0x0c, 0x00, 0x00, 0x54, 0x0d, 0x00, 0x00, 0xc1, 0x0d, 0x00, 0x00,
+    0x49, 0x0e, 0x00, 0x00, 0xce, 0x0e, 0x00, 0x00, 0x40, 0x04, 0x00, 0x00, 0xd2, 0x0f, 0x00, 0x00,
+    0x45, 0x10, 0x00, 0x00, 0x81, 0x03, 0x00, 0x00, 0x85, 0x05, 0x00, 0x00, 0x09, 0x08, 0x00, 0x00,
+    0x0e, 0x0b, 0x00, 0x00, 0x12, 0x0c, 0x00, 0x00, 0x13, 0x0f, 0x00, 0x00, 0xd4, 0x10, 0x00, 0x00,
+];
+
+/// Rules by which there are 14 tiles, else those of the English game.
+#[rattlefmt::skip]
+const SHORT_RULES: &[u8] = b"\
+tile A 2 1\ntile B 0 3\ntile C 0 3\ntile D 1 2\ntile E 2 1\ntile F 0 4\ntile G 0 2\n\
+tile H 0 4\ntile I 1 1\ntile J 0 8\ntile K 0 5\ntile L 0 1\ntile M 0 3\ntile N 1 1\n\
+tile O 1 1\ntile P 0 3\ntile Q 0 10\ntile R 2 1\ntile S 1 1\ntile T 2 1\ntile U 0 1\n\
+tile V 0 4\ntile W 1 4\ntile X 0 8\ntile Y 0 4\ntile Z 0 10\ntile ? 0 0\n\
+row 1 T..d...T...d..T\nrow 2 .D...t...t...D.\nrow 3 ..D...d.d...D..\n\
+row 4 d..D...d...D..d\nrow 5 ....D.....D....\nrow 6 .t...t...t...t.\n\
+row 7 ..d...d.d...d..\nrow 8 T..d...D...d..T\nrow 9 ..d...d.d...d..\n\
+row 10 .t...t...t...t.\nrow 11 ....D.....D....\nrow 12 d..D...d...D..d\n\
+row 13 ..D...d.d...D..\nrow 14 .D...t...t...D.\nrow 15 T..d...T...d..T\n\
+bonus 50\nexchange_min 7\nzero_limit 6\nchallenge_unit 5\ntime_step 5\n";
+
+/// A call of the engine.
+#[derive(Clone, Copy, Debug, PartialEq, Eq)]
+pub enum Call {
+    Judge,
+    /// To judge, and to search for a deal.
+    Settle,
+    /// With a rack.
+    Top(&'static str),
+    /// With the rack of a line.
+    TopBefore(u32),
+    Build,
+    Check,
+    /// Into a format.
+    Convert(Format),
+    Tidy,
+    /// Before a line, or behind the last event.
+    Board(Option<u32>),
+}
+
+/// A call, what its inputs hold, and what is answered and written. An input that it has not is empty.
+#[derive(Drop)]
+pub struct Job<'a> {
+    pub call: Call,
+    /// The rules text that a game is judged by; by the English rules where there is none.
+    pub rules: Option<&'a [u8]>,
+    pub words: &'a [u8],
+    pub lexicon: &'a [u8],
+    pub game: &'a [u8],
+    pub verdict: Verdict,
+    pub wrote: &'a [u8],
+}
+
+/// A play that is the best one.
+pub const ONE_PLAY: Job<'static> = Job {
+    call: Call::Judge,
+    rules: None,
+    words: b"WORD",
+    lexicon: &WORD,
+    game: b">A: DORWAAE 8E WORD +16 16\n",
+    verdict: Verdict::Legal { complete: false },
+    wrote: b"legal unfinished\n1 A 8E WORD +16 16 best 8E WORD 16\n",
+};
+
+/// A play that is taken back.
+pub const WITHDRAWN: Job<'static> = Job {
+    call: Call::Judge,
+    rules: None,
+    words: b"WORD\nAT\nRA",
+    lexicon: &WORD_AT_RA,
+    game: b">A: DORWAAE 8E WORD +16 16\n>B: AT 9G AT +9 9\n>B: AT -- -9 0\n>A: AT 9G AT +9 25\n",
+    verdict: Verdict::Legal { complete: false },
+    wrote: b"legal unfinished\n1 A 8E WORD +16 16 best 8E WORD 16\n2 B 9G AT +9 9 best -\n3 B -- -9 0\n4 A 9G AT +9 25 best - unlisted DT\n",
+};
+
+/// Six passes, and both players lose the points of their racks.
+pub const STALE: Job<'static> = Job {
+    call: Call::Judge,
+    rules: None,
+    words: b"RETAINS",
+    lexicon: &RETAINS,
+    game: b">A: - +0 0\n>B: - +0 0\n>A: - +0 0\n>B: - +0 0\n>A: - +0 0\n>B: - +0 0\n>A: AEINRST (AEINRST) -7 -7\n>B: AEINRST (AEINRST) -7 -7\n",
+    verdict: Verdict::Legal { complete: true },
+    wrote: b"legal complete\n1 A - +0 0 best -\n2 B - +0 0 best -\n3 A - +0 0 best -\n4 B - +0 0 best -\n5 A - +0 0 best -\n6 B - +0 0 best -\n7 A (AEINRST) -7 -7\n8 B (AEINRST) -7 -7\n",
+};
+
+/// The one Q is shown again before it can be drawn.
+pub const UNSETTLED: Job<'static> = Job {
+    call: Call::Judge,
+    rules: None,
+    words: b"WORD",
+    lexicon: &WORD,
+    game: b">A: Q -Q +0 0\n>B: - +0 0\n>A: Q - +0 0\n",
+    verdict: Verdict::Unsettled,
+    wrote: b"unsettled\n",
+};
+
+/// The same, settled.
+pub const NO_DEAL: Job<'static> = Job {
+    call: Call::Settle,
+    rules: None,
+    words: b"WORD",
+    lexicon: &WORD,
+    game: b">A: Q -Q +0 0\n>B: - +0 0\n>A: Q - +0 0\n",
+    verdict: Verdict::Illegal {
+        line: 3,
+        fault: GameFault::NoDeal,
+    },
+    wrote: b"illegal line 3: NoDeal\n",
+};
+
+/// The same by the text of the English rules.
+pub const RULED_NO_DEAL: Job<'static> = Job {
+    call: Call::Settle,
+    rules: Some(ENGLISH_TEXT),
+    words: b"WORD",
+    lexicon: &WORD,
+    game: b">A: AEINRST -1 +0 0\n>B: - +0 0\n>A: BCDFGHJ - +0 0\n",
+    verdict: Verdict::Illegal {
+        line: 3,
+        fault: GameFault::NoDeal,
+    },
+    wrote: b"illegal line 3: NoDeal\n",
+};
+
+/// A game whose search finds a deal.
+pub const SETTLED: Job<'static> = Job {
+    call: Call::Settle,
+    rules: None,
+    words: b"WORD",
+    lexicon: &WORD,
+    game: b">A: AEINRST -7 +0 0\n>B: - +0 0\n>A: BCDFGHJ - +0 0\n",
+    verdict: Verdict::Legal { complete: false },
+    wrote: b"legal unfinished\n1 A -7 +0 0 best none\n2 B - +0 0 best -\n3 A - +0 0 best none\n",
+};
+
+/// The best plays with a blank on the empty board.
+pub const BEST_PLAYS: Job<'static> = Job {
+    call: Call::Top("?A"),
+    rules: None,
+    words: b"AT",
+    lexicon: &AT,
+    game: b"",
+    verdict: Verdict::Done,
+    wrote: b"8G At 2\n8H At 2\nH7 At 2\nH8 At 2\n",
+};
+
+/// With 14 tiles the player who laid seven is out, and the other rack is what is left.
+pub const RULED: Job<'static> = Job {
+    call: Call::Judge,
+    rules: Some(SHORT_RULES),
+    words: b"RETAINS",
+    lexicon: &RETAINS,
+    game: b">A: AEINRST 8D RETAINS +66 66\n>A: (ADEORTW) +22 88\n",
+    verdict: Verdict::Legal { complete: true },
+    wrote: b"legal complete\n1 A 8D RETAINS +66 66 best 8B RETAINS 66\n2 A (ADEORTW) +22 88\n",
+};
+
+/// The best plays with a blank on the empty board, by the text of the English rules.
+pub const RULED_PLAYS: Job<'static> = Job {
+    call: Call::Top("?A"),
+    rules: Some(ENGLISH_TEXT),
+    words: b"AT",
+    lexicon: &AT,
+    game: b"",
+    verdict: Verdict::Done,
+    wrote: b"8G At 2\n8H At 2\nH7 At 2\nH8 At 2\n",
+};
+
+/// The best plays before a line with the rack that it shows.
+pub const PLAYS_BEFORE: Job<'static> = Job {
+    call: Call::TopBefore(1),
+    rules: None,
+    words: b"AT",
+    lexicon: &AT,
+    game: b">A: ?A 8H At +2 2\n",
+    verdict: Verdict::Done,
+    wrote: b"8G At 2\n8H At 2\nH7 At 2\nH8 At 2\n",
+};
+
+/// The same by the text of the English rules.
+pub const RULED_PLAYS_BEFORE: Job<'static> = Job {
+    call: Call::TopBefore(1),
+    rules: Some(ENGLISH_TEXT),
+    words: b"AT",
+    lexicon: &AT,
+    game: b">A: ?A 8H At +2 2\n",
+    verdict: Verdict::Done,
+    wrote: b"8G At 2\n8H At 2\nH7 At 2\nH8 At 2\n",
+};
+
+/// A lexicon of one word.
+pub const BUILT: Job<'static> = Job {
+    call: Call::Build,
+    rules: None,
+    words: b"AT",
+    lexicon: b"",
+    game: b"",
+    verdict: Verdict::Done,
+    wrote: &AT,
+};
+
+/// The same, checked.
+pub const CHECKED: Job<'static> = Job {
+    call: Call::Check,
+    rules: None,
+    words: b"AT",
+    lexicon: &AT,
+    game: b"",
+    verdict: Verdict::Done,
+    wrote: b"ok 1\n",
+};
+
+/// The same lexicon, converted.
+pub const CONVERTED: Job<'static> = Job {
+    call: Call::Convert(Format::Gad2),
+    rules: None,
+    words: b"",
+    lexicon: &AT,
+    game: b"",
+    verdict: Verdict::Done,
+    wrote: &AT_BY_NODES,
+};
+
+/// And back.
+pub const CONVERTED_BACK: Job<'static> = Job {
+    call: Call::Convert(Format::Gad1),
+    rules: None,
+    words: b"",
+    lexicon: &AT_BY_NODES,
+    game: b"",
+    verdict: Verdict::Done,
+    wrote: &AT,
+};
+
+/// A record with a mark at its front, a note, small letters and blanks.
+pub const TIDIED: Job<'static> = Job {
+    call: Call::Tidy,
+    rules: None,
+    words: b"",
+    lexicon: b"",
+    game: b"\xef\xbb\xbf#player1 A  Ann Lee\r\n#note x\n>A:\tDORWAAE  8e WORD 16 16\r\n",
+    verdict: Verdict::Done,
+    wrote: b"#player1 A Ann Lee\n>A: AADEORW 8E WORD +16 16\n",
+};
+
+/// The board of a small record.
+#[rattlefmt::skip]
+const SMALL_BOARD: &[u8] = b"\
+board before line 2\n\
+\x20  A B C D E F G H I J K L M N O\n\
+\x201 = . . ' . . . = . . . ' . . =\n\
+\x202 . - . . . \" . . . \" . . . - .\n\
+\x203 . . - . . . ' . ' . . . - . .\n\
+\x204 ' . . - . . . ' . . . - . . '\n\
+\x205 . . . . - . . . . . - . . . .\n\
+\x206 . \" . . . \" . . . \" . . . \" .\n\
+\x207 . . ' . . . ' . ' . . . ' . .\n\
+\x208 = . . ' W O r D . . . ' . . =\n\
+\x209 . . ' . . . ' . ' . . . ' . .\n\
+10 . \" . . . \" . . . \" . . . \" .\n\
+11 . . . . - . . . . . - . . . .\n\
+12 ' . . - . . . ' . . . - . . '\n\
+13 . . - . . . ' . ' . . . - . .\n\
+14 . - . . . \" . . . \" . . . - .\n\
+15 = . . ' . . . = . . . ' . . =\n\
+= triple word, - double word, \" triple letter, ' double letter\n\
+small letters are blanks\n\
+A 14\n\
+B 0\n\
+rack AEINRST\n\
+tiles not on the board: 96\n\
+\x20 A 9  B 2  C 2  D 3  E 12  F 2  G 3  H 2  I 9\n\
+\x20 J 1  K 1  L 4  M 2  N 6  O 7  P 2  Q 1  R 6\n\
+\x20 S 4  T 6  U 4  V 2  W 1  X 1  Y 2  Z 1  ? 1\n";
+
+/// A record whose board is shown.
+pub const SHOWN: Job<'static> = Job {
+    call: Call::Board(Some(2)),
+    rules: None,
+    words: b"",
+    lexicon: b"",
+    game: b">A: DOW? 8E WOrD +14 14\n>B: NRSTAEI - +0 0\n",
+    verdict: Verdict::Done,
+    wrote: SMALL_BOARD,
+};
+
+/// The same by the text of the English rules.
+pub const RULED_BOARD: Job<'static> = Job {
+    call: Call::Board(Some(2)),
+    rules: Some(ENGLISH_TEXT),
+    words: b"",
+    lexicon: b"",
+    game: b">A: DOW? 8E WOrD +14 14\n>B: NRSTAEI - +0 0\n",
+    verdict: Verdict::Done,
+    wrote: SMALL_BOARD,
+};
+
+/// All of them.
+pub const JOBS: [Job<'static>; 19] = [
+    ONE_PLAY,
+    WITHDRAWN,
+    STALE,
+    UNSETTLED,
+    NO_DEAL,
+    RULED_NO_DEAL,
+    SETTLED,
+    BEST_PLAYS,
+    RULED,
+    RULED_PLAYS,
+    PLAYS_BEFORE,
+    RULED_PLAYS_BEFORE,
+    BUILT,
+    CHECKED,
+    CONVERTED,
+    CONVERTED_BACK,
+    TIDIED,
+    SHOWN,
+    RULED_BOARD,
+];
+
+/// How the devices of a job behave: how many bytes a read or a write moves at most, and the numbers of the read of each input
+/// (words, lexicon, record, rules text) that fails, and of the write that meets with a mishap.
+#[derive(Clone, Copy, Debug)]
+pub struct Manner {
+    pub piece: usize,
+    pub reads: [usize; 4],
+    pub writes: usize,
+    pub mishap: Mishap,
+}
+
+/// Devices that work, and move at most so many bytes.
+pub fn working(piece: usize) -> Manner {
+    Manner {
+        piece,
+        reads: [NEVER; 4],
+        writes: NEVER,
+        mishap: Mishap::Fails,
+    }
+}
+
+/// What came of a job.
+#[derive(Drop)]
+pub struct Outcome {
+    pub answer: Result<Verdict, RunFault>,
+    pub out: Sheet,
+    /// Whether an input failed.
+    pub failed: bool,
+}
+
+/// Does a job.
+pub fn attempt(alloc: Global, job: &Job<'_>, manner: &Manner) -> Outcome {
+    match job.rules {
+        Some(text) => attempt_ruled(alloc, job, text, manner),
+        None => attempt_english(alloc, job, manner),
+    }
+}
+
+/// Does a job by the English rules.
+fn attempt_english(alloc: Global, job: &Job<'_>, manner: &Manner) -> Outcome {
+    let mut words = Feed::new(job.words, manner.piece, manner.reads[0]);
+    let mut lexicon = Feed::new(job.lexicon, manner.piece, manner.reads[1]);
+    let mut game = Feed::new(job.game, manner.piece, manner.reads[2]);
+    let mut out = Sheet::new(manner.piece, manner.writes, manner.mishap);
+    let rules = english_rules();
+    let answer = match job.call {
+        Call::Judge => run(alloc, &mut words, &mut lexicon, &mut game, &mut out, &rules),
+        Call::Settle => run_settled(alloc, &mut words, &mut lexicon, &mut game, &mut out, &rules),
+        Call::Top(rack) => run_top(
+            alloc,
+            &mut words,
+            &mut lexicon,
+            &mut game,
+            rack.as_bytes(),
+            &mut out,
+            &rules,
+        ),
+        Call::TopBefore(line) => run_top_before(
+            alloc,
+            &mut words,
+            &mut lexicon,
+            &mut game,
+            None,
+            10,
+            Some(line),
+            &mut out,
+            &rules,
+        ),
+        Call::Build => run_build(alloc, &mut words, &mut out),
+        Call::Check => run_check(alloc, &mut words, &mut lexicon, &mut out),
+        Call::Convert(format) => run_convert(alloc, &mut lexicon, format, &mut out),
+        Call::Tidy => run_tidy(alloc, &mut game, &mut out),
+        Call::Board(before) => run_board(alloc, &mut game, before, &mut out, &rules),
+    };
+    Outcome {
+        answer,
+        out,
+        failed: words.has_failed() || lexicon.has_failed() || game.has_failed(),
+    }
+}
+
+/// Does a job that judges a game, names the best plays of a rack or shows a board, by a rules text.
+fn attempt_ruled(alloc: Global, job: &Job<'_>, text: &[u8], manner: &Manner) -> Outcome {
+    let mut words = Feed::new(job.words, manner.piece, manner.reads[0]);
+    let mut lexicon = Feed::new(job.lexicon, manner.piece, manner.reads[1]);
+    let mut game = Feed::new(job.game, manner.piece, manner.reads[2]);
+    let mut rules = Feed::new(text, manner.piece, manner.reads[3]);
+    let mut out = Sheet::new(manner.piece, manner.writes, manner.mishap);
+    let answer = match job.call {
+        Call::Top(rack) => run_top_ruled(
+            alloc,
+            &mut rules,
+            &mut words,
+            &mut lexicon,
+            &mut game,
+            rack.as_bytes(),
+            &mut out,
+        ),
+        Call::TopBefore(line) => run_top_before_ruled(
+            alloc,
+            &mut rules,
+            &mut words,
+            &mut lexicon,
+            &mut game,
+            None,
+            10,
+            Some(line),
+            &mut out,
+        ),
+        Call::Settle => run_settled_ruled(
+            alloc,
+            &mut rules,
+            &mut words,
+            &mut lexicon,
+            &mut game,
+            &mut out,
+        ),
+        Call::Board(before) => { run_board_ruled(alloc, &mut rules, &mut game, before, &mut out) }
+        _ => run_ruled(
+            alloc,
+            &mut rules,
+            &mut words,
+            &mut lexicon,
+            &mut game,
+            &mut out,
+        ),
+    };
+    let failed = words.has_failed() || lexicon.has_failed() || game.has_failed();
+    Outcome {
+        answer,
+        out,
+        failed: failed || rules.has_failed(),
+    }
+}

@@ -1,0 +1,132 @@
+//! Which files are told at once to be that of a list, and which need the walk beside the paths in order.
+use super::samples::{AT_AND_MORE, AT_ATE, AT_ATE_APART, LISTS};
+use lex_agree::agree;
+use lex_build::{build, convert};
+use lex_check::check;
+use lex_file::{Format, LexFile};
+use lex_list::WordList;
+use std::alloc::Global;
+use std::process::Abort;
+use test_samples::{AT, AT_BY_NODES, AT_IT, EMPTY};
+
+/// A word list and a file, whether it is told at once that the file is that of the list, and whether it is.
+struct Row {
+    words: &'static [u8],
+    file: &'static [u8],
+    told: bool,
+    right: bool,
+}
+
+const ROWS: [Row; 10] = [
+    Row {
+        words: b"",
+        file: &EMPTY,
+        told: true,
+        right: true,
+    },
+    Row {
+        words: b"AT",
+        file: &AT,
+        told: true,
+        right: true,
+    },
+    Row {
+        words: b"AT",
+        file: &AT_BY_NODES,
+        told: true,
+        right: true,
+    },
+    Row {
+        words: b"AT\nIT",
+        file: &AT_IT,
+        told: true,
+        right: true,
+    },
+    Row {
+        words: b"AT\nATE",
+        file: &AT_ATE,
+        told: true,
+        right: true,
+    },
+    // The same strings, with two nodes of the letter E.
+    Row {
+        words: b"AT\nATE",
+        file: &AT_ATE_APART,
+        told: false,
+        right: true,
+    },
+    // A word too few, and one too many.
+    Row {
+        words: b"AT\nATE",
+        file: &AT,
+        told: false,
+        right: false,
+    },
+    Row {
+        words: b"AT",
+        file: &AT_ATE,
+        told: false,
+        right: false,
+    },
+    Row {
+        words: b"AT\nIT",
+        file: &EMPTY,
+        told: false,
+        right: false,
+    },
+    // The paths of AT, and one string more.
+    Row {
+        words: b"AT",
+        file: &AT_AND_MORE,
+        told: false,
+        right: false,
+    },
+];
+
+/// Whether it is told at once that a file is that of a list, and whether it is; none where there is no list or no file.
+fn answers(alloc: Global, words: &[u8], bytes: &[u8]) -> Option<(bool, bool)> {
+    let list = WordList::read(alloc, words).ok()?;
+    let file = LexFile::open(bytes).ok()?;
+    Some((
+        agree(alloc, &list, &file),
+        check(alloc, &list, &file).is_ok(),
+    ))
+}
+
+/// The same of the file that is built of a list, in a format.
+fn built(alloc: Global, words: &[u8], format: Format) -> Option<(bool, bool)> {
+    let list = WordList::read(alloc, words).ok()?;
+    let bytes = build(alloc, &list).ok()?;
+    let file = LexFile::open(bytes.as_slice()).ok()?;
+    let other = convert(alloc, &file, format).ok()?;
+    answers(alloc, words, other.as_slice())
+}
+
+#[test]
+fn worked_rows(rt: HostRuntime) {
+    for row in &ROWS {
+        let here = answers(rt.alloc(), row.words, row.file);
+        assert_eq!(rt;
+            here,
+            Some((row.told, row.right)),
+            "{:?} {:?}",
+            row.words,
+            row.file
+        );
+    }
+}
+
+/// Files are told at once in both formats.
+#[test]
+fn built_files_are_told_at_once(rt: HostRuntime) {
+    for words in &LISTS {
+        for format in [Format::Gad1, Format::Gad2] {
+            assert_eq!(rt;
+                built(rt.alloc(), words, format),
+                Some((true, true)),
+                "{:?}",
+                words
+            );
+        }
+    }
+}

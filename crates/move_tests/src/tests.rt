@@ -1,0 +1,8 @@
+//! Each module has the tables of one crate, each table shows one rule.
+
+mod boards;
+mod cases;
+mod crosses;
+mod generating;
+mod increments;
+mod searching;

@@ -1,0 +1,197 @@
+//! The cross-sets of boards: the rows, and all 450 values by the definition, word by word.
+use super::boards::{Laid, TWO, WORD_AT, at, has_letter, laid, list_of};
+use gen_cross::Cross;
+use lex_build::build;
+use lex_check::SortedPaths;
+use lex_file::{LexFile, PathLex};
+use lex_list::WordList;
+use ref_board::Dir::{Across, Down};
+use ref_board::{Board, Dir, SIDE, Square};
+use ref_tiles::{Letter, Rules, Tile, english_rules};
+use std::alloc::Global;
+use std::process::Abort;
+
+/// The letters that may be put on a square, and the points beside it, for a play of a direction: the words of the list, the
+/// tiles on the board, the row and the column of the square and the direction, the letters and the points.
+type Row = (
+    &'static [u8],
+    &'static [Laid],
+    (usize, usize, Dir),
+    &'static [u8],
+    u16,
+);
+
+const FEW: &[u8] = b"AT\nTA\nABAS\nTABA\n";
+
+const ALL: &[u8] = b"ABCDEFGHIJKLMNOPQRSTUVWXYZ";
+
+const ROWS: [Row; 9] = [
+    (FEW, &TWO, (7, 5, Down), b"T", 1),
+    (FEW, &TWO, (7, 7, Down), b"", 2),
+    (FEW, &TWO, (7, 9, Down), b"T", 1),
+    // no tile beside it in its column
+    (FEW, &TWO, (7, 7, Across), ALL, 0),
+    // a square with a tile has neither letters nor points
+    (FEW, &TWO, (7, 6, Down), b"", 0),
+    // three tiles in a row, the premium of the middle one counts no more
+    (FEW, &[(7, 6, Across, b"ABA")], (7, 5, Down), b"T", 5),
+    (FEW, &[(7, 6, Across, b"ABA")], (7, 9, Down), b"S", 5),
+    // a blank on the board counts no points
+    (FEW, &[(7, 6, Across, b"aBA")], (7, 9, Down), b"S", 4),
+    // the R of WORD and the A of AT stand over 10G
+    (b"AT\nRA\nRAT\nWORD\n", &WORD_AT, (9, 6, Across), b"T", 2),
+];
+
+fn assert_row(rt: &impl Abort, alloc: Global, rules: &Rules, row: Row) {
+    let (words, tiles, (line, column, dir), letters, points) = row;
+    let list = list_of(rt, alloc, words);
+    let paths = SortedPaths::new(alloc, &list).expect(rt, "the paths");
+    let cross = Cross::scratch(rules, &laid(rt, tiles), &paths);
+    let square = at(rt, line, column);
+    assert_eq!(rt; cross.side(dir, square), points, "{:?}", square);
+    for (letter, may) in cross.mask(dir, square).iter().enumerate() {
+        assert_eq!(rt; *may, has_letter(letters, letter), "{:?}", square);
+    }
+}
+
+#[test]
+fn rows(rt: HostRuntime) {
+    let rules = english_rules();
+    for row in &ROWS {
+        assert_row(&rt, rt.alloc(), &rules, *row);
+    }
+}
+
+/// The letters of the run through a tile, and the points of its tiles.
+fn run_through(
+    rt: &impl Abort,
+    alloc: Global,
+    rules: &Rules,
+    board: &Board,
+    dir: Dir,
+    square: Square,
+) -> (Vec<u8>, u16) {
+    assert!(rt; board.at(square).is_some(), "a tile");
+    let (start, len) = board.run(square, dir);
+    let mut word = Vec::new(alloc);
+    let mut points: u16 = 0;
+    for place in 0..len {
+        let there = match dir {
+            Dir::Across => at(rt, start.row(), start.column().saturating_add(place)),
+            Dir::Down => at(rt, start.row().saturating_add(place), start.column()),
+        };
+        let tile = board.at(there).expect(rt, "a tile of the run");
+        word.push(tile.shown.capital()).expect(rt, "memory");
+        points = points.saturating_add(u16::from(rules.points_of(tile.kind)));
+    }
+    (word, points)
+}
+
+/// Asserts the values of an empty square for plays of a direction: each letter is put there as a blank, and the run through it
+/// across the play is read.
+fn assert_letters(
+    rt: &impl Abort,
+    alloc: Global,
+    rules: &Rules,
+    list: &WordList,
+    cross: &Cross,
+    board: &Board,
+    place: (Dir, Dir, Square),
+) {
+    let (dir, across, square) = place;
+    let mask = cross.mask(dir, square);
+    for byte in b'A'..=b'Z' {
+        let shown = Letter::counted_from(b'A', byte).expect(rt, "a letter");
+        let mut held = *board;
+        assert!(rt; held.at(square).is_none(), "an empty square");
+        held.put(square, Tile::of_blank(shown));
+        let (word, points) = run_through(rt, alloc, rules, &held, across, square);
+        let may = word.len() < 2 || list.has(word.as_slice());
+        assert_eq!(rt;
+            mask[usize::from(shown.index)],
+            may,
+            "{:?} {}",
+            square,
+            byte
+        );
+        assert_eq!(rt; cross.side(dir, square), points, "{:?}", square);
+    }
+}
+
+/// Asserts the values of a square for plays of a direction.
+fn assert_value(
+    rt: &impl Abort,
+    alloc: Global,
+    rules: &Rules,
+    list: &WordList,
+    cross: &Cross,
+    board: &Board,
+    place: (Dir, Dir, Square),
+) {
+    let (dir, _across, square) = place;
+    if board.at(square).is_none() {
+        assert_letters(rt, alloc, rules, list, cross, board, place);
+    } else {
+        assert_eq!(rt; cross.mask(dir, square), [false; 26], "{:?}", square);
+        assert_eq!(rt; cross.side(dir, square), 0, "{:?}", square);
+    }
+}
+
+/// Asserts all 450 values of a board.
+fn assert_values(
+    rt: &impl Abort,
+    alloc: Global,
+    rules: &Rules,
+    list: &WordList,
+    cross: &Cross,
+    board: &Board,
+) {
+    for row in 0..SIDE {
+        for column in 0..SIDE {
+            let square = at(rt, row, column);
+            let place = (Dir::Across, Dir::Down, square);
+            assert_value(rt, alloc, rules, list, cross, board, place);
+            let place = (Dir::Down, Dir::Across, square);
+            assert_value(rt, alloc, rules, list, cross, board, place);
+        }
+    }
+}
+
+/// The lists and boards of which all values are compared, the values over the file and over the paths of the list.
+const WHOLE: [(&[u8], &[Laid]); 4] = [
+    (FEW, &[]),
+    (FEW, &TWO),
+    (b"AT\nRA\nWORD\n", &WORD_AT),
+    (b"AT\nEAT\nOE\nRA\nWORD\n", &WORD_AT),
+];
+
+/// Asserts all values that are made afresh over a lexicon.
+fn assert_afresh<L: PathLex>(
+    rt: &impl Abort,
+    alloc: Global,
+    rules: &Rules,
+    list: &WordList,
+    lex: &L,
+    board: &Board,
+) {
+    let cross = Cross::scratch(rules, board, lex);
+    assert_values(rt, alloc, rules, list, &cross, board);
+}
+
+fn assert_whole(rt: &impl Abort, alloc: Global, rules: &Rules, words: &[u8], tiles: &[Laid]) {
+    let list = list_of(rt, alloc, words);
+    let board = laid(rt, tiles);
+    let paths = SortedPaths::new(alloc, &list).expect(rt, "the paths");
+    assert_afresh(rt, alloc, rules, &list, &paths, &board);
+    let bytes = build(alloc, &list).expect(rt, "a lexicon");
+    let file = LexFile::open(bytes.as_slice()).expect(rt, "a file");
+    assert_afresh(rt, alloc, rules, &list, &file, &board);
+}
+
+#[test]
+fn all_values(rt: HostRuntime) {
+    let rules = english_rules();
+    for (words, tiles) in &WHOLE {
+        assert_whole(&rt, rt.alloc(), &rules, words, tiles);
+    }
+}

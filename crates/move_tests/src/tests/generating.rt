@@ -1,0 +1,285 @@
+//! The plays that the generator gives to each sink: the rows, and beside those of a plain search.
+ghost use Rattle.std.specs.Prelude.{◌≡◌, ℕ, List};
+ghost use Rattle.lex_list.specs.RotatedPaths.{StandsFor};
+ghost use Rattle.gen_moves.specs.Laws.{AreLong};
+
+use super::boards::{Laid, at, laid, list_of};
+use super::cases::{CASES, Case, GAME, LIST, NO_GAME, PLAYED, POSITIONS};
+use super::searching::{Told, searched};
+use game_notes::{annotate, cross_sets, top};
+use gen_cross::Cross;
+use gen_moves::{All, NoMemory, generate};
+use lex_build::build;
+use lex_check::{Checked, SortedPaths, pair};
+use lex_file::{LexFile, PathLex};
+use lex_list::WordList;
+use ref_board::Board;
+use ref_board::Dir::{self, Across, Down};
+use ref_play::{Notation, Play, judge, notation};
+use ref_tiles::{Counts, Kind, Rules, english_rules};
+use std::alloc::Global;
+use std::process::Abort;
+
+/// The tiles of a rack, where `?` is a blank.
+fn rack_of(rt: &impl Abort, tiles: &[u8]) -> Counts {
+    let mut counts = Counts::new();
+    for byte in tiles {
+        let kind = Kind::of_byte(*byte).expect(rt, "a tile");
+        assert!(rt; counts.count(kind) < 255);
+        counts.add(kind);
+    }
+    counts
+}
+
+/// All plays by a list of words and a lexicon that stands for it.
+fn all_of<L: PathLex>(
+    alloc: Global,
+    rules: &Rules,
+    list: &WordList,
+    lex: &L,
+    board: &mut Board,
+    rack: &Counts,
+) -> Result<All, NoMemory>
+    ghost words: { List (List ℕ) }
+    requires list { list.now ≡ words }
+    requires long { AreLong words }
+    requires lexicon { StandsFor (L.language lex.now) words }
+{
+    let cross = Cross::scratch(rules, board, lex);
+    let mut all = All::new(alloc);
+    generate(rules, board, &cross, rack, lex, &mut all)?;
+    Ok(all)
+}
+
+/// The same; the words of a list have two letters or more.
+#[tactic(auto, using(game_notes::proofs::FirstPlays::long_words))]
+fn all_by<L: PathLex>(
+    alloc: Global,
+    rules: &Rules,
+    list: &WordList,
+    lex: &L,
+    board: &mut Board,
+    rack: &Counts,
+) -> Result<All, NoMemory>
+    requires { StandsFor (L.language lex.now) list.now }
+{
+    // What reads the length of a list knows what a word list is.
+    let _words = list.len();
+    all_of(alloc, rules, list, lex, board, rack)
+}
+
+/// A play as it is written. It has to be legal, and to be given in the direction in which it is written.
+fn written(rt: &impl Abort, board: &Board, play: &Play) -> Notation {
+    assert!(rt; judge(board, play).is_ok(), "a legal play");
+    let notation = notation(board, play);
+    assert!(rt; notation.dir == play.dir, "{:?}", notation);
+    notation
+}
+
+/// The plays that a sink has, as they are written.
+fn told(rt: &impl Abort, alloc: Global, board: &Board, items: &[(Play, i32)]) -> Vec<Told> {
+    let mut told = Vec::new(alloc);
+    for (play, score) in items {
+        told.push((written(rt, board, play), *score))
+            .expect(rt, "memory");
+    }
+    told
+}
+
+/// All plays over the paths of a list.
+fn by_paths(
+    rt: &impl Abort,
+    alloc: Global,
+    rules: &Rules,
+    list: &WordList,
+    board: &Board,
+    rack: &Counts,
+) -> Vec<Told> {
+    let paths = SortedPaths::new(alloc, list).expect(rt, "the paths");
+    let mut held = *board;
+    let all = all_by(alloc, rules, list, &paths, &mut held, rack).expect(rt, "memory");
+    assert_eq!(rt; held, *board);
+    told(rt, alloc, board, all.items())
+}
+
+/// All plays over the file of a pair.
+#[tactic(auto, using(game_notes::proofs::FirstPlays::file_stands))]
+fn by_file(
+    rt: &impl Abort,
+    alloc: Global,
+    rules: &Rules,
+    pair: &Checked<'_>,
+    board: &Board,
+    rack: &Counts,
+) -> Vec<Told> {
+    let mut held = *board;
+    let all = all_by(alloc, rules, pair.list(), pair.file(), &mut held, rack).expect(rt, "memory");
+    assert_eq!(rt; held, *board);
+    told(rt, alloc, board, all.items())
+}
+
+/// A play as it is written, from its first square (row and column, from 0) on, and its score.
+type Written = (usize, usize, Dir, &'static [u8], i32);
+
+/// The first plays of AT without a blank, on an empty board.
+const AT_FIRST: [Written; 4] = [
+    (7, 6, Across, b"AT", 4),
+    (7, 7, Across, b"AT", 4),
+    (6, 7, Down, b"AT", 4),
+    (7, 7, Down, b"AT", 4),
+];
+
+/// The same with a blank for either letter.
+const AT_BY_BLANK: [Written; 8] = [
+    (7, 6, Across, b"At", 2),
+    (7, 6, Across, b"aT", 2),
+    (7, 7, Across, b"At", 2),
+    (7, 7, Across, b"aT", 2),
+    (6, 7, Down, b"At", 2),
+    (6, 7, Down, b"aT", 2),
+    (7, 7, Down, b"At", 2),
+    (7, 7, Down, b"aT", 2),
+];
+
+/// One tile, once in each direction in which it makes a word.
+const ONE_TILE: [Written; 2] = [(14, 13, Across, b"A.", 2), (13, 14, Down, b"A.", 2)];
+
+/// The words of a list, the tiles on a board, a rack, and all plays, in two parts.
+type Row = (
+    &'static [u8],
+    &'static [Laid],
+    &'static [u8],
+    [&'static [Written]; 2],
+);
+
+const ROWS: [Row; 3] = [
+    (b"AT", &[], b"AT", [&AT_FIRST, &[]]),
+    (b"AT", &[], b"AT?", [&AT_FIRST, &AT_BY_BLANK]),
+    (b"AT", &[(14, 14, Across, b"T")], b"A", [&ONE_TILE, &[]]),
+];
+
+fn is_written(rt: &impl Abort, told: &Told, play: &Written) -> bool {
+    told.0.at == at(rt, play.0, play.1)
+        && told.0.dir == play.2
+        && told.0.word.len() == play.3.len()
+        && told
+            .0
+            .word
+            .iter()
+            .zip(play.3)
+            .all(|(symbol, byte)| symbol.byte() == *byte)
+        && told.1 == play.4
+}
+
+/// Asserts that what is given are the plays of both parts, each once, and no other.
+fn assert_written(rt: &impl Abort, given: &[Told], plays: [&[Written]; 2]) {
+    assert_eq!(rt; given.len(), count_of(plays));
+    for play in plays[0].iter().chain(plays[1]) {
+        let same = given.iter().any(|told| is_written(rt, told, play));
+        assert!(rt; same, "{:?}", play);
+    }
+}
+
+fn count_of(plays: [&[Written]; 2]) -> usize {
+    plays[0].len().saturating_add(plays[1].len())
+}
+
+fn assert_row(rt: &impl Abort, alloc: Global, rules: &Rules, row: Row) {
+    let (words, tiles, held, plays) = row;
+    let case = (words, tiles, held, count_of(plays));
+    let given = assert_case(rt, alloc, rules, case);
+    assert_written(rt, &given, plays);
+    let list = list_of(rt, alloc, words);
+    let (board, rack) = (laid(rt, tiles), rack_of(rt, held));
+    let given = by_paths(rt, alloc, rules, &list, &board, &rack);
+    assert_written(rt, &given, plays);
+}
+
+#[test]
+fn rows(rt: HostRuntime) {
+    let rules = english_rules();
+    for row in &ROWS {
+        assert_row(&rt, rt.alloc(), &rules, *row);
+    }
+}
+
+/// Asserts that these are the same plays, each once in both.
+fn assert_same(rt: &impl Abort, given: &[Told], plain: &[Told]) {
+    assert_eq!(rt; given.len(), plain.len());
+    for play in plain {
+        assert!(rt; given.contains(play), "{:?}", play);
+    }
+}
+
+/// Whether a play scores more than another, or as much and is written before it.
+fn ranks_before(play: &Told, other: &Told) -> bool {
+    play.1 > other.1 || (play.1 == other.1 && play.0 < other.0)
+}
+
+/// Asserts that what is given are the best so many plays, best first.
+fn assert_first(rt: &impl Abort, given: &[Told], plain: &[Told], most: usize) {
+    assert_eq!(rt; given.len(), plain.len().min(most));
+    for (place, play) in given.iter().enumerate() {
+        assert!(rt; plain.contains(play), "{:?}", play);
+        let better = plain.iter().filter(|other| ranks_before(other, play));
+        assert_eq!(rt; better.count(), place, "{:?}", play);
+    }
+}
+
+/// Asserts what the sinks of the best play and of the ten best have.
+fn assert_best(
+    rt: &impl Abort,
+    alloc: Global,
+    rules: &Rules,
+    pair: &Checked<'_>,
+    board: &Board,
+    rack: &Counts,
+    plain: &[Told],
+) {
+    let ten = top(rules, pair, board, rack);
+    let given = told(rt, alloc, board, ten.items());
+    assert_first(rt, &given, plain, 10);
+    let mut held = *board;
+    let cross = cross_sets(rules, pair, board);
+    let best = annotate(rules, pair, &mut held, rack, &cross);
+    assert_eq!(rt; held, *board);
+    let best = best.map(|(play, score)| (written(rt, board, &play), score));
+    assert_first(rt, best.as_slice(), plain, 1);
+}
+
+/// Asserts that the plays by the file are those of a plain search, and so many, and gives them.
+fn assert_case(rt: &impl Abort, alloc: Global, rules: &Rules, case: Case<'_>) -> Vec<Told> {
+    let (words, tiles, held, plays) = case;
+    let list = list_of(rt, alloc, words);
+    let bytes = build(alloc, &list).expect(rt, "a lexicon");
+    let file = LexFile::open(bytes.as_slice()).expect(rt, "a file");
+    let pair = pair(alloc, &list, file).expect(rt, "a pair");
+    let board = laid(rt, tiles);
+    let rack = rack_of(rt, held);
+    let plain = searched(rt, alloc, rules, &list, &board, &rack);
+    assert_eq!(rt; plain.len(), plays, "{:?} {:?}", words, held);
+    let given = by_file(rt, alloc, rules, &pair, &board, &rack);
+    assert_same(rt, &given, &plain);
+    assert_best(rt, alloc, rules, &pair, &board, &rack, &plain);
+    given
+}
+
+#[test]
+fn behind_plays(rt: HostRuntime) {
+    let rules = english_rules();
+    for case in &PLAYED {
+        assert_case(&rt, rt.alloc(), &rules, *case);
+    }
+}
+
+#[test]
+fn beside_a_plain_search(rt: HostRuntime) {
+    let rules = english_rules();
+    for case in CASES.iter().chain(&NO_GAME) {
+        assert_case(&rt, rt.alloc(), &rules, *case);
+    }
+    for (lie, rack, plays) in &POSITIONS {
+        let tiles = GAME.get(..*lie).expect(&rt, "tiles of the game");
+        assert_case(&rt, rt.alloc(), &rules, (LIST, tiles, *rack, *plays));
+    }
+}

@@ -1,0 +1,197 @@
+//! Cross-sets that are kept up by puts and lifts: a tile between two others, and boards whose tiles, or whose plays, are put and
+//! lifted in several orders, all values beside those that are made afresh.
+use super::boards::{Laid, TWO, at, has_letter, laid, list_of};
+use gcg_read::Text;
+use gen_cross::Cross;
+use lex_check::SortedPaths;
+use ref_board::Dir::{Across, Down};
+use ref_board::{Board, Dir, SIDE, Square};
+use ref_play::{Play, from_text};
+use ref_tiles::{Letter, Rules, Tile, english_rules};
+use std::process::Abort;
+
+/// What squares of row 8 have for a play down: the column, the letters and the points beside.
+type Beside = (usize, &'static [u8], u16);
+
+const APART: [Beside; 3] = [(5, b"T", 1), (7, b"", 2), (9, b"T", 1)];
+
+/// The same with a B between the two, on 8H.
+const JOINED: [Beside; 3] = [(5, b"T", 5), (7, b"", 0), (9, b"S", 5)];
+
+/// The tile of a capital.
+fn tile_of(rt: &impl Abort, byte: u8) -> Tile {
+    Tile::of_letter(Letter::counted_from(b'A', byte).expect(rt, "a letter"))
+}
+
+/// Puts a tile on a square, or lifts the one that lies there, and brings the cross-sets up.
+fn turn(
+    rt: &impl Abort,
+    rules: &Rules,
+    board: &mut Board,
+    cross: &mut Cross,
+    paths: &SortedPaths,
+    tile: (usize, usize, u8),
+) {
+    let square = at(rt, tile.0, tile.1);
+    match board.at(square) {
+        None => {
+            board.put(square, tile_of(rt, tile.2));
+            cross.after_put(rules, board, paths, square);
+        }
+        Some(there) => {
+            assert_eq!(rt; board.lift(square), there, "{:?}", square);
+            cross.after_lift(rules, board, paths, square);
+        }
+    }
+}
+
+/// Asserts what a square has for a play down.
+fn assert_beside(rt: &impl Abort, cross: &Cross, beside: Beside) {
+    let square = at(rt, 7, beside.0);
+    assert_eq!(rt; cross.side(Dir::Down, square), beside.2, "{:?}", square);
+    for (letter, may) in cross.mask(Dir::Down, square).iter().enumerate() {
+        let listed = has_letter(beside.1, letter);
+        assert_eq!(rt; *may, listed, "{:?} {}", square, letter);
+    }
+}
+
+/// Asserts that two crosses have one value of a square.
+fn assert_value(rt: &impl Abort, kept: &Cross, made: &Cross, dir: Dir, square: Square) {
+    let held = (kept.mask(dir, square), kept.side(dir, square));
+    let afresh = (made.mask(dir, square), made.side(dir, square));
+    assert_eq!(rt; held, afresh, "{:?}", square);
+}
+
+/// Asserts that two crosses have the same 450 values.
+fn assert_same(rt: &impl Abort, kept: &Cross, made: &Cross) {
+    for number in 0..SIDE * SIDE {
+        let square = at(rt, number / SIDE, number % SIDE);
+        assert_value(rt, kept, made, Dir::Across, square);
+        assert_value(rt, kept, made, Dir::Down, square);
+    }
+}
+
+#[test]
+fn tile_between_two(rt: HostRuntime) {
+    let rules = english_rules();
+    let list = list_of(&rt, rt.alloc(), b"AT\nTA\nABAS\nTABA\n");
+    let paths = SortedPaths::new(rt.alloc(), &list).expect(&rt, "the paths");
+    let mut board = laid(&rt, &TWO);
+    let before = Cross::scratch(&rules, &board, &paths);
+    let mut cross = before;
+    let middle = (7, 7, b'B');
+    for beside in APART {
+        assert_beside(&rt, &cross, beside);
+    }
+    turn(&rt, &rules, &mut board, &mut cross, &paths, middle);
+    for beside in JOINED {
+        assert_beside(&rt, &cross, beside);
+    }
+    turn(&rt, &rules, &mut board, &mut cross, &paths, middle);
+    assert_same(&rt, &cross, &before);
+}
+
+/// 8E WORD, 9G AT and 9F E.
+const TILES: [(usize, usize, u8); 7] = [
+    (7, 4, b'W'),
+    (7, 5, b'O'),
+    (7, 6, b'R'),
+    (7, 7, b'D'),
+    (8, 6, b'A'),
+    (8, 7, b'T'),
+    (8, 5, b'E'),
+];
+
+/// Orders of these tiles: each that lies on the board is lifted, each other one put. The first is that of a game in which AT
+/// was withdrawn and played again.
+const ORDERS: [&[usize]; 4] = [
+    &[0, 1, 2, 3, 4, 5, 4, 5, 4, 5, 6],
+    &[6, 5, 4, 3, 2, 1, 0, 0, 1, 2, 3, 4, 5, 6],
+    &[0, 3, 1, 2, 6, 5, 4, 1, 2, 3, 0],
+    &[1, 4, 6, 2, 1, 0, 3, 5, 1, 2, 6, 4],
+];
+
+#[test]
+fn orders_of_tiles(rt: HostRuntime) {
+    let rules = english_rules();
+    let list = list_of(&rt, rt.alloc(), b"AT\nEAT\nOE\nRA\nWORD\n");
+    let paths = SortedPaths::new(rt.alloc(), &list).expect(&rt, "the paths");
+    for order in ORDERS {
+        let mut board = Board::empty();
+        let mut cross = Cross::scratch(&rules, &board, &paths);
+        for place in order {
+            let tile = *TILES.get(*place).expect(&rt, "a tile");
+            turn(&rt, &rules, &mut board, &mut cross, &paths, tile);
+            assert_same(&rt, &cross, &Cross::scratch(&rules, &board, &paths));
+        }
+    }
+}
+
+/// Plays: 8E WORD, 9G AT, G8 RAES through both and 10E TOES through its E; at the edges 1A ABAS, A1 AA, 15I RETAINS, which has
+/// seven tiles, and O14 AS.
+const PLAYS: [Laid; 8] = [
+    (7, 4, Across, b"WORD"),
+    (8, 6, Across, b"AT"),
+    (7, 6, Down, b"RAES"),
+    (9, 4, Across, b"TOES"),
+    (0, 0, Across, b"ABAS"),
+    (14, 8, Across, b"RETAINS"),
+    (13, 14, Down, b"AS"),
+    (0, 0, Down, b"AA"),
+];
+
+/// Orders of these plays.
+const GAMES: [&[usize]; 4] = [
+    &[0, 1, 2, 3, 4, 5, 6, 7],
+    &[3, 2, 1, 0, 7, 4, 6, 5],
+    &[2, 0, 3, 1, 5, 4],
+    &[1, 2, 3, 0, 7, 6],
+];
+
+/// The play that lies so, by the letters of all its squares.
+fn play_of(rt: &impl Abort, board: &Board, laid: Laid) -> Play {
+    let text = Text::of_bytes(laid.3).expect(rt, "a text");
+    from_text(board, at(rt, laid.0, laid.1), laid.2, text.as_slice()).expect(rt, "a play")
+}
+
+/// Puts the tiles of a play where none lie, or lifts those that lie there, and brings the cross-sets up once.
+fn turn_play(
+    rules: &Rules,
+    board: &mut Board,
+    cross: &mut Cross,
+    paths: &SortedPaths,
+    play: &Play,
+) {
+    for placed in &play.tiles {
+        match board.at(placed.square) {
+            None => board.put(placed.square, placed.tile),
+            Some(_) => {
+                board.lift(placed.square);
+            }
+        }
+    }
+    cross.after_play(rules, board, paths, play);
+}
+
+/// Each play is put, lifted and put again.
+#[test]
+fn orders_of_plays(rt: HostRuntime) {
+    let rules = english_rules();
+    let list = list_of(
+        &rt,
+        rt.alloc(),
+        b"AA\nAT\nEAT\nOE\nORE\nRA\nRETAINS\nSTOAE\nTOES\nWORDS\n",
+    );
+    let paths = SortedPaths::new(rt.alloc(), &list).expect(&rt, "the paths");
+    for game in GAMES {
+        let mut board = Board::empty();
+        let mut cross = Cross::scratch(&rules, &board, &paths);
+        for place in game {
+            let play = play_of(&rt, &board, *PLAYS.get(*place).expect(&rt, "a play"));
+            for _ in 0..3 {
+                turn_play(&rules, &mut board, &mut cross, &paths, &play);
+                assert_same(&rt, &cross, &Cross::scratch(&rules, &board, &paths));
+            }
+        }
+    }
+}

@@ -1,0 +1,3 @@
+//! Which texts are rules, and which fault the others have (`texts`).
+
+mod texts;

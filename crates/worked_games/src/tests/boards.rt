@@ -1,0 +1,141 @@
+//! Boards of records, as texts.
+use super::pieces::{Pieces, assert_same};
+use devices::FromWrite;
+use engine::{Verdict, run_board, run_board_ruled};
+use ref_tiles::{ENGLISH_TEXT, english_rules};
+use std::alloc::Global;
+use std::process::Abort;
+use test_samples::{ROWS_1_TO_7, ROWS_9_TO_11, ROWS_12_TO_15, has_parts};
+
+/// The board of a record: the verdict and what was written. Read one by one or seven at once, the bytes come to the same, and so
+/// they do by the English rules as a text.
+fn shown(rt: &impl Abort, alloc: Global, game: &[u8], before: Option<u32>) -> (Verdict, Vec<u8>) {
+    let told = shown_in_pieces(rt, alloc, game, before, usize::MAX);
+    for piece in [1, 7] {
+        assert_same(rt, &told, &shown_in_pieces(rt, alloc, game, before, piece));
+        assert_same(rt, &told, &shown_by_text(rt, alloc, game, before, piece));
+    }
+    told
+}
+
+/// The same, by an input that gives at most so many bytes a read.
+fn shown_in_pieces(
+    rt: &impl Abort,
+    alloc: Global,
+    game: &[u8],
+    before: Option<u32>,
+    piece: usize,
+) -> (Verdict, Vec<u8>) {
+    let mut game = Pieces::new(game, piece);
+    let mut out = FromWrite::new(Vec::new(alloc));
+    let verdict = run_board(alloc, &mut game, before, &mut out, &english_rules());
+    (verdict.expect(rt, "a verdict"), out.into_inner())
+}
+
+/// The same, by the English rules as a text.
+fn shown_by_text(
+    rt: &impl Abort,
+    alloc: Global,
+    game: &[u8],
+    before: Option<u32>,
+    piece: usize,
+) -> (Verdict, Vec<u8>) {
+    let mut rules = Pieces::new(ENGLISH_TEXT, piece);
+    let mut game = Pieces::new(game, piece);
+    let mut out = FromWrite::new(Vec::new(alloc));
+    let verdict = run_board_ruled(alloc, &mut rules, &mut game, before, &mut out);
+    (verdict.expect(rt, "a verdict"), out.into_inner())
+}
+
+/// The whole text of a small record.
+const WORD: [&str; 6] = [
+    "board before line 2\n",
+    ROWS_1_TO_7,
+    " 8 = . . ' W O r D . . . ' . . =\n",
+    ROWS_9_TO_11,
+    ROWS_12_TO_15,
+    "\
+A 14
+B 0
+rack AEINRST
+tiles not on the board: 96
+  A 9  B 2  C 2  D 3  E 12  F 2  G 3  H 2  I 9
+  J 1  K 1  L 4  M 2  N 6  O 7  P 2  Q 1  R 6
+  S 4  T 6  U 4  V 2  W 1  X 1  Y 2  Z 1  ? 1
+",
+];
+
+#[test]
+fn whole_board(rt: HostRuntime) {
+    let game = b">A: DOW? 8E WOrD +14 14\n>B: NRSTAEI - +0 0\n";
+    let (verdict, text) = shown(&rt, rt.alloc(), game, Some(2));
+    assert_eq!(rt; verdict, Verdict::Done);
+    assert!(rt; has_parts(text.as_slice(), &WORD));
+}
+
+#[test]
+fn first_lines(rt: HostRuntime) {
+    // The scores, the totals, the turns and the racks of these records are wrong, and it does not matter.
+    let rows: [(&str, Option<u32>, &str); 8] = [
+        ("", None, "board after the last event\n"),
+        (">A: 8E WORD +1 1\n", None, "board after the last event\n"),
+        (">A: 8E WORD +1 1\n", Some(0), "board before line 1\n"),
+        ("#x\n\n>A: 8E WORD +1 1\n", Some(2), "board before line 3\n"),
+        (
+            ">A: 8D WORD +1 1\n",
+            None,
+            "board before line 1, whose play cannot be laid: MissesCentre\n",
+        ),
+        (">A: 8D WORD +1 1\n", Some(1), "board before line 1\n"),
+        (
+            ">A: 8E WORD +1 1\n>A: 8E CORD +1 1\n>A: -7 +0 3\n",
+            Some(3),
+            "board before line 2, whose play cannot be laid: Mismatch\n",
+        ),
+        (
+            ">A: 8E WORD +1 1\n>A: -- +0 0\n>B: 8E CORD +1 1\n>B: -- +0 0\n>B: 15A AT +1 1\n",
+            None,
+            "board before line 5, whose play cannot be laid: MissesCentre\n",
+        ),
+    ];
+    for (game, before, want) in rows {
+        let (verdict, text) = shown(&rt, rt.alloc(), game.as_bytes(), before);
+        assert_eq!(rt; verdict, Verdict::Done, "{want}");
+        assert!(rt; text.as_slice().starts_with(want.as_bytes()), "{want}");
+    }
+}
+
+#[test]
+fn no_boards(rt: HostRuntime) {
+    let rows: [(&str, Option<u32>, Verdict, &str); 4] = [
+        (
+            "",
+            Some(0),
+            Verdict::BadLine,
+            "bad line: no event is on it or after it\n",
+        ),
+        (
+            ">A: 8E WORD +1 1\n",
+            Some(2),
+            Verdict::BadLine,
+            "bad line: no event is on it or after it\n",
+        ),
+        (
+            ">A: 8E WORD +x 1\n",
+            Some(9),
+            Verdict::BadRecord,
+            "bad record line 1: Number\n",
+        ),
+        (
+            ">A: 8P WORD +1 1\n",
+            None,
+            Verdict::BadRecord,
+            "bad record line 1: Position\n",
+        ),
+    ];
+    for (game, before, wanted, want) in rows {
+        let (verdict, text) = shown(&rt, rt.alloc(), game.as_bytes(), before);
+        assert_eq!(rt; verdict, wanted, "{want}");
+        assert_eq!(rt; text.as_slice(), want.as_bytes(), "{want}");
+    }
+}

@@ -1,0 +1,91 @@
+//! Deals: records that are right line by line, and whether some deal of the tile set yields their racks. That a record without an
+//! exchange is never unsettled is asserted of each record that is judged (`games`).
+use super::games::{Row, judged, report_all, rules_with};
+use super::turns::SHORT;
+use engine::{GameFault, Verdict};
+use ref_tiles::{Kind, english_rules};
+
+/// No player has shown more tiles than came to the rack, and both together no more of a kind than the game has.
+const BOUNDS: [Row; 3] = [
+    Row {
+        words: "WORD",
+        game: ">A: ?? - +0 0\n>B: ? - +0 0\n",
+        report: "illegal line 2: TilesShort ?\n",
+    },
+    Row {
+        words: "AT",
+        game: ">A: AEINRST 8H AT +4 4\n>B: - +0 0\n>A: AAABCDE - +0 4\n",
+        report: "illegal line 3: RackTooBig\n",
+    },
+    Row {
+        words: "WORD",
+        game: ">A: QZ - +0 0\n>B: - +0 0\n>A: (time) -5 -5\n>A: AEINRST - +0 -5\n>B: Z - +0 0\n",
+        report: "illegal line 4: RackTooBig\n",
+    },
+];
+
+#[test]
+fn bounds(rt: HostRuntime) {
+    report_all(&rt, rt.alloc(), &english_rules(), &BOUNDS);
+}
+
+/// The Q cannot be drawn before it goes back, but no bound says so: a record with an exchange may stay unsettled.
+const UNSETTLED: [Row; 1] = [Row {
+    words: "WORD",
+    game: ">A: Q -Q +0 0\n>B: - +0 0\n>A: Q - +0 0\n",
+    report: "unsettled\n",
+}];
+
+#[test]
+fn unsettled_games(rt: HostRuntime) {
+    report_all(&rt, rt.alloc(), &english_rules(), &UNSETTLED);
+}
+
+/// With 14 tiles both racks are all of them.
+const WHOLE_SETS: [Row; 3] = [
+    Row {
+        words: "RETAINS",
+        game: ">A: AEINRST 8D RETAINS +66 66\n>A: (ADEORTT) +16 82\n",
+        report: "illegal line 2: TilesShort T\n",
+    },
+    Row {
+        words: "RETAINS",
+        game: ">A: AEINRST - +0 0\n>B: ADEORTW - +0 0\n",
+        report: "legal unfinished\n1 A - +0 0 best 8B RETAINS 66\n2 B - +0 0 best none\n",
+    },
+    Row {
+        words: "RETAINS",
+        game: ">A: AEINRST - +0 0\n>B: ADEORTT - +0 0\n",
+        report: "illegal line 2: TilesShort T\n",
+    },
+];
+
+#[test]
+fn whole_sets(rt: HostRuntime) {
+    report_all(&rt, rt.alloc(), &rules_with(&rt, SHORT, 7), &WHOLE_SETS);
+}
+
+#[test]
+fn verdicts(rt: HostRuntime) {
+    let rules = english_rules();
+    let wants = [
+        Verdict::Illegal {
+            line: 2,
+            fault: GameFault::TilesShort(Kind::Blank),
+        },
+        Verdict::Illegal {
+            line: 3,
+            fault: GameFault::RackTooBig,
+        },
+    ];
+    for (row, want) in BOUNDS.iter().zip(wants) {
+        let (verdict, _report) = judged(
+            &rt,
+            rt.alloc(),
+            &rules,
+            row.words.as_bytes(),
+            row.game.as_bytes(),
+        );
+        assert_eq!(rt; verdict, want);
+    }
+}

@@ -1,0 +1,222 @@
+//! Whole reads and writes over memory, and over devices that fail or are interrupted.
+ghost use Rattle.std.specs.Prelude.{◌≡◌, ◌++◌, ◌+◌, ◌≤◌, take, None, IfOk};
+ghost use Rattle.devices.specs.Devices.{Device, HasRoom};
+
+use super::pieces::Pieces;
+use devices::{
+    DeviceFailed, FromRead, FromWrite, Input, Output, ReadGaveUp, WriteGaveUp, read_within,
+    write_whole,
+};
+use std::alloc::Global;
+use std::io::{self, ErrorKind, Read, Write};
+
+/// An output that takes at most so many bytes a write and eight in all, and fails from some write on.
+#[derive(Drop)]
+struct Drips {
+    took: [u8; 8],
+    len: usize,
+    piece: usize,
+    writes: usize,
+    failures: u64,
+    stalls: u64,
+    ghost within: { len ≤ 8 },
+}
+
+impl Drips {
+    fn new(piece: usize, writes: usize) -> Drips
+        ensures { result.failures ≡ 0 }
+    {
+        Drips {
+            took: [0; 8],
+            len: 0,
+            piece,
+            writes,
+            failures: 0,
+            stalls: 0,
+        }
+    }
+}
+
+impl Output for Drips {
+    ghost device = { λ s. record { bytes = None; failures = s.failures; stalls = s.stalls } };
+
+    fn write(&mut self, buf: &[u8]) -> Result<usize, DeviceFailed> {
+        if self.writes == 0 {
+            self.failures += 1;
+            return Err(DeviceFailed);
+        }
+        self.writes -= 1;
+        let n = self.piece.min(buf.len()).min(8 - self.len);
+        let end = self.len + n;
+        self.took[self.len..end].copy_from_slice(&buf[..n]);
+        self.len = end;
+        if n == 0 && !buf.is_empty() {
+            self.stalls = self.stalls.wrapping_add(1);
+        }
+        Ok(n)
+    }
+}
+
+/// A reader and writer of std that is interrupted some times before each call comes about, and then fails if it is
+/// to.
+#[derive(Drop)]
+struct Interrupted {
+    times: u8,
+    fails: bool,
+}
+
+impl Interrupted {
+    fn call(&mut self) -> io::Result<usize>
+        ensures { IfOk result (λ n. n ≡ 0) }
+    {
+        if self.times > 0 {
+            self.times -= 1;
+            return Err(ErrorKind::Interrupted.into());
+        }
+        if self.fails {
+            return Err(ErrorKind::BrokenPipe.into());
+        }
+        Ok(0)
+    }
+}
+
+impl Read for Interrupted {
+    fn read(&mut self, _buf: &mut [u8]) -> io::Result<usize> {
+        self.call()
+    }
+}
+
+impl Write for Interrupted {
+    fn write(&mut self, _buf: &[u8]) -> io::Result<usize> {
+        self.call()
+    }
+
+    fn flush(&mut self) -> io::Result<()> {
+        Ok(())
+    }
+}
+
+/// Over a slice the bytes that an input gives are known.
+fn front_of(alloc: Global, bytes: &[u8], limit: usize) -> Result<Vec<u8>, ReadGaveUp>
+    ensures { IfOk result (λ front. front.items ≡ take (limit + 1) bytes.now) }
+{
+    read_within(alloc, &mut FromRead::new(bytes), limit)
+}
+
+/// Over a vector the bytes that an output took are known.
+fn appended(to: Vec<u8>, bytes: &[u8]) -> Result<Vec<u8>, WriteGaveUp>
+    ensures { IfOk result (λ all. all.items ≡ to.items ++ bytes.now) }
+{
+    let mut output = FromWrite::new(to);
+    write_whole(&mut output, bytes)?;
+    Ok(output.into_inner())
+}
+
+#[test]
+fn an_input_is_read_to_its_end_or_past_its_limit(rt: HostRuntime) {
+    let text = b"eighteen bytes, so";
+    for piece in [1, 7, 100] {
+        for (limit, want) in [
+            (0, 1),
+            (3, 4),
+            (16, 17),
+            (17, 18),
+            (18, 18),
+            (usize::MAX, 18),
+        ] {
+            let mut input = Pieces {
+                rest: text,
+                piece,
+                reads: 100,
+                failures: 0,
+            };
+            let bytes = read_within(rt.alloc(), &mut input, limit).expect(&rt, "bytes");
+            assert_eq!(rt; bytes.as_slice(), &text[..want], "{limit} by {piece}");
+            assert_eq!(rt; input.rest, &text[want..], "{limit} by {piece}");
+        }
+    }
+}
+
+#[test]
+fn a_read_that_fails_is_no_end_of_input(rt: HostRuntime) {
+    let mut input = Pieces {
+        rest: b"some bytes",
+        piece: 1,
+        reads: 4,
+        failures: 0,
+    };
+    let outcome = read_within(rt.alloc(), &mut input, 100).map(|bytes| bytes.len());
+    assert_eq!(rt; outcome, Err(ReadGaveUp::Failed));
+    assert_eq!(rt; input.failures, 1);
+    assert_eq!(rt; input.rest.len(), 6);
+}
+
+#[test]
+fn bytes_are_written_in_order(rt: HostRuntime) {
+    for piece in [1, 3, 8] {
+        let mut output = Drips::new(piece, 100);
+        let outcome = write_whole(&mut output, b"12345678");
+        assert_eq!(rt; outcome, Ok(()));
+        assert_eq!(rt; &output.took, b"12345678");
+    }
+}
+
+#[test]
+fn a_write_that_fails_or_takes_none_is_told(rt: HostRuntime) {
+    let mut output = Drips::new(1, 3);
+    assert_eq!(rt;
+        write_whole(&mut output, b"12345"),
+        Err(WriteGaveUp::Failed)
+    );
+    assert_eq!(rt; (output.failures, output.stalls, output.len), (1, 0, 3));
+
+    let mut output = Drips::new(5, 100);
+    assert_eq!(rt;
+        write_whole(&mut output, b"123456789"),
+        Err(WriteGaveUp::TookNone)
+    );
+    assert_eq!(rt; (output.failures, output.stalls, output.len), (0, 1, 8));
+}
+
+#[test]
+fn an_interruption_is_no_failure(rt: HostRuntime) {
+    let mut input = FromRead::new(Interrupted {
+        times: 3,
+        fails: false,
+    });
+    assert_eq!(rt; input.read(&mut [0; 4]), Ok(0));
+    assert_eq!(rt; input.failures(), 0);
+
+    let mut input = FromRead::new(Interrupted {
+        times: 3,
+        fails: true,
+    });
+    assert_eq!(rt; input.read(&mut [0; 4]), Err(DeviceFailed));
+    assert_eq!(rt; input.failures(), 1);
+
+    let mut output = FromWrite::new(Interrupted {
+        times: 3,
+        fails: false,
+    });
+    assert_eq!(rt; output.write(b"1"), Ok(0));
+    assert_eq!(rt; output.failures(), 0);
+
+    let mut output = FromWrite::new(Interrupted {
+        times: 3,
+        fails: true,
+    });
+    assert_eq!(rt; output.write(b"1"), Err(DeviceFailed));
+    assert_eq!(rt; output.failures(), 1);
+}
+
+#[test]
+fn memory_is_an_input_and_an_output(rt: HostRuntime) {
+    let front = front_of(rt.alloc(), b"word", 2).expect(&rt, "bytes");
+    assert_eq!(rt; front.as_slice(), b"wor".as_slice());
+    let start = b"a ".to_vec(rt.alloc()).expect(&rt, "memory");
+    let all = appended(start, b"word").expect(&rt, "written");
+    assert_eq!(rt; all.as_slice(), b"a word".as_slice());
+    let mut input = FromRead::new(b"word".as_slice());
+    assert_eq!(rt; input.read(&mut [0; 3]), Ok(3));
+    assert_eq!(rt; input.into_inner(), b"d".as_slice());
+}

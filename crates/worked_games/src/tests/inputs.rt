@@ -1,0 +1,89 @@
+//! Inputs that are no word list or no record, and the verdicts.
+use super::games::{Row, judged, report_all};
+use engine::{GameFault, Verdict};
+use game_turns::RuleFault;
+use ref_play::PlayFault;
+use ref_tiles::english_rules;
+
+/// The first line that is no word is told, and no other input is read.
+const BAD_LISTS: [Row; 3] = [
+    Row {
+        words: "AT\nA1",
+        game: ">A B: 8E WORD +16 16\n",
+        report: "bad word list line 2: BadLetter\n",
+    },
+    Row {
+        words: "A",
+        game: ">A: 8H A +0 0\n",
+        report: "bad word list line 1: BadLength\n",
+    },
+    Row {
+        words: "A-B",
+        game: "",
+        report: "bad word list line 1: BadLetter\n",
+    },
+];
+
+#[test]
+fn bad_lists(rt: HostRuntime) {
+    report_all(&rt, rt.alloc(), &english_rules(), &BAD_LISTS);
+}
+
+/// The first faulty line of a record is told.
+const BAD_RECORDS: [Row; 6] = [
+    Row {
+        words: "WORD",
+        game: ">A: 8E WORD +x 16\n",
+        report: "bad record line 1: Number\n",
+    },
+    Row {
+        words: "WORD",
+        game: "#note\n>A B: 8E WORD +16 16\n",
+        report: "bad record line 2: NoColon\n",
+    },
+    Row {
+        words: "WORD",
+        game: ">A: -8 +0 0\n",
+        report: "bad record line 1: Code\n",
+    },
+    Row {
+        words: "WORD",
+        game: ">A: 8E W0RD +16 16\n",
+        report: "bad record line 1: Word\n",
+    },
+    Row {
+        words: "WORD",
+        game: ">A: - +0 0\n>B: - +0 0\n>C: - +0 0\n",
+        report: "bad record line 3: ThirdPlayer\n",
+    },
+    Row {
+        words: "WORD",
+        game: ">A: AAAAAAAA 8E WORD +16 16\n",
+        report: "bad record line 1: Rack\n",
+    },
+];
+
+#[test]
+fn bad_records(rt: HostRuntime) {
+    report_all(&rt, rt.alloc(), &english_rules(), &BAD_RECORDS);
+}
+
+#[test]
+fn verdicts(rt: HostRuntime) {
+    let rules = english_rules();
+    let (legal, _report) = judged(
+        &rt,
+        rt.alloc(),
+        &rules,
+        b"WORD",
+        b">A: DORWAAE 8E WORD +16 16\n",
+    );
+    assert_eq!(rt; legal, Verdict::Legal { complete: false });
+    let (illegal, _report) = judged(&rt, rt.alloc(), &rules, b"WORD", b">A: 8H A +0 0\n");
+    let fault = GameFault::Rule(RuleFault::Play(PlayFault::TooShort));
+    assert_eq!(rt; illegal, Verdict::Illegal { line: 1, fault });
+    let (bad, _report) = judged(&rt, rt.alloc(), &rules, b"WORD", b">A\n");
+    assert_eq!(rt; bad, Verdict::BadRecord);
+    let (bad, _report) = judged(&rt, rt.alloc(), &rules, b"W", b">A\n");
+    assert_eq!(rt; bad, Verdict::BadList);
+}

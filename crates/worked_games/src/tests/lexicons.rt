@@ -1,0 +1,410 @@
+//! The calls that read or write a lexicon file, over memory.
+ghost use Rattle.devices.specs.Devices.{Device, HasRoom};
+ghost use Rattle.std.specs.Prelude.{None};
+
+use super::games::judged_by;
+use super::pieces::{Pieces, assert_same};
+use devices::{DeviceFailed, FromRead, FromWrite, Input};
+use engine::{Verdict, run_build, run_check};
+use ref_tiles::english_rules;
+use std::alloc::Global;
+use std::process::Abort;
+use test_samples::{AT, AT_IT, EMPTY};
+
+/// Checks a file by words, and gives the verdict and what was written. The words come with at most so many bytes a read.
+fn checked<L: Input>(
+    rt: &impl Abort,
+    alloc: Global,
+    words: &[u8],
+    lexicon: &mut L,
+    piece: usize,
+) -> (Verdict, Vec<u8>)
+    requires { HasRoom (L.device lexicon.old) }
+{
+    let mut words = Pieces::new(words, piece);
+    let mut out = FromWrite::new(Vec::new(alloc));
+    let verdict = run_check(alloc, &mut words, lexicon, &mut out);
+    (verdict.expect(rt, "a verdict"), out.into_inner())
+}
+
+/// Asserts a verdict and what was written.
+pub fn expect(rt: &impl Abort, told: &(Verdict, Vec<u8>), verdict: Verdict, written: &[u8]) {
+    assert_eq!(rt; told.0, verdict);
+    assert_eq!(rt; told.1.as_slice(), written);
+}
+
+/// Checks the bytes of a file by words, and gives the verdict and what was written. Read one by one or seven at once, the bytes
+/// come to the same.
+pub fn checked_bytes(
+    rt: &impl Abort,
+    alloc: Global,
+    words: &[u8],
+    lexicon: &[u8],
+) -> (Verdict, Vec<u8>) {
+    let told = checked(rt, alloc, words, &mut FromRead::new(lexicon), usize::MAX);
+    for piece in [1, 7] {
+        let mut lexicon = Pieces::new(lexicon, piece);
+        let again = checked(rt, alloc, words, &mut lexicon, piece);
+        assert_same(rt, &told, &again);
+    }
+    told
+}
+
+/// A word list, a file, and what is written of their check.
+struct Check {
+    words: &'static str,
+    lexicon: &'static [u8],
+    verdict: Verdict,
+    report: &'static str,
+}
+
+const CHECKS: [Check; 8] = [
+    Check {
+        words: "AT",
+        lexicon: &AT,
+        verdict: Verdict::Done,
+        report: "ok 1\n",
+    },
+    Check {
+        words: "it\nAT\nAt",
+        lexicon: &AT_IT,
+        verdict: Verdict::Done,
+        report: "ok 2\n",
+    },
+    Check {
+        words: "",
+        lexicon: &EMPTY,
+        verdict: Verdict::Done,
+        report: "ok 0\n",
+    },
+    Check {
+        words: "AT",
+        lexicon: &AT_IT,
+        verdict: Verdict::BadFile,
+        report: "bad lexicon: Extra I\n",
+    },
+    Check {
+        words: "AT\nIT",
+        lexicon: &AT,
+        verdict: Verdict::BadFile,
+        report: "bad lexicon: Missing I+T\n",
+    },
+    Check {
+        words: "",
+        lexicon: b"",
+        verdict: Verdict::BadFile,
+        report: "bad lexicon: Short\n",
+    },
+    Check {
+        words: "AT\nA1",
+        lexicon: b"",
+        verdict: Verdict::BadList,
+        report: "bad word list line 2: BadLetter\n",
+    },
+    Check {
+        words: "A",
+        lexicon: &AT,
+        verdict: Verdict::BadList,
+        report: "bad word list line 1: BadLength\n",
+    },
+];
+
+#[test]
+fn checks(rt: HostRuntime) {
+    for row in &CHECKS {
+        let told = checked_bytes(&rt, rt.alloc(), row.words.as_bytes(), row.lexicon);
+        expect(&rt, &told, row.verdict, row.report.as_bytes());
+    }
+}
+
+/// Bytes that stand in the file of AT from a place on in place of its own, and what is written of the check.
+struct Change {
+    at: usize,
+    bytes: &'static [u8],
+    report: &'static str,
+}
+
+const CHANGES: [Change; 10] = [
+    Change {
+        at: 0,
+        bytes: &[0x48],
+        report: "bad lexicon: Magic\n",
+    },
+    Change {
+        at: 8,
+        bytes: &[0x05],
+        report: "bad lexicon: Root\n",
+    },
+    Change {
+        at: 8,
+        bytes: &[0x00],
+        report: "bad lexicon: Root\n",
+    },
+    Change {
+        at: 12,
+        bytes: &[0x02],
+        report: "bad lexicon: WordCount\n",
+    },
+    Change {
+        at: 16,
+        bytes: &[0x7b, 0x00, 0x00, 0x00],
+        report: "bad lexicon: Label\n",
+    },
+    Change {
+        at: 32,
+        bytes: &[0xc1, 0x01, 0x00, 0x00],
+        report: "bad lexicon: Order\n",
+    },
+    Change {
+        at: 20,
+        bytes: &[0x40, 0x01, 0x00, 0x00],
+        report: "bad lexicon: Target\n",
+    },
+    Change {
+        at: 16,
+        bytes: &[0x54, 0x00, 0x00, 0x00],
+        report: "bad lexicon: DeadArc\n",
+    },
+    Change {
+        at: 32,
+        bytes: &[0x94, 0x01, 0x00, 0x00],
+        report: "bad lexicon: OpenRun\n",
+    },
+    Change {
+        at: 28,
+        bytes: &[0x21, 0x01, 0x00, 0x00],
+        report: "bad lexicon: Extra A\n",
+    },
+];
+
+/// The file of AT with a change.
+fn changed(rt: &impl Abort, change: &Change) -> [u8; 36] {
+    let mut file = AT;
+    for (place, byte) in change.bytes.iter().enumerate() {
+        assert!(rt; place < 8 && change.at < 36 - place);
+        file[change.at + place] = *byte;
+    }
+    file
+}
+
+/// Asserts what is written of a bad file by the list AT: where it is checked, and where a record is judged by it.
+pub fn expect_bad(rt: &impl Abort, alloc: Global, file: &[u8], report: &str) {
+    let told = checked_bytes(rt, alloc, b"AT", file);
+    expect(rt, &told, Verdict::BadFile, report.as_bytes());
+    let told = judged_by(
+        rt,
+        alloc,
+        &english_rules(),
+        b"AT",
+        file,
+        b">A: AEI -5 +0 0\n",
+    );
+    expect(rt, &told, Verdict::BadFile, report.as_bytes());
+}
+
+#[test]
+fn changed_files(rt: HostRuntime) {
+    for change in &CHANGES {
+        let file = changed(&rt, change);
+        expect_bad(&rt, rt.alloc(), &file, change.report);
+    }
+}
+
+#[test]
+fn cut_files(rt: HostRuntime) {
+    for len in 0..AT.len() {
+        let want = if len < 16 {
+            "bad lexicon: Short\n"
+        } else {
+            "bad lexicon: Length\n"
+        };
+        expect_bad(&rt, rt.alloc(), &AT[..len], want);
+    }
+}
+
+/// A file of 25 nodes of the arcs A and B. Those of the first accept and have no target; those of each further one do
+/// not accept, and have the node before as target. So very many strings are spelt, and none of them has a mark.
+fn many_walks(rt: &impl Abort, alloc: Global) -> Vec<u8> {
+    let mut words: [u32; 54] = [0; 54];
+    words[0] = u32::from_le_bytes(*b"GAD1");
+    words[1] = 50;
+    words[2] = 49;
+    words[3] = 1;
+    words[4] = 1 + 32;
+    words[5] = 2 + 32 + 64;
+    for node in 2..=25_u32 {
+        let target = 2 * node - 3;
+        let place = 2 * node as usize + 2;
+        words[place] = 1 + 128 * target;
+        words[place + 1] = 2 + 64 + 128 * target;
+    }
+    let mut bytes = Vec::new(alloc);
+    for word in words {
+        bytes
+            .extend_from_slice(&word.to_le_bytes())
+            .expect(rt, "memory");
+    }
+    bytes
+}
+
+#[test]
+fn many_strings(rt: HostRuntime) {
+    let file = many_walks(&rt, rt.alloc());
+    let told = checked_bytes(&rt, rt.alloc(), b"AT", &file);
+    expect(&rt, &told, Verdict::BadFile, b"bad lexicon: Missing A+T\n");
+}
+
+/// An input of zeros without an end. It counts them as it gives them.
+#[derive(Drop)]
+struct Zeros {
+    given: usize,
+}
+
+impl Input for Zeros {
+    ghost device = { λ _. record { bytes = None; failures = 0; stalls = 0 } };
+
+    fn read(&mut self, buf: &mut [u8]) -> Result<usize, DeviceFailed> {
+        buf.fill(0);
+        self.given = self.given.saturating_add(buf.len());
+        Ok(buf.len())
+    }
+}
+
+#[test]
+fn too_long(rt: HostRuntime) {
+    let mut zeros = Zeros { given: 0 };
+    let told = checked(&rt, rt.alloc(), b"AT", &mut zeros, usize::MAX);
+    expect(&rt, &told, Verdict::BadFile, b"bad lexicon: Length\n");
+    assert_eq!(rt; zeros.given, 268_435_469);
+}
+
+/// A word list, a lexicon and a record, and what is written of them.
+struct Game {
+    words: &'static str,
+    lexicon: &'static [u8],
+    game: &'static str,
+    verdict: Verdict,
+    report: &'static str,
+}
+
+const GAMES: [Game; 6] = [
+    Game {
+        words: "AT",
+        lexicon: &AT,
+        game: ">A: AEI -5 +0 0\n",
+        verdict: Verdict::Legal { complete: false },
+        report: "legal unfinished\n1 A -5 +0 0 best -\n",
+    },
+    Game {
+        words: "AT",
+        lexicon: &AT,
+        game: ">A B: AEI -5 +0 0\n",
+        verdict: Verdict::BadRecord,
+        report: "bad record line 1: NoColon\n",
+    },
+    Game {
+        words: "AT",
+        lexicon: b"GAD1",
+        game: ">A B: AEI -5 +0 0\n",
+        verdict: Verdict::BadFile,
+        report: "bad lexicon: Short\n",
+    },
+    Game {
+        words: "AT",
+        lexicon: &AT_IT,
+        game: ">A: AEI -5 +0 0\n",
+        verdict: Verdict::BadFile,
+        report: "bad lexicon: Extra I\n",
+    },
+    Game {
+        words: "AT\nIT",
+        lexicon: &AT,
+        game: ">A: AEI -5 +0 0\n",
+        verdict: Verdict::BadFile,
+        report: "bad lexicon: Missing I+T\n",
+    },
+    Game {
+        words: "A1",
+        lexicon: b"GAD1",
+        game: ">A B: AEI -5 +0 0\n",
+        verdict: Verdict::BadList,
+        report: "bad word list line 1: BadLetter\n",
+    },
+];
+
+#[test]
+fn games(rt: HostRuntime) {
+    let rules = english_rules();
+    for row in &GAMES {
+        let told = judged_by(
+            &rt,
+            rt.alloc(),
+            &rules,
+            row.words.as_bytes(),
+            row.lexicon,
+            row.game.as_bytes(),
+        );
+        expect(&rt, &told, row.verdict, row.report.as_bytes());
+    }
+}
+
+/// A word list, and what is built of it.
+struct Build {
+    words: &'static str,
+    verdict: Verdict,
+    bytes: &'static [u8],
+}
+
+const BUILDS: [Build; 4] = [
+    Build {
+        words: "AT",
+        verdict: Verdict::Done,
+        bytes: &AT,
+    },
+    Build {
+        words: "it\nAT\nAt\n",
+        verdict: Verdict::Done,
+        bytes: &AT_IT,
+    },
+    Build {
+        words: "",
+        verdict: Verdict::Done,
+        bytes: &EMPTY,
+    },
+    Build {
+        words: "AT\nA1",
+        verdict: Verdict::BadList,
+        bytes: b"bad word list line 2: BadLetter\n",
+    },
+];
+
+/// Builds the lexicon of words, and gives the verdict and what was written. Read one by one or seven at once, the bytes come to
+/// the same.
+fn built(rt: &impl Abort, alloc: Global, words: &[u8]) -> (Verdict, Vec<u8>) {
+    let told = built_in_pieces(rt, alloc, words, usize::MAX);
+    for piece in [1, 7] {
+        assert_same(rt, &told, &built_in_pieces(rt, alloc, words, piece));
+    }
+    told
+}
+
+/// The same, by an input that gives at most so many bytes a read.
+fn built_in_pieces(
+    rt: &impl Abort,
+    alloc: Global,
+    words: &[u8],
+    piece: usize,
+) -> (Verdict, Vec<u8>) {
+    let mut words = Pieces::new(words, piece);
+    let mut out = FromWrite::new(Vec::new(alloc));
+    let verdict = run_build(alloc, &mut words, &mut out);
+    (verdict.expect(rt, "a verdict"), out.into_inner())
+}
+
+#[test]
+fn builds(rt: HostRuntime) {
+    for row in &BUILDS {
+        let told = built(&rt, rt.alloc(), row.words.as_bytes());
+        expect(&rt, &told, row.verdict, row.bytes);
+    }
+}
