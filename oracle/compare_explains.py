@@ -17,10 +17,7 @@ class Explaining(Differences):
     """Explanations of games with mistakes."""
 
     def case(self):
-        inputs = some_inputs(self.put)
-        if inputs is None:
-            return
-        _, events, words, lexicon, text = inputs
+        _, events, words, lexicon, text = some_inputs(self.put)
         remark = "" if likely(0.7) else "#note\n"
         game = self.put("game", "".join(choose(["", "", remark]) + line(it) for it in events).encode())
         for asked in (None, random.randint(0, len(events) + 2)):

@@ -32,10 +32,7 @@ class Pages(Differences):
     """Pages of games with mistakes."""
 
     def case(self):
-        inputs = some_inputs(self.put)
-        if inputs is None:
-            return
-        rules, events, words, _, text = inputs
+        rules, events, words, _, text = some_inputs(self.put)
         game = "".join(map(line, events)).encode()
         names = random.sample([it for it in NAMES if b":" not in it and b" " not in it], 2)
         game = self.put("game", named(game, *names) if likely(0.7) else game)

@@ -85,11 +85,11 @@ def some_game(rules):
 
 def some_inputs(put):
     """Rules and the events of such a game, with its list, a lexicon of it, and the rules as a text (None: the English ones, without a text);
-    `put` writes these three. None where a number of the game is too large for a record."""
+    `put` writes these three. No number of the game is too large for a record."""
     rules = ENGLISH if likely(0.75) else random_rules()
     events, listed = some_game(rules)
     if any(abs(number) > MOST for it in events for number in (it.score, it.total)):
-        return None
+        return some_inputs(put)
     words = put("words", "\n".join(sorted(listed)).encode())
     lexicon = put("lexicon", choose([build(listed), convert(build(listed), GAD2)]))
     text = put("rules", text_of(rules)) if rules != ENGLISH or likely(0.2) else None
