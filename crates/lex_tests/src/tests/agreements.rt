@@ -9,78 +9,21 @@ use std::alloc::Global;
 use std::process::Abort;
 use test_samples::{AT, AT_BY_NODES, AT_IT, EMPTY};
 
-/// A word list and a file, whether it is told at once that the file is that of the list, and whether it is.
-struct Row {
-    words: &'static [u8],
-    file: &'static [u8],
-    told: bool,
-    right: bool,
-}
-
-const ROWS: [Row; 10] = [
-    Row {
-        words: b"",
-        file: &EMPTY,
-        told: true,
-        right: true,
-    },
-    Row {
-        words: b"AT",
-        file: &AT,
-        told: true,
-        right: true,
-    },
-    Row {
-        words: b"AT",
-        file: &AT_BY_NODES,
-        told: true,
-        right: true,
-    },
-    Row {
-        words: b"AT\nIT",
-        file: &AT_IT,
-        told: true,
-        right: true,
-    },
-    Row {
-        words: b"AT\nATE",
-        file: &AT_ATE,
-        told: true,
-        right: true,
-    },
+/// Word lists and files, whether it is told at once that the file is that of the list, and whether it is.
+const ROWS: [(&[u8], &[u8], bool, bool); 10] = [
+    (b"", &EMPTY, true, true),
+    (b"AT", &AT, true, true),
+    (b"AT", &AT_BY_NODES, true, true),
+    (b"AT\nIT", &AT_IT, true, true),
+    (b"AT\nATE", &AT_ATE, true, true),
     // The same strings, with two nodes of the letter E.
-    Row {
-        words: b"AT\nATE",
-        file: &AT_ATE_APART,
-        told: false,
-        right: true,
-    },
+    (b"AT\nATE", &AT_ATE_APART, false, true),
     // A word too few, and one too many.
-    Row {
-        words: b"AT\nATE",
-        file: &AT,
-        told: false,
-        right: false,
-    },
-    Row {
-        words: b"AT",
-        file: &AT_ATE,
-        told: false,
-        right: false,
-    },
-    Row {
-        words: b"AT\nIT",
-        file: &EMPTY,
-        told: false,
-        right: false,
-    },
+    (b"AT\nATE", &AT, false, false),
+    (b"AT", &AT_ATE, false, false),
+    (b"AT\nIT", &EMPTY, false, false),
     // The paths of AT, and one string more.
-    Row {
-        words: b"AT",
-        file: &AT_AND_MORE,
-        told: false,
-        right: false,
-    },
+    (b"AT", &AT_AND_MORE, false, false),
 ];
 
 /// Whether it is told at once that a file is that of a list, and whether it is; none where there is no list or no file.
@@ -104,15 +47,9 @@ fn built(alloc: Global, words: &[u8], format: Format) -> Option<(bool, bool)> {
 
 #[test]
 fn worked_rows(rt: HostRuntime) {
-    for row in &ROWS {
-        let here = answers(rt.alloc(), row.words, row.file);
-        assert_eq!(rt;
-            here,
-            Some((row.told, row.right)),
-            "{:?} {:?}",
-            row.words,
-            row.file
-        );
+    for (words, file, told, right) in &ROWS {
+        let here = answers(rt.alloc(), words, file);
+        assert_eq!(rt; here, Some((*told, *right)), "{:?} {:?}", words, file);
     }
 }
 

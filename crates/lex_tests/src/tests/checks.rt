@@ -1,5 +1,6 @@
 //! The answers of the checker, and the paths of a list as a lexicon.
 use super::samples::AT_ATE;
+use Answer::{Agrees, Extra, Missing, WordCount};
 use lex_check::{Mismatch, SortedPaths, check, check_paths, law_of_lexicons, pair, text_of};
 use lex_file::{LexFile, PathLex};
 use lex_list::WordList;
@@ -29,70 +30,20 @@ enum Answer {
     WordCount,
 }
 
-/// A word list and a file, and what their check answers. Where the paths differ, the numbers of words mostly do too: the
-/// path is named.
-struct Row {
-    words: &'static [u8],
-    file: &'static [u8],
-    answer: Answer,
-}
-
-const ROWS: [Row; 11] = [
-    Row {
-        words: b"AT",
-        file: &AT,
-        answer: Answer::Agrees,
-    },
-    Row {
-        words: b"AT",
-        file: &AT_AND_A,
-        answer: Answer::Extra(b"A"),
-    },
-    Row {
-        words: b"AT",
-        file: &AT_AS_TWO,
-        answer: Answer::WordCount,
-    },
-    Row {
-        words: b"AT\nIT",
-        file: &AT,
-        answer: Answer::Missing(b"I+T"),
-    },
-    Row {
-        words: b"AT",
-        file: &AT_IT,
-        answer: Answer::Extra(b"I"),
-    },
-    Row {
-        words: b"AT\nIT",
-        file: &AT_IT,
-        answer: Answer::Agrees,
-    },
-    Row {
-        words: b"AT",
-        file: &AT_ATE,
-        answer: Answer::Extra(b"A+TE"),
-    },
-    Row {
-        words: b"AT\nATE",
-        file: &AT,
-        answer: Answer::Missing(b"A+TE"),
-    },
-    Row {
-        words: b"",
-        file: &EMPTY,
-        answer: Answer::Agrees,
-    },
-    Row {
-        words: b"AT",
-        file: &EMPTY,
-        answer: Answer::Missing(b"A+T"),
-    },
-    Row {
-        words: b"",
-        file: &AT,
-        answer: Answer::Extra(b"A"),
-    },
+/// Word lists and files, and what their checks answer. Where the paths differ, the numbers of words mostly do too: the path is
+/// named.
+const ROWS: [(&[u8], &[u8], Answer); 11] = [
+    (b"AT", &AT, Agrees),
+    (b"AT", &AT_AND_A, Extra(b"A")),
+    (b"AT", &AT_AS_TWO, WordCount),
+    (b"AT\nIT", &AT, Missing(b"I+T")),
+    (b"AT", &AT_IT, Extra(b"I")),
+    (b"AT\nIT", &AT_IT, Agrees),
+    (b"AT", &AT_ATE, Extra(b"A+TE")),
+    (b"AT\nATE", &AT, Missing(b"A+TE")),
+    (b"", &EMPTY, Agrees),
+    (b"AT", &EMPTY, Missing(b"A+T")),
+    (b"", &AT, Extra(b"A")),
 ];
 
 /// The check of a file's bytes; none where a text or a file is refused before it.
@@ -104,21 +55,23 @@ fn outcome(alloc: Global, words: &[u8], file: &[u8]) -> Option<Result<(), Mismat
 
 fn is_answer(outcome: &Option<Result<(), Mismatch>>, answer: &Answer) -> bool {
     match (outcome, answer) {
-        (Some(Ok(())), Answer::Agrees) => true,
-        (Some(Err(Mismatch::Missing(path))), Answer::Missing(text)) => text_of(path).as_slice()
-            == *text,
-        (Some(Err(Mismatch::Extra(path))), Answer::Extra(text)) => text_of(path).as_slice()
-            == *text,
-        (Some(Err(Mismatch::WordCount)), Answer::WordCount) => true,
+        (Some(Ok(())), Agrees) => true,
+        (Some(Err(Mismatch::Missing(path))), Missing(text)) => text_of(path).as_slice() == *text,
+        (Some(Err(Mismatch::Extra(path))), Extra(text)) => text_of(path).as_slice() == *text,
+        (Some(Err(Mismatch::WordCount)), WordCount) => true,
         _ => false,
     }
 }
 
+fn assert_answer(rt: &impl Abort, alloc: Global, words: &[u8], file: &[u8], answer: &Answer) {
+    let here = outcome(alloc, words, file);
+    assert!(rt; is_answer(&here, answer), "{:?}", here);
+}
+
 #[test]
 fn answers(rt: HostRuntime) {
-    for row in &ROWS {
-        let here = outcome(rt.alloc(), row.words, row.file);
-        assert!(rt; is_answer(&here, &row.answer), "{:?}", here);
+    for (words, file, answer) in &ROWS {
+        assert_answer(&rt, rt.alloc(), words, file, answer);
     }
 }
 
@@ -134,11 +87,12 @@ fn an_extra_of_seventeen_labels(rt: HostRuntime) {
         let word = label + accepts + 0x40 + 128 * (arc - 1);
         bytes[place..place + 4].copy_from_slice(&word.to_le_bytes());
     }
-    let here = outcome(rt.alloc(), b"AAAAAAAAAAAAAAA", &bytes);
-    assert!(rt;
-        is_answer(&here, &Answer::Extra(b"A+AAAAAAAAAAAAAAA")),
-        "{:?}",
-        here
+    assert_answer(
+        &rt,
+        rt.alloc(),
+        b"AAAAAAAAAAAAAAA",
+        &bytes,
+        &Extra(b"A+AAAAAAAAAAAAAAA"),
     );
 }
 
@@ -157,8 +111,7 @@ fn a_file_of_very_many_walks(rt: HostRuntime) {
         bytes[place..place + 4].copy_from_slice(&first.to_le_bytes());
         bytes[place + 4..place + 8].copy_from_slice(&(first + 0x41).to_le_bytes());
     }
-    let here = outcome(rt.alloc(), b"AT", &bytes);
-    assert!(rt; is_answer(&here, &Answer::Missing(b"A+T")), "{:?}", here);
+    assert_answer(&rt, rt.alloc(), b"AT", &bytes, &Missing(b"A+T"));
 }
 
 #[test]
@@ -186,93 +139,21 @@ fn paths_of(alloc: Global, words: &[u8]) -> Option<SortedPaths> {
     SortedPaths::new(alloc, &list).ok()
 }
 
-/// The words of a text, a label from which on the next one is looked for behind some labels, and the first one.
-struct Ahead {
-    words: &'static [u8],
-    behind: &'static [u8],
-    from: u8,
-    label: Option<u8>,
-}
-
-const AHEAD: [Ahead; 13] = [
-    Ahead {
-        words: b"",
-        behind: &[],
-        from: 0,
-        label: None,
-    },
-    Ahead {
-        words: b"AT\nIT",
-        behind: &[],
-        from: 0,
-        label: Some(1),
-    },
-    Ahead {
-        words: b"AT\nIT",
-        behind: &[],
-        from: 1,
-        label: Some(1),
-    },
-    Ahead {
-        words: b"AT\nIT",
-        behind: &[],
-        from: 2,
-        label: Some(9),
-    },
-    Ahead {
-        words: b"AT\nIT",
-        behind: &[],
-        from: 10,
-        label: Some(20),
-    },
-    Ahead {
-        words: b"AT\nIT",
-        behind: &[],
-        from: 20,
-        label: Some(20),
-    },
-    Ahead {
-        words: b"AT\nIT",
-        behind: &[],
-        from: 21,
-        label: None,
-    },
-    Ahead {
-        words: b"AT\nIT",
-        behind: &[],
-        from: 255,
-        label: None,
-    },
-    Ahead {
-        words: b"AT\nIT",
-        behind: &[1],
-        from: 0,
-        label: Some(0),
-    },
-    Ahead {
-        words: b"AT\nIT",
-        behind: &[1],
-        from: 1,
-        label: None,
-    },
-    Ahead {
-        words: b"AT\nIT",
-        behind: &[20],
-        from: 2,
-        label: Some(9),
-    },
-    Ahead {
-        words: b"AT\nATE",
-        behind: &[20, 1],
-        from: 0,
-        label: Some(0),
-    },
-    Ahead {
-        words: b"AT\nATE",
-        behind: &[20, 1],
-        from: 1,
-        label: None,
-    },
+/// The words of a text, some labels, a label from which on the next one is looked for behind them, and the first one.
+const AHEAD: [(&[u8], &[u8], u8, Option<u8>); 13] = [
+    (b"", &[], 0, None),
+    (b"AT\nIT", &[], 0, Some(1)),
+    (b"AT\nIT", &[], 1, Some(1)),
+    (b"AT\nIT", &[], 2, Some(9)),
+    (b"AT\nIT", &[], 10, Some(20)),
+    (b"AT\nIT", &[], 20, Some(20)),
+    (b"AT\nIT", &[], 21, None),
+    (b"AT\nIT", &[], 255, None),
+    (b"AT\nIT", &[1], 0, Some(0)),
+    (b"AT\nIT", &[1], 1, None),
+    (b"AT\nIT", &[20], 2, Some(9)),
+    (b"AT\nATE", &[20, 1], 0, Some(0)),
+    (b"AT\nATE", &[20, 1], 1, None),
 ];
 
 /// The first label from one on with which a tail of the node behind some labels begins.
@@ -285,20 +166,11 @@ fn label_behind(paths: &SortedPaths, behind: &[u8], from: u8) -> Option<u8> {
     Some(branch.label)
 }
 
-fn assert_ahead(rt: &impl Abort, alloc: Global, row: &Ahead) {
-    let paths = paths_of(alloc, row.words).expect(rt, "paths");
-    let here = label_behind(&paths, row.behind, row.from);
-    assert_eq!(rt;
-        here,
-        row.label,
-        "{:?} {:?} {}",
-        row.words, row.behind, row.from
-    );
-}
-
 #[test]
 fn labels_ahead(rt: HostRuntime) {
-    for row in &AHEAD {
-        assert_ahead(&rt, rt.alloc(), row);
+    for (words, behind, from, label) in &AHEAD {
+        let paths = paths_of(rt.alloc(), words).expect(&rt, "paths");
+        let here = label_behind(&paths, behind, *from);
+        assert_eq!(rt; here, *label, "{:?} {:?} {}", words, behind, from);
     }
 }

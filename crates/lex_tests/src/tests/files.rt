@@ -1,143 +1,50 @@
 //! Files of the first format: their faults, and what walks find in them.
 ghost use Rattle.std.specs.Prelude.{◌≡◌};
 
+use lex_file::FileFault::{DeadArc, Label, Length, Magic, OpenRun, Order, Root, Short, Target};
 use lex_file::{Branch, FileFault, LexFile, Node, PathLex, Step, law_of_language, law_of_nodes};
 use std::process::Abort;
 use test_samples::{AT, AT_BY_NODES, AT_IT, EMPTY};
 
-/// A change of one word of the file of AT, and the fault that it makes.
-struct Change {
-    place: usize,
-    word: [u8; 4],
-    fault: Option<FileFault>,
-}
-
-const CHANGES: [Change; 20] = [
-    Change {
-        place: 0,
-        word: [0x48, 0x41, 0x44, 0x31],
-        fault: Some(FileFault::Magic),
-    },
-    Change {
-        place: 0,
-        word: [0x47, 0x41, 0x44, 0x30],
-        fault: Some(FileFault::Magic),
-    },
-    Change {
-        place: 1,
-        word: [0x04, 0x00, 0x00, 0x00],
-        fault: Some(FileFault::Length),
-    },
-    Change {
-        place: 1,
-        word: [0x06, 0x00, 0x00, 0x00],
-        fault: Some(FileFault::Length),
-    },
-    Change {
-        place: 1,
-        word: [0x05, 0x00, 0x00, 0x40],
-        fault: Some(FileFault::Length),
-    },
-    Change {
-        place: 2,
-        word: [0x05, 0x00, 0x00, 0x00],
-        fault: Some(FileFault::Root),
-    },
-    Change {
-        place: 2,
-        word: [0x00, 0x00, 0x00, 0x00],
-        fault: Some(FileFault::Root),
-    },
-    Change {
-        place: 2,
-        word: [0x06, 0x00, 0x00, 0x00],
-        fault: Some(FileFault::Root),
-    },
-    Change {
-        place: 2,
-        word: [0xff, 0xff, 0xff, 0xff],
-        fault: Some(FileFault::Root),
-    },
-    Change {
-        place: 4,
-        word: [0x7b, 0x00, 0x00, 0x00],
-        fault: Some(FileFault::Label),
-    },
-    Change {
-        place: 8,
-        word: [0xc1, 0x01, 0x00, 0x00],
-        fault: Some(FileFault::Order),
-    },
-    Change {
-        place: 5,
-        word: [0x40, 0x01, 0x00, 0x00],
-        fault: Some(FileFault::Target),
-    },
-    Change {
-        place: 8,
-        word: [0x54, 0x02, 0x00, 0x00],
-        fault: Some(FileFault::Target),
-    },
-    Change {
-        place: 8,
-        word: [0xd4, 0x02, 0x00, 0x00],
-        fault: Some(FileFault::Target),
-    },
-    Change {
-        place: 4,
-        word: [0x54, 0x00, 0x00, 0x00],
-        fault: Some(FileFault::DeadArc),
-    },
-    Change {
-        place: 8,
-        word: [0x94, 0x01, 0x00, 0x00],
-        fault: Some(FileFault::OpenRun),
-    },
-    Change {
-        place: 7,
-        word: [0x21, 0x01, 0x00, 0x00],
-        fault: None,
-    },
-    Change {
-        place: 3,
-        word: [0x02, 0x00, 0x00, 0x00],
-        fault: None,
-    },
-    Change {
-        place: 2,
-        word: [0x01, 0x00, 0x00, 0x00],
-        fault: None,
-    },
-    Change {
-        place: 4,
-        word: [0x7a, 0x00, 0x00, 0x00],
-        fault: None,
-    },
+/// Changes of one word of the file of AT, and the fault that each makes.
+const CHANGES: [(usize, [u8; 4], Option<FileFault>); 20] = [
+    (0, [0x48, 0x41, 0x44, 0x31], Some(Magic)),
+    (0, [0x47, 0x41, 0x44, 0x30], Some(Magic)),
+    (1, [0x04, 0x00, 0x00, 0x00], Some(Length)),
+    (1, [0x06, 0x00, 0x00, 0x00], Some(Length)),
+    (1, [0x05, 0x00, 0x00, 0x40], Some(Length)),
+    (2, [0x05, 0x00, 0x00, 0x00], Some(Root)),
+    (2, [0x00, 0x00, 0x00, 0x00], Some(Root)),
+    (2, [0x06, 0x00, 0x00, 0x00], Some(Root)),
+    (2, [0xff, 0xff, 0xff, 0xff], Some(Root)),
+    (4, [0x7b, 0x00, 0x00, 0x00], Some(Label)),
+    (8, [0xc1, 0x01, 0x00, 0x00], Some(Order)),
+    (5, [0x40, 0x01, 0x00, 0x00], Some(Target)),
+    (8, [0x54, 0x02, 0x00, 0x00], Some(Target)),
+    (8, [0xd4, 0x02, 0x00, 0x00], Some(Target)),
+    (4, [0x54, 0x00, 0x00, 0x00], Some(DeadArc)),
+    (8, [0x94, 0x01, 0x00, 0x00], Some(OpenRun)),
+    (7, [0x21, 0x01, 0x00, 0x00], None),
+    (3, [0x02, 0x00, 0x00, 0x00], None),
+    (2, [0x01, 0x00, 0x00, 0x00], None),
+    (4, [0x7a, 0x00, 0x00, 0x00], None),
 ];
 
 #[test]
 fn changes(rt: HostRuntime) {
-    for row in &CHANGES {
+    for (place, word, fault) in &CHANGES {
         let mut bytes = AT;
-        bytes[4 * row.place..4 * row.place + 4].copy_from_slice(&row.word);
-        assert_eq!(rt;
-            LexFile::open(&bytes).err(),
-            row.fault,
-            "word {}: {:?}",
-            row.place,
-            row.word
-        );
+        let start = 4 * *place;
+        bytes[start..start + 4].copy_from_slice(word);
+        let opened = LexFile::open(&bytes).err();
+        assert_eq!(rt; opened, *fault, "word {place}: {word:?}");
     }
 }
 
 /// Each front of a file is refused, by its length.
 fn assert_cut(rt: &impl Abort, file: &[u8]) {
     for length in 0..file.len() {
-        let fault = if length < 16 {
-            FileFault::Short
-        } else {
-            FileFault::Length
-        };
+        let fault = if length < 16 { Short } else { Length };
         assert_eq!(rt;
             LexFile::open(&file[..length]).err(),
             Some(fault),
@@ -166,8 +73,8 @@ fn counts(rt: HostRuntime) {
 
 #[test]
 fn names(rt: HostRuntime) {
-    assert_eq!(rt; FileFault::DeadArc.name(), "DeadArc");
-    assert_eq!(rt; FileFault::Short.name(), "Short");
+    assert_eq!(rt; DeadArc.name(), "DeadArc");
+    assert_eq!(rt; Short.name(), "Short");
 }
 
 /// Whether labels lead from a node to an arc that accepts.
@@ -190,83 +97,21 @@ fn accepts<L: PathLex>(lexicon: &L, node: L::Node, labels: &[u8]) -> bool
 }
 
 /// Labels, and whether they are a path of the word AT, and one of the words AT and IT.
-struct Walk {
-    labels: &'static [u8],
-    at: bool,
-    at_it: bool,
-}
-
-const WALKS: [Walk; 14] = [
-    Walk {
-        labels: &[1, 0, 20],
-        at: true,
-        at_it: true,
-    },
-    Walk {
-        labels: &[20, 1],
-        at: true,
-        at_it: true,
-    },
-    Walk {
-        labels: &[9, 0, 20],
-        at: false,
-        at_it: true,
-    },
-    Walk {
-        labels: &[20, 9],
-        at: false,
-        at_it: true,
-    },
-    Walk {
-        labels: &[],
-        at: false,
-        at_it: false,
-    },
-    Walk {
-        labels: &[1],
-        at: false,
-        at_it: false,
-    },
-    Walk {
-        labels: &[20],
-        at: false,
-        at_it: false,
-    },
-    Walk {
-        labels: &[1, 0],
-        at: false,
-        at_it: false,
-    },
-    Walk {
-        labels: &[1, 20],
-        at: false,
-        at_it: false,
-    },
-    Walk {
-        labels: &[0, 20],
-        at: false,
-        at_it: false,
-    },
-    Walk {
-        labels: &[20, 1, 0],
-        at: false,
-        at_it: false,
-    },
-    Walk {
-        labels: &[1, 0, 20, 1],
-        at: false,
-        at_it: false,
-    },
-    Walk {
-        labels: &[27],
-        at: false,
-        at_it: false,
-    },
-    Walk {
-        labels: &[255],
-        at: false,
-        at_it: false,
-    },
+const WALKS: [(&[u8], bool, bool); 14] = [
+    (&[1, 0, 20], true, true),
+    (&[20, 1], true, true),
+    (&[9, 0, 20], false, true),
+    (&[20, 9], false, true),
+    (&[], false, false),
+    (&[1], false, false),
+    (&[20], false, false),
+    (&[1, 0], false, false),
+    (&[1, 20], false, false),
+    (&[0, 20], false, false),
+    (&[20, 1, 0], false, false),
+    (&[1, 0, 20, 1], false, false),
+    (&[27], false, false),
+    (&[255], false, false),
 ];
 
 /// Whether labels lead from the root of a file to an arc that accepts.
@@ -275,77 +120,26 @@ fn is_walk(rt: &impl Abort, bytes: &[u8], labels: &[u8]) -> bool {
     accepts(&file, file.root(), labels)
 }
 
-fn assert_walk(rt: &impl Abort, row: &Walk) {
-    assert_eq!(rt; is_walk(rt, &AT, row.labels), row.at, "{:?}", row.labels);
-    assert_eq!(rt;
-        is_walk(rt, &AT_IT, row.labels),
-        row.at_it,
-        "{:?}",
-        row.labels
-    );
-    assert!(rt; !is_walk(rt, &EMPTY, row.labels));
-}
-
 #[test]
 fn walks(rt: HostRuntime) {
-    for row in &WALKS {
-        assert_walk(&rt, row);
+    for (labels, at, at_it) in &WALKS {
+        assert_eq!(rt; is_walk(&rt, &AT, labels), *at, "{:?}", labels);
+        assert_eq!(rt; is_walk(&rt, &AT_IT, labels), *at_it, "{:?}", labels);
+        assert!(rt; !is_walk(&rt, &EMPTY, labels));
     }
 }
 
-/// A label from which on the next one is looked for at the root, and the first of the word AT, and of AT and IT.
-struct Ahead {
-    from: u8,
-    at: Option<u8>,
-    at_it: Option<u8>,
-}
-
-const AHEAD: [Ahead; 9] = [
-    Ahead {
-        from: 0,
-        at: Some(1),
-        at_it: Some(1),
-    },
-    Ahead {
-        from: 1,
-        at: Some(1),
-        at_it: Some(1),
-    },
-    Ahead {
-        from: 2,
-        at: Some(20),
-        at_it: Some(9),
-    },
-    Ahead {
-        from: 9,
-        at: Some(20),
-        at_it: Some(9),
-    },
-    Ahead {
-        from: 10,
-        at: Some(20),
-        at_it: Some(20),
-    },
-    Ahead {
-        from: 20,
-        at: Some(20),
-        at_it: Some(20),
-    },
-    Ahead {
-        from: 21,
-        at: None,
-        at_it: None,
-    },
-    Ahead {
-        from: 27,
-        at: None,
-        at_it: None,
-    },
-    Ahead {
-        from: 255,
-        at: None,
-        at_it: None,
-    },
+/// Labels from which on the next one is looked for at the root, and the first of the word AT, and of AT and IT.
+const AHEAD: [(u8, Option<u8>, Option<u8>); 9] = [
+    (0, Some(1), Some(1)),
+    (1, Some(1), Some(1)),
+    (2, Some(20), Some(9)),
+    (9, Some(20), Some(9)),
+    (10, Some(20), Some(20)),
+    (20, Some(20), Some(20)),
+    (21, None, None),
+    (27, None, None),
+    (255, None, None),
 ];
 
 /// The first label from one on with which a tail of the root begins.
@@ -355,16 +149,12 @@ fn label_from(rt: &impl Abort, bytes: &[u8], from: u8) -> Option<u8> {
     Some(branch.label)
 }
 
-fn assert_ahead(rt: &impl Abort, row: &Ahead) {
-    assert_eq!(rt; label_from(rt, &AT, row.from), row.at, "{}", row.from);
-    assert_eq!(rt; label_from(rt, &AT_IT, row.from), row.at_it, "{}", row.from);
-    assert_eq!(rt; label_from(rt, &EMPTY, row.from), None, "{}", row.from);
-}
-
 #[test]
 fn labels_ahead(rt: HostRuntime) {
-    for row in &AHEAD {
-        assert_ahead(&rt, row);
+    for (from, at, at_it) in AHEAD {
+        assert_eq!(rt; label_from(&rt, &AT, from), at, "{from}");
+        assert_eq!(rt; label_from(&rt, &AT_IT, from), at_it, "{from}");
+        assert_eq!(rt; label_from(&rt, &EMPTY, from), None, "{from}");
     }
 }
 

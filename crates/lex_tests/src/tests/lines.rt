@@ -2,117 +2,64 @@
 use std::process::Abort;
 use text_lines::{cut_line, find_blank, find_filled, next_field, without_mark};
 
-/// A text and its lines.
-struct Text {
-    bytes: &'static [u8],
-    lines: &'static [&'static [u8]],
-}
-
-const TEXTS: [Text; 8] = [
-    Text {
-        bytes: b"",
-        lines: &[b""],
-    },
-    Text {
-        bytes: b"\xef\xbb\xbf",
-        lines: &[b""],
-    },
-    Text {
-        bytes: b"\xef\xbb\xbfAT\r\n\nIT",
-        lines: &[b"AT", b"", b"IT"],
-    },
-    Text {
-        bytes: b"AT\n",
-        lines: &[b"AT", b""],
-    },
-    Text {
-        bytes: b"AT\nIT\r",
-        lines: &[b"AT", b"IT"],
-    },
-    Text {
-        bytes: b"\r",
-        lines: &[b""],
-    },
-    Text {
-        bytes: b"A\rT\r\r\n\r\n",
-        lines: &[b"A\rT\r", b"", b""],
-    },
-    Text {
-        bytes: b"\xef\xbbAT\n\xef\xbb\xbfIT",
-        lines: &[b"\xef\xbbAT", b"\xef\xbb\xbfIT"],
-    },
+/// Texts and their lines.
+const TEXTS: [(&[u8], &[&[u8]]); 8] = [
+    (b"", &[b""]),
+    (b"\xef\xbb\xbf", &[b""]),
+    (b"\xef\xbb\xbfAT\r\n\nIT", &[b"AT", b"", b"IT"]),
+    (b"AT\n", &[b"AT", b""]),
+    (b"AT\nIT\r", &[b"AT", b"IT"]),
+    (b"\r", &[b""]),
+    (b"A\rT\r\r\n\r\n", &[b"A\rT\r", b"", b""]),
+    (
+        b"\xef\xbbAT\n\xef\xbb\xbfIT",
+        &[b"\xef\xbbAT", b"\xef\xbb\xbfIT"],
+    ),
 ];
 
-fn assert_lines(rt: &impl Abort, text: &Text) {
-    let mut left = Some(without_mark(text.bytes));
-    for line in text.lines.iter() {
-        assert!(rt; left.is_some(), "{:?}", text.bytes);
+fn assert_lines(rt: &impl Abort, text: &[u8], lines: &[&[u8]]) {
+    let mut left = Some(without_mark(text));
+    for line in lines {
+        assert!(rt; left.is_some(), "{:?}", text);
         let cut = cut_line(left.unwrap_or(&[]));
-        assert_eq!(rt; cut.line, *line, "{:?}", text.bytes);
+        assert_eq!(rt; cut.line, *line, "{:?}", text);
         left = cut.after;
     }
-    assert!(rt; left.is_none(), "{:?}", text.bytes);
+    assert!(rt; left.is_none(), "{:?}", text);
 }
 
 #[test]
 fn lines_of_texts(rt: HostRuntime) {
-    for text in &TEXTS {
-        assert_lines(&rt, text);
+    for (text, lines) in &TEXTS {
+        assert_lines(&rt, text, lines);
     }
 }
 
-/// A line and its fields.
-struct Line {
-    bytes: &'static [u8],
-    fields: &'static [&'static [u8]],
-}
-
-const LINES: [Line; 6] = [
-    Line {
-        bytes: b"",
-        fields: &[],
-    },
-    Line {
-        bytes: b" \t ",
-        fields: &[],
-    },
-    Line {
-        bytes: b"8E",
-        fields: &[b"8E"],
-    },
-    Line {
-        bytes: b"8E WORD\t+16",
-        fields: &[b"8E", b"WORD", b"+16"],
-    },
-    Line {
-        bytes: b"\t \tAT  \t IT\t",
-        fields: &[b"AT", b"IT"],
-    },
-    Line {
-        bytes: b"A\rT\x0bIT \xc2\xa0",
-        fields: &[b"A\rT\x0bIT", b"\xc2\xa0"],
-    },
+/// Lines and their fields.
+const LINES: [(&[u8], &[&[u8]]); 6] = [
+    (b"", &[]),
+    (b" \t ", &[]),
+    (b"8E", &[b"8E"]),
+    (b"8E WORD\t+16", &[b"8E", b"WORD", b"+16"]),
+    (b"\t \tAT  \t IT\t", &[b"AT", b"IT"]),
+    (b"A\rT\x0bIT \xc2\xa0", &[b"A\rT\x0bIT", b"\xc2\xa0"]),
 ];
 
-fn assert_fields(rt: &impl Abort, line: &Line) {
-    let mut left = line.bytes;
-    for bytes in line.fields.iter() {
+fn assert_fields(rt: &impl Abort, line: &[u8], fields: &[&[u8]]) {
+    let mut left = line;
+    for bytes in fields {
         let field = next_field(left);
-        assert_eq!(rt;
-            field.map(|field| field.bytes),
-            Some(*bytes),
-            "{:?}",
-            line.bytes
-        );
+        let here = field.map(|field| field.bytes);
+        assert_eq!(rt; here, Some(*bytes), "{:?}", line);
         left = field.map_or(&[], |field| field.after);
     }
-    assert!(rt; next_field(left).is_none(), "{:?}", line.bytes);
+    assert!(rt; next_field(left).is_none(), "{:?}", line);
 }
 
 #[test]
 fn fields_of_lines(rt: HostRuntime) {
-    for line in &LINES {
-        assert_fields(&rt, line);
+    for (line, fields) in &LINES {
+        assert_fields(&rt, line, fields);
     }
 }
 

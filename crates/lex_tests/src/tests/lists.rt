@@ -26,15 +26,21 @@ const FAULTS: [(&[u8], u32, ListWhy); 19] = [
     (b"z{\nA", 1, ListWhy::BadLetter),
 ];
 
+/// A fault on a line.
+fn fault(line: u32, why: ListWhy) -> ListFault {
+    ListFault { line, why }
+}
+
+/// The fault of a text.
+fn fault_of(alloc: Global, text: &[u8]) -> Option<ListFault> {
+    WordList::read(alloc, text).err()
+}
+
 #[test]
 fn faults(rt: HostRuntime) {
-    for row in &FAULTS {
-        let fault = WordList::read(rt.alloc(), row.0).err();
-        let expected = ListFault {
-            line: row.1,
-            why: row.2,
-        };
-        assert_eq!(rt; fault, Some(expected), "{:?}", row.0);
+    for (text, line, why) in &FAULTS {
+        let expected = Some(fault(*line, *why));
+        assert_eq!(rt; fault_of(rt.alloc(), text), expected, "{:?}", text);
     }
 }
 
@@ -139,41 +145,28 @@ fn rising_lines(rt: &impl Abort, alloc: Global, lines: u32) -> Vec<u8> {
     text
 }
 
-/// The fault of a text.
-fn fault_of(alloc: Global, text: &[u8]) -> Option<ListFault> {
-    WordList::read(alloc, text).err()
-}
-
-fn assert_many(rt: &impl Abort, list: &WordList) {
+/// Asserts that a text has as many words as a list may have, and that with more text behind it a line has one word too many.
+fn assert_limit(rt: &impl Abort, alloc: Global, text: &mut Vec<u8>, more: &[u8], line: u32) {
+    let list = list_of(rt, alloc, text);
     assert_eq!(rt; list.len(), MAX_WORDS);
     assert_eq!(rt; list.word(0), b"AAAA".as_slice());
     assert_eq!(rt; list.word(1), b"AAAB".as_slice());
     assert!(rt; list.has(b"BAAA"));
+    text.extend_from_slice(more).expect(rt, "memory");
+    assert_eq!(rt; fault_of(alloc, text), Some(fault(line, ListWhy::TooMany)));
 }
 
 #[test]
 fn limit_of_words(rt: HostRuntime) {
     let mut text = distinct_lines(&rt, rt.alloc(), 400_000);
     text.extend_from_slice(b"baaa\n").expect(&rt, "memory");
-    assert_many(&rt, &list_of(&rt, rt.alloc(), &text));
-    text.extend_from_slice(b"\nQI\nA1").expect(&rt, "memory");
-    let one_more = ListFault {
-        line: 400_003,
-        why: ListWhy::TooMany,
-    };
-    assert_eq!(rt; fault_of(rt.alloc(), &text), Some(one_more));
+    assert_limit(&rt, rt.alloc(), &mut text, b"\nQI\nA1", 400_003);
 }
 
 #[test]
 fn limit_of_words_in_order(rt: HostRuntime) {
     let mut text = rising_lines(&rt, rt.alloc(), 400_000);
-    assert_eq!(rt; list_of(&rt, rt.alloc(), &text).len(), MAX_WORDS);
-    text.extend_from_slice(b"ZZZZZ").expect(&rt, "memory");
-    let one_more = ListFault {
-        line: 400_001,
-        why: ListWhy::TooMany,
-    };
-    assert_eq!(rt; fault_of(rt.alloc(), &text), Some(one_more));
+    assert_limit(&rt, rt.alloc(), &mut text, b"ZZZZZ", 400_001);
 }
 
 #[test]
@@ -181,15 +174,7 @@ fn limit_of_words_in_order_but_the_last(rt: HostRuntime) {
     let mut text = rising_lines(&rt, rt.alloc(), 400_000);
     text.extend_from_slice(b"aaaa\naaab\n")
         .expect(&rt, "memory");
-    let list = list_of(&rt, rt.alloc(), &text);
-    assert_eq!(rt; list.len(), MAX_WORDS);
-    assert!(rt; list.has(b"AAAB"));
-    text.extend_from_slice(b"QI\nA1").expect(&rt, "memory");
-    let one_more = ListFault {
-        line: 400_003,
-        why: ListWhy::TooMany,
-    };
-    assert_eq!(rt; fault_of(rt.alloc(), &text), Some(one_more));
+    assert_limit(&rt, rt.alloc(), &mut text, b"QI\nA1", 400_003);
 }
 
 fn feeds(rt: &impl Abort, alloc: Global, number: usize) -> Vec<u8> {
@@ -205,9 +190,6 @@ fn limit_of_bytes(rt: HostRuntime) {
     let mut text = feeds(&rt, rt.alloc(), MAX_BYTES);
     assert_eq!(rt; list_of(&rt, rt.alloc(), &text).len(), 0);
     text.push(b'\n').expect(&rt, "memory");
-    let one_more = ListFault {
-        line: 0,
-        why: ListWhy::TooLong,
-    };
+    let one_more = fault(0, ListWhy::TooLong);
     assert_eq!(rt; fault_of(rt.alloc(), &text), Some(one_more));
 }
