@@ -1,10 +1,12 @@
-//! Lexicon files and rows of boards, worked by hand, that several crates of tests use.
+//! Lexicon files and rows of boards, worked by hand, and tiles from a text, that several crates of tests use.
 #![tactic(auto)]
 
 mod comparing;
 mod files;
 mod rows;
+mod tiles;
 
 pub use comparing::has_parts;
 pub use files::{AT, AT_BY_NODES, AT_IT, AT_IT_BY_NODES, EMPTY, EMPTY_BY_NODES};
 pub use rows::{ROWS_1_TO_7, ROWS_9_TO_11, ROWS_12_TO_15};
+pub use tiles::tiles_of;

@@ -11,8 +11,8 @@ use lex_file::PathLex;
 use lex_list::WordList;
 use ref_board::Board;
 use ref_play::Play;
-use ref_tiles::{Counts, Kind, Letter, Rules, english_rules};
-use std::process::Abort;
+use ref_tiles::{Counts, Rules, english_rules};
+use test_samples::tiles_of;
 
 /// Gives a sink all plays by a list of words and a lexicon that stands for it.
 fn offer<L: PathLex>(
@@ -49,17 +49,6 @@ fn offer_by<L: PathLex>(
     offer(rules, list, lex, board, rack, sink)
 }
 
-/// The tiles A and T.
-fn rack_at(rt: &impl Abort) -> Counts {
-    let mut rack = Counts::new();
-    for index in [0, 19] {
-        let kind = Kind::Letter(Letter::new(index).expect(rt, "a letter"));
-        assert!(rt; rack.count(kind) < 255);
-        rack.add(kind);
-    }
-    rack
-}
-
 fn is_same(one: &(Play, i32), other: &(Play, i32)) -> bool {
     one.0.dir == other.0.dir
         && one.0.tiles.as_slice() == other.0.tiles.as_slice()
@@ -77,7 +66,7 @@ fn generate_all(rt: HostRuntime) {
         return;
     };
     let rules = english_rules();
-    let rack = rack_at(&rt);
+    let rack = tiles_of(b"AT").expect(&rt, "tiles");
     let mut board = Board::empty();
     let mut some = All::new(rt.alloc());
     let first = offer_by(&rules, &list, &paths, &mut board, &rack, &mut some);

@@ -87,26 +87,27 @@ fn run_through(
     (word, points)
 }
 
+/// Cross-sets of a board, and the rules and the list that say what they have to be.
+#[derive(Clone, Copy)]
+struct Made<'a> {
+    rules: &'a Rules,
+    list: &'a WordList,
+    cross: &'a Cross,
+    board: &'a Board,
+}
+
 /// Asserts the values of an empty square for plays of a direction: each letter is put there as a blank, and the run through it
 /// across the play is read.
-fn assert_letters(
-    rt: &impl Abort,
-    alloc: Global,
-    rules: &Rules,
-    list: &WordList,
-    cross: &Cross,
-    board: &Board,
-    place: (Dir, Dir, Square),
-) {
+fn assert_letters(rt: &impl Abort, alloc: Global, made: Made<'_>, place: (Dir, Dir, Square)) {
     let (dir, across, square) = place;
-    let mask = cross.mask(dir, square);
+    let mask = made.cross.mask(dir, square);
     for byte in b'A'..=b'Z' {
         let shown = Letter::counted_from(b'A', byte).expect(rt, "a letter");
-        let mut held = *board;
+        let mut held = *made.board;
         assert!(rt; held.at(square).is_none(), "an empty square");
         held.put(square, Tile::of_blank(shown));
-        let (word, points) = run_through(rt, alloc, rules, &held, across, square);
-        let may = word.len() < 2 || list.has(word.as_slice());
+        let (word, points) = run_through(rt, alloc, made.rules, &held, across, square);
+        let may = word.len() < 2 || made.list.has(word.as_slice());
         assert_eq!(rt;
             mask[usize::from(shown.index)],
             may,
@@ -114,45 +115,28 @@ fn assert_letters(
             square,
             byte
         );
-        assert_eq!(rt; cross.side(dir, square), points, "{:?}", square);
+        assert_eq!(rt; made.cross.side(dir, square), points, "{:?}", square);
     }
 }
 
 /// Asserts the values of a square for plays of a direction.
-fn assert_value(
-    rt: &impl Abort,
-    alloc: Global,
-    rules: &Rules,
-    list: &WordList,
-    cross: &Cross,
-    board: &Board,
-    place: (Dir, Dir, Square),
-) {
+fn assert_value(rt: &impl Abort, alloc: Global, made: Made<'_>, place: (Dir, Dir, Square)) {
     let (dir, _across, square) = place;
-    if board.at(square).is_none() {
-        assert_letters(rt, alloc, rules, list, cross, board, place);
+    if made.board.at(square).is_none() {
+        assert_letters(rt, alloc, made, place);
     } else {
-        assert_eq!(rt; cross.mask(dir, square), [false; 26], "{:?}", square);
-        assert_eq!(rt; cross.side(dir, square), 0, "{:?}", square);
+        assert_eq!(rt; made.cross.mask(dir, square), [false; 26], "{:?}", square);
+        assert_eq!(rt; made.cross.side(dir, square), 0, "{:?}", square);
     }
 }
 
 /// Asserts all 450 values of a board.
-fn assert_values(
-    rt: &impl Abort,
-    alloc: Global,
-    rules: &Rules,
-    list: &WordList,
-    cross: &Cross,
-    board: &Board,
-) {
+fn assert_values(rt: &impl Abort, alloc: Global, made: Made<'_>) {
     for row in 0..SIDE {
         for column in 0..SIDE {
             let square = at(rt, row, column);
-            let place = (Dir::Across, Dir::Down, square);
-            assert_value(rt, alloc, rules, list, cross, board, place);
-            let place = (Dir::Down, Dir::Across, square);
-            assert_value(rt, alloc, rules, list, cross, board, place);
+            assert_value(rt, alloc, made, (Dir::Across, Dir::Down, square));
+            assert_value(rt, alloc, made, (Dir::Down, Dir::Across, square));
         }
     }
 }
@@ -175,7 +159,13 @@ fn assert_afresh<L: PathLex>(
     board: &Board,
 ) {
     let cross = Cross::scratch(rules, board, lex);
-    assert_values(rt, alloc, rules, list, &cross, board);
+    let made = Made {
+        rules,
+        list,
+        cross: &cross,
+        board,
+    };
+    assert_values(rt, alloc, made);
 }
 
 fn assert_whole(rt: &impl Abort, alloc: Global, rules: &Rules, words: &[u8], tiles: &[Laid]) {

@@ -16,20 +16,10 @@ use lex_list::WordList;
 use ref_board::Board;
 use ref_board::Dir::{self, Across, Down};
 use ref_play::{Notation, Play, judge, notation};
-use ref_tiles::{Counts, Kind, Rules, english_rules};
+use ref_tiles::{Counts, Rules, english_rules};
 use std::alloc::Global;
 use std::process::Abort;
-
-/// The tiles of a rack, where `?` is a blank.
-fn rack_of(rt: &impl Abort, tiles: &[u8]) -> Counts {
-    let mut counts = Counts::new();
-    for byte in tiles {
-        let kind = Kind::of_byte(*byte).expect(rt, "a tile");
-        assert!(rt; counts.count(kind) < 255);
-        counts.add(kind);
-    }
-    counts
-}
+use test_samples::tiles_of;
 
 /// All plays by a list of words and a lexicon that stands for it.
 fn all_of<L: PathLex>(
@@ -190,7 +180,7 @@ fn assert_row(rt: &impl Abort, alloc: Global, rules: &Rules, row: Row) {
     let given = assert_case(rt, alloc, rules, case);
     assert_written(rt, &given, plays);
     let list = list_of(rt, alloc, words);
-    let (board, rack) = (laid(rt, tiles), rack_of(rt, held));
+    let (board, rack) = (laid(rt, tiles), tiles_of(held).expect(rt, "a rack"));
     let given = by_paths(rt, alloc, rules, &list, &board, &rack);
     assert_written(rt, &given, plays);
 }
@@ -255,7 +245,7 @@ fn assert_case(rt: &impl Abort, alloc: Global, rules: &Rules, case: Case<'_>) ->
     let file = LexFile::open(bytes.as_slice()).expect(rt, "a file");
     let pair = pair(alloc, &list, file).expect(rt, "a pair");
     let board = laid(rt, tiles);
-    let rack = rack_of(rt, held);
+    let rack = tiles_of(held).expect(rt, "a rack");
     let plain = searched(rt, alloc, rules, &list, &board, &rack);
     assert_eq!(rt; plain.len(), plays, "{:?} {:?}", words, held);
     let given = by_file(rt, alloc, rules, &pair, &board, &rack);

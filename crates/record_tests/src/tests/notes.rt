@@ -22,6 +22,9 @@ type Row = (
     Option<(Text, i32)>,
 );
 
+/// The words that stand behind 8E WORD and 9G AT, but not AT.
+const NO_AT: &[u8] = b"DT\nRA\nWORD";
+
 const ROWS: [Row; 10] = [
     (b"AT", &[], b"ABCDEF?", Some(((7, 6, Across, b"At"), 2))),
     (
@@ -39,18 +42,8 @@ const ROWS: [Row; 10] = [
     (b"QI", &[], b"AEOUUTT", None),
     (b"", &[], b"AEOUUTT", None),
     (b"AT\nDT\nRA\nWORD", &[WORD], b"AT", Some((AT, 9))),
-    (
-        b"DT\nRA\nWORD",
-        &[WORD],
-        b"AT",
-        Some(((7, 6, Down, b".A"), 3)),
-    ),
-    (
-        b"DT\nRA\nWORD",
-        &[WORD],
-        b"T",
-        Some(((7, 7, Down, b".T"), 3)),
-    ),
+    (NO_AT, &[WORD], b"AT", Some(((7, 6, Down, b".A"), 3))),
+    (NO_AT, &[WORD], b"T", Some(((7, 7, Down, b".T"), 3))),
     (
         b"SWORDS\nWORD",
         &[WORD],

@@ -376,50 +376,66 @@ fn codes(rt: HostRuntime) {
     }
 }
 
-/// Records, and the nickname and the full name of the first player, and then of the second.
-const NAMES: [(&[u8], [&[u8]; 4]); 13] = [
+/// A nickname and a full name.
+type Named = (&'static [u8], &'static [u8]);
+
+/// A player of whom no line says a name.
+const NOBODY: Named = (b"", b"");
+
+/// Records, and what the first player is called, and then the second.
+const NAMES: [(&[u8], Named, Named); 13] = [
     (
         b"\xef\xbb\xbf#player1 A  Ann Lee\r\n#note x\n>A:\tDORWAAE  8e WORD 16 16\r\n",
-        [b"A", b"Ann Lee", b"", b""],
+        (b"A", b"Ann Lee"),
+        NOBODY,
     ),
     (
         b"#player1 A  Ann Lee\r\n#player2 B",
-        [b"A", b"Ann Lee", b"B", b""],
+        (b"A", b"Ann Lee"),
+        (b"B", b""),
     ),
-    (b"#player2 \tB\t Bo:  Ng \t\n", [b"", b"", b"B", b"Bo:  Ng"]),
-    (b"#player1 A:B Ann\n>C: - +0 0", [b"C", b"", b"", b""]),
-    (b"#player1 :\n#player1 A Ann", [b"A", b"Ann", b"", b""]),
+    (b"#player2 \tB\t Bo:  Ng \t\n", NOBODY, (b"B", b"Bo:  Ng")),
+    (b"#player1 A:B Ann\n>C: - +0 0", (b"C", b""), NOBODY),
+    (b"#player1 :\n#player1 A Ann", (b"A", b"Ann"), NOBODY),
     (
         b"#player1 A Ann\n#player1 B Bo\n#player2 B Cy",
-        [b"A", b"Ann", b"B", b"Cy"],
+        (b"A", b"Ann"),
+        (b"B", b"Cy"),
     ),
     (
         b"#player1 A Ann\n#player2 B Bo\n#player1 B Bo",
-        [b"A", b"Ann", b"B", b"Bo"],
+        (b"A", b"Ann"),
+        (b"B", b"Bo"),
     ),
     (
         b">A: - +0 0\n#player1 B Bo\n#player2 A Ann",
-        [b"A", b"", b"", b""],
+        (b"A", b""),
+        NOBODY,
     ),
     (
         b"#player2 B Bo\n>A: - +0 0\n>B: - +0 0",
-        [b"A", b"", b"B", b"Bo"],
+        (b"A", b""),
+        (b"B", b"Bo"),
     ),
     (
         b"#player1X A\n#player1\n#player1 \t \n#player11 A\n#player3 A\n#player A",
-        [b"", b"", b"", b""],
+        NOBODY,
+        NOBODY,
     ),
     (
         b"#Player1 A\n# player1 A\n #player1 A\n##player1 A\n#\nplayer1 A",
-        [b"", b"", b"", b""],
+        NOBODY,
+        NOBODY,
     ),
     (
         b"#rack1 A\n#note player1 A\n#lexicon X\n#player1 A\x00 \x00",
-        [b"A\x00", b"\x00", b"", b""],
+        (b"A\x00", b"\x00"),
+        NOBODY,
     ),
     (
         b"\xef\xbb\xbf#player1 A Ann\r\r\n#player2 B\r",
-        [b"A", b"Ann\r", b"B", b""],
+        (b"A", b"Ann\r"),
+        (b"B", b""),
     ),
 ];
 
@@ -430,10 +446,10 @@ fn assert_player(rt: &impl Abort, player: &Player, nick: &[u8], full: &[u8]) {
 
 #[test]
 fn pragmas(rt: HostRuntime) {
-    for (text, names) in &NAMES {
+    for (text, first, second) in &NAMES {
         let players = read(rt.alloc(), text).expect(&rt, "a record").players;
-        assert_player(&rt, &players.first, names[0], names[1]);
-        assert_player(&rt, &players.second, names[2], names[3]);
+        assert_player(&rt, &players.first, first.0, first.1);
+        assert_player(&rt, &players.second, second.0, second.1);
     }
 }
 

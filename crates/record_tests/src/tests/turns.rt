@@ -10,9 +10,10 @@ use game_turns::{Machine, RuleFault, Turn, law_of_tallies, play_through};
 use gcg_read::{Event, Record, Seat, read};
 use lex_list::WordList;
 use ref_play::PlayFault::MissesCentre;
-use ref_tiles::{Counts, Kind, Rules, english_rules};
+use ref_tiles::{Rules, english_rules};
 use std::alloc::Global;
 use std::process::Abort;
+use test_samples::tiles_of;
 
 /// Which rules a row is judged by.
 #[derive(Clone, Copy, Debug)]
@@ -68,6 +69,8 @@ const BACK: &[u8] = b">A: -- -66 0";
 const IDLE: &[u8] = b">B: ADEORTW - +0 0";
 
 const GAINS: &[u8] = b">A: (ADEORTW) +22 88";
+
+const EARLY: &[u8] = b">A: (challenge) +5 5";
 
 const LISTED: &[u8] = b"WORD\nAT\nRA";
 
@@ -198,12 +201,7 @@ const CHALLENGES: [Table; 4] = [
         &[WORD, AT],
         &[(&[b">B: AT (challenge) +5 14"], Illegal(3, BonusOnPhony))],
     ),
-    (
-        English,
-        LISTED,
-        &[],
-        &[(&[b">A: (challenge) +5 5"], Illegal(1, BadBonus))],
-    ),
+    (English, LISTED, &[], &[(&[EARLY], Illegal(1, BadBonus))]),
 ];
 
 /// Games that a player ends by going out.
@@ -297,24 +295,13 @@ const VARIED: [Table; 2] = [
     ),
 ];
 
-/// Tiles from their letters.
-fn tiles(rt: &impl Abort, letters: &[u8]) -> Counts {
-    let mut counts = Counts::new();
-    for byte in letters {
-        let kind = Kind::of_byte(*byte).expect(rt, "a tile");
-        assert!(rt; counts.count(kind) < 255);
-        counts.add(kind);
-    }
-    counts
-}
-
 fn rules_of(rt: &impl Abort, game: Game) -> Rules {
     let mut parts = english_rules().parts();
     match game {
         English => (),
-        Short => parts.counts = tiles(rt, b"AADEEINORRSTTW"),
+        Short => parts.counts = tiles_of(b"AADEEINORRSTTW").expect(rt, "tiles"),
         Spare => {
-            parts.counts = tiles(rt, b"AAAAADEEINORRSTTW");
+            parts.counts = tiles_of(b"AAAAADEEINORRSTTW").expect(rt, "tiles");
             parts.exchange_min = 1;
         }
         Varied => {

@@ -5,9 +5,10 @@ use engine::{Verdict, run};
 use gcg_read::{EventKind, read};
 use lex_build::build;
 use lex_list::WordList;
-use ref_tiles::{Counts, Kind, Letter, Rules, english_rules};
+use ref_tiles::{Rules, english_rules};
 use std::alloc::Global;
 use std::process::Abort;
+use test_samples::tiles_of;
 
 /// A word list, a record, and what is written of them. The lexicon is that of the list.
 pub struct Row {
@@ -104,14 +105,8 @@ pub fn report_all(rt: &impl Abort, alloc: Global, rules: &Rules, rows: &[Row]) {
 
 /// Rules with the English numbers and premiums, and these tiles alone.
 pub fn rules_with(rt: &impl Abort, tiles: &[u8], exchange_min: u8) -> Rules {
-    let mut counts = Counts::new();
-    for byte in tiles {
-        let kind = Kind::Letter(Letter::counted_from(b'A', *byte).expect(rt, "a letter"));
-        assert!(rt; counts.count(kind) < 255);
-        counts.add(kind);
-    }
     let mut parts = english_rules().parts();
-    parts.counts = counts;
+    parts.counts = tiles_of(tiles).expect(rt, "tiles");
     parts.exchange_min = exchange_min;
     Rules::checked(parts).expect(rt, "within the limits")
 }
