@@ -102,43 +102,49 @@ fn assert_first(rt: &impl Abort, tops: &[(Play, i32)], many: usize, play: &Play,
     assert!(rt; first.0.tiles.as_slice() == play.tiles.as_slice());
 }
 
-/// A play that is applied, taken back, and made again by the other player.
-#[test]
-fn withdrawn_play(rt: HostRuntime) {
-    let alloc = rt.alloc();
+/// Words, and the best plays of a rack by them before 8E WORD and behind 9G AT.
+const GAMES: [(&[u8], Option<Best>, Option<Best>); 2] = [
+    (b"WORD\nAT\nRA", Some((b"DORWAAE", WORD, 16, 10)), None),
+    // The one play that an E allows beside both.
+    (
+        b"WORD\nAT\nRA\nEAT\nOE",
+        None,
+        Some((b"E", (8, 5, Dir::Across, b"E.."), 5, 1)),
+    ),
+];
+
+/// Follows a game of 8E WORD and 9G AT, which is taken back and made again by the other player.
+fn assert_game(
+    rt: &impl Abort,
+    alloc: Global,
+    words: &[u8],
+    first: Option<Best>,
+    last: Option<Best>,
+) {
     let rules = english_rules();
-    let list = WordList::read(alloc, b"WORD\nAT\nRA").expect(&rt, "a word list");
-    let bytes = build(alloc, &list).expect(&rt, "a lexicon");
-    let file = LexFile::open(bytes.as_slice()).expect(&rt, "a file");
-    let pair = pair(alloc, &list, file).expect(&rt, "a pair");
+    let list = WordList::read(alloc, words).expect(rt, "a word list");
+    let bytes = build(alloc, &list).expect(rt, "a lexicon");
+    let file = LexFile::open(bytes.as_slice()).expect(rt, "a file");
+    let pair = pair(alloc, &list, file).expect(rt, "a pair");
     let mut follow = Follow::new(&rules, &pair);
-    assert_board(&rt, alloc, &rules, &pair, &follow, &[]);
-    assert_best(&rt, &rules, &pair, &follow, (b"DORWAAE", WORD, 16, 10));
-    applied(&rt, alloc, &rules, &pair, &mut follow, WORD);
-    assert_board(&rt, alloc, &rules, &pair, &follow, &[WORD]);
-    try_at(&rt, alloc, &rules, &pair, &mut follow);
-    assert_board(&rt, alloc, &rules, &pair, &follow, &[WORD]);
-    applied(&rt, alloc, &rules, &pair, &mut follow, AT);
-    assert_board(&rt, alloc, &rules, &pair, &follow, &[WORD, AT]);
+    assert_board(rt, alloc, &rules, &pair, &follow, &[]);
+    if let Some(best) = first {
+        assert_best(rt, &rules, &pair, &follow, best);
+    }
+    applied(rt, alloc, &rules, &pair, &mut follow, WORD);
+    assert_board(rt, alloc, &rules, &pair, &follow, &[WORD]);
+    try_at(rt, alloc, &rules, &pair, &mut follow);
+    assert_board(rt, alloc, &rules, &pair, &follow, &[WORD]);
+    applied(rt, alloc, &rules, &pair, &mut follow, AT);
+    assert_board(rt, alloc, &rules, &pair, &follow, &[WORD, AT]);
+    if let Some(best) = last {
+        assert_best(rt, &rules, &pair, &follow, best);
+    }
 }
 
-/// The one play that an E allows beside 8E WORD and 9G AT.
 #[test]
-fn one_play_left(rt: HostRuntime) {
-    let alloc = rt.alloc();
-    let rules = english_rules();
-    let list = WordList::read(alloc, b"WORD\nAT\nRA\nEAT\nOE").expect(&rt, "a word list");
-    let bytes = build(alloc, &list).expect(&rt, "a lexicon");
-    let file = LexFile::open(bytes.as_slice()).expect(&rt, "a file");
-    let pair = pair(alloc, &list, file).expect(&rt, "a pair");
-    let mut follow = Follow::new(&rules, &pair);
-    applied(&rt, alloc, &rules, &pair, &mut follow, WORD);
-    applied(&rt, alloc, &rules, &pair, &mut follow, AT);
-    assert_best(
-        &rt,
-        &rules,
-        &pair,
-        &follow,
-        (b"E", (8, 5, Dir::Across, b"E.."), 5, 1),
-    );
+fn followed_games(rt: HostRuntime) {
+    for (words, first, last) in GAMES {
+        assert_game(&rt, rt.alloc(), words, first, last);
+    }
 }
