@@ -1,5 +1,5 @@
 //! Records that are judged over memory.
-use super::pieces::{Pieces, assert_same};
+use super::pieces::{assert_same, in_pieces};
 use devices::FromWrite;
 use engine::{Verdict, run};
 use gcg_read::{EventKind, read};
@@ -73,9 +73,7 @@ fn judged_in_pieces(
     inputs: [&[u8]; 3],
     piece: usize,
 ) -> (Verdict, Vec<u8>) {
-    let mut words = Pieces::new(inputs[0], piece);
-    let mut lexicon = Pieces::new(inputs[1], piece);
-    let mut game = Pieces::new(inputs[2], piece);
+    let (mut words, mut lexicon, mut game) = in_pieces(inputs, piece);
     let mut out = FromWrite::new(Vec::new(alloc));
     let verdict = run(alloc, &mut words, &mut lexicon, &mut game, &mut out, rules);
     (verdict.expect(rt, "a verdict"), out.into_inner())

@@ -70,20 +70,23 @@ fn bad_records(rt: HostRuntime) {
 
 #[test]
 fn verdicts(rt: HostRuntime) {
+    let too_short = Verdict::Illegal {
+        line: 1,
+        fault: GameFault::Rule(RuleFault::Play(PlayFault::TooShort)),
+    };
+    let rows: [(&[u8], &[u8], Verdict); 4] = [
+        (
+            b"WORD",
+            b">A: DORWAAE 8E WORD +16 16\n",
+            Verdict::Legal { complete: false },
+        ),
+        (b"WORD", b">A: 8H A +0 0\n", too_short),
+        (b"WORD", b">A\n", Verdict::BadRecord),
+        (b"W", b">A\n", Verdict::BadList),
+    ];
     let rules = english_rules();
-    let (legal, _report) = judged(
-        &rt,
-        rt.alloc(),
-        &rules,
-        b"WORD",
-        b">A: DORWAAE 8E WORD +16 16\n",
-    );
-    assert_eq!(rt; legal, Verdict::Legal { complete: false });
-    let (illegal, _report) = judged(&rt, rt.alloc(), &rules, b"WORD", b">A: 8H A +0 0\n");
-    let fault = GameFault::Rule(RuleFault::Play(PlayFault::TooShort));
-    assert_eq!(rt; illegal, Verdict::Illegal { line: 1, fault });
-    let (bad, _report) = judged(&rt, rt.alloc(), &rules, b"WORD", b">A\n");
-    assert_eq!(rt; bad, Verdict::BadRecord);
-    let (bad, _report) = judged(&rt, rt.alloc(), &rules, b"W", b">A\n");
-    assert_eq!(rt; bad, Verdict::BadList);
+    for (words, game, want) in rows {
+        let (verdict, _report) = judged(&rt, rt.alloc(), &rules, words, game);
+        assert_eq!(rt; verdict, want);
+    }
 }

@@ -117,72 +117,28 @@ fn checks(rt: HostRuntime) {
     }
 }
 
-/// Bytes that stand in the file of AT from a place on in place of its own, and what is written of the check.
-struct Change {
-    at: usize,
-    bytes: &'static [u8],
-    report: &'static str,
-}
+/// A place in the file of AT, the bytes that stand from it on in place of its own, and what is written of the check.
+type Change = (usize, &'static [u8], &'static str);
 
 const CHANGES: [Change; 10] = [
-    Change {
-        at: 0,
-        bytes: &[0x48],
-        report: "bad lexicon: Magic\n",
-    },
-    Change {
-        at: 8,
-        bytes: &[0x05],
-        report: "bad lexicon: Root\n",
-    },
-    Change {
-        at: 8,
-        bytes: &[0x00],
-        report: "bad lexicon: Root\n",
-    },
-    Change {
-        at: 12,
-        bytes: &[0x02],
-        report: "bad lexicon: WordCount\n",
-    },
-    Change {
-        at: 16,
-        bytes: &[0x7b, 0x00, 0x00, 0x00],
-        report: "bad lexicon: Label\n",
-    },
-    Change {
-        at: 32,
-        bytes: &[0xc1, 0x01, 0x00, 0x00],
-        report: "bad lexicon: Order\n",
-    },
-    Change {
-        at: 20,
-        bytes: &[0x40, 0x01, 0x00, 0x00],
-        report: "bad lexicon: Target\n",
-    },
-    Change {
-        at: 16,
-        bytes: &[0x54, 0x00, 0x00, 0x00],
-        report: "bad lexicon: DeadArc\n",
-    },
-    Change {
-        at: 32,
-        bytes: &[0x94, 0x01, 0x00, 0x00],
-        report: "bad lexicon: OpenRun\n",
-    },
-    Change {
-        at: 28,
-        bytes: &[0x21, 0x01, 0x00, 0x00],
-        report: "bad lexicon: Extra A\n",
-    },
+    (0, &[0x48], "bad lexicon: Magic\n"),
+    (8, &[0x05], "bad lexicon: Root\n"),
+    (8, &[0x00], "bad lexicon: Root\n"),
+    (12, &[0x02], "bad lexicon: WordCount\n"),
+    (16, &[0x7b, 0x00, 0x00, 0x00], "bad lexicon: Label\n"),
+    (32, &[0xc1, 0x01, 0x00, 0x00], "bad lexicon: Order\n"),
+    (20, &[0x40, 0x01, 0x00, 0x00], "bad lexicon: Target\n"),
+    (16, &[0x54, 0x00, 0x00, 0x00], "bad lexicon: DeadArc\n"),
+    (32, &[0x94, 0x01, 0x00, 0x00], "bad lexicon: OpenRun\n"),
+    (28, &[0x21, 0x01, 0x00, 0x00], "bad lexicon: Extra A\n"),
 ];
 
 /// The file of AT with a change.
-fn changed(rt: &impl Abort, change: &Change) -> [u8; 36] {
+fn changed(rt: &impl Abort, at: usize, bytes: &[u8]) -> [u8; 36] {
     let mut file = AT;
-    for (place, byte) in change.bytes.iter().enumerate() {
-        assert!(rt; place < 8 && change.at < 36 - place);
-        file[change.at + place] = *byte;
+    for (place, byte) in bytes.iter().enumerate() {
+        assert!(rt; place < 8 && at < 36 - place);
+        file[at + place] = *byte;
     }
     file
 }
@@ -204,9 +160,9 @@ pub fn expect_bad(rt: &impl Abort, alloc: Global, file: &[u8], report: &str) {
 
 #[test]
 fn changed_files(rt: HostRuntime) {
-    for change in &CHANGES {
-        let file = changed(&rt, change);
-        expect_bad(&rt, rt.alloc(), &file, change.report);
+    for (at, bytes, report) in &CHANGES {
+        let file = changed(&rt, *at, bytes);
+        expect_bad(&rt, rt.alloc(), &file, report);
     }
 }
 

@@ -50,6 +50,19 @@ impl Input for Pieces<'_> {
     }
 }
 
+/// The words, the lexicon and the record of a game, as inputs that give at most so many bytes a read and do not fail.
+pub fn in_pieces<'a>(inputs: [&'a [u8]; 3], piece: usize) -> (Pieces<'a>, Pieces<'a>, Pieces<'a>)
+    ensures words { result.0.failures ≡ 0 }
+    ensures lexicon { result.1.failures ≡ 0 }
+    ensures game { result.2.failures ≡ 0 }
+{
+    (
+        Pieces::new(inputs[0], piece),
+        Pieces::new(inputs[1], piece),
+        Pieces::new(inputs[2], piece),
+    )
+}
+
 /// Asserts that inputs which give few bytes a read came to the same verdict and output.
 pub fn assert_same(rt: &impl Abort, told: &(Verdict, Vec<u8>), again: &(Verdict, Vec<u8>)) {
     assert_eq!(rt; again.0, told.0);

@@ -1,6 +1,6 @@
 //! Games that are judged, and best plays that are told, by the rules of a text.
 use super::games::{Row, assert_settled, lexicon_of};
-use super::pieces::{Pieces, assert_same};
+use super::pieces::{Pieces, assert_same, in_pieces};
 use super::plays::UNLISTED;
 use bstr::ByteSlice;
 use devices::{FromRead, FromWrite, Input};
@@ -56,9 +56,9 @@ fn ruled_by(
     lexicon: &[u8],
     game: &[u8],
 ) -> (Verdict, Vec<u8>) {
-    let told = ruled_in_pieces(rt, alloc, [rules, words, lexicon, game], usize::MAX);
+    let told = ruled_in_pieces(rt, alloc, rules, [words, lexicon, game], usize::MAX);
     for piece in [1, 7] {
-        let again = ruled_in_pieces(rt, alloc, [rules, words, lexicon, game], piece);
+        let again = ruled_in_pieces(rt, alloc, rules, [words, lexicon, game], piece);
         assert_same(rt, &told, &again);
     }
     assert_settled(rt, alloc, told.0 == Verdict::Unsettled, game);
@@ -69,13 +69,12 @@ fn ruled_by(
 fn ruled_in_pieces(
     rt: &impl Abort,
     alloc: Global,
-    inputs: [&[u8]; 4],
+    rules: &[u8],
+    inputs: [&[u8]; 3],
     piece: usize,
 ) -> (Verdict, Vec<u8>) {
-    let mut rules = Pieces::new(inputs[0], piece);
-    let mut words = Pieces::new(inputs[1], piece);
-    let mut lexicon = Pieces::new(inputs[2], piece);
-    let mut game = Pieces::new(inputs[3], piece);
+    let mut rules = Pieces::new(rules, piece);
+    let (mut words, mut lexicon, mut game) = in_pieces(inputs, piece);
     let mut out = FromWrite::new(Vec::new(alloc));
     let verdict = run_ruled(
         alloc,
@@ -191,8 +190,8 @@ const BAD_INPUTS: [Row; 3] = [
 #[test]
 fn bad_inputs(rt: HostRuntime) {
     report_by(&rt, rt.alloc(), ENGLISH_TEXT, &BAD_INPUTS);
-    let inputs: [&[u8]; 4] = [ENGLISH_TEXT, b"AT", b"no lexicon, and no header", b">A"];
-    let (verdict, report) = ruled_in_pieces(&rt, rt.alloc(), inputs, 7);
+    let inputs: [&[u8]; 3] = [b"AT", b"no lexicon, and no header", b">A"];
+    let (verdict, report) = ruled_in_pieces(&rt, rt.alloc(), ENGLISH_TEXT, inputs, 7);
     assert_eq!(rt; verdict, Verdict::BadFile);
     assert_eq!(rt; report.as_slice(), b"bad lexicon: Magic\n".as_slice());
 }
@@ -200,9 +199,8 @@ fn bad_inputs(rt: HostRuntime) {
 /// Asserts that a text which ends in four bytes behind its limit and one more is too long, and that none of the four is read.
 fn assert_long(rt: &impl Abort, alloc: Global, text: &[u8], piece: usize) {
     let mut rules = Pieces::new(text, piece);
-    let mut words = Pieces::new(b"A1", piece);
-    let mut lexicon = Pieces::new(b"no lexicon", piece);
-    let mut game = Pieces::new(b">", piece);
+    let inputs: [&[u8]; 3] = [b"A1", b"no lexicon", b">"];
+    let (mut words, mut lexicon, mut game) = in_pieces(inputs, piece);
     let mut out = FromWrite::new(Vec::new(alloc));
     let verdict = run_ruled(
         alloc,
@@ -249,14 +247,13 @@ fn long_texts(rt: HostRuntime) {
 fn topped_in_pieces(
     rt: &impl Abort,
     alloc: Global,
-    inputs: [&[u8]; 4],
+    rules: &[u8],
+    inputs: [&[u8]; 3],
     rack: &[u8],
     piece: usize,
 ) -> (Verdict, Vec<u8>) {
-    let mut rules = Pieces::new(inputs[0], piece);
-    let mut words = Pieces::new(inputs[1], piece);
-    let mut lexicon = Pieces::new(inputs[2], piece);
-    let mut game = Pieces::new(inputs[3], piece);
+    let mut rules = Pieces::new(rules, piece);
+    let (mut words, mut lexicon, mut game) = in_pieces(inputs, piece);
     let mut out = FromWrite::new(Vec::new(alloc));
     let verdict = run_top_ruled(
         alloc,
@@ -284,7 +281,8 @@ fn assert_topped(
         let (verdict, text) = topped_in_pieces(
             rt,
             alloc,
-            [rules, b"AT", lexicon, b""],
+            rules,
+            [b"AT", lexicon, b""],
             b"?A",
             piece,
         );

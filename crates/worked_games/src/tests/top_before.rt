@@ -59,20 +59,21 @@ fn by_at(
 /// rules as a text.
 fn topped(rt: &impl Abort, alloc: Global, asked: Asked) -> (Verdict, Vec<u8>) {
     let lexicon = lexicon_of(rt, alloc, asked.words.as_bytes());
-    let told = topped_in_pieces(rt, alloc, asked, &lexicon, usize::MAX);
+    let told = topped_in_pieces(rt, alloc, None, asked, &lexicon, usize::MAX);
     for piece in [1, 7] {
-        let again = topped_in_pieces(rt, alloc, asked, &lexicon, piece);
+        let again = topped_in_pieces(rt, alloc, None, asked, &lexicon, piece);
         assert_same(rt, &told, &again);
-        let ruled = topped_by_text(rt, alloc, asked, &lexicon, piece);
+        let ruled = topped_in_pieces(rt, alloc, Some(ENGLISH_TEXT), asked, &lexicon, piece);
         assert_same(rt, &told, &ruled);
     }
     told
 }
 
-/// The same, by inputs that give at most so many bytes a read.
+/// The same by a rules text, or by the English rules where there is none, by inputs that give at most so many bytes a read.
 fn topped_in_pieces(
     rt: &impl Abort,
     alloc: Global,
+    rules: Option<&[u8]>,
     asked: Asked,
     lexicon: &[u8],
     piece: usize,
@@ -81,44 +82,34 @@ fn topped_in_pieces(
     let mut lexicon = Pieces::new(lexicon, piece);
     let mut game = Pieces::new(asked.game.as_bytes(), piece);
     let mut out = FromWrite::new(Vec::new(alloc));
-    let verdict = run_top_before(
-        alloc,
-        &mut words,
-        &mut lexicon,
-        &mut game,
-        asked.rack.map(|rack| rack.as_bytes()),
-        asked.number,
-        asked.before,
-        &mut out,
-        &english_rules(),
-    );
-    (verdict.expect(rt, "a verdict"), out.into_inner())
-}
-
-/// The same, by the English rules as a text.
-fn topped_by_text(
-    rt: &impl Abort,
-    alloc: Global,
-    asked: Asked,
-    lexicon: &[u8],
-    piece: usize,
-) -> (Verdict, Vec<u8>) {
-    let mut rules = Pieces::new(ENGLISH_TEXT, piece);
-    let mut words = Pieces::new(asked.words.as_bytes(), piece);
-    let mut lexicon = Pieces::new(lexicon, piece);
-    let mut game = Pieces::new(asked.game.as_bytes(), piece);
-    let mut out = FromWrite::new(Vec::new(alloc));
-    let verdict = run_top_before_ruled(
-        alloc,
-        &mut rules,
-        &mut words,
-        &mut lexicon,
-        &mut game,
-        asked.rack.map(|rack| rack.as_bytes()),
-        asked.number,
-        asked.before,
-        &mut out,
-    );
+    let rack = asked.rack.map(|rack| rack.as_bytes());
+    let verdict = match rules {
+        Some(text) => {
+            let mut rules = Pieces::new(text, piece);
+            run_top_before_ruled(
+                alloc,
+                &mut rules,
+                &mut words,
+                &mut lexicon,
+                &mut game,
+                rack,
+                asked.number,
+                asked.before,
+                &mut out,
+            )
+        }
+        None => run_top_before(
+            alloc,
+            &mut words,
+            &mut lexicon,
+            &mut game,
+            rack,
+            asked.number,
+            asked.before,
+            &mut out,
+            &english_rules(),
+        ),
+    };
     (verdict.expect(rt, "a verdict"), out.into_inner())
 }
 

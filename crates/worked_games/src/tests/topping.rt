@@ -1,6 +1,6 @@
 //! The best plays on the board after a record.
 use super::games::lexicon_of;
-use super::pieces::{Pieces, assert_same};
+use super::pieces::{assert_same, in_pieces};
 use devices::{FromRead, FromWrite, Input};
 use engine::{GameFault, Verdict, run_top};
 use game_turns::RuleFault;
@@ -34,9 +34,7 @@ fn topped_in_pieces(
     rack: &[u8],
     piece: usize,
 ) -> (Verdict, Vec<u8>) {
-    let mut words = Pieces::new(inputs[0], piece);
-    let mut lexicon = Pieces::new(inputs[1], piece);
-    let mut game = Pieces::new(inputs[2], piece);
+    let (mut words, mut lexicon, mut game) = in_pieces(inputs, piece);
     let mut out = FromWrite::new(Vec::new(alloc));
     let verdict = run_top(
         alloc,
