@@ -104,74 +104,55 @@ pub const ONE_PLAY: Job<'static> = Job {
 
 /// A play that is taken back.
 pub const WITHDRAWN: Job<'static> = Job {
-    call: Call::Judge,
-    rules: None,
     words: b"WORD\nAT\nRA",
     lexicon: &WORD_AT_RA,
     game: b">A: DORWAAE 8E WORD +16 16\n>B: AT 9G AT +9 9\n>B: AT -- -9 0\n>A: AT 9G AT +9 25\n",
-    verdict: Verdict::Legal { complete: false },
     wrote: b"legal unfinished\n1 A 8E WORD +16 16 best 8E WORD 16\n2 B 9G AT +9 9 best -\n3 B -- -9 0\n4 A 9G AT +9 25 best - unlisted DT\n",
+    ..ONE_PLAY
 };
 
 /// Six passes, and both players lose the points of their racks.
 pub const STALE: Job<'static> = Job {
-    call: Call::Judge,
-    rules: None,
     words: b"RETAINS",
     lexicon: &RETAINS,
     game: b">A: - +0 0\n>B: - +0 0\n>A: - +0 0\n>B: - +0 0\n>A: - +0 0\n>B: - +0 0\n>A: AEINRST (AEINRST) -7 -7\n>B: AEINRST (AEINRST) -7 -7\n",
     verdict: Verdict::Legal { complete: true },
     wrote: b"legal complete\n1 A - +0 0 best -\n2 B - +0 0 best -\n3 A - +0 0 best -\n4 B - +0 0 best -\n5 A - +0 0 best -\n6 B - +0 0 best -\n7 A (AEINRST) -7 -7\n8 B (AEINRST) -7 -7\n",
+    ..ONE_PLAY
 };
 
 /// The one Q is shown again before it can be drawn.
 pub const UNSETTLED: Job<'static> = Job {
-    call: Call::Judge,
-    rules: None,
-    words: b"WORD",
-    lexicon: &WORD,
     game: b">A: Q -Q +0 0\n>B: - +0 0\n>A: Q - +0 0\n",
     verdict: Verdict::Unsettled,
     wrote: b"unsettled\n",
+    ..ONE_PLAY
 };
 
 /// The same, settled.
 pub const NO_DEAL: Job<'static> = Job {
     call: Call::Settle,
-    rules: None,
-    words: b"WORD",
-    lexicon: &WORD,
-    game: b">A: Q -Q +0 0\n>B: - +0 0\n>A: Q - +0 0\n",
     verdict: Verdict::Illegal {
         line: 3,
         fault: GameFault::NoDeal,
     },
     wrote: b"illegal line 3: NoDeal\n",
+    ..UNSETTLED
 };
 
-/// The same by the text of the English rules.
+/// Another one, by the text of the English rules: seven other tiles, where six of the old ones stayed.
 pub const RULED_NO_DEAL: Job<'static> = Job {
-    call: Call::Settle,
     rules: Some(ENGLISH_TEXT),
-    words: b"WORD",
-    lexicon: &WORD,
     game: b">A: AEINRST -1 +0 0\n>B: - +0 0\n>A: BCDFGHJ - +0 0\n",
-    verdict: Verdict::Illegal {
-        line: 3,
-        fault: GameFault::NoDeal,
-    },
-    wrote: b"illegal line 3: NoDeal\n",
+    ..NO_DEAL
 };
 
 /// A game whose search finds a deal.
 pub const SETTLED: Job<'static> = Job {
     call: Call::Settle,
-    rules: None,
-    words: b"WORD",
-    lexicon: &WORD,
     game: b">A: AEINRST -7 +0 0\n>B: - +0 0\n>A: BCDFGHJ - +0 0\n",
-    verdict: Verdict::Legal { complete: false },
     wrote: b"legal unfinished\n1 A -7 +0 0 best none\n2 B - +0 0 best -\n3 A - +0 0 best none\n",
+    ..ONE_PLAY
 };
 
 /// The best plays with a blank on the empty board.
@@ -198,35 +179,21 @@ pub const RULED: Job<'static> = Job {
 
 /// The best plays with a blank on the empty board, by the text of the English rules.
 pub const RULED_PLAYS: Job<'static> = Job {
-    call: Call::Top("?A"),
     rules: Some(ENGLISH_TEXT),
-    words: b"AT",
-    lexicon: &AT,
-    game: b"",
-    verdict: Verdict::Done,
-    wrote: b"8G At 2\n8H At 2\nH7 At 2\nH8 At 2\n",
+    ..BEST_PLAYS
 };
 
 /// The best plays before a line with the rack that it shows.
 pub const PLAYS_BEFORE: Job<'static> = Job {
     call: Call::TopBefore(1),
-    rules: None,
-    words: b"AT",
-    lexicon: &AT,
     game: b">A: ?A 8H At +2 2\n",
-    verdict: Verdict::Done,
-    wrote: b"8G At 2\n8H At 2\nH7 At 2\nH8 At 2\n",
+    ..BEST_PLAYS
 };
 
 /// The same by the text of the English rules.
 pub const RULED_PLAYS_BEFORE: Job<'static> = Job {
-    call: Call::TopBefore(1),
     rules: Some(ENGLISH_TEXT),
-    words: b"AT",
-    lexicon: &AT,
-    game: b">A: ?A 8H At +2 2\n",
-    verdict: Verdict::Done,
-    wrote: b"8G At 2\n8H At 2\nH7 At 2\nH8 At 2\n",
+    ..PLAYS_BEFORE
 };
 
 /// A lexicon of one word.
@@ -327,13 +294,8 @@ pub const SHOWN: Job<'static> = Job {
 
 /// The same by the text of the English rules.
 pub const RULED_BOARD: Job<'static> = Job {
-    call: Call::Board(Some(2)),
     rules: Some(ENGLISH_TEXT),
-    words: b"",
-    lexicon: b"",
-    game: b">A: DOW? 8E WOrD +14 14\n>B: NRSTAEI - +0 0\n",
-    verdict: Verdict::Done,
-    wrote: SMALL_BOARD,
+    ..SHOWN
 };
 
 /// All of them.
