@@ -25,5 +25,5 @@ const RACKS: [Row; 3] = [
 
 #[test]
 fn racks(rt: HostRuntime) {
-    report_all(&rt, rt.alloc(), &english_rules(), &RACKS);
+    report_all(&rt, rt.alloc(), &english_rules(), &[&RACKS]);
 }

@@ -24,11 +24,6 @@ const BOUNDS: [Row; 3] = [
     },
 ];
 
-#[test]
-fn bounds(rt: HostRuntime) {
-    report_all(&rt, rt.alloc(), &english_rules(), &BOUNDS);
-}
-
 /// The Q cannot be drawn before it goes back, but no bound says so: a record with an exchange may stay unsettled.
 const UNSETTLED: [Row; 1] = [Row {
     words: "WORD",
@@ -37,8 +32,8 @@ const UNSETTLED: [Row; 1] = [Row {
 }];
 
 #[test]
-fn unsettled_games(rt: HostRuntime) {
-    report_all(&rt, rt.alloc(), &english_rules(), &UNSETTLED);
+fn deals(rt: HostRuntime) {
+    report_all(&rt, rt.alloc(), &english_rules(), &[&BOUNDS, &UNSETTLED]);
 }
 
 /// With 14 tiles both racks are all of them.
@@ -62,7 +57,7 @@ const WHOLE_SETS: [Row; 3] = [
 
 #[test]
 fn whole_sets(rt: HostRuntime) {
-    report_all(&rt, rt.alloc(), &rules_with(&rt, SHORT, 7), &WHOLE_SETS);
+    report_all(&rt, rt.alloc(), &rules_with(&rt, SHORT, 7), &[&WHOLE_SETS]);
 }
 
 #[test]

@@ -87,8 +87,15 @@ pub fn lexicon_of(rt: &impl Abort, alloc: Global, words: &[u8]) -> Vec<u8> {
     }
 }
 
+/// Asserts what is written of each record of some tables.
+pub fn report_all(rt: &impl Abort, alloc: Global, rules: &Rules, tables: &[&[Row]]) {
+    for rows in tables {
+        report_rows(rt, alloc, rules, rows);
+    }
+}
+
 /// Asserts what is written of each row's record.
-pub fn report_all(rt: &impl Abort, alloc: Global, rules: &Rules, rows: &[Row]) {
+fn report_rows(rt: &impl Abort, alloc: Global, rules: &Rules, rows: &[Row]) {
     for row in rows {
         let (_verdict, report) = judged(
             rt,

@@ -24,11 +24,6 @@ const BAD_LISTS: [Row; 3] = [
     },
 ];
 
-#[test]
-fn bad_lists(rt: HostRuntime) {
-    report_all(&rt, rt.alloc(), &english_rules(), &BAD_LISTS);
-}
-
 /// The first faulty line of a record is told.
 const BAD_RECORDS: [Row; 6] = [
     Row {
@@ -64,8 +59,13 @@ const BAD_RECORDS: [Row; 6] = [
 ];
 
 #[test]
-fn bad_records(rt: HostRuntime) {
-    report_all(&rt, rt.alloc(), &english_rules(), &BAD_RECORDS);
+fn bad_inputs(rt: HostRuntime) {
+    report_all(
+        &rt,
+        rt.alloc(),
+        &english_rules(),
+        &[&BAD_LISTS, &BAD_RECORDS],
+    );
 }
 
 #[test]

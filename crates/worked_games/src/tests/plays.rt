@@ -51,11 +51,6 @@ const PLACES: [Row; 9] = [
     },
 ];
 
-#[test]
-fn places(rt: HostRuntime) {
-    report_all(&rt, rt.alloc(), &english_rules(), &PLACES);
-}
-
 /// What a play scores: letters, premiums under new tiles, blanks, words across, seven tiles.
 const SCORES: [Row; 10] = [
     Row {
@@ -110,11 +105,6 @@ const SCORES: [Row; 10] = [
     },
 ];
 
-#[test]
-fn scores(rt: HostRuntime) {
-    report_all(&rt, rt.alloc(), &english_rules(), &SCORES);
-}
-
 /// The running total is the sum of the scores of the player.
 const TOTALS: [Row; 2] = [
     Row {
@@ -128,11 +118,6 @@ const TOTALS: [Row; 2] = [
         report: "illegal line 2: WrongTotal 9\n",
     },
 ];
-
-#[test]
-fn totals(rt: HostRuntime) {
-    report_all(&rt, rt.alloc(), &english_rules(), &TOTALS);
-}
 
 /// Words that are not in the list stand where nobody challenges them, and are told.
 pub const UNLISTED: [Row; 5] = [
@@ -164,6 +149,11 @@ pub const UNLISTED: [Row; 5] = [
 ];
 
 #[test]
-fn unlisted_words(rt: HostRuntime) {
-    report_all(&rt, rt.alloc(), &english_rules(), &UNLISTED);
+fn plays(rt: HostRuntime) {
+    report_all(
+        &rt,
+        rt.alloc(),
+        &english_rules(),
+        &[&PLACES, &SCORES, &TOTALS, &UNLISTED],
+    );
 }

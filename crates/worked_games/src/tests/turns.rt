@@ -32,11 +32,6 @@ const MOVERS: [Row; 4] = [
     },
 ];
 
-#[test]
-fn movers(rt: HostRuntime) {
-    report_all(&rt, rt.alloc(), &english_rules(), &MOVERS);
-}
-
 /// A play with a word that is not in the list may be withdrawn by the line directly behind it.
 const WITHDRAWALS: [Row; 5] = [
     Row {
@@ -65,11 +60,6 @@ const WITHDRAWALS: [Row; 5] = [
         report: "illegal line 4: NothingToWithdraw\n",
     },
 ];
-
-#[test]
-fn withdrawals(rt: HostRuntime) {
-    report_all(&rt, rt.alloc(), &english_rules(), &WITHDRAWALS);
-}
 
 /// A bonus for a challenge that failed: five points for each of the words that are in the list and were named.
 const CHALLENGES: [Row; 8] = [
@@ -115,22 +105,12 @@ const CHALLENGES: [Row; 8] = [
     },
 ];
 
-#[test]
-fn challenges(rt: HostRuntime) {
-    report_all(&rt, rt.alloc(), &english_rules(), &CHALLENGES);
-}
-
 /// An exchange by the English rules.
 const EXCHANGES: [Row; 1] = [Row {
     words: "AT",
     game: ">A: AEI -5 +0 0\n>B: QU - +0 0\n>A: SX - +0 0\n",
     report: "legal unfinished\n1 A -5 +0 0 best -\n2 B - +0 0 best -\n3 A - +0 0 best -\n",
 }];
-
-#[test]
-fn exchanges(rt: HostRuntime) {
-    report_all(&rt, rt.alloc(), &english_rules(), &EXCHANGES);
-}
 
 /// An exchange needs seven tiles in the bag, and a play no more tiles than the rack has.
 const LEAST_BAGS: [Row; 2] = [
@@ -145,11 +125,6 @@ const LEAST_BAGS: [Row; 2] = [
         report: "illegal line 3: TooManyUsed\n",
     },
 ];
-
-#[test]
-fn least_bags(rt: HostRuntime) {
-    report_all(&rt, rt.alloc(), &rules_with(&rt, SHORT, 7), &LEAST_BAGS);
-}
 
 /// An exchange of no more tiles than the bag has, where one tile in it is enough.
 const SMALL_BAGS: [Row; 2] = [
@@ -167,7 +142,7 @@ const SMALL_BAGS: [Row; 2] = [
 
 #[test]
 fn small_bags(rt: HostRuntime) {
-    report_all(&rt, rt.alloc(), &rules_with(&rt, SPARE, 1), &SMALL_BAGS);
+    report_all(&rt, rt.alloc(), &rules_with(&rt, SPARE, 1), &[&SMALL_BAGS]);
 }
 
 /// After six turns in a row without a standing play each player may lose the points of the own rack.
@@ -195,8 +170,13 @@ const STALE_GAMES: [Row; 4] = [
 ];
 
 #[test]
-fn stale_games(rt: HostRuntime) {
-    report_all(&rt, rt.alloc(), &english_rules(), &STALE_GAMES);
+fn turns(rt: HostRuntime) {
+    report_all(
+        &rt,
+        rt.alloc(),
+        &english_rules(),
+        &[&MOVERS, &WITHDRAWALS, &CHALLENGES, &EXCHANGES, &STALE_GAMES],
+    );
 }
 
 /// A player who is out gains twice the points of the other rack, after one idle pass at most.
@@ -223,11 +203,6 @@ const OUT: [Row; 4] = [
     },
 ];
 
-#[test]
-fn players_out(rt: HostRuntime) {
-    report_all(&rt, rt.alloc(), &rules_with(&rt, SHORT, 7), &OUT);
-}
-
 /// A time penalty is a multiple of five points, once for each player.
 const TIME: [Row; 3] = [
     Row {
@@ -248,6 +223,11 @@ const TIME: [Row; 3] = [
 ];
 
 #[test]
-fn time_penalties(rt: HostRuntime) {
-    report_all(&rt, rt.alloc(), &rules_with(&rt, SHORT, 7), &TIME);
+fn games_of_14_tiles(rt: HostRuntime) {
+    report_all(
+        &rt,
+        rt.alloc(),
+        &rules_with(&rt, SHORT, 7),
+        &[&LEAST_BAGS, &OUT, &TIME],
+    );
 }
