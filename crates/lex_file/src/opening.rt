@@ -1,5 +1,5 @@
 //! The form of a lexicon file, or its first fault.
-ghost use Rattle.std.specs.Prelude.{◌≡◌, ◌≤◌, ◌<◌, Some, None, true, IfOk, length, slice_index};
+ghost use Rattle.std.specs.Prelude.{◌≡◌, ◌-◌, ◌≤◌, ◌<◌, Some, None, true, IfOk, length, slice_index};
 ghost use Rattle.lex_file.specs.FileWords.{words_in};
 ghost use Rattle.lex_file.specs.Formats.{header_bytes};
 ghost use Rattle.check_lists.specs.Checks.{Refuses};
@@ -13,7 +13,9 @@ use crate::mask_checks::{check_mask_header, check_nodes};
 use crate::reading::{begins, is_first, is_last, is_node, word_at, word_count};
 
 /// The greatest label, that of Z.
-const MAX_LABEL: u8 = 26;
+const MAX_LABEL: u32 = 26;
+/// How many labels there are.
+const LABELS: u32 = MAX_LABEL + 1;
 
 /// The format of a file without a fault, or its first fault. The words are gone over once.
 #[tactic(auto, unfolding(crate::specs::Shapes::fault_of, crate::specs::Shapes::form_fault))]
@@ -67,23 +69,23 @@ fn check_header(bytes: &[u8]) -> Result<(), FileFault>
 }
 
 /// Looks for the first fault of the arcs.
-#[tactic(auto, using(crate::proofs::Checks::fine_none, crate::proofs::Checks::fine_more, crate::proofs::Checks::start_none, crate::proofs::Checks::start_last, crate::proofs::Checks::start_same, crate::proofs::Checks::least_none, crate::proofs::Checks::least_last, crate::proofs::Checks::least_more), unfolding(crate::specs::Shapes::body_fault))]
+#[tactic(auto, using(crate::proofs::Checks::fine_none, crate::proofs::Checks::fine_more, crate::proofs::Checks::low_label), unfolding(crate::specs::Shapes::body_fault))]
 fn check_arcs(arcs: &[u8]) -> Result<(), FileFault>
     ensures { Refuses result (body_fault (words_in arcs.now)) }
 {
     let count = word_count(arcs);
-    let mut start = 1;
-    let mut least = 0;
+    let mut behind = 0;
+    let mut room = LABELS;
     for place in 0..count {
-        if !is_fine(arcs, place, start, least) {
-            check_arc(arcs, place, start, least)?;
+        if !is_fine(arcs, place, behind, room) {
+            check_arc(arcs, place, start_of(arcs, place, behind), LABELS - room)?;
         }
         let word = word_at(arcs, place);
         if is_last(word) {
-            start = place + 2;
-            least = 0;
+            behind = place;
+            room = LABELS;
         } else {
-            least = Arc::of_word(word).label + 1;
+            room = MAX_LABEL - Arc::of_word(word).label as u32;
         }
     }
     if !begins(arcs, count) {
@@ -92,25 +94,50 @@ fn check_arcs(arcs: &[u8]) -> Result<(), FileFault>
     Ok(())
 }
 
-/// Whether the arc at a place has no fault. Its node begins with the arc of the number `start`, and `least` is the least label that is
-/// in order there. A file may have millions of arcs, so this takes few jumps; [`check_arc`] names the fault where there is one.
-#[tactic(auto, using(crate::proofs::Checks::start_below), unfolding(crate::specs::Shapes::arc_fault))]
+/// Whether the arc at a place has no fault. The node before its own ends at the place `behind`, 0 where there is none, and the `room`
+/// greatest labels are in order there. A file may have millions of arcs, so this takes few jumps; [`check_arc`] names the fault where
+/// there is one.
 #[inline(always)]
-fn is_fine(arcs: &[u8], place: usize, start: usize, least: u8) -> bool
+fn is_fine(arcs: &[u8], place: usize, behind: usize, room: u32) -> bool
     requires inside { place < length (words_in arcs.now) }
-    requires node { start ≡ start_at (words_in arcs.now) place }
-    requires order { IsLeast (words_in arcs.now) place least }
+    requires node { behind ≡ start_at (words_in arcs.now) place - 2 }
+    requires order { IsLeast (words_in arcs.now) place (27 - room) }
+    requires few { room ≤ 27 }
     ensures { result ≡ true → arc_fault (words_in arcs.now) place ≡ None }
 {
     let arc = Arc::of_word(word_at(arcs, place));
-    let target = arc.target as usize;
-    if !((arc.label >= least) & (arc.label <= MAX_LABEL) & (target < start)) {
+    let above = (arc.label as u32 + room).wrapping_sub(LABELS);
+    if above >= room {
         return false;
     }
-    if target < 2 {
-        return arc.accepts || target == 1;
+    let end = (arc.target as usize).wrapping_sub(2);
+    if end < behind {
+        return is_last(word_at(arcs, end));
     }
-    is_last(word_at(arcs, target - 2))
+    match arc.target {
+        0 => arc.accepts,
+        1 => behind > 0,
+        _ => false,
+    }
+}
+
+/// The number of the first arc of the node in which the arc at a place stands. The node before it ends at the place `behind`, 0 where
+/// there is none.
+#[cold]
+#[inline(never)]
+fn start_of(arcs: &[u8], place: usize, behind: usize) -> usize
+    requires inside { place < length (words_in arcs.now) }
+    requires node { behind ≡ start_at (words_in arcs.now) place - 2 }
+    ensures { result ≡ start_at (words_in arcs.now) place }
+{
+    if behind > 0 {
+        return behind + 2;
+    }
+    if place > 0 && is_last(word_at(arcs, 0)) {
+        2
+    } else {
+        1
+    }
 }
 
 /// Looks for the first fault of the arc at a place. The first arc of its node has the number `start`, and `least` is the least
@@ -118,17 +145,18 @@ fn is_fine(arcs: &[u8], place: usize, start: usize, least: u8) -> bool
 #[tactic(auto, unfolding(crate::specs::Shapes::arc_fault))]
 #[cold]
 #[inline(never)]
-fn check_arc(arcs: &[u8], place: usize, start: usize, least: u8) -> Result<(), FileFault>
+fn check_arc(arcs: &[u8], place: usize, start: usize, least: u32) -> Result<(), FileFault>
     requires inside { place < length (words_in arcs.now) }
     requires node { start ≡ start_at (words_in arcs.now) place }
     requires order { IsLeast (words_in arcs.now) place least }
     ensures { Refuses result (arc_fault (words_in arcs.now) place) }
 {
     let arc = Arc::of_word(word_at(arcs, place));
-    if arc.label > MAX_LABEL {
+    let label = arc.label as u32;
+    if label > MAX_LABEL {
         return Err(FileFault::Label);
     }
-    if arc.label < least {
+    if label < least {
         return Err(FileFault::Order);
     }
     if !leads_back(arcs, start, arc.target) {

@@ -2,9 +2,9 @@ use Rattle.std.proofs.Common.{rules}
 use Rattle.lex_file.specs.Shapes.{arc_fault}
 use Rattle.lex_file.proofs.opening.check_arc.Goals as goal
 
-pub returns-then-arc-least : goal.returns-then-arc-least
+pub returns-then-label-least : goal.returns-then-label-least
 unfolding arc_fault
-returns-then-arc-least c = search rules
+returns-then-label-least c = search rules
 
 pub returns-then-not-leads_back : goal.returns-then-not-leads_back
 unfolding arc_fault

@@ -1,7 +1,7 @@
-use Rattle.std.proofs.Common.{rules, arith}
+use Rattle.std.proofs.Common.{rules, arith, ◌≤◌, ◌-◌, ◌∙◌}
 use Rattle.std.proofs.lemmas.Result.{err_from_is_err_and}
 use Rattle.lex_file.specs.FileWords.{words_in}
-use Rattle.lex_file.proofs.Checks.{fault_here, fine_none, fine_more, start_none, start_last, start_same, least_none, least_last, least_more}
+use Rattle.lex_file.proofs.Checks.{fault_here, fine_none, fine_more, start_none, least_none, next_of_last, next_of_more, low_label}
 use Rattle.lex_file.proofs.opening.check_arcs.Goals as goal
 use Rattle.lex_file.proofs.opening.check_arcs.Goals.{then-is_last, else-is_last}
 
@@ -11,25 +11,19 @@ loop-place-init c =
       fine = fine_none (words_in c.args.arcs.now);
       node = start_none (words_in c.args.arcs.now);
       order = least_none (words_in c.args.arcs.now);
+      few = omega arith;
     }
 
 pub loop-place-preserved : goal.loop-place-preserved
 loop-place-preserved c =
     elim c.if-is_last.branch [
       | then-is_last w ↦
-          rw (w.start-is, w.least-is)
-          (record {
-            fine = search (rules, fine_more);
-            node = search (rules, start_last);
-            order = search (rules, least_last);
-          })
+          let next = next_of_last (words_in c.args.arcs.now) c.loop-place.place (search rules) in
+          rw (w.behind-is, w.room-is) (record { fine = search (rules, fine_more); node = next.0; order = next.1; few = omega arith })
       | else-is_last w ↦
-          rw (w.start-is, w.least-is)
-          (record {
-            fine = search (rules, fine_more);
-            node = search (rules, start_same);
-            order = search (rules, least_more);
-          })
+          let low : w.of_word.result.label ≤ 26 = search (rules, low_label) in
+          let next = next_of_more (words_in c.args.arcs.now) c.loop-place.place (26 - w.of_word.result.label) (search rules) (search (rules, arith, low)) in
+          rw (w.behind-is, w.room-is) (record { fine = search (rules, fine_more); node = c.loop-place.invariant.node ∙ next.0; order = next.1; few = omega arith })
     ]
 
 pub returns-in_err-check_arc : goal.returns-in_err-check_arc

@@ -1,4 +1,4 @@
-use Rattle.std.proofs.Common.{◌≡◌, None}
+use Rattle.std.proofs.Common.{◌≡◌, ◌-◌, ◌≤◌, None}
 use Rattle.lex_file.specs.FileWords.{words_in}
 use Rattle.lex_file.specs.Nodes.{start_at}
 use Rattle.lex_file.specs.Shapes.{IsLeast, arcs_fault}
@@ -8,6 +8,7 @@ abbrev pub invariant-loop-place : goal.invariant-loop-place
 invariant-loop-place l =
     record {
       fine : arcs_fault (words_in l.arcs) l.place ≡ None;
-      node : l.start ≡ start_at (words_in l.arcs) l.place;
-      order : IsLeast (words_in l.arcs) l.place l.least;
+      node : l.behind ≡ start_at (words_in l.arcs) l.place - 2;
+      order : IsLeast (words_in l.arcs) l.place (27 - l.room);
+      few : l.room ≤ 27;
     }
