@@ -2,40 +2,23 @@
 ghost use Rattle.std.specs.Prelude.{◌≡◌};
 
 use std::alloc::AllocError;
-use std::error::Error;
-use std::fmt;
+use thiserror::Error;
 
 /// A device failed: a read or a write of it did not come about.
-#[derive(Clone, Copy, Debug, PartialEq, Eq)]
+#[derive(Clone, Copy, Debug, PartialEq, Eq, Error)]
+#[error("device failed")]
 pub struct DeviceFailed;
 
-impl fmt::Display for DeviceFailed {
-    fn fmt<W: fmt::Write>(&self, f: &mut fmt::Formatter<W>) -> fmt::Result {
-        write!(f, "device failed")
-    }
-}
-
-impl Error for DeviceFailed {}
-
 /// Why reading an input whole gave up.
-#[derive(Clone, Copy, Debug, PartialEq, Eq)]
+#[derive(Clone, Copy, Debug, PartialEq, Eq, Error)]
 pub enum ReadGaveUp {
     /// Memory for the bytes was refused.
+    #[error("no memory")]
     NoMemory,
     /// The input failed.
+    #[error("read failed")]
     Failed,
 }
-
-impl fmt::Display for ReadGaveUp {
-    fn fmt<W: fmt::Write>(&self, f: &mut fmt::Formatter<W>) -> fmt::Result {
-        match self {
-            ReadGaveUp::NoMemory => write!(f, "no memory"),
-            ReadGaveUp::Failed => write!(f, "read failed"),
-        }
-    }
-}
-
-impl Error for ReadGaveUp {}
 
 impl From<DeviceFailed> for ReadGaveUp {
     ghost use Rattle.std.specs.Prelude.{◌≡◌};
@@ -60,24 +43,15 @@ impl From<AllocError> for ReadGaveUp {
 }
 
 /// Why writing bytes whole gave up.
-#[derive(Clone, Copy, Debug, PartialEq, Eq)]
+#[derive(Clone, Copy, Debug, PartialEq, Eq, Error)]
 pub enum WriteGaveUp {
     /// The output took no byte of a write that had some.
+    #[error("write took no byte")]
     TookNone,
     /// The output failed.
+    #[error("write failed")]
     Failed,
 }
-
-impl fmt::Display for WriteGaveUp {
-    fn fmt<W: fmt::Write>(&self, f: &mut fmt::Formatter<W>) -> fmt::Result {
-        match self {
-            WriteGaveUp::TookNone => write!(f, "write took no byte"),
-            WriteGaveUp::Failed => write!(f, "write failed"),
-        }
-    }
-}
-
-impl Error for WriteGaveUp {}
 
 impl From<DeviceFailed> for WriteGaveUp {
     ghost use Rattle.std.specs.Prelude.{◌≡◌};
