@@ -7,6 +7,7 @@ use Rattle.gen_line.specs.declared.cells.Cell.TheVariants.{Old, Free}
 use Rattle.gen_line.specs.Cells.{cell_at, cell_ok, full_on}
 use Rattle.gen_line.specs.Moves.{IsMove, AreSplits, back, marked}
 use Rattle.gen_line.specs.Model.{right, turn, left, tries, may, less, left_of, line_moves}
+use Rattle.gen_line.specs.Walk.{behind_moves, gives_behind, gives_tries_left, gives_one_left, finish_left, finish_right}
 use Rattle.gen_line.proofs.Tests.{same}
 use Rattle.gen_line.proofs.Joins.{rack_ok-uses}
 use Rattle.gen_line.proofs.Lines.{back-size}
@@ -65,6 +66,16 @@ a_before = replicate 6 0 ++ 1 ∷ replicate 8 0
 front_hook : line_moves paths_of_at old_t rack_a ≡ a_before ∷ []
 unfolding line_moves left right turn tries may less left_of
 front_hook = refl
+
+-- .. by the walk that begins with the T behind that anchor, which is the first letter of what is read from the right, and finds nothing
+-- where no string begins with it
+behind_hook : behind_moves (λ string. paths_of_at (20 ∷ string)) old_t 7 rack_a 6 ≡ a_before ∷ []
+unfolding gives_behind gives_tries_left gives_one_left left right turn tries may less left_of finish_left finish_right
+behind_hook = refl
+
+behind_other : behind_moves (λ string. paths_of_at (24 ∷ string)) old_t 7 rack_a 6 ≡ []
+unfolding gives_behind gives_tries_left gives_one_left left right turn tries may less left_of finish_left finish_right
+behind_other = refl
 
 -- .. also a blank
 blank_hook : line_moves paths_of_at old_t rack_blank ≡ (replicate 6 0 ++ 2 ∷ replicate 8 0) ∷ []

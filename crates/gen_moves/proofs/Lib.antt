@@ -6,6 +6,7 @@ pub mod Moving
 pub mod Finding
 pub mod Gathering
 pub mod Settings
+pub mod Examples
 pub mod Fitting
 pub mod CellLaws
 pub mod Alone
