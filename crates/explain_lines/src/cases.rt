@@ -2,7 +2,7 @@
 
 use crate::boards::{Stretch, push_board};
 use crate::lines::push_line;
-use crate::parts::{Part, say};
+use crate::parts::say_of_line;
 use crate::racks::push_rack_fault;
 use crate::record_faults::push_record_fault;
 use crate::rule_faults::push_rule_fault;
@@ -29,16 +29,9 @@ pub fn push_explanation(
     case: &Case,
     line: Option<u32>,
 ) -> Result<(), AllocError> {
-    let entry = match &case.read {
-        Ok(entry) => entry,
+    let sheet = match Sheet::of(alloc, rules, list, case) {
+        Ok(sheet) => sheet,
         Err(fault) => return push_bad_record(alloc, text, case, fault),
-    };
-    let sheet = Sheet {
-        rules,
-        list,
-        record: &entry.record,
-        finding: &entry.finding,
-        text: case.text.as_slice(),
     };
     match what_is_asked(&sheet, line) {
         Asked::Missing => text.extend_from_slice(b"bad line: no event is on it or after it\n"),
@@ -48,7 +41,7 @@ pub fn push_explanation(
         }
         Asked::At(place) => {
             push_verdict(alloc, text, case)?;
-            push_place(alloc, text, &sheet, place)
+            push_place(text, &sheet, place)
         }
     }
 }
@@ -63,22 +56,16 @@ pub fn push_reason(
     list: &WordList,
     case: &Case,
 ) -> Result<(), AllocError> {
-    let bytes = case.text.as_slice();
-    let entry = match &case.read {
-        Ok(entry) => entry,
-        Err(fault) => return push_record_fault(alloc, text, bytes, fault.line, fault.why),
-    };
-    let sheet = Sheet {
-        rules,
-        list,
-        record: &entry.record,
-        finding: &entry.finding,
-        text: bytes,
+    let sheet = match Sheet::of(alloc, rules, list, case) {
+        Ok(sheet) => sheet,
+        Err(fault) => {
+            return push_record_fault(alloc, text, case.text.as_slice(), fault.line, fault.why);
+        }
     };
     match what_is_asked(&sheet, None) {
         Asked::Missing | Asked::Whole => push_whole(text, &sheet),
         Asked::At(place) => match sheet.events().get(place) {
-            Some(event) => push_judged(alloc, text, &sheet, event, place),
+            Some(event) => push_judged(text, &sheet, event, place),
             None => Ok(()),
         },
     }
@@ -146,18 +133,13 @@ fn push_whole(text: &mut Vec<u8>, sheet: &Sheet<'_>) -> Result<(), AllocError> {
 }
 
 /// Appends what is said of the event at a place.
-fn push_place(
-    alloc: Global,
-    text: &mut Vec<u8>,
-    sheet: &Sheet<'_>,
-    place: usize,
-) -> Result<(), AllocError> {
+fn push_place(text: &mut Vec<u8>, sheet: &Sheet<'_>, place: usize) -> Result<(), AllocError> {
     let events = sheet.events();
     let Some(event) = events.get(place) else {
         return Ok(());
     };
     push_line(text, sheet.text, event.line)?;
-    push_judged(alloc, text, sheet, event, place)?;
+    push_judged(text, sheet, event, place)?;
     let laying = lay_plays(events, place.min(events.len()));
     if laying.end < place {
         return push_not_laid(text, events, &laying);
@@ -167,7 +149,6 @@ fn push_place(
 
 /// Appends what the rules say of the event at a place.
 fn push_judged<'a>(
-    alloc: Global,
     text: &mut Vec<u8>,
     sheet: &Sheet<'a>,
     event: &'a Event,
@@ -176,7 +157,14 @@ fn push_judged<'a>(
     let events = sheet.events();
     let machine = match play_events(sheet.rules, events, sheet.list, place.min(events.len())) {
         Ok(machine) => machine,
-        Err(refusal) => return push_not_judged(text, refusal.line),
+        Err(refusal) => {
+            return say_of_line(
+                text,
+                "The rules do not allow line ",
+                refusal.line,
+                ", so this line was not judged.\n",
+            );
+        }
     };
     match sheet.finding {
         Finding::Illegal { line, fault } if *line == event.line => match fault {
@@ -187,39 +175,25 @@ fn push_judged<'a>(
                     event,
                     machine: &machine,
                 };
-                push_rule_fault(alloc, text, &scene, rule)
+                push_rule_fault(text, &scene, rule)
             }
-            _ => push_rack_fault(alloc, text, sheet, place, fault),
+            _ => push_rack_fault(text, sheet, place, fault),
         },
         _ => text.extend_from_slice(b"The rules allow this event.\n"),
     }
 }
 
-/// Appends that an event was not judged, since one before it is not allowed.
-fn push_not_judged(text: &mut Vec<u8>, refused: u32) -> Result<(), AllocError> {
-    say(
-        text,
-        &[
-            Part::Say("The rules do not allow line "),
-            Part::Line(refused),
-            Part::Say(", so this line was not judged.\n"),
-        ],
-    )
-}
-
 /// Appends that the board before an event is not known.
 fn push_not_laid(text: &mut Vec<u8>, events: &[Event], laying: &Laying) -> Result<(), AllocError> {
-    let Some(event) = events.get(laying.end) else {
-        return Ok(());
-    };
-    say(
-        text,
-        &[
-            Part::Say("The board before this line is not known, since the play on line "),
-            Part::Line(event.line),
-            Part::Say(" cannot be laid.\n"),
-        ],
-    )
+    match events.get(laying.end) {
+        None => Ok(()),
+        Some(event) => say_of_line(
+            text,
+            "The board before this line is not known, since the play on line ",
+            event.line,
+            " cannot be laid.\n",
+        ),
+    }
 }
 
 /// Appends the words of a play, and the board before it.
@@ -245,12 +219,5 @@ fn push_picture(
 
 /// Appends which board it is.
 fn push_heading(text: &mut Vec<u8>, event: &Event, end: &str) -> Result<(), AllocError> {
-    say(
-        text,
-        &[
-            Part::Say("board before line "),
-            Part::Line(event.line),
-            Part::Say(end),
-        ],
-    )
+    say_of_line(text, "board before line ", event.line, end)
 }

@@ -1,6 +1,6 @@
 //! Plays that are taken back or challenged, and their words.
 
-use crate::parts::{Part, say};
+use crate::parts::{Part, say, say_of_line};
 use crate::scenes::Scene;
 use arrayvec::ArrayVec;
 use game_board::lay_plays;
@@ -52,56 +52,102 @@ fn line_before(scene: &Scene<'_, '_>) -> u32 {
     }
 }
 
-/// Appends that the words of the play before are all in the list, so that it cannot be taken back.
-pub fn push_valid(text: &mut Vec<u8>, scene: &Scene<'_, '_>) -> Result<(), AllocError> {
-    say(
-        text,
-        &[
-            Part::Say("The play on line "),
-            Part::Line(line_before(scene)),
-            Part::Say(" stands, since each of its words is in the word list: "),
-        ],
-    )?;
+/// Appends what the word list says of the play before, and the words of that play.
+fn push_ruled(text: &mut Vec<u8>, scene: &Scene<'_, '_>, stands: bool) -> Result<(), AllocError> {
+    let (play, rule) = if stands {
+        (
+            "The play on line ",
+            " stands, since each of its words is in the word list: ",
+        )
+    } else {
+        (
+            "The challenge of the play on line ",
+            " succeeds, since none of its words is in the word list: ",
+        )
+    };
+    say_of_line(text, play, line_before(scene), rule)?;
     push_words(text, &last_words(scene.past))?;
     text.extend_from_slice(b".\nPerhaps the game was played with another word list.\n")
 }
 
+/// Appends that the words of the play before are all in the list, so that it cannot be taken back.
+pub fn push_valid(text: &mut Vec<u8>, scene: &Scene<'_, '_>) -> Result<(), AllocError> {
+    push_ruled(text, scene, true)
+}
+
 /// Appends that no word of the challenged play is in the list.
 pub fn push_phony(text: &mut Vec<u8>, scene: &Scene<'_, '_>) -> Result<(), AllocError> {
+    push_ruled(text, scene, false)
+}
+
+/// Appends that the play before is the other player's, and what follows of that.
+fn push_others_play(
+    text: &mut Vec<u8>,
+    scene: &Scene<'_, '_>,
+    line: u32,
+    so: &[Part<'_>],
+) -> Result<(), AllocError> {
     say(
         text,
         &[
-            Part::Say("The challenge of the play on line "),
-            Part::Line(line_before(scene)),
-            Part::Say(" succeeds, since none of its words is in the word list: "),
+            Part::Say("The play on line "),
+            Part::Line(line),
+            Part::Say(" is "),
+            Part::Raw(scene.other_nick()),
+            Part::Say("'s, so "),
         ],
     )?;
-    push_words(text, &last_words(scene.past))?;
-    text.extend_from_slice(b".\nPerhaps the game was played with another word list.\n")
+    say(text, so)
+}
+
+/// Appends that no play comes right before the event, so that there is none to be taken back or challenged.
+fn push_no_play(text: &mut Vec<u8>, scene: &Scene<'_, '_>, act: &str) -> Result<(), AllocError> {
+    let why = if scene.past.is_empty() {
+        "This is the first event"
+    } else {
+        "The event before this one is not a play"
+    };
+    say(
+        text,
+        &[
+            Part::Say(why),
+            Part::Say(", so there is nothing to "),
+            Part::Say(act),
+            Part::Say(".\n"),
+        ],
+    )
+}
+
+/// Appends why there is no play to be taken back.
+pub fn push_nothing_to_withdraw(
+    text: &mut Vec<u8>,
+    scene: &Scene<'_, '_>,
+) -> Result<(), AllocError> {
+    match scene.play_before() {
+        Some(play) if !same_seat(play.player, scene.event.player) => {
+            let so = [
+                Part::Raw(scene.nick()),
+                Part::Say(" cannot take it back.\n"),
+            ];
+            push_others_play(text, scene, play.line, &so)
+        }
+        _ => push_no_play(text, scene, "take back"),
+    }
 }
 
 /// Appends which bonus a challenge gives, or that there is no play to be challenged.
 pub fn push_wrong_bonus(text: &mut Vec<u8>, scene: &Scene<'_, '_>) -> Result<(), AllocError> {
     match scene.play_before() {
         Some(play) if same_seat(play.player, scene.event.player) => push_bonus(text, scene),
-        Some(play) => say(
-            text,
-            &[
-                Part::Say("The play on line "),
-                Part::Line(play.line),
-                Part::Say(" is "),
-                Part::Raw(scene.other_nick()),
-                Part::Say("'s, so its bonus cannot go to "),
+        Some(play) => {
+            let so = [
+                Part::Say("its bonus cannot go to "),
                 Part::Raw(scene.nick()),
                 Part::Say(".\n"),
-            ],
-        ),
-        None if scene.past.is_empty() => {
-            text.extend_from_slice(b"This is the first event, so there is nothing to challenge.\n")
+            ];
+            push_others_play(text, scene, play.line, &so)
         }
-        None => text.extend_from_slice(
-            b"The event before this one is not a play, so there is nothing to challenge.\n",
-        ),
+        None => push_no_play(text, scene, "challenge"),
     }
 }
 

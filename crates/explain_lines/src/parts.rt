@@ -17,6 +17,8 @@ pub enum Part<'a> {
     Points(i32),
     /// How many there are of something.
     Many(usize),
+    /// So many things, by the word for one of them.
+    Things(usize, &'a str),
     /// The number of a line.
     Line(u32),
     /// A square by its row and its column.
@@ -39,6 +41,16 @@ pub fn say(text: &mut Vec<u8>, parts: &[Part<'_>]) -> Result<(), AllocError> {
     Ok(())
 }
 
+/// Appends the number of a line, between what is said of it.
+pub fn say_of_line<'a>(
+    text: &mut Vec<u8>,
+    front: &'a str,
+    line: u32,
+    end: &'a str,
+) -> Result<(), AllocError> {
+    say(text, &[Part::Say(front), Part::Line(line), Part::Say(end)])
+}
+
 /// Appends a part of a sentence.
 fn push_part(text: &mut Vec<u8>, part: &Part<'_>) -> Result<(), AllocError> {
     match part {
@@ -46,6 +58,7 @@ fn push_part(text: &mut Vec<u8>, part: &Part<'_>) -> Result<(), AllocError> {
         Part::Raw(bytes) => text.extend_from_slice(bytes),
         Part::Points(points) => push_number(text, *points),
         Part::Many(many) => push_number(text, *many),
+        Part::Things(many, one) => push_things(text, *many, one),
         Part::Line(line) => push_number(text, *line),
         Part::At(square) => push_square(text, *square),
         Part::Spot(square, dir) => push_spot(text, *square, *dir),
@@ -59,6 +72,14 @@ fn push_part(text: &mut Vec<u8>, part: &Part<'_>) -> Result<(), AllocError> {
 fn push_number<I: Integer>(text: &mut Vec<u8>, number: I) -> Result<(), AllocError> {
     let mut buffer = Buffer::new();
     text.extend_from_slice(buffer.format(number).as_bytes())
+}
+
+/// Appends how many things there are, with an s behind the word where there is not one.
+fn push_things(text: &mut Vec<u8>, many: usize, one: &str) -> Result<(), AllocError> {
+    push_number(text, many)?;
+    push_byte(text, b' ')?;
+    text.extend_from_slice(one.as_bytes())?;
+    text.extend_from_slice(if many == 1 { b"" } else { b"s" })
 }
 
 /// Appends a byte.
@@ -110,14 +131,5 @@ pub fn push_tiles(text: &mut Vec<u8>, tiles: &Counts) -> Result<(), AllocError> 
     match tiles_text(tiles, text) {
         Ok(()) => Ok(()),
         Err(_) => Err(AllocError),
-    }
-}
-
-/// The ending of a noun: none where there is one, and an s else.
-pub fn plural(many: usize) -> Part<'static> {
-    if many == 1 {
-        Part::Say("")
-    } else {
-        Part::Say("s")
     }
 }

@@ -1,6 +1,6 @@
 //! Racks that cannot be dealt.
 
-use crate::parts::{Part, plural, push_tiles, say};
+use crate::parts::{Part, push_tiles, say, say_of_line};
 use crate::sheets::Sheet;
 use deal_steps::{Act, Known, Motion, Step, greater, shown_at, used_by};
 use engine::GameFault;
@@ -8,11 +8,10 @@ use game_deal::all_steps;
 use game_turns::play_through;
 use gcg_read::{Seat, same_seat};
 use ref_tiles::{Counts, Kind};
-use std::alloc::{AllocError, Global};
+use std::alloc::AllocError;
 
 /// Appends what is wrong with the racks up to the event at a place.
 pub fn push_rack_fault(
-    alloc: Global,
     text: &mut Vec<u8>,
     sheet: &Sheet<'_>,
     place: usize,
@@ -21,7 +20,7 @@ pub fn push_rack_fault(
     let Ok(passed) = play_through(sheet.rules, sheet.record, sheet.list) else {
         return Ok(());
     };
-    let all = all_steps(alloc, &passed)?;
+    let all = all_steps(sheet.alloc, &passed)?;
     let steps = all.as_slice();
     let Some(step) = steps.get(place) else {
         return Ok(());
@@ -76,9 +75,7 @@ fn push_too_big(
         &[
             Part::Raw(sheet.nick(holder)),
             Part::Say(" has "),
-            Part::Many(size),
-            Part::Say(" tile"),
-            plural(size),
+            Part::Things(size, "tile"),
             Part::Say(" here, but by the lines below the rack would have to hold "),
             Part::Many(must.total()),
             Part::Say(": "),
@@ -130,15 +127,8 @@ fn push_step(text: &mut Vec<u8>, step: &Step, player: Seat) -> Result<(), AllocE
     if tiles.total() == 0 {
         return Ok(());
     }
-    say(
-        text,
-        &[
-            Part::Say("  line "),
-            Part::Line(step.line),
-            Part::Say(" shows "),
-            Part::Tiles(&tiles),
-        ],
-    )?;
+    say_of_line(text, "  line ", step.line, " shows ")?;
+    push_tiles(text, &tiles)?;
     if let Act::Turns { motion, .. } = &step.act {
         push_motion(text, motion)?;
     }
@@ -247,12 +237,10 @@ fn push_kind_line(
     if shown == 0 || (!counts && played == 0) {
         return Ok(());
     }
+    say_of_line(text, "  line ", step.line, " shows ")?;
     say(
         text,
         &[
-            Part::Say("  line "),
-            Part::Line(step.line),
-            Part::Say(" shows "),
             Part::Many(shown),
             Part::Say(" on "),
             Part::Raw(sheet.nick(holder)),
@@ -289,17 +277,13 @@ fn push_exchange(text: &mut Vec<u8>, sheet: &Sheet<'_>, step: &Step) -> Result<(
     if many == 0 {
         return Ok(());
     }
+    say_of_line(text, "  line ", step.line, ": ")?;
     say(
         text,
         &[
-            Part::Say("  line "),
-            Part::Line(step.line),
-            Part::Say(": "),
             Part::Raw(sheet.nick(step.player)),
             Part::Say(" exchanges "),
-            Part::Many(many),
-            Part::Say(" tile"),
-            plural(many),
+            Part::Things(many, "tile"),
             Part::Say("\n"),
         ],
     )

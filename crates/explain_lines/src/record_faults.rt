@@ -1,7 +1,7 @@
 //! What is wrong with a line that is no line of a record.
 
 use crate::fields::{after_colon, before_colon, field_at, many_fields};
-use crate::parts::{Part, plural, say};
+use crate::parts::{Part, say};
 use game_facts::line_of;
 use gcg_read::{Points, Record, Why, read};
 use std::alloc::{AllocError, Global};
@@ -152,9 +152,7 @@ fn push_fields(text: &mut Vec<u8>, written: &[u8]) -> Result<(), AllocError> {
         text,
         &[
             Part::Say(if many == 1 { "There is " } else { "There are " }),
-            Part::Many(many),
-            Part::Say(" field"),
-            plural(many),
+            Part::Things(many, "field"),
             Part::Say(" after the colon, but an event has 3 to 5.\n"),
         ],
     )

@@ -1,6 +1,6 @@
 //! What is wrong with an event by the rules.
 
-use crate::challenges::{push_phony, push_valid, push_wrong_bonus};
+use crate::challenges::{push_nothing_to_withdraw, push_phony, push_valid, push_wrong_bonus};
 use crate::parts::{Part, say};
 use crate::play_faults::{Written, push_play_fault};
 use crate::scenes::Scene;
@@ -10,21 +10,20 @@ use crate::tiles::{
 };
 use crate::totals::{push_bad_time, push_wrong_total};
 use game_turns::RuleFault;
-use gcg_read::{EventKind, same_seat};
+use gcg_read::EventKind;
 use ref_play::PlayFault;
-use std::alloc::{AllocError, Global};
+use std::alloc::AllocError;
 
 /// Appends what is wrong with an event.
 pub fn push_rule_fault(
-    alloc: Global,
     text: &mut Vec<u8>,
     scene: &Scene<'_, '_>,
     fault: &RuleFault,
 ) -> Result<(), AllocError> {
     match fault {
         RuleFault::NotYourTurn => push_not_your_turn(text, scene),
-        RuleFault::Play(why) => push_play(alloc, text, scene, *why),
-        RuleFault::WrongScore(right) => push_wrong_score(alloc, text, scene, *right),
+        RuleFault::Play(why) => push_play(text, scene, *why),
+        RuleFault::WrongScore(right) => push_wrong_score(text, scene, *right),
         RuleFault::WrongTotal(right) => push_wrong_total(text, scene, *right),
         RuleFault::NothingToWithdraw => push_nothing_to_withdraw(text, scene),
         RuleFault::WithdrawnValid => push_valid(text, scene),
@@ -41,12 +40,7 @@ pub fn push_rule_fault(
 }
 
 /// Appends what is wrong with a play, and where the same text has the written score.
-fn push_play(
-    alloc: Global,
-    text: &mut Vec<u8>,
-    scene: &Scene<'_, '_>,
-    why: PlayFault,
-) -> Result<(), AllocError> {
+fn push_play(text: &mut Vec<u8>, scene: &Scene<'_, '_>, why: PlayFault) -> Result<(), AllocError> {
     let EventKind::Play { at, dir, word } = &scene.event.kind else {
         return Ok(());
     };
@@ -56,7 +50,7 @@ fn push_play(
         word: word.as_slice(),
     };
     push_play_fault(text, scene.machine.board(), &play, why)?;
-    push_other_spots(alloc, text, scene, word.as_slice())
+    push_other_spots(text, scene, word.as_slice())
 }
 
 /// Appends whose turn it is, or on whose line a last rack has to be.
@@ -84,30 +78,6 @@ fn push_not_your_turn(text: &mut Vec<u8>, scene: &Scene<'_, '_>) -> Result<(), A
             Part::Say("'s.\n"),
         ],
     )
-}
-
-/// Appends why there is no play to be taken back.
-fn push_nothing_to_withdraw(text: &mut Vec<u8>, scene: &Scene<'_, '_>) -> Result<(), AllocError> {
-    match scene.play_before() {
-        Some(play) if !same_seat(play.player, scene.event.player) => say(
-            text,
-            &[
-                Part::Say("The play on line "),
-                Part::Line(play.line),
-                Part::Say(" is "),
-                Part::Raw(scene.other_nick()),
-                Part::Say("'s, so "),
-                Part::Raw(scene.nick()),
-                Part::Say(" cannot take it back.\n"),
-            ],
-        ),
-        _ if scene.past.is_empty() => {
-            text.extend_from_slice(b"This is the first event, so there is nothing to take back.\n")
-        }
-        _ => text.extend_from_slice(
-            b"The event before this one is not a play, so there is nothing to take back.\n",
-        ),
-    }
 }
 
 /// Appends why there are no more turns, and what is missing.

@@ -1,6 +1,6 @@
 //! A score that is not the right one, and where it would be right.
 
-use crate::parts::{Part, plural, push_tiles, say};
+use crate::parts::{Part, push_tiles, say};
 use crate::scenes::Scene;
 use game_facts::{Spot, scoring_spots};
 use game_turns::{all_listed, legal_play};
@@ -14,7 +14,6 @@ const NAMED: usize = 3;
 
 /// Appends what an event scores, and how.
 pub fn push_wrong_score(
-    alloc: Global,
     text: &mut Vec<u8>,
     scene: &Scene<'_, '_>,
     right: i32,
@@ -22,7 +21,7 @@ pub fn push_wrong_score(
     match &scene.event.kind {
         EventKind::Play { word, .. } => {
             push_score(text, scene, "The play scores ", right)?;
-            push_other_spots(alloc, text, scene, word.as_slice())
+            push_other_spots(text, scene, word.as_slice())
         }
         EventKind::Pass => push_score(text, scene, "A pass scores ", right),
         EventKind::Exchange(_) | EventKind::ExchangeUnknown(_) => {
@@ -34,7 +33,10 @@ pub fn push_wrong_score(
             "A withdrawal takes the points of the play off again: it scores ",
             right,
         ),
-        EventKind::LastRack(tiles) => push_last_rack(text, scene, tiles, right),
+        EventKind::LastRack(tiles) => {
+            push_last_rack(text, scene, tiles)?;
+            push_score(text, scene, ": the score is ", right)
+        }
         EventKind::Challenge | EventKind::Time => push_score(text, scene, "The score is ", right),
     }
 }
@@ -58,12 +60,11 @@ fn push_score(
     )
 }
 
-/// Appends what a last rack scores.
+/// Appends what a last rack does to the points of its player.
 fn push_last_rack(
     text: &mut Vec<u8>,
     scene: &Scene<'_, '_>,
     tiles: &Counts,
-    right: i32,
 ) -> Result<(), AllocError> {
     let what = if scene.machine.out().is_some() {
         " gets twice the points of the rack "
@@ -71,18 +72,17 @@ fn push_last_rack(
         " loses the points of the rack "
     };
     say(text, &[Part::Raw(scene.nick()), Part::Say(what)])?;
-    push_tiles(text, tiles)?;
-    push_score(text, scene, ": the score is ", right)
+    push_tiles(text, tiles)
 }
 
 /// Appends where the text of a play has the written score, where it has it anywhere: the spots at which each word is in the word list,
 /// where there is one, and else all.
 pub fn push_other_spots(
-    alloc: Global,
     text: &mut Vec<u8>,
     scene: &Scene<'_, '_>,
     word: &[Symbol],
 ) -> Result<(), AllocError> {
+    let alloc = scene.sheet.alloc;
     let spots = scoring_spots(
         alloc,
         scene.sheet.rules,
@@ -144,9 +144,7 @@ fn push_spots(text: &mut Vec<u8>, spots: &[Spot]) -> Result<(), AllocError> {
             text,
             &[
                 Part::Say(" and "),
-                Part::Many(spots.len() - NAMED),
-                Part::Say(" other place"),
-                plural(spots.len() - NAMED),
+                Part::Things(spots.len() - NAMED, "other place"),
             ],
         )?;
     }

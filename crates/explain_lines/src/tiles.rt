@@ -1,6 +1,6 @@
 //! Events with more tiles than there are.
 
-use crate::parts::{Part, plural, say};
+use crate::parts::{Part, say};
 use crate::scenes::Scene;
 use game_facts::new_tiles;
 use gcg_read::{EventKind, Seat};
@@ -19,9 +19,7 @@ pub fn push_too_many_used(text: &mut Vec<u8>, scene: &Scene<'_, '_>) -> Result<(
         text,
         &[
             Part::Say("The play uses "),
-            Part::Many(used),
-            Part::Say(" tile"),
-            plural(used),
+            Part::Things(used, "tile"),
             Part::Say(", but "),
             Part::Raw(scene.nick()),
             Part::Say(" has only "),
@@ -38,9 +36,7 @@ pub fn push_exchange_refused(text: &mut Vec<u8>, scene: &Scene<'_, '_>) -> Resul
         text,
         &[
             Part::Say("The bag has "),
-            Part::Many(bag),
-            Part::Say(" tile"),
-            plural(bag),
+            Part::Things(bag, "tile"),
             Part::Say(", but an exchange is allowed only while it has "),
             Part::Many(scene.sheet.rules.exchange_min as usize),
             Part::Say(" or more.\n"),
@@ -63,9 +59,7 @@ pub fn push_exchange_size(text: &mut Vec<u8>, scene: &Scene<'_, '_>) -> Result<(
     say(
         text,
         &[
-            Part::Many(many),
-            Part::Say(" tile"),
-            plural(many),
+            Part::Things(many, "tile"),
             Part::Say(" cannot be exchanged: "),
             Part::Raw(scene.nick()),
             Part::Say(" has "),
@@ -97,9 +91,7 @@ pub fn push_last_rack_size(text: &mut Vec<u8>, scene: &Scene<'_, '_>) -> Result<
         text,
         &[
             Part::Say("The last rack shows "),
-            Part::Many(shown),
-            Part::Say(" tile"),
-            plural(shown),
+            Part::Things(shown, "tile"),
             Part::Say(", but "),
             Part::Raw(scene.sheet.nick(holder)),
             Part::Say(" has "),
