@@ -1,6 +1,6 @@
 //! The top of a page: names, result and verdict.
 
-use crate::heads::{push_name, push_names};
+use crate::heads::{name_of, names_of};
 use crate::pieces::{Piece, write};
 use crate::sheets::Sheet;
 use engine::{Case, Finding, case_line};
@@ -8,31 +8,29 @@ use explain_lines::push_reason;
 use game_sheets::last_total;
 use gcg_read::Seat;
 use html_text::push_text;
-use std::alloc::{AllocError, Global};
+use std::alloc::AllocError;
 
 /// Appends a player's name and last written total.
-fn push_total(
-    alloc: Global,
-    page: &mut Vec<u8>,
-    sheet: &Sheet<'_>,
-    seat: Seat,
-) -> Result<(), AllocError> {
-    push_name(alloc, page, sheet, seat)?;
-    page.push(b' ')?;
+fn push_total(page: &mut Vec<u8>, sheet: &Sheet<'_>, seat: Seat) -> Result<(), AllocError> {
+    write(
+        sheet.alloc,
+        page,
+        &[name_of(sheet, seat), Piece::Markup(" ")],
+    )?;
     match last_total(sheet.events(), seat) {
-        Some(total) => write(alloc, page, &[Piece::Points(total.value())]),
+        Some(total) => write(sheet.alloc, page, &[Piece::Points(total.value())]),
         None => page.extend_from_slice(b"0"),
     }
 }
 
 /// Appends names and totals.
-fn push_result(alloc: Global, page: &mut Vec<u8>, sheet: &Sheet<'_>) -> Result<(), AllocError> {
+fn push_result(page: &mut Vec<u8>, sheet: &Sheet<'_>) -> Result<(), AllocError> {
     page.extend_from_slice(b"<header>\n<h1>")?;
-    push_names(alloc, page, sheet)?;
+    write(sheet.alloc, page, &names_of(sheet))?;
     page.extend_from_slice(b"</h1>\n<p class=\"result\">")?;
-    push_total(alloc, page, sheet, Seat::First)?;
+    push_total(page, sheet, Seat::First)?;
     page.extend_from_slice(b", ")?;
-    push_total(alloc, page, sheet, Seat::Second)?;
+    push_total(page, sheet, Seat::Second)?;
     page.extend_from_slice(b"</p>\n</header>\n")
 }
 
@@ -46,19 +44,20 @@ fn class_of(finding: &Finding) -> &'static str {
 }
 
 /// Appends names, totals, the verdict and what explains it.
-pub fn push_banner(
-    alloc: Global,
-    page: &mut Vec<u8>,
-    sheet: &Sheet<'_>,
-    case: &Case,
-) -> Result<(), AllocError> {
-    push_result(alloc, page, sheet)?;
-    let line = case_line(alloc, case)?;
-    let mut reason = Vec::new(alloc);
-    push_reason(alloc, &mut reason, sheet.rules, sheet.pair.list(), case)?;
+pub fn push_banner(page: &mut Vec<u8>, sheet: &Sheet<'_>, case: &Case) -> Result<(), AllocError> {
+    push_result(page, sheet)?;
+    let line = case_line(sheet.alloc, case)?;
+    let mut reason = Vec::new(sheet.alloc);
+    push_reason(
+        sheet.alloc,
+        &mut reason,
+        sheet.rules,
+        sheet.pair.list(),
+        case,
+    )?;
     page.extend_from_slice(class_of(sheet.finding).as_bytes())?;
-    push_text(alloc, page, line.as_slice().trim_ascii_end())?;
+    push_text(sheet.alloc, page, line.as_slice().trim_ascii_end())?;
     page.extend_from_slice(b"</strong>")?;
-    push_text(alloc, page, reason.as_slice().trim_ascii_end())?;
+    push_text(sheet.alloc, page, reason.as_slice().trim_ascii_end())?;
     page.extend_from_slice(b"</p>\n")
 }

@@ -2,16 +2,17 @@
 ghost use Rattle.std.specs.Prelude.{◌<◌};
 
 use crate::pieces::{Piece, write};
+use crate::sheets::Sheet;
 use explain_lines::Stretch;
 use ref_board::{Board, Dir, SIDE, Square};
-use ref_tiles::{Kind, Premium, Rules, Symbol, Tile};
-use std::alloc::{AllocError, Global};
+use ref_tiles::{Kind, Premium, Symbol, Tile};
+use std::alloc::AllocError;
 
 /// A board, and which of its squares are marked.
 #[derive(Clone, Copy)]
 pub struct Picture<'a> {
-    /// The rules, for points and premiums.
-    pub rules: &'a Rules,
+    /// The sheet, for the points and premiums of its rules.
+    pub sheet: Sheet<'a>,
     /// The board.
     pub board: &'a Board,
     /// The board without its new tiles.
@@ -54,17 +55,29 @@ fn letter_of(tile: &Tile) -> u8 {
     }
 }
 
-/// Appends a tile, its letter and its points.
-fn push_tile(
-    alloc: Global,
+/// Whether a square has a new tile, or is one of a play that cannot be laid.
+fn is_marked(picture: &Picture<'_>, square: Square) -> bool {
+    match picture.marked {
+        Some(stretch) => stretch.has(square),
+        None => picture.board.at(square).is_some() && picture.before.at(square).is_none(),
+    }
+}
+
+/// Appends a square: its tile with the points, or the first letters of its premium.
+fn push_square(
     page: &mut Vec<u8>,
-    rules: &Rules,
-    tile: &Tile,
-    is_marked: bool,
+    picture: &Picture<'_>,
+    square: Square,
 ) -> Result<(), AllocError> {
-    let letter = [letter_of(tile)];
+    let rules = picture.sheet.rules;
+    let is_marked = is_marked(picture, square);
+    let Some(tile) = picture.board.at(square) else {
+        let premium = rules.premium(square.number());
+        return page.extend_from_slice(empty_square(premium, is_marked).as_bytes());
+    };
+    let letter = [letter_of(&tile)];
     write(
-        alloc,
+        picture.sheet.alloc,
         page,
         &[
             Piece::Markup(tile_begin(tile.kind, is_marked)),
@@ -76,42 +89,12 @@ fn push_tile(
     )
 }
 
-/// Whether a square has a new tile, or is one of a play that cannot be laid.
-fn is_marked(picture: &Picture<'_>, square: Square) -> bool {
-    match picture.marked {
-        Some(stretch) => stretch.has(square),
-        None => picture.board.at(square).is_some() && picture.before.at(square).is_none(),
-    }
-}
-
-/// Appends a square.
-fn push_square(
-    alloc: Global,
-    page: &mut Vec<u8>,
-    picture: &Picture<'_>,
-    square: Square,
-) -> Result<(), AllocError> {
-    let is_marked = is_marked(picture, square);
-    match picture.board.at(square) {
-        None => {
-            let premium = picture.rules.premium(square.number());
-            page.extend_from_slice(empty_square(premium, is_marked).as_bytes())
-        }
-        Some(tile) => push_tile(alloc, page, picture.rules, &tile, is_marked),
-    }
-}
-
 /// Appends a row, its number first.
-fn push_row(
-    alloc: Global,
-    page: &mut Vec<u8>,
-    picture: &Picture<'_>,
-    row: usize,
-) -> Result<(), AllocError>
+fn push_row(page: &mut Vec<u8>, picture: &Picture<'_>, row: usize) -> Result<(), AllocError>
     requires { row < 15 }
 {
     write(
-        alloc,
+        picture.sheet.alloc,
         page,
         &[
             Piece::Markup("<tr><th>"),
@@ -121,23 +104,19 @@ fn push_row(
     )?;
     for column in 0..SIDE {
         let square = Square::on_line(Dir::Across, row, column);
-        push_square(alloc, page, picture, square)?;
+        push_square(page, picture, square)?;
     }
     page.extend_from_slice(b"</tr>\n")
 }
 
 /// Appends a board as a table: its columns A to O, its rows 1 to 15, each tile with its points, and each empty premium square with the
 /// first letters of its name.
-pub fn push_board(
-    alloc: Global,
-    page: &mut Vec<u8>,
-    picture: &Picture<'_>,
-) -> Result<(), AllocError> {
+pub fn push_board(page: &mut Vec<u8>, picture: &Picture<'_>) -> Result<(), AllocError> {
     page.extend_from_slice(
         b"<table class=\"board\">\n<tr><td></td><th>A</th><th>B</th><th>C</th><th>D</th><th>E</th><th>F</th><th>G</th><th>H</th><th>I</th><th>J</th><th>K</th><th>L</th><th>M</th><th>N</th><th>O</th></tr>\n",
     )?;
     for row in 0..SIDE {
-        push_row(alloc, page, picture, row)?;
+        push_row(page, picture, row)?;
     }
     page.extend_from_slice(b"</table>\n")
 }

@@ -6,7 +6,7 @@ use gcg_read::Seat;
 use std::alloc::{AllocError, Global};
 
 /// How a page looks, in light and in dark, at each width and on paper.
-pub const STYLE: &str = "\
+const STYLE: &str = "\
 :root{color-scheme:light dark;--back:#fff;--ink:#1c1c1c;--faint:#666;--line:#bbb;--tile:#f3dfae;--blank:#fdf6e0;--tile-ink:#231a05;--new:#b3400c;\
 --dl:#cfe6f5;--tl:#8fc1e3;--dw:#f7d5d3;--tw:#e9a09b;--good:#1c6b2c;--bad:#a11c1c;--open:#7a5a00}\n\
 @media(prefers-color-scheme:dark){:root{--back:#16181b;--ink:#e8e6e1;--faint:#a3a3a3;--line:#4a4d52;--tile:#d9c184;--blank:#f4ead0;--tile-ink:#1a1403;\
@@ -41,43 +41,33 @@ footer,.key{color:var(--faint);font-size:.85rem}code{overflow-wrap:anywhere}\n\
 .sheet>tbody>tr>td:empty{display:none}.board{font-size:min(1rem,3.4vw)}}\n\
 @media print{body{max-width:none;padding:0}details:not([open]){display:none}.board td,.sheet,.verdict{print-color-adjust:exact}}\n";
 
-/// Appends a player's name: the full name, or the nickname where there is none.
-pub fn push_name(
-    alloc: Global,
-    page: &mut Vec<u8>,
-    sheet: &Sheet<'_>,
-    seat: Seat,
-) -> Result<(), AllocError> {
+/// A player's name: the full name, or the nickname where there is none.
+pub fn name_of<'a>(sheet: &Sheet<'a>, seat: Seat) -> Piece<'a> {
     let player = sheet.record.players.of(seat);
     let full = player.full.as_bytes();
-    let name = if full.is_empty() {
+    Piece::Text(if full.is_empty() {
         player.nick.as_bytes()
     } else {
         full
-    };
-    write(alloc, page, &[Piece::Text(name)])
+    })
 }
 
-/// Appends both names.
-pub fn push_names(alloc: Global, page: &mut Vec<u8>, sheet: &Sheet<'_>) -> Result<(), AllocError> {
-    push_name(alloc, page, sheet, Seat::First)?;
-    page.extend_from_slice(b" and ")?;
-    push_name(alloc, page, sheet, Seat::Second)
+/// Both names.
+pub fn names_of<'a>(sheet: &Sheet<'a>) -> [Piece<'a>; 3] {
+    [
+        name_of(sheet, Seat::First),
+        Piece::Markup(" and "),
+        name_of(sheet, Seat::Second),
+    ]
 }
 
-/// Appends the head of a page, up to the beginning of its body.
-pub fn push_head(alloc: Global, page: &mut Vec<u8>, sheet: &Sheet<'_>) -> Result<(), AllocError> {
+/// Appends the head of a page with a title, up to the beginning of its body.
+pub fn push_head(alloc: Global, page: &mut Vec<u8>, title: &[Piece<'_>]) -> Result<(), AllocError> {
     page.extend_from_slice(
         b"<!DOCTYPE html>\n<html lang=\"en\">\n<head>\n<meta charset=\"utf-8\">\n<meta name=\"viewport\" content=\"width=device-width, initial-scale=1\">\n<title>",
     )?;
-    push_names(alloc, page, sheet)?;
-    write(
-        alloc,
-        page,
-        &[
-            Piece::Markup("</title>\n<style>\n"),
-            Piece::Markup(STYLE),
-            Piece::Markup("</style>\n</head>\n<body>\n"),
-        ],
-    )
+    write(alloc, page, title)?;
+    page.extend_from_slice(b"</title>\n<style>\n")?;
+    page.extend_from_slice(STYLE.as_bytes())?;
+    page.extend_from_slice(b"</style>\n</head>\n<body>\n")
 }

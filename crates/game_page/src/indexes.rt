@@ -1,6 +1,6 @@
 //! The index of the pages of many games.
 
-use crate::heads::STYLE;
+use crate::heads::push_head;
 use crate::pieces::{Piece, write};
 use html_text::push_text;
 use percent_encoding::{NON_ALPHANUMERIC, utf8_percent_encode};
@@ -36,18 +36,9 @@ pub struct IndexRow<'a> {
 
 /// Appends the index up to its first row.
 pub fn push_index_head(alloc: Global, page: &mut Vec<u8>) -> Result<(), AllocError> {
-    write(
-        alloc,
-        page,
-        &[
-            Piece::Markup(
-                "<!DOCTYPE html>\n<html lang=\"en\">\n<head>\n<meta charset=\"utf-8\">\n<meta name=\"viewport\" content=\"width=device-width, initial-scale=1\">\n<title>Games</title>\n<style>\n",
-            ),
-            Piece::Markup(STYLE),
-            Piece::Markup(
-                "</style>\n</head>\n<body>\n<header>\n<h1>Games</h1>\n</header>\n<main>\n<table class=\"sheet\">\n<thead>\n<tr><th>Game</th><th>Verdict</th><th>Player 1</th><th class=\"p\">Total 1</th><th>Player 2</th><th class=\"p\">Total 2</th></tr>\n</thead>\n<tbody>\n",
-            ),
-        ],
+    push_head(alloc, page, &[Piece::Markup("Games")])?;
+    page.extend_from_slice(
+        b"<header>\n<h1>Games</h1>\n</header>\n<main>\n<table class=\"sheet\">\n<thead>\n<tr><th>Game</th><th>Verdict</th><th>Player 1</th><th class=\"p\">Total 1</th><th>Player 2</th><th class=\"p\">Total 2</th></tr>\n</thead>\n<tbody>\n",
     )
 }
 

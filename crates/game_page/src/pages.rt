@@ -3,7 +3,7 @@
 use crate::banners::push_banner;
 use crate::boards::{Picture, push_board};
 use crate::feet::{Maker, push_foot};
-use crate::heads::push_head;
+use crate::heads::{names_of, push_head};
 use crate::pieces::{Piece, write};
 use crate::rows::push_rows;
 use crate::sheets::Sheet;
@@ -26,17 +26,12 @@ fn squares_of(events: &[Event], place: usize) -> Option<Stretch> {
 
 /// Appends the board behind the events before a place, and behind the one at it where there is one: its new tiles are marked, or its
 /// squares where it cannot be laid.
-fn push_board_at(
-    alloc: Global,
-    page: &mut Vec<u8>,
-    sheet: &Sheet<'_>,
-    place: usize,
-) -> Result<(), AllocError> {
+fn push_board_at(page: &mut Vec<u8>, sheet: &Sheet<'_>, place: usize) -> Result<(), AllocError> {
     let events = sheet.events();
     let before = lay_plays(events, place.min(events.len()));
     let after = lay_plays(events, place.saturating_add(1).min(events.len()));
     let picture = Picture {
-        rules: sheet.rules,
+        sheet: *sheet,
         board: &after.board,
         before: &before.board,
         marked: if after.end <= place {
@@ -45,7 +40,7 @@ fn push_board_at(
             None
         },
     };
-    push_board(alloc, page, &picture)?;
+    push_board(page, &picture)?;
     page.extend_from_slice(KEY.as_bytes())
 }
 
@@ -54,14 +49,14 @@ const KEY: &str =
     "<p class=\"key\">TW triple word, DW double word, TL triple letter, DL double letter. A small, slanted letter is a blank. New tiles are framed.</p>\n";
 
 /// Appends the board at the end, or at the faulty line with its play marked.
-fn push_main_board(alloc: Global, page: &mut Vec<u8>, sheet: &Sheet<'_>) -> Result<(), AllocError> {
+fn push_main_board(page: &mut Vec<u8>, sheet: &Sheet<'_>) -> Result<(), AllocError> {
     let events = sheet.events();
     let Some(line) = sheet.faulty_line() else {
         page.extend_from_slice(b"<h2>The board at the end</h2>\n")?;
-        return push_board_at(alloc, page, sheet, events.len());
+        return push_board_at(page, sheet, events.len());
     };
     write(
-        alloc,
+        sheet.alloc,
         page,
         &[
             Piece::Markup("<h2>The board at line "),
@@ -70,29 +65,23 @@ fn push_main_board(alloc: Global, page: &mut Vec<u8>, sheet: &Sheet<'_>) -> Resu
         ],
     )?;
     push_board_at(
-        alloc,
         page,
         sheet,
         place_of_line(events, line).unwrap_or(events.len()),
     )
 }
 
-/// Appends the page of a record that was read.
-fn push_sheet(
-    alloc: Global,
-    page: &mut Vec<u8>,
-    sheet: &Sheet<'_>,
-    case: &Case,
-    maker: &Maker,
-) -> Result<(), AllocError> {
-    push_head(alloc, page, sheet)?;
-    push_banner(alloc, page, sheet, case)?;
-    page.extend_from_slice(b"<main>\n")?;
-    push_main_board(alloc, page, sheet)?;
-    push_rows(alloc, page, sheet)?;
-    page.extend_from_slice(b"</main>\n")?;
-    push_foot(alloc, page, maker)?;
-    page.extend_from_slice(b"</body>\n</html>\n")
+/// A case with its rules and its words, and what its page is made by.
+#[derive(Clone, Copy)]
+pub struct Contents<'a> {
+    /// The rules.
+    pub rules: &'a Rules,
+    /// The words and their lexicon.
+    pub pair: &'a Checked<'a>,
+    /// The bytes of the record, and what is found of it.
+    pub case: &'a Case,
+    /// What the page is made by.
+    pub maker: &'a Maker,
 }
 
 /// Appends the page of a game; `right` is the record once more, whose scores and totals are put right as far as the rules allow its
@@ -102,11 +91,8 @@ fn push_sheet(
 pub fn push_page(
     alloc: Global,
     page: &mut Vec<u8>,
-    rules: &Rules,
-    pair: &Checked<'_>,
-    case: &Case,
+    contents: &Contents<'_>,
     right: &mut Record,
-    maker: &Maker,
 ) -> Result<(), AllocError> {
     let Ok(
         Entry {
@@ -114,17 +100,25 @@ pub fn push_page(
             finding,
             ..
         },
-    ) = &case.read
+    ) = &contents.case.read
     else {
         return Ok(());
     };
-    let _refused = correct(rules, &mut right.events, pair.list());
+    let _refused = correct(contents.rules, &mut right.events, contents.pair.list());
     let sheet = Sheet {
-        rules,
-        pair,
+        alloc,
+        rules: contents.rules,
+        pair: contents.pair,
         record,
         right,
         finding,
     };
-    push_sheet(alloc, page, &sheet, case, maker)
+    push_head(alloc, page, &names_of(&sheet))?;
+    push_banner(page, &sheet, contents.case)?;
+    page.extend_from_slice(b"<main>\n")?;
+    push_main_board(page, &sheet)?;
+    push_rows(page, &sheet)?;
+    page.extend_from_slice(b"</main>\n")?;
+    push_foot(alloc, page, contents.maker)?;
+    page.extend_from_slice(b"</body>\n</html>\n")
 }

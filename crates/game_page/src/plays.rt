@@ -20,35 +20,31 @@ pub fn push_play(
     }
 }
 
+/// What an event other than a play is called, before its tiles where it has any.
+fn words_of(kind: &EventKind) -> &'static str {
+    match kind {
+        EventKind::Play { .. } => "",
+        EventKind::Pass => "pass",
+        EventKind::Exchange(_) => "exchange ",
+        EventKind::ExchangeUnknown(_) => "exchange of ",
+        EventKind::Withdraw => "play taken back",
+        EventKind::Challenge => "challenge bonus",
+        EventKind::Time => "time penalty",
+        EventKind::LastRack(_) => "last rack ",
+    }
+}
+
 /// Appends what happened in an event.
 pub fn push_event(alloc: Global, page: &mut Vec<u8>, event: &Event) -> Result<(), AllocError> {
+    page.extend_from_slice(words_of(&event.kind).as_bytes())?;
     match &event.kind {
         EventKind::Play { at, dir, word } => push_play(page, *at, *dir, word.as_slice()),
-        EventKind::Pass => page.extend_from_slice(b"pass"),
-        EventKind::Exchange(tiles) => {
-            write(
-                alloc,
-                page,
-                &[Piece::Markup("exchange "), Piece::Tiles(tiles)],
-            )
+        EventKind::Exchange(tiles) | EventKind::LastRack(tiles) => {
+            write(alloc, page, &[Piece::Tiles(tiles)])
         }
-        EventKind::ExchangeUnknown(number) => write(
-            alloc,
-            page,
-            &[
-                Piece::Markup("exchange of "),
-                Piece::Many(usize::from(*number)),
-            ],
-        ),
-        EventKind::Withdraw => page.extend_from_slice(b"play taken back"),
-        EventKind::Challenge => page.extend_from_slice(b"challenge bonus"),
-        EventKind::Time => page.extend_from_slice(b"time penalty"),
-        EventKind::LastRack(tiles) => {
-            write(
-                alloc,
-                page,
-                &[Piece::Markup("last rack "), Piece::Tiles(tiles)],
-            )
+        EventKind::ExchangeUnknown(number) => {
+            write(alloc, page, &[Piece::Many(usize::from(*number))])
         }
+        EventKind::Pass | EventKind::Withdraw | EventKind::Challenge | EventKind::Time => Ok(()),
     }
 }

@@ -1,14 +1,14 @@
 //! The rows of a sheet.
 
 use crate::boards::{Picture, push_board};
+use crate::lines::Line;
 use crate::pieces::{Piece, write};
 use crate::plays::push_event;
 use crate::sheets::Sheet;
 use crate::walks::{push_best, push_unlisted};
 use game_board::lay_plays;
 use game_turns::Machine;
-use gcg_read::Event;
-use std::alloc::{AllocError, Global};
+use std::alloc::AllocError;
 
 /// Appends the head of the table.
 fn push_heading(page: &mut Vec<u8>) -> Result<(), AllocError> {
@@ -18,15 +18,11 @@ fn push_heading(page: &mut Vec<u8>) -> Result<(), AllocError> {
 }
 
 /// Appends what an event line says: line, player, rack, what happened, score and total.
-fn push_written(
-    alloc: Global,
-    page: &mut Vec<u8>,
-    sheet: &Sheet<'_>,
-    event: &Event,
-) -> Result<(), AllocError> {
+fn push_written(page: &mut Vec<u8>, line: &Line<'_>) -> Result<(), AllocError> {
+    let (sheet, event) = (&line.sheet, line.event);
     let is_faulty = sheet.faulty_line() == Some(event.line);
     write(
-        alloc,
+        sheet.alloc,
         page,
         &[
             Piece::Markup(if is_faulty {
@@ -47,12 +43,12 @@ fn push_written(
         ],
     )?;
     if let Some(rack) = &event.rack {
-        write(alloc, page, &[Piece::Tiles(rack)])?;
+        write(sheet.alloc, page, &[Piece::Tiles(rack)])?;
     }
     page.extend_from_slice(b"</td><td data-name=\"Play\">")?;
-    push_event(alloc, page, event)?;
+    push_event(sheet.alloc, page, event)?;
     write(
-        alloc,
+        sheet.alloc,
         page,
         &[
             Piece::Markup("</td><td class=\"p\" data-name=\"Score\">"),
@@ -65,63 +61,45 @@ fn push_written(
 }
 
 /// Appends what the score and the total of an event should be, where they are not that.
-fn push_right(
-    alloc: Global,
-    page: &mut Vec<u8>,
-    event: &Event,
-    right: &Event,
-) -> Result<(), AllocError> {
+fn push_right(page: &mut Vec<u8>, line: &Line<'_>) -> Result<(), AllocError> {
+    let (event, right) = (line.event, line.right);
     page.extend_from_slice(b"<td class=\"wrong\" data-name=\"Should be\">")?;
-    if right.score != event.score {
-        write(
-            alloc,
-            page,
-            &[
-                Piece::Markup("score "),
-                Piece::Points(right.score.value()),
-                Piece::Markup(" "),
-            ],
-        )?;
-    }
-    if right.total != event.total {
-        write(
-            alloc,
-            page,
-            &[Piece::Markup("total "), Piece::Points(right.total.value())],
-        )?;
+    let numbers = [
+        ("score ", event.score.value(), right.score.value(), " "),
+        ("total ", event.total.value(), right.total.value(), ""),
+    ];
+    for (name, written, should, end) in numbers {
+        if should != written {
+            let pieces = [
+                Piece::Markup(name),
+                Piece::Points(should),
+                Piece::Markup(end),
+            ];
+            write(line.sheet.alloc, page, &pieces)?;
+        }
     }
     page.extend_from_slice(b"</td>")
 }
 
 /// Appends the best play of a turn and what it would have given more.
 fn push_best_cells(
-    alloc: Global,
     page: &mut Vec<u8>,
-    sheet: &Sheet<'_>,
+    line: &Line<'_>,
     machine: &Machine,
-    right: &Event,
 ) -> Result<(), AllocError> {
     page.extend_from_slice(b"<td data-name=\"Best play\">")?;
-    let best = push_best(alloc, page, sheet, machine, right)?;
+    let best = push_best(page, line, machine)?;
     page.extend_from_slice(b"</td><td class=\"p\" data-name=\"Points more\">")?;
     if let Some(best) = best {
-        write(
-            alloc,
-            page,
-            &[Piece::Points(best.saturating_sub(right.score.value()))],
-        )?;
+        let more = best.saturating_sub(line.right.score.value());
+        write(line.sheet.alloc, page, &[Piece::Points(more)])?;
     }
     page.extend_from_slice(b"</td>")
 }
 
 /// Appends the board behind an event, which opens at a click, with the tiles marked that it put down.
-fn push_after(
-    alloc: Global,
-    page: &mut Vec<u8>,
-    sheet: &Sheet<'_>,
-    place: usize,
-    line: u32,
-) -> Result<(), AllocError> {
+fn push_after(page: &mut Vec<u8>, line: &Line<'_>) -> Result<(), AllocError> {
+    let (sheet, place) = (&line.sheet, line.place);
     let events = sheet.events();
     let before = lay_plays(events, place.min(events.len()));
     let after = lay_plays(events, place.saturating_add(1).min(events.len()));
@@ -129,51 +107,43 @@ fn push_after(
         return Ok(());
     }
     write(
-        alloc,
+        sheet.alloc,
         page,
         &[
             Piece::Markup(
                 "<tr class=\"after\"><td colspan=\"10\"><details><summary>board after line ",
             ),
-            Piece::Line(line),
+            Piece::Line(line.event.line),
             Piece::Markup("</summary>\n"),
         ],
     )?;
     let picture = Picture {
-        rules: sheet.rules,
+        sheet: *sheet,
         board: &after.board,
         before: &before.board,
         marked: None,
     };
-    push_board(alloc, page, &picture)?;
+    push_board(page, &picture)?;
     page.extend_from_slice(b"</details></td></tr>\n")
 }
 
 /// Appends the row of an event, and takes it where the events so far are allowed; gives whether it is allowed too.
 fn push_row(
-    alloc: Global,
     page: &mut Vec<u8>,
     sheet: &Sheet<'_>,
     machine: &mut Machine,
     stands: bool,
     place: usize,
 ) -> Result<bool, AllocError> {
-    let (Some(event), Some(right)) = (
-        sheet.events().get(place),
-        sheet.right.events.as_slice().get(place),
-    ) else {
+    let Some(line) = Line::at(sheet, place) else {
         return Ok(false);
     };
-    push_written(alloc, page, sheet, event)?;
+    push_written(page, &line)?;
     let mut taken = false;
     if stands {
-        push_best_cells(alloc, page, sheet, machine, right)?;
+        push_best_cells(page, &line, machine)?;
         taken = machine
-            .step(
-                right,
-                sheet.right.events.as_slice().get(place + 1),
-                sheet.pair.list(),
-            )
+            .step(line.right, line.next(), sheet.pair.list())
             .is_ok();
     } else {
         page.extend_from_slice(b"<td></td><td></td>")?;
@@ -183,20 +153,20 @@ fn push_row(
         push_unlisted(page, sheet, machine.standing_words())?;
     }
     page.extend_from_slice(b"</td>")?;
-    push_right(alloc, page, event, right)?;
+    push_right(page, &line)?;
     page.extend_from_slice(b"</tr>\n")?;
-    push_after(alloc, page, sheet, place, event.line)?;
+    push_after(page, &line)?;
     Ok(taken)
 }
 
 /// Appends the sheet: a row for each event, and behind it the board after it.
-pub fn push_rows(alloc: Global, page: &mut Vec<u8>, sheet: &Sheet<'_>) -> Result<(), AllocError> {
+pub fn push_rows(page: &mut Vec<u8>, sheet: &Sheet<'_>) -> Result<(), AllocError> {
     page.extend_from_slice(b"<h2>The sheet</h2>\n")?;
     push_heading(page)?;
     let mut machine = Machine::new(sheet.rules);
     let mut stands = true;
     for place in 0..sheet.events().len() {
-        stands = push_row(alloc, page, sheet, &mut machine, stands, place)?;
+        stands = push_row(page, sheet, &mut machine, stands, place)?;
     }
     page.extend_from_slice(b"</tbody>\n</table>\n")
 }

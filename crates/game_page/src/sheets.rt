@@ -4,10 +4,13 @@ use engine::Finding;
 use gcg_read::{Event, Record};
 use lex_check::Checked;
 use ref_tiles::Rules;
+use std::alloc::Global;
 
 /// A record with its rules, its words, what is found of it and what it should be.
 #[derive(Clone, Copy)]
 pub struct Sheet<'a> {
+    /// Where the memory for what is worked out of it comes from.
+    pub alloc: Global,
     /// The rules.
     pub rules: &'a Rules,
     /// The words and their lexicon.

@@ -1,20 +1,19 @@
 //! What the rows of a sheet say of a turn: the best play, and the words that are not in the list.
 
+use crate::lines::Line;
 use crate::pieces::{Piece, write};
 use crate::plays::push_play;
 use crate::sheets::Sheet;
 use game_notes::{annotate, cross_sets};
 use game_report::{full_rack, is_judged};
 use game_turns::Machine;
-use gcg_read::Event;
 use ref_board::Board;
 use ref_play::{Word, notation};
 use ref_tiles::Counts;
-use std::alloc::{AllocError, Global};
+use std::alloc::AllocError;
 
 /// Appends the best play by a rack on a board with its score, and gives the score; or that there is none.
 fn push_best_by(
-    alloc: Global,
     page: &mut Vec<u8>,
     sheet: &Sheet<'_>,
     board: &Board,
@@ -28,23 +27,25 @@ fn push_best_by(
     };
     let written = notation(&board, &play);
     push_play(page, written.at, written.dir, written.word.as_slice())?;
-    write(alloc, page, &[Piece::Markup(" "), Piece::Points(score)])?;
+    write(
+        sheet.alloc,
+        page,
+        &[Piece::Markup(" "), Piece::Points(score)],
+    )?;
     Ok(Some(score))
 }
 
-/// Appends the best play of a turn, where the event is one, and gives its score; `machine` stands before the event.
+/// Appends the best play of a turn, where the line is one, and gives its score; `machine` stands before the line.
 pub fn push_best(
-    alloc: Global,
     page: &mut Vec<u8>,
-    sheet: &Sheet<'_>,
+    line: &Line<'_>,
     machine: &Machine,
-    event: &Event,
 ) -> Result<Option<i32>, AllocError> {
-    if !is_judged(&event.kind, machine.out()) {
+    if !is_judged(&line.right.kind, machine.out()) {
         return Ok(None);
     }
-    match full_rack(machine, event) {
-        Some(rack) => push_best_by(alloc, page, sheet, machine.board(), &rack),
+    match full_rack(machine, line.right) {
+        Some(rack) => push_best_by(page, &line.sheet, machine.board(), &rack),
         None => {
             page.extend_from_slice(b"the rack is not shown")?;
             Ok(None)

@@ -1,9 +1,9 @@
 //! `archive`: many games by one word list and one lexicon, which are read once, and a line for each.
 
 use crate::command_line::{Archive, ArchiveNames, Progressing};
-use crate::digests::{digested_list, digested_rules, maker_of, open_digested};
+use crate::digests::read_digested;
 use crate::files::open;
-use crate::inputs::{Inputs, lexicon_of, refuse, write};
+use crate::inputs::{Inputs, open_inputs, refuse, write};
 use crate::names::{Given, Listed, Names};
 use crate::pages::{Pages, unread_by};
 use crate::progress::Progress;
@@ -28,7 +28,7 @@ pub fn archive<'a, R: Runtime + AllocGlobal>(
     request: &Archive<'a>,
     watched: bool,
 ) -> Result<Exit, Trouble<'a>> {
-    let inputs = open_digested(rt, request.rules, request.words, request.lexicon)?;
+    let inputs = open_inputs(rt, request.rules, request.words.name, request.lexicon)?;
     let progress = Progress::new(match request.progress {
         Progressing::Shown => true,
         Progressing::Quiet => false,
@@ -71,23 +71,14 @@ fn archive_by<'a, R: Runtime + AllocGlobal, N: Names + Drop>(
     run: Run,
     names: N,
 ) -> Result<Exit, Trouble<'a>> {
-    let Inputs {
-        rules,
-        words,
-        lexicon,
-    } = inputs;
-    let rules = match digested_rules(rt.alloc(), request.rules, rules)? {
-        Ok(rules) => rules,
+    let (rules, words, lexicon) = (request.rules, request.words, request.lexicon);
+    let given = match read_digested(rt.alloc(), rules, words, lexicon, inputs)? {
+        Ok(given) => given,
         Err(decision) => return refuse(rt, &decision),
     };
-    let list = match digested_list(rt.alloc(), request.words, words)? {
-        Ok(list) => list,
-        Err(decision) => return refuse(rt, &decision),
-    };
-    let bytes = lexicon_of(rt.alloc(), request.lexicon, lexicon)?;
-    let maker = maker_of(&rules, &list);
-    match pair_file(rt.alloc(), &list.list, &bytes) {
-        Ok(Ok(pair)) => go_through(rt, request, &rules.rules, &pair, maker, run, names),
+    let maker = given.maker();
+    match pair_file(rt.alloc(), &given.list.list, &given.lexicon) {
+        Ok(Ok(pair)) => go_through(rt, request, &given.rules.rules, &pair, maker, run, names),
         Ok(Err(decision)) => refuse(rt, &decision),
         Err(_) => Err(Trouble::NoMemory),
     }

@@ -1,8 +1,8 @@
 //! The command line: the commands that the program knows, and what one asks for.
 
 use crate::commands::{
-    ARCHIVE, AUDIT, BOARD, BUILD, CHECK, CONVERT, EXPLAIN, JUDGE, PAGE, SHORT_VERSION, TIDY, TOP,
-    VERSION,
+    ARCHIVE, AUDIT, BOARD, BUILD, CHECK, CONVERT, CommandText, EXPLAIN, JUDGE, PAGE, SHORT_VERSION,
+    TIDY, TOP, VERSION,
 };
 use crate::sources::STANDARD_INPUT;
 use clap::builder::ValueParser;
@@ -205,13 +205,22 @@ fn command<'a>(alloc: Global) -> Result<Command<'a>, AllocError> {
         .subcommand(board_command(alloc)?)
 }
 
+/// A command that reads a word list, with its name.
+fn words_command<'a>(alloc: Global, text: &CommandText) -> Result<Command<'a>, AllocError> {
+    text.command(alloc)
+        .arg(name(alloc, "WORDS", "the word list; - is standard input"))
+}
+
+/// A command about one game, with the names of its files.
+fn game_command<'a>(alloc: Global, text: &CommandText) -> Result<Command<'a>, AllocError> {
+    words_command(alloc, text)?
+        .arg(name(alloc, "LEXICON", "the lexicon file of the words"))?
+        .arg(name(alloc, "GAME", "the GCG record; - is standard input"))
+}
+
 /// `judge [--first-field] [--settle] [--rules FILE] WORDS LEXICON GAME`.
 fn judge_command<'a>(alloc: Global) -> Result<Command<'a>, AllocError> {
-    JUDGE
-        .command(alloc)
-        .arg(name(alloc, "WORDS", "the word list; - is standard input"))?
-        .arg(name(alloc, "LEXICON", "the lexicon file of the words"))?
-        .arg(name(alloc, "GAME", "the GCG record; - is standard input"))?
+    game_command(alloc, &JUDGE)?
         .arg(flag(
             alloc,
             "settle",
@@ -223,9 +232,7 @@ fn judge_command<'a>(alloc: Global) -> Result<Command<'a>, AllocError> {
 
 /// `archive [--first-field] [--rules FILE] [--names FILE] [--json] [--pages FOLDER] [--progress|--quiet] WORDS LEXICON [GAME...]`.
 fn archive_command<'a>(alloc: Global) -> Result<Command<'a>, AllocError> {
-    ARCHIVE
-        .command(alloc)
-        .arg(name(alloc, "WORDS", "the word list; - is standard input"))?
+    words_command(alloc, &ARCHIVE)?
         .arg(name(alloc, "LEXICON", "the lexicon file of the words"))?
         .arg(
             Arg::new(alloc, "GAME")
@@ -261,11 +268,7 @@ fn archive_command<'a>(alloc: Global) -> Result<Command<'a>, AllocError> {
 
 /// `audit [--first-field] [--rules FILE] [--corrected OUT] WORDS LEXICON GAME`.
 fn audit_command<'a>(alloc: Global) -> Result<Command<'a>, AllocError> {
-    AUDIT
-        .command(alloc)
-        .arg(name(alloc, "WORDS", "the word list; - is standard input"))?
-        .arg(name(alloc, "LEXICON", "the lexicon file of the words"))?
-        .arg(name(alloc, "GAME", "the GCG record; - is standard input"))?
+    game_command(alloc, &AUDIT)?
         .arg(
             Arg::new(alloc, "corrected")
                 .long("corrected")
@@ -278,11 +281,7 @@ fn audit_command<'a>(alloc: Global) -> Result<Command<'a>, AllocError> {
 
 /// `explain [--first-field] [--rules FILE] WORDS LEXICON GAME [LINE]`.
 fn explain_command<'a>(alloc: Global) -> Result<Command<'a>, AllocError> {
-    EXPLAIN
-        .command(alloc)
-        .arg(name(alloc, "WORDS", "the word list; - is standard input"))?
-        .arg(name(alloc, "LEXICON", "the lexicon file of the words"))?
-        .arg(name(alloc, "GAME", "the GCG record; - is standard input"))?
+    game_command(alloc, &EXPLAIN)?
         .arg(
             Arg::new(alloc, "LINE")
                 .value_parser(value_parser!(u32))
@@ -296,33 +295,31 @@ fn explain_command<'a>(alloc: Global) -> Result<Command<'a>, AllocError> {
 
 /// `page [--first-field] [--rules FILE] WORDS LEXICON GAME OUT`.
 fn page_command<'a>(alloc: Global) -> Result<Command<'a>, AllocError> {
-    PAGE.command(alloc)
-        .arg(name(alloc, "WORDS", "the word list; - is standard input"))?
-        .arg(name(alloc, "LEXICON", "the lexicon file of the words"))?
-        .arg(name(alloc, "GAME", "the GCG record; - is standard input"))?
+    game_command(alloc, &PAGE)?
         .arg(name(alloc, "OUT", "the page to be written, or emptied first"))?
         .arg(first_field_option(alloc))?
         .arg(rules_option(alloc))
 }
 
+/// The name of the lexicon file that a command writes.
+fn lexicon_out<'a>(alloc: Global) -> Arg<'a> {
+    name(
+        alloc,
+        "OUT",
+        "the lexicon file to be written, or emptied first",
+    )
+}
+
 /// `build [--first-field] WORDS OUT`.
 fn build_command<'a>(alloc: Global) -> Result<Command<'a>, AllocError> {
-    BUILD
-        .command(alloc)
-        .arg(name(alloc, "WORDS", "the word list; - is standard input"))?
-        .arg(name(
-            alloc,
-            "OUT",
-            "the lexicon file to be written, or emptied first",
-        ))?
+    words_command(alloc, &BUILD)?
+        .arg(lexicon_out(alloc))?
         .arg(first_field_option(alloc))
 }
 
 /// `check [--first-field] WORDS LEXICON`.
 fn check_command<'a>(alloc: Global) -> Result<Command<'a>, AllocError> {
-    CHECK
-        .command(alloc)
-        .arg(name(alloc, "WORDS", "the word list; - is standard input"))?
+    words_command(alloc, &CHECK)?
         .arg(name(alloc, "LEXICON", "the lexicon file"))?
         .arg(first_field_option(alloc))
 }
@@ -333,19 +330,12 @@ fn convert_command<'a>(alloc: Global) -> Result<Command<'a>, AllocError> {
         .command(alloc)
         .arg(name(alloc, "FORMAT", "the format").value_parser(FORMATS.as_slice()))?
         .arg(name(alloc, "LEXICON", "the lexicon file"))?
-        .arg(name(
-            alloc,
-            "OUT",
-            "the lexicon file to be written, or emptied first",
-        ))
+        .arg(lexicon_out(alloc))
 }
 
 /// `top [--first-field] [--rules FILE] [--number N] [--before LINE] WORDS LEXICON GAME [RACK]`.
 fn top_command<'a>(alloc: Global) -> Result<Command<'a>, AllocError> {
-    TOP.command(alloc)
-        .arg(name(alloc, "WORDS", "the word list; - is standard input"))?
-        .arg(name(alloc, "LEXICON", "the lexicon file of the words"))?
-        .arg(name(alloc, "GAME", "the GCG record; - is standard input"))?
+    game_command(alloc, &TOP)?
         .arg(
             Arg::new(alloc, "RACK")
                 .required_unless_present("before")?

@@ -2,9 +2,8 @@
 
 use crate::command_line::WordsFile;
 use crate::commands::PROGRAM;
-use crate::files::open;
-use crate::inputs::Inputs;
-use crate::sources::{Source, open_source, shown};
+use crate::inputs::{Inputs, lexicon_of};
+use crate::sources::shown;
 use devices::FromRead;
 use digesting::Digesting;
 use endings::Trouble;
@@ -15,7 +14,6 @@ use lex_list::WordList;
 use ref_tiles::{Rules, english_rules};
 use std::alloc::Global;
 use std::io::Read;
-use std::rt::{Files, Runtime};
 
 /// Rules, and the SHA-256 of their text where they have one.
 #[derive(Drop)]
@@ -35,36 +33,60 @@ pub struct DigestedList {
     pub digest: [u8; 32],
 }
 
-/// What pages by these inputs are made by.
-pub fn maker_of(rules: &DigestedRules, list: &DigestedList) -> Maker {
-    Maker {
-        program: PROGRAM,
-        words: list.list.len(),
-        list: list.digest,
-        rules: rules.digest,
+/// The inputs that are read once.
+#[derive(Drop)]
+pub struct DigestedInputs {
+    /// The rules.
+    pub rules: DigestedRules,
+    /// The word list.
+    pub list: DigestedList,
+    /// The bytes of the lexicon.
+    pub lexicon: Vec<u8>,
+}
+
+impl DigestedInputs {
+    /// What pages by these inputs are made by.
+    pub fn maker(&self) -> Maker {
+        Maker {
+            program: PROGRAM,
+            words: self.list.list.len(),
+            list: self.list.digest,
+            rules: self.rules.digest,
+        }
     }
 }
 
-/// Opens the rules text where there is one, the word list and the lexicon, in this order.
-pub fn open_digested<'a, R: Runtime>(
-    rt: &R,
+/// Reads the rules, the word list and the bytes of the lexicon, in this order, or gives the decision that the rules or the words are bad.
+pub fn read_digested<'a, W: Read + Drop, F: Read + Drop>(
+    alloc: Global,
     rules: Option<&'a str>,
     words: WordsFile<'a>,
     lexicon: &'a str,
-) -> Result<Inputs<Source<R>, R::File>, Trouble<'a>> {
-    let rules = match rules {
-        None => None,
-        Some(name) => Some(open(rt, name)?),
+    inputs: Inputs<W, F>,
+) -> Result<Result<DigestedInputs, Decision>, Trouble<'a>> {
+    let Inputs {
+        rules: rules_text,
+        words: list,
+        lexicon: file,
+    } = inputs;
+    let rules = match digested_rules(alloc, rules, rules_text)? {
+        Ok(rules) => rules,
+        Err(decision) => return Ok(Err(decision)),
     };
-    Ok(Inputs {
+    let list = match digested_list(alloc, words, list)? {
+        Ok(list) => list,
+        Err(decision) => return Ok(Err(decision)),
+    };
+    let lexicon = lexicon_of(alloc, lexicon, file)?;
+    Ok(Ok(DigestedInputs {
         rules,
-        words: open_source(rt, words.name)?,
-        lexicon: open(rt, lexicon)?,
-    })
+        list,
+        lexicon,
+    }))
 }
 
 /// The rules of a text, the English ones where there is none, or the decision that the text states none.
-pub fn digested_rules<'a, F: Read + Drop>(
+fn digested_rules<'a, F: Read + Drop>(
     alloc: Global,
     name: Option<&'a str>,
     text: Option<F>,
@@ -87,7 +109,7 @@ pub fn digested_rules<'a, F: Read + Drop>(
 }
 
 /// The word list of a file, or the decision that it is none.
-pub fn digested_list<'a, F: Read + Drop>(
+fn digested_list<'a, F: Read + Drop>(
     alloc: Global,
     file: WordsFile<'a>,
     words: F,

@@ -1,8 +1,7 @@
 //! The inputs that games are judged by: rules, a word list and its lexicon, which are opened and read once.
 
-use crate::command_line::WordsFile;
 use crate::files::open;
-use crate::sources::{Words, open_words, shown};
+use crate::sources::{Source, open_source, shown};
 use devices::{FromRead, FromWrite, write_whole};
 use endings::{Exit, Trouble};
 use engine::{Decision, read_lexicon, read_list, read_rules};
@@ -27,16 +26,16 @@ pub struct Inputs<W, F> {
 pub fn open_inputs<'a, R: Runtime>(
     rt: &R,
     rules: Option<&'a str>,
-    words: WordsFile<'a>,
+    words: &'a str,
     lexicon: &'a str,
-) -> Result<Inputs<Words<R>, R::File>, Trouble<'a>> {
+) -> Result<Inputs<Source<R>, R::File>, Trouble<'a>> {
     let rules = match rules {
         None => None,
         Some(name) => Some(open(rt, name)?),
     };
     Ok(Inputs {
         rules,
-        words: open_words(rt, words)?,
+        words: open_source(rt, words)?,
         lexicon: open(rt, lexicon)?,
     })
 }

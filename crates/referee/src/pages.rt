@@ -6,7 +6,8 @@ use devices::{FromRead, FromWrite, write_whole};
 use endings::Trouble;
 use engine::{Case, RunFault, open_case};
 use game_page::{
-    IndexPlayer, IndexRow, Maker, PageNames, push_index_end, push_index_head, push_index_row,
+    Contents, IndexPlayer, IndexRow, Maker, PageNames, push_index_end, push_index_head,
+    push_index_row,
 };
 use lex_check::Checked;
 use ref_tiles::Rules;
@@ -101,7 +102,13 @@ impl<'a> Pages<'a> {
         }
         let alloc = rt.alloc();
         self.page.clear();
-        push_case(alloc, &mut self.page, rules, pair, case, &self.maker)?;
+        let contents = Contents {
+            rules,
+            pair,
+            case,
+            maker: &self.maker,
+        };
+        push_case(alloc, &mut self.page, &contents)?;
         let file = self.names.next_name(alloc, name)?;
         let path = path_in(alloc, self.folder, file.as_str())?;
         if put(rt, path.as_str(), self.page.as_slice())? {

@@ -1,17 +1,15 @@
 //! `page`: the page of a game.
 
 use crate::command_line::GameFiles;
-use crate::digests::{digested_list, digested_rules, maker_of, open_digested};
+use crate::digests::read_digested;
 use crate::files::create;
-use crate::inputs::{Inputs, lexicon_of, refuse, write};
+use crate::inputs::{open_inputs, refuse, write};
 use crate::sources::{open_source, shown};
 use devices::{FromRead, FromWrite, write_whole};
 use endings::{Exit, Trouble};
-use engine::{Case, case_line, open_case, pair_file, record_from};
+use engine::{case_line, open_case, pair_file, record_from};
 use explain_lines::exit_of;
-use game_page::{Maker, push_page};
-use lex_check::Checked;
-use ref_tiles::Rules;
+use game_page::{Contents, push_page};
 use std::alloc::{AllocError, Global};
 use std::rt::Runtime;
 
@@ -22,31 +20,29 @@ pub fn page<'a, R: Runtime + AllocGlobal>(
     files: GameFiles<'a>,
     out: &'a str,
 ) -> Result<Exit, Trouble<'a>> {
-    let inputs = open_digested(rt, files.rules, files.words, files.lexicon)?;
+    let inputs = open_inputs(rt, files.rules, files.words.name, files.lexicon)?;
     let game = open_source(rt, files.game)?;
-    let Inputs {
-        rules,
-        words,
-        lexicon,
-    } = inputs;
-    let rules = match digested_rules(rt.alloc(), files.rules, rules)? {
-        Ok(rules) => rules,
+    let given = match read_digested(rt.alloc(), files.rules, files.words, files.lexicon, inputs)? {
+        Ok(given) => given,
         Err(decision) => return refuse(rt, &decision),
     };
-    let list = match digested_list(rt.alloc(), files.words, words)? {
-        Ok(list) => list,
-        Err(decision) => return refuse(rt, &decision),
-    };
-    let bytes = lexicon_of(rt.alloc(), files.lexicon, lexicon)?;
-    let pair = match pair_file(rt.alloc(), &list.list, &bytes) {
+    let pair = match pair_file(rt.alloc(), &given.list.list, &given.lexicon) {
         Ok(Ok(pair)) => pair,
         Ok(Err(decision)) => return refuse(rt, &decision),
         Err(_) => return Err(Trouble::NoMemory),
     };
-    let maker = maker_of(&rules, &list);
+    let maker = given.maker();
     let mut game = FromRead::new(game);
-    match open_case(rt.alloc(), &rules.rules, &pair, &mut game) {
-        Ok(case) => write_page(rt, &rules.rules, &pair, &case, &maker, out),
+    match open_case(rt.alloc(), &given.rules.rules, &pair, &mut game) {
+        Ok(case) => {
+            let contents = Contents {
+                rules: &given.rules.rules,
+                pair: &pair,
+                case: &case,
+                maker: &maker,
+            };
+            write_page(rt, &contents, out)
+        }
         Err(fault) => Err(Trouble::of(fault, shown(files.game))),
     }
 }
@@ -54,16 +50,11 @@ pub fn page<'a, R: Runtime + AllocGlobal>(
 /// Writes the page of a case to the file `out`, which is made once the page is.
 fn write_page<'a, R: Runtime + AllocGlobal>(
     rt: &R,
-    rules: &Rules,
-    pair: &Checked<'_>,
-    case: &Case,
-    maker: &Maker,
+    contents: &Contents<'_>,
     out: &'a str,
 ) -> Result<Exit, Trouble<'a>> {
-    let (Ok(page), Ok(line)) = (
-        page_of(rt.alloc(), rules, pair, case, maker),
-        case_line(rt.alloc(), case),
-    ) else {
+    let case = contents.case;
+    let (Ok(page), Ok(line)) = (page_of(rt.alloc(), contents), case_line(rt.alloc(), case)) else {
         return Err(Trouble::NoMemory);
     };
     if case.read.is_ok() {
@@ -77,15 +68,9 @@ fn write_page<'a, R: Runtime + AllocGlobal>(
 }
 
 /// The page of a case.
-fn page_of(
-    alloc: Global,
-    rules: &Rules,
-    pair: &Checked<'_>,
-    case: &Case,
-    maker: &Maker,
-) -> Result<Vec<u8>, AllocError> {
+fn page_of(alloc: Global, contents: &Contents<'_>) -> Result<Vec<u8>, AllocError> {
     let mut page = Vec::new(alloc);
-    push_case(alloc, &mut page, rules, pair, case, maker)?;
+    push_case(alloc, &mut page, contents)?;
     Ok(page)
 }
 
@@ -93,13 +78,10 @@ fn page_of(
 pub fn push_case(
     alloc: Global,
     page: &mut Vec<u8>,
-    rules: &Rules,
-    pair: &Checked<'_>,
-    case: &Case,
-    maker: &Maker,
+    contents: &Contents<'_>,
 ) -> Result<(), AllocError> {
-    match record_from(alloc, case.text.as_slice())? {
-        Ok(mut right) => push_page(alloc, page, rules, pair, case, &mut right, maker),
+    match record_from(alloc, contents.case.text.as_slice())? {
+        Ok(mut right) => push_page(alloc, page, contents, &mut right),
         Err(_) => Ok(()),
     }
 }

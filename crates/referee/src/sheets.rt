@@ -4,7 +4,7 @@ use crate::auditing::audit_by;
 use crate::command_line::GameFiles;
 use crate::explaining::explain_by;
 use crate::inputs::{Inputs, lexicon_of, list_of, open_inputs, refuse, rules_of};
-use crate::sources::{Source, open_source};
+use crate::sources::{Source, fields_of, open_source};
 use endings::{Exit, Trouble};
 use engine::pair_file;
 use lex_check::Checked;
@@ -26,7 +26,7 @@ pub fn answer_sheet<'a, R: Runtime + AllocGlobal>(
     files: GameFiles<'a>,
     task: SheetTask<'a>,
 ) -> Result<Exit, Trouble<'a>> {
-    let inputs = open_inputs(rt, files.rules, files.words, files.lexicon)?;
+    let inputs = open_inputs(rt, files.rules, files.words.name, files.lexicon)?;
     let game = open_source(rt, files.game)?;
     let Inputs {
         rules,
@@ -37,6 +37,7 @@ pub fn answer_sheet<'a, R: Runtime + AllocGlobal>(
         Ok(rules) => rules,
         Err(decision) => return refuse(rt, &decision),
     };
+    let words = fields_of(words, files.words.first_field);
     let list = match list_of(rt.alloc(), files.words.name, words)? {
         Ok(list) => list,
         Err(decision) => return refuse(rt, &decision),

@@ -5,7 +5,7 @@ use crate::files::open;
 use either::Either;
 use endings::Trouble;
 use first_fields::FirstFields;
-use std::io::Input;
+use std::io::{Input, Read};
 use std::rt::{Files, Runtime};
 
 /// The name of standard input on the command line.
@@ -27,11 +27,16 @@ pub type Words<R> = Either<Source<R>, FirstFields<Source<R>>>;
 
 /// Opens a word list to be read.
 pub fn open_words<'a, R: Runtime>(rt: &R, words: WordsFile<'a>) -> Result<Words<R>, Trouble<'a>> {
-    let source = open_source(rt, words.name)?;
-    if words.first_field {
-        return Ok(Either::Right(FirstFields::new(source)));
+    Ok(fields_of(open_source(rt, words.name)?, words.first_field))
+}
+
+/// The lines of a word list, or their first fields alone.
+pub fn fields_of<S: Read + Drop>(source: S, first_field: bool) -> Either<S, FirstFields<S>> {
+    if first_field {
+        Either::Right(FirstFields::new(source))
+    } else {
+        Either::Left(source)
     }
-    Ok(Either::Left(source))
 }
 
 /// How messages name a file or standard input.
