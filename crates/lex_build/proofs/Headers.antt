@@ -23,13 +23,7 @@ use Rattle.lex_build.specs.declared.faults.BuildFault.{BuildFault}
 use Rattle.lex_build.specs.declared.faults.BuildFault.TheVariants as why
 use Rattle.lex_build.proofs.Labels.{many_labels}
 use Rattle.lex_build.proofs.Bytes.{word_back, take_all}
-
-not_below : (n m : ℕ) → m ≤ n → ltb n m ≡ false
-not_below n m le = by (ltb n m) refl
-  where
-    by : (b : Bool) → ltb n m ≡ b → b ≡ false
-    by true e = let lt = ltb-true n m e in absurd (omega arith)
-    by false e = refl
+use Rattle.lex_build.proofs.NewArcs.{not_less}
 
 -- ---- the words of a header
 
@@ -72,14 +66,14 @@ shape_by : (format : Format) (bytes : List ℕ) → format_of bytes ≡ Some for
     → names_node (Some format) (body_of bytes) (root_of bytes) ≡ true → IsSoundBody format (body_of bytes) → fault_of bytes ≡ None
 unfolding fault_of form_fault header_fault mask_header_fault body_fault
 shape_by form.Gad1 bytes is few size node body =
-    let long : ltb (length bytes) header_bytes ≡ false = not_below (length bytes) header_bytes (omega arith) in
+    let long : ltb (length bytes) header_bytes ≡ false = not_less (length bytes) header_bytes (omega arith) in
     let one : leb (count_of bytes) most_arcs ≡ true = le-leb (count_of bytes) most_arcs few in
     let two : eqb (length bytes) (header_bytes + 4 * count_of bytes) ≡ true = eq-eqb (length bytes) (header_bytes + 4 * count_of bytes) size in
     let fine = body.fine in
     let closed = body.closed in
     rw (long, is, one, two, node, fine, closed) refl
 shape_by form.Gad2 bytes is few size node body =
-    let long : ltb (length bytes) header_bytes ≡ false = not_below (length bytes) header_bytes (omega arith) in
+    let long : ltb (length bytes) header_bytes ≡ false = not_less (length bytes) header_bytes (omega arith) in
     let one : leb (count_of bytes) most_body_words ≡ true = le-leb (count_of bytes) most_body_words few in
     let two : eqb (length bytes) (header_bytes + 4 * count_of bytes) ≡ true = eq-eqb (length bytes) (header_bytes + 4 * count_of bytes) size in
     let fine = body.fine in

@@ -75,6 +75,18 @@ or_false : (b : Bool) → (b || false) ≡ b
 or_false true = refl
 or_false false = refl
 
+or_three : (a b c : Bool) → ((a || b) || c) ≡ (a || (b || c))
+or_three true b c = refl
+or_three false b c = refl
+
+-- each bit of the word: one that was set, or the one more
+set_is : (word label : ℕ) → label < 32 → (bit : ℕ) (old here : Bool) → has_bit word bit ≡ old → (bit ≡ label → here ≡ true) → ((bit ≡ label → ⊥) → here ≡ false)
+    → has_bit (bit_or word (1 * 2 ^ label % 2 ^ 32)) bit ≡ (old || here)
+set_is word label low bit old here before at apart = elim (cases_eq bit label) [
+  | inl same ↦ rw (at same, or_true) (subst (λ (b : ℕ). has_bit (bit_or word (1 * 2 ^ label % 2 ^ 32)) b ≡ true) (sym same) (set_here word label low))
+  | inr other ↦ rw (apart other, or_false) (set_there word label low bit other ∙ before)
+]
+
 -- the label word of no arcs
 pub no_label : IsLabelWord [] (1 * 2 ^ 31 % 2 ^ 32)
 no_label = record { has = bit_is }
@@ -101,16 +113,12 @@ label_more word arcs place d before lt low = record { has = bit_is }
   where
     bit_is : (bit : ℕ) → bit < 32 → has_bit (bit_or word (1 * 2 ^ (get_or arcs place d).label % 2 ^ 32)) bit ≡ (eqb bit 31 || list_any (has_label bit) (take (place + 1) arcs))
     bit_is bit small =
-        let step = list_any_more (has_label bit) arcs place d lt in
-        let old = before.has bit small in
-        rw step (elim (cases_eq bit (get_or arcs place d).label) [
-          | inl same ↦
-              let is : eqb (get_or arcs place d).label bit ≡ true = eq-eqb (get_or arcs place d).label bit (sym same) in
-              rw (is, or_true) (rw or_true (subst (λ (b : ℕ). has_bit (bit_or word (1 * 2 ^ (get_or arcs place d).label % 2 ^ 32)) b ≡ true) (sym same) (set_here word (get_or arcs place d).label low)))
-          | inr other ↦
-              let is = ne_eqb (get_or arcs place d).label bit (λ e. other (sym e)) in
-              rw (is, or_false) (set_there word (get_or arcs place d).label low bit other ∙ old)
-        ])
+        let here = has_label bit (get_or arcs place d) in
+        let set : has_bit (bit_or word (1 * 2 ^ (get_or arcs place d).label % 2 ^ 32)) bit ≡ ((eqb bit 31 || list_any (has_label bit) (take place arcs)) || here) =
+        set_is word (get_or arcs place d).label low bit (eqb bit 31 || list_any (has_label bit) (take place arcs)) here (before.has bit small)
+        (λ same. eq-eqb (get_or arcs place d).label bit (sym same)) (λ other. ne_eqb (get_or arcs place d).label bit (λ e. other (sym e)))
+        in
+        rw (list_any_more (has_label bit) arcs place d lt) (set ∙ or_three (eqb bit 31) (list_any (has_label bit) (take place arcs)) here)
 
 -- the accept word of no arcs
 pub no_accept : IsAcceptWord [] 0
@@ -123,16 +131,9 @@ accept_more word arcs place d before lt low does = record { has = bit_is }
   where
     bit_is : (bit : ℕ) → bit < 32 → has_bit (bit_or word (1 * 2 ^ (get_or arcs place d).label % 2 ^ 32)) bit ≡ list_any (accepts_with bit) (take (place + 1) arcs)
     bit_is bit small =
-        let step = list_any_more (accepts_with bit) arcs place d lt in
-        let old = before.has bit small in
-        rw step (elim (cases_eq bit (get_or arcs place d).label) [
-          | inl same ↦
-              let is : eqb (get_or arcs place d).label bit ≡ true = eq-eqb (get_or arcs place d).label bit (sym same) in
-              rw (does, is, or_true) (subst (λ (b : ℕ). has_bit (bit_or word (1 * 2 ^ (get_or arcs place d).label % 2 ^ 32)) b ≡ true) (sym same) (set_here word (get_or arcs place d).label low))
-          | inr other ↦
-              let is = both_with (get_or arcs place d) bit (λ e. other (sym e)) in
-              rw (is, or_false) (set_there word (get_or arcs place d).label low bit other ∙ old)
-        ])
+        rw (list_any_more (accepts_with bit) arcs place d lt)
+        (set_is word (get_or arcs place d).label low bit (list_any (accepts_with bit) (take place arcs)) (accepts_with bit (get_or arcs place d)) (before.has bit small)
+        (λ same. rw (does, eq-eqb (get_or arcs place d).label bit (sym same)) refl) (λ other. both_with (get_or arcs place d) bit (λ e. other (sym e))))
 
 -- an arc more, which does not accept
 pub accept_passed : (word : ℕ) (arcs : List Arc) (place : ℕ) (d : Arc) → IsAcceptWord (take place arcs) word → place < length arcs

@@ -1,14 +1,15 @@
 -- The arcs of a node in a GAD2 file, from its label word, its accept word and its targets.
-use Rattle.std.proofs.Common.{◌≡◌, ℕ, zero, suc, ◌+◌, ◌/◌, ◌%◌, ◌^◌, ◌<◌, ◌≤◌, Bool, true, false, cond, ◌&&◌, ◌||◌, eqb, ltb, List, [], ◌∷◌, map, length, get_or, drop, None, inl, inr, refl, sym, ap, subst, ◌∙◌, arith}
+use Rattle.std.proofs.Common.{◌≡◌, ℕ, zero, suc, ◌+◌, ◌-◌, ◌/◌, ◌%◌, ◌^◌, ◌<◌, ◌≤◌, Bool, true, false, cond, ◌&&◌, ◌||◌, eqb, ltb, List, [], ◌∷◌, map, length, get_or, drop, None, inl, inr, refl, sym, ap, subst, ◌∙◌, arith}
 use Rattle.std.proofs.lemmas.Bool.{ne_eqb, eq-eqb, eqb-true, eqb-false, lt-ltb, le-leb, false≢true, cases_lt, cases_eq, and_from}
 use Rattle.std.proofs.lemmas.Nat.Bits.{bit_at-lt}
 use Rattle.std.specs.List.{Contains, list_any}
 use Rattle.lex_file.specs.declared.arcs.Arc.{Arc}
 use Rattle.lex_file.specs.Arcs.{has_label}
-use Rattle.lex_file.specs.Graphs.{AreRising, first_or_other, is_other, none_there}
+use Rattle.lex_file.specs.Graphs.{AreRising, first_or_other, is_other, none_there, found_there}
 use Rattle.lex_file.specs.Masks.{has_bit, labels_below, label_count, node_size, mask_arc, arcs_among, is_mask_node}
 use Rattle.lex_file.specs.MaskShapes.{points_back, label_fault, labels_fault, node_fault}
 use Rattle.lex_file.specs.SoundMasks.{IsFineNode, below_more, among_has, among_lacks, among_none}
+use Rattle.lex_file.proofs.MaskRuns.{found}
 use Rattle.lex_build.proofs.Growth.{or_right}
 use Rattle.lex_build.proofs.MaskBits.{none_passes}
 
@@ -151,26 +152,11 @@ have_arcs words place from (suc count) (arc ∷ arcs) size left = elim (cases_eq
     ]
 
 -- an arc of the node for each label of its label word
-pub among_contains : (words : List ℕ) (place from count label : ℕ) → from ≤ label → label < from + count → has_bit (get_or words place 0) label ≡ true
-    → Contains (arcs_among words place from count) (mask_arc words place label)
-among_contains words place from zero label le lt is = absurd (omega arith)
-among_contains words place from (suc count) label le lt is =
-    by (has_bit (get_or words place 0) from) refl (λ reached. among_contains words place (from + 1) count label reached (omega arith) is)
-  where
-    at : from ≡ label → has_bit (get_or words place 0) from ≡ true
-    at same = rw same is
-
-    by : (has : Bool) → has_bit (get_or words place 0) from ≡ has
-        → (from + 1 ≤ label → Contains (arcs_among words place (from + 1) count) (mask_arc words place label))
-        → Contains (arcs_among words place from (suc count)) (mask_arc words place label)
-    by true first more = rw (among_has words place from count first) (elim (cases_lt from label) [
-      | inl less ↦ is_other (mask_arc words place from) (mask_arc words place label) (arcs_among words place (from + 1) count) (more (omega arith))
-      | inr after ↦ let same : from ≡ label = omega arith in (0, omega arith, ap (mask_arc words place) same)
-    ])
-    by false first more = elim (cases_lt from label) [
-      | inl less ↦ rw (among_lacks words place from count first) (more (omega arith))
-      | inr after ↦ let same : from ≡ label = omega arith in absurd (false≢true (sym first ∙ at same))
-    ]
+pub among_contains : (words : List ℕ) (place label : ℕ) → label < 27 → has_bit (get_or words place 0) label ≡ true
+    → Contains (arcs_among words place 0 27) (mask_arc words place label)
+among_contains words place label lt is =
+    let same : suc place - 1 ≡ place = omega arith in
+    found_there (has_label label) (arcs_among words place 0 27) (mask_arc words place label) (rw same at (found words (suc place) label (omega arith) lt (rw same is)))
 
 -- ---- a node without a fault
 

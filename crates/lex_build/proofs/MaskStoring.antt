@@ -103,7 +103,7 @@ module _ (words : List ℕ) (arcs : List Arc) (labels accepts : ℕ) (known : Is
   label_new : (label : ℕ) → label < 27 → has_bit (get_or (words ++ labels ∷ accepts ∷ targets_of arcs) (length words) 0) label ≡ true
       → label_fault (words ++ labels ∷ accepts ∷ targets_of arcs) (length words) label ≡ None
   label_new label lt is =
-      let one = among_contains (words ++ labels ∷ accepts ∷ targets_of arcs) (length words) 0 27 label (omega arith) (omega arith) is in
+      let one = among_contains (words ++ labels ∷ accepts ∷ targets_of arcs) (length words) label (omega arith) is in
       let there = subst (λ (xs : List Arc). Contains xs (mask_arc (words ++ labels ∷ accepts ∷ targets_of arcs) (length words) label)) has.arcs_are one in
       let arc = known.next.each (mask_arc (words ++ labels ∷ accepts ∷ targets_of arcs) (length words) label) there in
       label_from (words ++ labels ∷ accepts ∷ targets_of arcs) (length words) label

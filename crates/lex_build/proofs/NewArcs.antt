@@ -4,6 +4,7 @@ use Rattle.std.specs.Prelude.{IsTrue, is_none, slice_index}
 use Rattle.std.specs.List.{Contains}
 use Rattle.std.proofs.lemmas.List.{map-append, length-append}
 use Rattle.std.proofs.lemmas.Bool.{ltb-true, lt-ltb, leb-true, leb-false}
+use Rattle.std.proofs.lemmas.Bool.Decides.{nat_tests}
 use Rattle.lex_file.specs.declared.arcs.Arc.{Arc}
 use Rattle.lex_file.specs.declared.formats.Format.{Format}
 use Rattle.lex_file.specs.Arcs.{reaches, arc_from}
@@ -19,12 +20,8 @@ unfoldable pub arcs_below : ℕ → List Arc → List Arc
 arcs_below from [] = []
 arcs_below from (arc ∷ arcs) = cond (ltb arc.label from) (arc ∷ arcs_below from arcs) []
 
-not_less : (n m : ℕ) → m ≤ n → ltb n m ≡ false
-not_less n m le = by (ltb n m) refl
-  where
-    by : (b : Bool) → ltb n m ≡ b → b ≡ false
-    by true e = let lt = ltb-true n m e in absurd (omega arith)
-    by false e = refl
+pub not_less : (n m : ℕ) → m ≤ n → ltb n m ≡ false
+not_less n m le = grind (arith, nat_tests)
 
 pub below_none : (arcs : List Arc) → arcs_below 0 arcs ≡ []
 unfolding arcs_below
