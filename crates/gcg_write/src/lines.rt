@@ -54,8 +54,7 @@ fn push_last_rack(tiles: &Counts, out: &mut Vec<u8>) -> Result<(), AllocError>
 {
     out.push(b'(')?;
     push_tiles(tiles, out)?;
-    out.push(b')')?;
-    Ok(())
+    out.extend_from_slice(b")")
 }
 
 /// Appends an event: what happened, its score and the total after it.
