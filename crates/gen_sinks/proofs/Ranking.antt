@@ -149,6 +149,21 @@ module _ {A : Type 0} (before : A → A → Bool) where
               (Contains-push_cases all x z c);
         }
 
+  -- the first of the first are the first
+  pub first_of_first : (many n : ℕ) (all kept : List A) → n ≤ many → AreFirst many before all kept → AreFirst n before all (take n kept)
+  first_of_first many n all kept few first =
+      record {
+        ordered = front_ordered n kept first.ordered;
+        few = let long = length-take n kept in omega arith;
+        some = λ z c. first.some z (front_in n kept z c);
+        others = λ z c.
+            ⊎_elim
+            (λ (has : Contains kept z). front_or_behind n kept z first.ordered has)
+            (λ (full : (length kept ≡ many) × ((k : A) → Contains kept k → before k z ≡ true)).
+            inr (let long = full.0 in length-take-le n kept (omega arith), λ k front. full.1 k (front_in n kept k front)))
+            (first.others z c);
+      }
+
   pub first_none : (n : ℕ) → AreFirst n before [] []
   first_none n = record { ordered = tt; few = omega arith; some = λ z c. absurd (none z c); others = λ z c. absurd (none z c) }
 
