@@ -1,5 +1,5 @@
 -- What the moves of the lines of a board put down, and what is told of them, in one list.
-use Rattle.std.proofs.Common.{◌≡◌, ℕ, zero, suc, ◌+◌, ◌<◌, ◌≤◌, Bool, true, List, [], ◌∷◌, ◌++◌, length, refl, sym, ap, ◌∙◌, subst, arith, Option, Result, Ok, Err}
+use Rattle.std.proofs.Common.{◌≡◌, ℕ, zero, suc, ◌+◌, ◌<◌, ◌≤◌, Bool, true, List, [], ◌∷◌, ◌++◌, length, refl, sym, ap, ◌∙◌, subst, arith, Option, Result, Ok, Err, ◌⊎◌, ⊎_elim}
 use Rattle.std.specs.Prelude.{Contains, slice_index_or}
 use Rattle.std.specs.List.{flat_map, range_with_len}
 use Rattle.std.proofs.lemmas.List.{append-nil}
@@ -12,11 +12,13 @@ use Rattle.ref_play.specs.declared.placed.Placed.{Placed}
 use Rattle.ref_play.specs.Placements.{is_play, with_tiles}
 use Rattle.ref_play.specs.Legality.{HasNoGap, IsLegal}
 use Rattle.ref_play.specs.Directions.{LiesIn, RunsAlong}
+use Rattle.ref_play.specs.Formed.{runs_along}
 use Rattle.ref_play.specs.Best.{Given}
 use Rattle.ref_play.proofs.RangeLaws.{Contains-here, Contains-there}
 use Rattle.ref_play.proofs.Ranges.{range_push}
 use Rattle.ref_play.proofs.PlaceLaws.{is_play-parts, on_board}
 use Rattle.ref_play.proofs.FormedRuns.{along_runs, laid_from}
+use Rattle.ref_play.proofs.Directing.{runs_or_one}
 use Rattle.gen_line.specs.declared.cells.Cell.{Cell}
 use Rattle.gen_line.specs.Model.{join_range, line_moves}
 use Rattle.gen_line.specs.Walk.{Every, Took, Front, add_all}
@@ -34,23 +36,18 @@ same_cells lines d line = slice_index_or lines line []
 
 -- ---- what a line's move puts down
 -- a play in one stretch of a line runs along it
-pub runs_along_line : (d : Dir) (board : List (Option Tile)) (ps : List Placed) (line first len : ℕ) → length board ≡ 225 → line < 15 → is_play d ps ≡ true → HasNoGap (with_tiles board ps) ps
+pub runs_along_line : (d : Dir) (board : List (Option Tile)) (ps : List Placed) (line first len : ℕ) → length board ≡ 225 → is_play d ps ≡ true → HasNoGap (with_tiles board ps) ps
     → LiesIn d (with_tiles board ps) ps line first len → 2 ≤ len → RunsAlong d board ps
-runs_along_line d board [] line first len size low play no_gap lies long = let parts = is_play-parts d [] play in absurd (omega (arith, parts.0))
-runs_along_line d board (p ∷ rest) line first len size low play no_gap lies long =
+runs_along_line d board [] line first len size play no_gap lies long = let parts = is_play-parts d [] play in absurd (omega (arith, parts.0))
+runs_along_line d board (p ∷ rest) line first len size play no_gap lies long =
     let after = with_tiles board (p ∷ rest) in
     let parts = is_play-parts d (p ∷ rest) play in
     let here = Contains-here p rest in
-    record {
-      play = play;
-      line = line;
-      first = first;
-      len = len;
-      below = low;
-      long = long;
-      lies = lies;
-      runs = along_runs d after p rest (laid_from d board (p ∷ rest) size play no_gap) ∙ main_run d after (p ∷ rest) line first len lies p here (on_board (p ∷ rest) p parts.1 here) long;
-    }
+    let runs = along_runs d after p rest (laid_from d board (p ∷ rest) size play no_gap) ∙ main_run d after (p ∷ rest) line first len lies p here (on_board (p ∷ rest) p parts.1 here) long in
+    ⊎_elim
+    (λ (along : RunsAlong d board (p ∷ rest)). along)
+    (λ (one : (runs_along d after (p ∷ rest) ≡ []) × (rest ≡ [])). absurd (let some = ap length (sym one.0 ∙ runs) in omega (arith, some)))
+    (runs_or_one d board p rest size play no_gap)
 
 abbrev IsFitOn : List (Option Tile) → Dir → List Placed → Type 0
 IsFitOn board d ps = (1 ≤ length ps) × (length ps ≤ 7 → IsLegal board ps × RunsAlong d board ps)
@@ -68,7 +65,7 @@ move_fit words board g listed cells s rack d line low y c =
         λ few.
             let on = move_candidate words d board line (cells d line) is listed rack y move.0 move.1 s.told s.long s.size low move.2 few in
             let legal = on.0.candidate.legal in
-            (legal, runs_along_line d board (put_by d line y) line move.0 move.1 s.size low on.1 legal.no_gap on.0.lies on.0.long),
+            (legal, runs_along_line d board (put_by d line y) line move.0 move.1 s.size on.1 legal.no_gap on.0.lies on.0.long),
       ),
     )
 
