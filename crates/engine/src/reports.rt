@@ -1,5 +1,5 @@
 //! The lines of reports, as bytes.
-ghost use Rattle.std.specs.Prelude.{◌≡◌, ◌++◌, ◌∷◌, [], OnOk, IfOk, codes, map};
+ghost use Rattle.std.specs.Prelude.{◌≡◌, ◌++◌, ◌∷◌, [], OnOk, IfOk, codes, decimal, map};
 ghost use Rattle.std.specs.Fmt.{signed_decimal};
 ghost use Rattle.lex_check.specs.Checks.{symbol_of};
 ghost use Rattle.game_turns.specs.Passing.{rules_in, record_in};
@@ -17,6 +17,14 @@ use lex_check::{Checked, Path, text_of};
 use lex_list::ListFault;
 use ref_tiles::{Kind, RulesFault};
 use std::alloc::{AllocError, Global};
+
+/// Appends a number.
+fn push_number(text: &mut Vec<u8>, number: usize) -> Result<(), AllocError>
+    ensures { OnOk result (text.new.items ≡ text.old.items ++ decimal number) }
+{
+    let mut buffer = Buffer::new();
+    text.extend_from_slice(buffer.format(number).as_bytes())
+}
 
 /// Appends a name and a number.
 fn push_expected(text: &mut Vec<u8>, name: &[u8], expected: i32) -> Result<(), AllocError>
@@ -98,10 +106,8 @@ fn push_line(text: &mut Vec<u8>, line: u32) -> Result<(), AllocError>
     if line == 0 {
         return Ok(());
     }
-    let mut buffer = Buffer::new();
     text.extend_from_slice(b" line ")?;
-    text.extend_from_slice(buffer.format(line).as_bytes())?;
-    Ok(())
+    push_number(text, line as usize)
 }
 
 /// `illegal line N: FAULT`.
@@ -109,9 +115,8 @@ fn push_line(text: &mut Vec<u8>, line: u32) -> Result<(), AllocError>
 pub fn illegal_line(alloc: Global, line: u32, fault: &GameFault) -> Result<Vec<u8>, AllocError>
     ensures { IfOk result (λ text. text.items ≡ illegal_line line fault.now) }
 {
-    let mut buffer = Buffer::new();
     let mut text = Vec::from_slice(alloc, b"illegal line ")?;
-    text.extend_from_slice(buffer.format(line).as_bytes())?;
+    push_number(&mut text, line as usize)?;
     text.extend_from_slice(b": ")?;
     push_fault(&mut text, fault)?;
     text.extend_from_slice(b"\n")?;
@@ -217,9 +222,8 @@ pub fn bad_line_line(alloc: Global) -> Result<Vec<u8>, AllocError>
 pub fn ok_line(alloc: Global, words: usize) -> Result<Vec<u8>, AllocError>
     ensures { IfOk result (λ text. text.items ≡ ok_line words) }
 {
-    let mut buffer = Buffer::new();
     let mut text = Vec::from_slice(alloc, b"ok ")?;
-    text.extend_from_slice(buffer.format(words).as_bytes())?;
+    push_number(&mut text, words)?;
     text.extend_from_slice(b"\n")?;
     Ok(text)
 }
