@@ -54,13 +54,9 @@ fn past_bound(bound: &DealFault) -> Finding
 
 /// What is found of a record that passed, or that it has no event.
 #[tactic(auto, using(crate::proofs::FoundGames::by_deal, crate::proofs::FoundGames::past, crate::proofs::Settled::ends_on, crate::proofs::Settled::open_game))]
-fn find_passed(
-    alloc: Global,
-    passed: &Passed<'_>,
-    pair: &Checked<'_>,
-) -> Result<Finding, AllocError>
-    requires { AreAllowed (rules_in passed.now) (pairs.list_in pair.now) (record_in passed.now).events }
-    ensures { IfOk result (IsFinding (rules_in passed.now) (pairs.list_in pair.now) (record_in passed.now)) }
+fn find_passed(alloc: Global, passed: &Passed<'_>) -> Result<Finding, AllocError>
+    requires { AreAllowed (rules_in passed.now) (list_in passed.now) (record_in passed.now).events }
+    ensures { IfOk result (IsFinding (rules_in passed.now) (list_in passed.now) (record_in passed.now)) }
 {
     if passed.record().events.is_empty() {
         return Ok(Finding::NoGame);
@@ -101,13 +97,12 @@ fn refused(line: u32, fault: RuleFault) -> Found
 }
 
 /// What is found of a record of which every event is allowed.
-fn allowed(alloc: Global, passed: &Passed<'_>, pair: &Checked<'_>) -> Result<Found, AllocError>
-    requires allowed { AreAllowed (rules_in passed.now) (pairs.list_in pair.now) (record_in passed.now).events }
-    requires list { list_in passed.now ≡ pairs.list_in pair.now }
-    ensures found { IfOk result (λ f. IsFinding (rules_in passed.now) (pairs.list_in pair.now) (record_in passed.now) f.finding) }
-    ensures unlisted { IfOk result (λ f. AreUnlisted (rules_in passed.now) (pairs.list_in pair.now) (record_in passed.now).events f.unlisted) }
+fn allowed(alloc: Global, passed: &Passed<'_>) -> Result<Found, AllocError>
+    requires { AreAllowed (rules_in passed.now) (list_in passed.now) (record_in passed.now).events }
+    ensures found { IfOk result (λ f. IsFinding (rules_in passed.now) (list_in passed.now) (record_in passed.now) f.finding) }
+    ensures unlisted { IfOk result (λ f. AreUnlisted (rules_in passed.now) (list_in passed.now) (record_in passed.now).events f.unlisted) }
 {
-    let finding = find_passed(alloc, passed, pair)?;
+    let finding = find_passed(alloc, passed)?;
     let plays = unlisted_plays(passed);
     Ok(Found {
         finding,
@@ -127,7 +122,7 @@ fn find(
     ensures unlisted { IfOk result (λ f. AreUnlisted rules.now (pairs.list_in pair.now) game.now.events f.unlisted) }
 {
     match play_through(rules, game, pair.list()) {
-        Ok(passed) => allowed(alloc, &passed, pair),
+        Ok(passed) => allowed(alloc, &passed),
         Err(refusal) => Ok(refused(refusal.line, refusal.fault)),
     }
 }
