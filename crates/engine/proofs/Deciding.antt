@@ -1,5 +1,5 @@
 -- Decisions over inputs that are read in order until one is bad.
-use Rattle.std.proofs.Common.{◌≡◌, ◌≢◌, ℕ, ◌+◌, ◌≤◌, List, [], ◌∷◌, Option, Some, None, Result, Ok, Err, IfSome, length, take, arith, refl, sym, subst, inl, inr}
+use Rattle.std.proofs.Common.{◌≡◌, ◌≢◌, ℕ, ◌+◌, ◌≤◌, List, [], ◌∷◌, Option, Some, None, Result, Ok, Err, IfSome, IsErrAnd, length, take, arith, refl, sym, subst, inl, inr}
 use Rattle.std.specs.Io.KnownBytes.{Consumes}
 use Rattle.std.proofs.lemmas.List.{length-take}
 use Rattle.devices.specs.Devices.{Device, HasWorked}
@@ -100,16 +100,17 @@ front_failed s sources Means IsAnswer fault read still =
     }
 
 -- it was read, and there is no memory for more
-pub front_stopped : {A : Type 0} (s : Source) (sources : List Source) (Means : List ℕ → A → Type 0) (IsAnswer : List (List ℕ) → Verdict → List ℕ → Type 0) (a : A)
-    → IsRead s.limit s.old s.new Means (Ok a) → AreUntouched sources → Decides (s ∷ sources) IsAnswer (Err run.NoMemory)
-front_stopped s sources Means IsAnswer a read still =
-    record {
+pub front_stopped : {A : Type 0} (s : Source) (sources : List Source) (Means : List ℕ → A → Type 0) (IsAnswer : List (List ℕ) → Verdict → List ℕ → Type 0) (a : A) (r : Result Decision RunFault)
+    → IsRead s.limit s.old s.new Means (Ok a) → AreUntouched sources → IsErrAnd r (λ fault. fault ≡ run.NoMemory) → Decides (s ∷ sources) IsAnswer r
+front_stopped s sources Means IsAnswer a (Ok d) read still refused = absurd refused
+front_stopped s sources Means IsAnswer a (Err fault) read still refused =
+    subst (λ f. Decides (s ∷ sources) IsAnswer (Err f)) (sym refused) (record {
       answered = tt;
       worked = tt;
       gave_up = (read.worked, all_worked sources still);
       within = (read.within, all_within sources still);
       ended = tt;
-    }
+    })
 
 -- it is bad
 pub front_bad : {A : Type 0} (s : Source) (sources : List Source) (Means : List ℕ → A → Type 0) (IsAnswer : List (List ℕ) → Verdict → List ℕ → Type 0) (a : A) (d : Decision)

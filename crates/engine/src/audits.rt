@@ -9,7 +9,7 @@ ghost use Rattle.engine.specs.Stages.{IsRead};
 use crate::decisions::Decision;
 use crate::entries::{Entry, entry_of};
 use crate::faults::RunFault;
-use crate::records::record_from;
+use crate::meanings::record_from;
 use crate::transfers::read_text;
 use devices::Input;
 use game_sheets::{WrongNumber, audit};
@@ -89,12 +89,6 @@ pub fn audit_sheet<G: Input>(
     requires { HasRoom (G.device game.old) }
     ensures { IsRead most_bytes (G.device game.old) (G.device game.new) (IsAuditOf rules.now (pairs.list_in pair.now)) result }
 {
-    let text = match read_text(alloc, game, MAX_BYTES) {
-        Ok(text) => text,
-        Err(fault) => return Err(fault),
-    };
-    match audit_from(alloc, rules, pair, &text) {
-        Ok(read) => Ok(read),
-        Err(_) => Err(RunFault::NoMemory),
-    }
+    let text = read_text(alloc, game, MAX_BYTES)?;
+    Ok(audit_from(alloc, rules, pair, &text)?)
 }

@@ -10,9 +10,8 @@ ghost use Rattle.engine.specs.Telling.{IsTold};
 
 use crate::decisions::Decision;
 use crate::faults::RunFault;
-use crate::records::read_record;
+use crate::meanings::{read_record, read_rules};
 use crate::reports::bad_line_line;
-use crate::rules_texts::read_rules;
 use crate::transfers::finish;
 use crate::verdicts::Verdict;
 use devices::{Input, Output};
@@ -87,15 +86,11 @@ fn decide_board<G: Input>(
     requires { HasRoom (G.device game.old) }
     ensures { Decides (game_source (G.device game.old) (G.device game.new) ∷ []) (IsBoarded rules.now before) result }
 {
-    let record = match read_record(alloc, game) {
-        Ok(Ok(record)) => record,
-        Ok(Err(decision)) => return Ok(decision),
-        Err(fault) => return Err(fault),
+    let record = match read_record(alloc, game)? {
+        Ok(record) => record,
+        Err(decision) => return Ok(decision),
     };
-    match tell_board(alloc, rules, &record, before) {
-        Ok(decision) => Ok(decision),
-        Err(_) => Err(RunFault::NoMemory),
-    }
+    Ok(tell_board(alloc, rules, &record, before)?)
 }
 
 /// The same by the rules of a text, which is read first.

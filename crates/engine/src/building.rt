@@ -8,9 +8,9 @@ ghost use Rattle.engine.specs.Sources.{words_source};
 use crate::decisions::Decision;
 use crate::faults::RunFault;
 use crate::lexicons::{LexiconFault, bad_file};
+use crate::meanings::read_list;
 use crate::transfers::finish;
 use crate::verdicts::Verdict;
-use crate::words::read_list;
 use devices::{Input, Output};
 use lex_build::{BuildFault, build};
 use lex_list::WordList;
@@ -36,15 +36,11 @@ fn decide_lexicon<W: Input>(alloc: Global, words: &mut W) -> Result<Decision, Ru
     requires { HasRoom (W.device words.old) }
     ensures { Decides (words_source (W.device words.old) (W.device words.new) ∷ []) IsBuilt result }
 {
-    let list = match read_list(alloc, words) {
-        Ok(Ok(list)) => list,
-        Ok(Err(decision)) => return Ok(decision),
-        Err(fault) => return Err(fault),
+    let list = match read_list(alloc, words)? {
+        Ok(list) => list,
+        Err(decision) => return Ok(decision),
     };
-    match build_list(alloc, &list) {
-        Ok(decision) => Ok(decision),
-        Err(_) => Err(RunFault::NoMemory),
-    }
+    Ok(build_list(alloc, &list)?)
 }
 
 /// Builds the lexicon of a word list, and writes the bytes of its file, or the line of a fault.

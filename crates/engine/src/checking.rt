@@ -13,10 +13,10 @@ ghost use Rattle.engine.specs.Telling.{IsTold};
 use crate::decisions::Decision;
 use crate::faults::RunFault;
 use crate::lexicons::{pair_file, read_lexicon};
+use crate::meanings::read_list;
 use crate::reports::ok_line;
 use crate::transfers::finish;
 use crate::verdicts::Verdict;
-use crate::words::read_list;
 use devices::{Input, Output};
 use lex_check::Checked;
 use lex_list::WordList;
@@ -53,14 +53,8 @@ fn decide_file<L: Input>(
     ensures { Decides (lexicon_source (L.device lexicon.old) (L.device lexicon.new) ∷ [])
         (ReadsLexicon list.now (ReadsNoMore (IsTold verdict.Done (reports.ok_line (length list.now))))) result }
 {
-    let bytes = match read_lexicon(alloc, lexicon) {
-        Ok(bytes) => bytes,
-        Err(fault) => return Err(fault),
-    };
-    match check_bytes(alloc, list, &bytes) {
-        Ok(decision) => Ok(decision),
-        Err(_) => Err(RunFault::NoMemory),
-    }
+    let bytes = read_lexicon(alloc, lexicon)?;
+    Ok(check_bytes(alloc, list, &bytes)?)
 }
 
 /// Reads a word list and a lexicon, and gives the number of the words, or the first fault.

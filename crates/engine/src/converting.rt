@@ -43,14 +43,8 @@ fn decide_conversion<L: Input>(
     requires { HasRoom (L.device lexicon.old) }
     ensures { Decides (lexicon_source (L.device lexicon.old) (L.device lexicon.new) ∷ []) (IsConvertedFile format) result }
 {
-    let bytes = match read_lexicon(alloc, lexicon) {
-        Ok(bytes) => bytes,
-        Err(fault) => return Err(fault),
-    };
-    match convert_bytes(alloc, &bytes, format) {
-        Ok(decision) => Ok(decision),
-        Err(_) => Err(RunFault::NoMemory),
-    }
+    let bytes = read_lexicon(alloc, lexicon)?;
+    Ok(convert_bytes(alloc, &bytes, format)?)
 }
 
 /// Converts a compiled lexicon into a format, and writes the bytes of the file, or the line of a fault.

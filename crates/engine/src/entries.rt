@@ -12,8 +12,8 @@ ghost use Rattle.engine.specs.Stages.{IsRead};
 
 use crate::faults::RunFault;
 use crate::findings::Finding;
+use crate::meanings::game_from;
 use crate::racks::{RackFinding, settle_racks};
-use crate::records::game_from;
 use crate::transfers::read_text;
 use crate::unlisted::unlisted_plays;
 use crate::verdicts::GameFault;
@@ -181,12 +181,6 @@ pub fn archive_entry<G: Input>(
     requires { HasRoom (G.device game.old) }
     ensures { IsRead most_bytes (G.device game.old) (G.device game.new) (IsEntryOf rules.now (pairs.list_in pair.now)) result }
 {
-    let text = match read_text(alloc, game, MAX_BYTES) {
-        Ok(text) => text,
-        Err(fault) => return Err(fault),
-    };
-    match entry_from(alloc, rules, pair, &text) {
-        Ok(read) => Ok(read),
-        Err(_) => Err(RunFault::NoMemory),
-    }
+    let text = read_text(alloc, game, MAX_BYTES)?;
+    Ok(entry_from(alloc, rules, pair, &text)?)
 }

@@ -94,12 +94,7 @@ pub fn open_case<G: Input>(
     requires { HasRoom (G.device game.old) }
     ensures { IsRead most_bytes (G.device game.old) (G.device game.new) (IsCaseOf rules.now (pairs.list_in pair.now)) result }
 {
-    let text = match read_text(alloc, game, MAX_BYTES) {
-        Ok(text) => text,
-        Err(fault) => return Err(fault),
-    };
-    match entry_from(alloc, rules, pair, &text) {
-        Ok(read) => Ok(Case { text, read }),
-        Err(_) => Err(RunFault::NoMemory),
-    }
+    let text = read_text(alloc, game, MAX_BYTES)?;
+    let read = entry_from(alloc, rules, pair, &text)?;
+    Ok(Case { text, read })
 }

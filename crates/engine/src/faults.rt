@@ -1,4 +1,8 @@
 //! Why a call gave no answer.
+ghost use Rattle.std.specs.Prelude.{◌≡◌};
+ghost use Rattle.engine.specs.declared.faults.RunFault.TheVariants as run;
+
+use std::alloc::AllocError;
 use thiserror::Error;
 
 /// Why the referee gave no answer.
@@ -13,4 +17,12 @@ pub enum RunFault {
     /// Memory was refused.
     #[error("no memory")]
     NoMemory,
+}
+
+impl From<AllocError> for RunFault {
+    ghost from_gives = { λ _ fault. fault ≡ run.NoMemory };
+
+    fn from(_refused: AllocError) -> RunFault {
+        RunFault::NoMemory
+    }
 }

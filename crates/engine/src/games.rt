@@ -9,10 +9,8 @@ ghost use Rattle.engine.specs.Sources.{rules_source, words_source, lexicon_sourc
 use crate::decisions::Decision;
 use crate::faults::RunFault;
 use crate::lexicons::{pair_file, read_lexicon};
+use crate::meanings::{read_list, read_record, read_rules};
 use crate::questions::{AskedGame, Question};
-use crate::records::read_record;
-use crate::rules_texts::read_rules;
-use crate::words::read_list;
 use devices::Input;
 use lex_check::Checked;
 use lex_list::WordList;
@@ -35,20 +33,16 @@ pub fn decide_by_pair<Q: Question, G: Input>(
     ensures { Decides (game_source (G.device game.old) (G.device game.new) ∷ [])
         (ReadsRecord (λ r. ReadsNoMore (Q.is_answer question.now rules.now (list_in pair.now) r))) result }
 {
-    let record = match read_record(alloc, game) {
-        Ok(Ok(record)) => record,
-        Ok(Err(decision)) => return Ok(decision),
-        Err(fault) => return Err(fault),
+    let record = match read_record(alloc, game)? {
+        Ok(record) => record,
+        Err(decision) => return Ok(decision),
     };
     let asked = AskedGame {
         rules,
         pair,
         record: &record,
     };
-    match question.answer(alloc, &asked) {
-        Ok(decision) => Ok(decision),
-        Err(_) => Err(RunFault::NoMemory),
-    }
+    Ok(question.answer(alloc, &asked)?)
 }
 
 /// Reads the lexicon of a word list, and then goes on as [`decide_by_pair`]. Where the file is not the lexicon of the list,
@@ -70,14 +64,10 @@ fn decide_by_list<Q: Question, L: Input, G: Input>(
     ensures { Decides (lexicon_source (L.device lexicon.old) (L.device lexicon.new) ∷ game_source (G.device game.old) (G.device game.new) ∷ [])
         (ReadsLexicon list.now (ReadsRecord (λ r. ReadsNoMore (Q.is_answer question.now rules.now list.now r)))) result }
 {
-    let bytes = match read_lexicon(alloc, lexicon) {
-        Ok(bytes) => bytes,
-        Err(fault) => return Err(fault),
-    };
-    match pair_file(alloc, list, &bytes) {
-        Ok(Ok(pair)) => decide_by_pair(alloc, question, rules, &pair, game),
-        Ok(Err(decision)) => Ok(decision),
-        Err(_) => Err(RunFault::NoMemory),
+    let bytes = read_lexicon(alloc, lexicon)?;
+    match pair_file(alloc, list, &bytes)? {
+        Ok(pair) => decide_by_pair(alloc, question, rules, &pair, game),
+        Err(decision) => Ok(decision),
     }
 }
 

@@ -25,11 +25,10 @@ mod games;
 mod judging;
 mod laws;
 mod lexicons;
+mod meanings;
 mod questions;
 mod racks;
-mod records;
 mod reports;
-mod rules_texts;
 mod running;
 mod settling;
 mod tidying;
@@ -40,7 +39,6 @@ mod transfers;
 mod turn_plays;
 mod unlisted;
 mod verdicts;
-mod words;
 
 pub use audits::{Audit, audit_sheet};
 pub use best_plays::BestPlays;
@@ -60,11 +58,12 @@ pub use laws::{
     law_of_ruled_games, law_of_settled_games, law_of_undealt_games,
 };
 pub use lexicons::{LexiconFault, pair_file, read_lexicon};
+pub use meanings::{
+    game_from, list_from, read_list, read_record, read_rules, record_from, rules_from,
+};
 pub use questions::{AskedGame, Question};
 pub use racks::{RackFinding, settle_racks};
-pub use records::{game_from, read_record, record_from};
 pub use reports::{fault_text, legal_report};
-pub use rules_texts::{read_rules, rules_from};
 pub use running::{run, run_ruled};
 pub use settling::{Settling, run_settled, run_settled_ruled};
 pub use tidying::run_tidy;
@@ -74,4 +73,3 @@ pub use totals::last_total;
 pub use transfers::finish;
 pub use turn_plays::TurnPlays;
 pub use verdicts::{GameFault, Verdict};
-pub use words::{list_from, read_list};

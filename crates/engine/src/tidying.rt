@@ -10,7 +10,7 @@ ghost use Rattle.engine.specs.Tidying.{IsTidied};
 
 use crate::decisions::Decision;
 use crate::faults::RunFault;
-use crate::records::read_record;
+use crate::meanings::read_record;
 use crate::transfers::finish;
 use crate::verdicts::Verdict;
 use devices::{Input, Output};
@@ -43,15 +43,11 @@ fn decide_tidy<G: Input>(alloc: Global, game: &mut G) -> Result<Decision, RunFau
     requires { HasRoom (G.device game.old) }
     ensures { Decides (game_source (G.device game.old) (G.device game.new) ∷ []) IsTidied result }
 {
-    let record = match read_record(alloc, game) {
-        Ok(Ok(record)) => record,
-        Ok(Err(decision)) => return Ok(decision),
-        Err(fault) => return Err(fault),
+    let record = match read_record(alloc, game)? {
+        Ok(record) => record,
+        Err(decision) => return Ok(decision),
     };
-    match tidy(alloc, &record) {
-        Ok(decision) => Ok(decision),
-        Err(_) => Err(RunFault::NoMemory),
-    }
+    Ok(tidy(alloc, &record)?)
 }
 
 /// Writes the normal form of a record, or the line of its first fault.

@@ -38,10 +38,7 @@ pub(crate) fn decide_bad_rack(alloc: Global) -> Result<Decision, RunFault>
     ensures told { IfOk result (λ d. IsTold verdict.BadRack reports.bad_rack_line d.verdict d.report.items) }
     ensures memory { IfErr result (λ fault. fault ≡ NoMemory) }
 {
-    match bad_rack(alloc) {
-        Ok(decision) => Ok(decision),
-        Err(_) => Err(RunFault::NoMemory),
-    }
+    Ok(bad_rack(alloc)?)
 }
 
 /// Writes the ten best plays by a rack on the board after a record, by the words of a list and their lexicon.

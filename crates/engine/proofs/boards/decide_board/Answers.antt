@@ -4,14 +4,16 @@ use Rattle.engine.specs.Reading.{ReadsNoMore}
 use Rattle.engine.proofs.Stages.{record_bad, record_last}
 use Rattle.engine.proofs.boards.decide_board.Goals as goal
 
-pub returns-in-Ok-Err : goal.returns-in-Ok-Err
-returns-in-Ok-Err g c =
-    let arm = c.in-Ok-Err in
+pub returns-in-Err : goal.returns-in-Err
+returns-in-Err g c =
+    let read = c.in_ok-record in
+    let arm = c.in-Err in
     record_bad (g.G.Input.device c.args.game.now) (g.G.Input.device c.read_record.new.game) []
-    (λ r. ReadsNoMore (IsShownAt c.args.rules.now r (place_asked r.events c.args.before))) arm.field-0 arm.decision arm.ensures arm.field-0-is tt
+    (λ r. ReadsNoMore (IsShownAt c.args.rules.now r (place_asked r.events c.args.before))) read.field-0 arm.decision read.ensures arm.is tt
 
-pub returns-in-Ok : goal.returns-in-Ok
-returns-in-Ok g c =
-    let arm = c.in-Ok-Ok in
+pub returns : goal.returns
+returns g c =
+    let read = c.in_ok-record in
+    let arm = c.in-Ok in
     record_last (g.G.Input.device c.args.game.now) (g.G.Input.device c.read_record.new.game)
-    (λ r. IsShownAt c.args.rules.now r (place_asked r.events c.args.before)) arm.field-0 arm.record c.in-Ok.decision arm.ensures arm.field-0-is c.in-Ok.ensures
+    (λ r. IsShownAt c.args.rules.now r (place_asked r.events c.args.before)) read.field-0 arm.record c.in_ok-tell_board.field-0 read.ensures arm.is c.in_ok-tell_board.ensures

@@ -4,14 +4,16 @@ use Rattle.engine.specs.Reading.{ReadsNoMore}
 use Rattle.engine.proofs.Stages.{list_bad, list_last}
 use Rattle.engine.proofs.building.decide_lexicon.Goals as goal
 
-pub returns-in-Ok-Err : goal.returns-in-Ok-Err
-returns-in-Ok-Err g c =
-    let arm = c.in-Ok-Err in
+pub returns-in-Err : goal.returns-in-Err
+returns-in-Err g c =
+    let read = c.in_ok-list in
+    let arm = c.in-Err in
     list_bad (g.W.Input.device c.args.words.now) (g.W.Input.device c.read_list.new.words) []
-    (λ ws. ReadsNoMore (IsBuiltBy ws)) arm.field-0 arm.decision arm.ensures arm.field-0-is tt
+    (λ ws. ReadsNoMore (IsBuiltBy ws)) read.field-0 arm.decision read.ensures arm.is tt
 
-pub returns-in-Ok : goal.returns-in-Ok
-returns-in-Ok g c =
-    let arm = c.in-Ok-Ok in
+pub returns : goal.returns
+returns g c =
+    let read = c.in_ok-list in
+    let arm = c.in-Ok in
     list_last (g.W.Input.device c.args.words.now) (g.W.Input.device c.read_list.new.words)
-    IsBuiltBy arm.field-0 arm.list c.in-Ok.decision arm.ensures arm.field-0-is c.in-Ok.ensures
+    IsBuiltBy read.field-0 arm.list c.in_ok-build_list.field-0 read.ensures arm.is c.in_ok-build_list.ensures

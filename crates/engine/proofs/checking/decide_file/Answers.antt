@@ -6,8 +6,8 @@ use Rattle.engine.specs.Telling.{IsTold}
 use Rattle.engine.proofs.Stages.{lexicon_last}
 use Rattle.engine.proofs.checking.decide_file.Goals as goal
 
-pub returns-in-Ok-check_bytes : goal.returns-in-Ok-check_bytes
-returns-in-Ok-check_bytes g c =
+pub returns : goal.returns
+returns g c =
     lexicon_last (λ b. b.items) (g.L.Input.device c.args.lexicon.now) (g.L.Input.device c.read_lexicon.new.lexicon) c.args.list.now
-    (ReadsNoMore (IsTold verdict.Done (ok_line (length c.args.list.now)))) c.in-Ok.bytes c.deref.result.now c.in-Ok-check_bytes.decision c.in-Ok.ensures
-    c.deref.ensures.value c.in-Ok-check_bytes.ensures
+    (ReadsNoMore (IsTold verdict.Done (ok_line (length c.args.list.now)))) c.in_ok-bytes.bytes c.deref.result.now c.in_ok-check_bytes.field-0 c.in_ok-bytes.ensures
+    c.deref.ensures.value c.in_ok-check_bytes.ensures

@@ -2,7 +2,7 @@ use Rattle.engine.specs.Converting.{IsConvertedBy}
 use Rattle.engine.proofs.Stages.{file_last}
 use Rattle.engine.proofs.converting.decide_conversion.Goals as goal
 
-pub returns-in-Ok-convert_bytes : goal.returns-in-Ok-convert_bytes
-returns-in-Ok-convert_bytes g c =
+pub returns : goal.returns
+returns g c =
     file_last (λ b. b.items) (g.L.Input.device c.args.lexicon.now) (g.L.Input.device c.read_lexicon.new.lexicon) (IsConvertedBy c.args.format)
-    c.in-Ok.bytes c.deref.result.now c.in-Ok-convert_bytes.decision c.in-Ok.ensures c.deref.ensures.value c.in-Ok-convert_bytes.ensures
+    c.in_ok-bytes.bytes c.deref.result.now c.in_ok-convert_bytes.field-0 c.in_ok-bytes.ensures c.deref.ensures.value c.in_ok-convert_bytes.ensures

@@ -4,7 +4,7 @@ use Rattle.engine.specs.Archiving.{IsEntryOf}
 use Rattle.engine.proofs.Readings.{taken}
 use Rattle.engine.proofs.entries.archive_entry.Goals as goal
 
-pub returns-in-Ok-entry_from : goal.returns-in-Ok-entry_from
-returns-in-Ok-entry_from g c =
-    taken most_bytes (g.G.Input.device c.args.game.now) (g.G.Input.device c.read_text.new.input) (IsEntryOf c.args.rules.now (list_in c.args.pair.now)) c.in-Ok.text.items c.deref.result.now
-    c.in-Ok-entry_from.read c.in-Ok.ensures.whole c.deref.ensures.value c.in-Ok-entry_from.ensures c.in-Ok.ensures.worked c.in-Ok.ensures.taken
+pub returns : goal.returns
+returns g c =
+    taken most_bytes (g.G.Input.device c.args.game.now) (g.G.Input.device c.read_text.new.input) (IsEntryOf c.args.rules.now (list_in c.args.pair.now)) c.in_ok-text.text.items c.deref.result.now
+    c.in_ok-entry_from.field-0 c.in_ok-text.ensures.whole c.deref.ensures.value c.in_ok-entry_from.ensures c.in_ok-text.ensures.worked c.in_ok-text.ensures.taken

@@ -1,5 +1,5 @@
 use Rattle.std.proofs.Common.{rules}
-use Rattle.engine.proofs.rules_texts.rules_from.Goals as goal
+use Rattle.engine.proofs.meanings.rules_from.Goals as goal
 
 pub returns-in-Ok : goal.returns-in-Ok
 returns-in-Ok c = search rules
