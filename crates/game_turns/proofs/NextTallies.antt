@@ -14,7 +14,7 @@ use Rattle.game_turns.specs.Standing.{is_withdraw, board_at}
 use Rattle.game_turns.specs.Tallies.{tally, out_at, latest_at, latest_play}
 use Rattle.game_turns.specs.Checks.{check_withdraw, fault_in}
 use Rattle.game_turns.specs.Changes.{after}
-use Rattle.game_turns.proofs.TallyLaws.{made, play_made, challenge_more, time_more, last_rack_more, exchange_more, unknown_more, pass_more, first_plays, second_plays, first_waits, second_waits, first_withdraws, second_withdraws}
+use Rattle.game_turns.proofs.TallyLaws.{made, play_made, challenge_more, time_more, last_rack_more, exchange_more, unknown_more, pass_more, play_stands, play_waits, play_withdraws}
 use Rattle.game_turns.proofs.Allowed.{IsAllowedPlay, allowed_play, allowed_kind, withdraws_own, withdraws_no_tiles, withdraws_nothing}
 
 -- the event is allowed after this past
@@ -30,10 +30,10 @@ play_after : (rules : Rules) (past : List Event) (line : ℕ) (player : Seat) (r
     → IsAllowedPlay (tally rules false past) player dir at word
     → after rules (tally rules false past) (play_made line player rack dir at word score total) w ≡ tally rules w (play_made line player rack dir at word score total ∷ past)
 unfolding tally
-play_after rules past line First rack dir at word score total true allowed = first_waits rules past line rack dir at word score total
-play_after rules past line First rack dir at word score total false allowed = first_plays rules past line rack dir at word score total allowed.fits
-play_after rules past line Second rack dir at word score total true allowed = second_waits rules past line rack dir at word score total
-play_after rules past line Second rack dir at word score total false allowed = second_plays rules past line rack dir at word score total allowed.fits
+play_after rules past line First rack dir at word score total true allowed = play_waits rules past line First rack dir at word score total
+play_after rules past line First rack dir at word score total false allowed = play_stands rules past line First rack dir at word score total allowed.fits
+play_after rules past line Second rack dir at word score total true allowed = play_waits rules past line Second rack dir at word score total
+play_after rules past line Second rack dir at word score total false allowed = play_stands rules past line Second rack dir at word score total allowed.fits
 
 pass_after : (rules : Rules) (past : List Event) (line : ℕ) (player : Seat) (rack : Option (List ℕ)) (score total : ℤ) (w : Bool)
     → after rules (tally rules false past) (made line player rack kind.Pass score total) w ≡ tally rules w (made line player rack kind.Pass score total ∷ past)
@@ -47,11 +47,11 @@ taken_after : TakingBackRestores → (rules : Rules) (past : List Event) (line :
     ≡ tally rules w (made line2 player2 rack2 kind.Withdraw score2 total2 ∷ play_made line player rack dir at word score total ∷ past)
 unfolding tally
 taken_after restores rules past line First rack dir at word score total line2 First rack2 score2 total2 w same allowed =
-    first_withdraws restores rules past line rack dir at word score total line2 rack2 score2 total2 w allowed.fits allowed.free
+    play_withdraws restores rules past line First rack dir at word score total line2 rack2 score2 total2 w allowed.fits allowed.free
 taken_after restores rules past line First rack dir at word score total line2 Second rack2 score2 total2 w same allowed = cc
 taken_after restores rules past line Second rack dir at word score total line2 First rack2 score2 total2 w same allowed = cc
 taken_after restores rules past line Second rack dir at word score total line2 Second rack2 score2 total2 w same allowed =
-    second_withdraws restores rules past line rack dir at word score total line2 rack2 score2 total2 w allowed.fits allowed.free
+    play_withdraws restores rules past line Second rack dir at word score total line2 rack2 score2 total2 w allowed.fits allowed.free
 
 -- the latest event, by its kind
 withdraw_after_kind : TakingBackRestores → (rules : Rules) (list : List (List ℕ)) (past : List Event) (line : ℕ) (player : Seat) (rack : Option (List ℕ)) (what : EventKind) (score total : ℤ)

@@ -29,110 +29,83 @@ run_more limit n = omega arith
 run_none : (limit : ℕ) → 0 ≡ min limit 0
 run_none limit = omega arith
 
--- the same state with one more turn in its run
-run_fits : (s : State) (limit n : ℕ) → record s { zero_run = min limit (min limit n + 1) } ≡ record s { zero_run = min limit (n + 1) }
-run_fits s limit n = ap (λ (z : ℕ). record s { zero_run = z }) (run_more limit n)
+-- the same state with one more turn in its run, as the change counts it and as it is counted in the events
+one_idle : (rules : Rules) (past : List Event) (s : State)
+    → record s { zero_run = min rules.zero_limit (min rules.zero_limit (idle_turns rules false past) + 1) } ≡ record s { zero_run = min rules.zero_limit (idle_turns rules false past + 1) }
+one_idle rules past s = ap (λ (z : ℕ). record s { zero_run = z }) (run_more rules.zero_limit (idle_turns rules false past))
 
 -- an event of these parts
 abbrev pub made : ℕ → Seat → Option (List ℕ) → EventKind → ℤ → ℤ → Event
 made line player rack what score total = record { line = line; player = player; rack = rack; kind = what; score = score; total = total }
 
+-- the state after an event is the tally with the event
+abbrev IsMore : Rules → List Event → Event → (withdrawn : Bool) → Type 0
+IsMore rules past e w = after rules (tally rules false past) e w ≡ tally rules w (e ∷ past)
+
+-- it is so for each player, whether a withdrawal stands behind the event or none
+each_way : (rules : Rules) (past : List Event) (e : Seat → Event) → IsMore rules past (e First) true → IsMore rules past (e First) false
+    → IsMore rules past (e Second) true → IsMore rules past (e Second) false → (player : Seat) (w : Bool) → IsMore rules past (e player) w
+each_way rules past e a b c d First true = a
+each_way rules past e a b c d First false = b
+each_way rules past e a b c d Second true = c
+each_way rules past e a b c d Second false = d
+
 pub challenge_more : (rules : Rules) (past : List Event) (line : ℕ) (player : Seat) (rack : Option (List ℕ)) (score total : ℤ) (w : Bool)
-    → after rules (tally rules false past) (made line player rack kind.Challenge score total) w ≡ tally rules w (made line player rack kind.Challenge score total ∷ past)
+    → IsMore rules past (made line player rack kind.Challenge score total) w
 unfolding tally after after_challenge
-challenge_more rules past line First rack score total true = refl
-challenge_more rules past line First rack score total false = refl
-challenge_more rules past line Second rack score total true = refl
-challenge_more rules past line Second rack score total false = refl
+challenge_more rules past line player rack score total w = each_way rules past (λ p. made line p rack kind.Challenge score total) refl refl refl refl player w
 
 pub time_more : (rules : Rules) (past : List Event) (line : ℕ) (player : Seat) (rack : Option (List ℕ)) (score total : ℤ) (w : Bool)
-    → after rules (tally rules false past) (made line player rack kind.Time score total) w ≡ tally rules w (made line player rack kind.Time score total ∷ past)
+    → IsMore rules past (made line player rack kind.Time score total) w
 unfolding tally after after_time
-time_more rules past line First rack score total true = refl
-time_more rules past line First rack score total false = refl
-time_more rules past line Second rack score total true = refl
-time_more rules past line Second rack score total false = refl
+time_more rules past line player rack score total w = each_way rules past (λ p. made line p rack kind.Time score total) refl refl refl refl player w
 
 pub last_rack_more : (rules : Rules) (past : List Event) (line : ℕ) (player : Seat) (rack : Option (List ℕ)) (tiles : List ℕ) (score total : ℤ) (w : Bool)
-    → after rules (tally rules false past) (made line player rack (kind.LastRack tiles) score total) w
-    ≡ tally rules w (made line player rack (kind.LastRack tiles) score total ∷ past)
+    → IsMore rules past (made line player rack (kind.LastRack tiles) score total) w
 unfolding tally after after_last_rack
-last_rack_more rules past line First rack tiles score total true = refl
-last_rack_more rules past line First rack tiles score total false = refl
-last_rack_more rules past line Second rack tiles score total true = refl
-last_rack_more rules past line Second rack tiles score total false = refl
+last_rack_more rules past line player rack tiles score total w =
+    each_way rules past (λ p. made line p rack (kind.LastRack tiles) score total) refl refl refl refl player w
 
 pub exchange_more : (rules : Rules) (past : List Event) (line : ℕ) (player : Seat) (rack : Option (List ℕ)) (tiles : List ℕ) (score total : ℤ) (w : Bool)
-    → after rules (tally rules false past) (made line player rack (kind.Exchange tiles) score total) w
-    ≡ tally rules w (made line player rack (kind.Exchange tiles) score total ∷ past)
+    → IsMore rules past (made line player rack (kind.Exchange tiles) score total) w
 unfolding tally after after_idle
-exchange_more rules past line First rack tiles score total true =
-    run_fits (tally rules true (made line First rack (kind.Exchange tiles) score total ∷ past)) rules.zero_limit (idle_turns rules false past)
-exchange_more rules past line First rack tiles score total false =
-    run_fits (tally rules false (made line First rack (kind.Exchange tiles) score total ∷ past)) rules.zero_limit (idle_turns rules false past)
-exchange_more rules past line Second rack tiles score total true =
-    run_fits (tally rules true (made line Second rack (kind.Exchange tiles) score total ∷ past)) rules.zero_limit (idle_turns rules false past)
-exchange_more rules past line Second rack tiles score total false =
-    run_fits (tally rules false (made line Second rack (kind.Exchange tiles) score total ∷ past)) rules.zero_limit (idle_turns rules false past)
+exchange_more rules past line player rack tiles score total w =
+    let one = λ (p : Seat) (v : Bool). one_idle rules past (tally rules v (made line p rack (kind.Exchange tiles) score total ∷ past)) in
+    each_way rules past (λ p. made line p rack (kind.Exchange tiles) score total) (one First true) (one First false) (one Second true) (one Second false) player w
 
 pub unknown_more : (rules : Rules) (past : List Event) (line : ℕ) (player : Seat) (rack : Option (List ℕ)) (n : ℕ) (score total : ℤ) (w : Bool)
-    → after rules (tally rules false past) (made line player rack (kind.ExchangeUnknown n) score total) w
-    ≡ tally rules w (made line player rack (kind.ExchangeUnknown n) score total ∷ past)
+    → IsMore rules past (made line player rack (kind.ExchangeUnknown n) score total) w
 unfolding tally after after_idle
-unknown_more rules past line First rack n score total true =
-    run_fits (tally rules true (made line First rack (kind.ExchangeUnknown n) score total ∷ past)) rules.zero_limit (idle_turns rules false past)
-unknown_more rules past line First rack n score total false =
-    run_fits (tally rules false (made line First rack (kind.ExchangeUnknown n) score total ∷ past)) rules.zero_limit (idle_turns rules false past)
-unknown_more rules past line Second rack n score total true =
-    run_fits (tally rules true (made line Second rack (kind.ExchangeUnknown n) score total ∷ past)) rules.zero_limit (idle_turns rules false past)
-unknown_more rules past line Second rack n score total false =
-    run_fits (tally rules false (made line Second rack (kind.ExchangeUnknown n) score total ∷ past)) rules.zero_limit (idle_turns rules false past)
+unknown_more rules past line player rack n score total w =
+    let one = λ (p : Seat) (v : Bool). one_idle rules past (tally rules v (made line p rack (kind.ExchangeUnknown n) score total ∷ past)) in
+    each_way rules past (λ p. made line p rack (kind.ExchangeUnknown n) score total) (one First true) (one First false) (one Second true) (one Second false) player w
 
--- two states that differ in what a pass changes
-passed_alike : (t : State) (m n : Option Seat) (y z : ℕ) (a b : Bool) → m ≡ n → y ≡ z → a ≡ b
-    → record t { mover = m; zero_run = y; idle_pass = a } ≡ record t { mover = n; zero_run = z; idle_pass = b }
-passed_alike t m n y z a b movers runs passes =
-    ap (λ (x : Option Seat). record t { mover = x; zero_run = y; idle_pass = a }) movers
-    ∙ ap (λ (x : ℕ). record t { mover = n; zero_run = x; idle_pass = a }) runs
-    ∙ ap (λ (x : Bool). record t { mover = n; zero_run = z; idle_pass = x }) passes
+-- a state with what a pass makes of the mover, of the run and of the pass after a player is out, by who is out before it
+abbrev passed_with : State → Rules → List Event → Seat → Option Seat → State
+passed_with t rules past player o =
+    record t {
+      mover = if is_none o then Some (other_seat player) else mover_at rules false past;
+      zero_run = min rules.zero_limit (if is_none o then idle_turns rules false past + 1 else idle_turns rules false past);
+      idle_pass = is_some o || has_idle_pass rules past;
+    }
 
--- what a pass makes of the mover, of the run and of the pass after a player is out
-abbrev mover_with : Rules → List Event → Seat → Option Seat → Option Seat
-mover_with rules past player o = if is_none o then Some (other_seat player) else mover_at rules false past
-
-abbrev run_with : Rules → List Event → Option Seat → ℕ
-run_with rules past o = min rules.zero_limit (if is_none o then idle_turns rules false past + 1 else idle_turns rules false past)
-
-abbrev idle_with : Rules → List Event → Option Seat → Bool
-idle_with rules past o = is_some o || has_idle_pass rules past
+-- a pass that is a turn: the run is counted up to its limit
+turn_passed : (t : State) (rules : Rules) (past : List Event) (player : Seat) → out_at rules false past ≡ None
+    → record (passed_with t rules past player None) { zero_run = min rules.zero_limit (min rules.zero_limit (idle_turns rules false past) + 1) }
+    ≡ passed_with t rules past player (out_at rules false past)
+turn_passed t rules past player none = one_idle rules past (passed_with t rules past player None) ∙ ap (passed_with t rules past player) (sym none)
 
 pub pass_more : (rules : Rules) (past : List Event) (line : ℕ) (player : Seat) (rack : Option (List ℕ)) (score total : ℤ) (w : Bool) (o : Option Seat) → out_at rules false past ≡ o
     → after_pass rules (tally rules false past) (made line player rack kind.Pass score total) o ≡ tally rules w (made line player rack kind.Pass score total ∷ past)
 unfolding tally after_idle after_idle_pass
-pass_more rules past line First rack score total true None e =
-    passed_alike (tally rules true (made line First rack kind.Pass score total ∷ past)) _ _ _ _ _ _
-    (ap (mover_with rules past First) (sym e)) (run_more rules.zero_limit (idle_turns rules false past) ∙ ap (run_with rules past) (sym e)) (ap (idle_with rules past) (sym e))
-pass_more rules past line First rack score total true (Some x) e =
-    passed_alike (tally rules true (made line First rack kind.Pass score total ∷ past)) _ _ _ _ _ _
-    (ap (mover_with rules past First) (sym e)) (ap (run_with rules past) (sym e)) (ap (idle_with rules past) (sym e))
-pass_more rules past line First rack score total false None e =
-    passed_alike (tally rules false (made line First rack kind.Pass score total ∷ past)) _ _ _ _ _ _
-    (ap (mover_with rules past First) (sym e)) (run_more rules.zero_limit (idle_turns rules false past) ∙ ap (run_with rules past) (sym e)) (ap (idle_with rules past) (sym e))
-pass_more rules past line First rack score total false (Some x) e =
-    passed_alike (tally rules false (made line First rack kind.Pass score total ∷ past)) _ _ _ _ _ _
-    (ap (mover_with rules past First) (sym e)) (ap (run_with rules past) (sym e)) (ap (idle_with rules past) (sym e))
-pass_more rules past line Second rack score total true None e =
-    passed_alike (tally rules true (made line Second rack kind.Pass score total ∷ past)) _ _ _ _ _ _
-    (ap (mover_with rules past Second) (sym e)) (run_more rules.zero_limit (idle_turns rules false past) ∙ ap (run_with rules past) (sym e)) (ap (idle_with rules past) (sym e))
-pass_more rules past line Second rack score total true (Some x) e =
-    passed_alike (tally rules true (made line Second rack kind.Pass score total ∷ past)) _ _ _ _ _ _
-    (ap (mover_with rules past Second) (sym e)) (ap (run_with rules past) (sym e)) (ap (idle_with rules past) (sym e))
-pass_more rules past line Second rack score total false None e =
-    passed_alike (tally rules false (made line Second rack kind.Pass score total ∷ past)) _ _ _ _ _ _
-    (ap (mover_with rules past Second) (sym e)) (run_more rules.zero_limit (idle_turns rules false past) ∙ ap (run_with rules past) (sym e)) (ap (idle_with rules past) (sym e))
-pass_more rules past line Second rack score total false (Some x) e =
-    passed_alike (tally rules false (made line Second rack kind.Pass score total ∷ past)) _ _ _ _ _ _
-    (ap (mover_with rules past Second) (sym e)) (ap (run_with rules past) (sym e)) (ap (idle_with rules past) (sym e))
+pass_more rules past line First rack score total true None e = turn_passed (tally rules true (made line First rack kind.Pass score total ∷ past)) rules past First e
+pass_more rules past line First rack score total true (Some x) e = ap (passed_with (tally rules true (made line First rack kind.Pass score total ∷ past)) rules past First) (sym e)
+pass_more rules past line First rack score total false None e = turn_passed (tally rules false (made line First rack kind.Pass score total ∷ past)) rules past First e
+pass_more rules past line First rack score total false (Some x) e = ap (passed_with (tally rules false (made line First rack kind.Pass score total ∷ past)) rules past First) (sym e)
+pass_more rules past line Second rack score total true None e = turn_passed (tally rules true (made line Second rack kind.Pass score total ∷ past)) rules past Second e
+pass_more rules past line Second rack score total true (Some x) e = ap (passed_with (tally rules true (made line Second rack kind.Pass score total ∷ past)) rules past Second) (sym e)
+pass_more rules past line Second rack score total false None e = turn_passed (tally rules false (made line Second rack kind.Pass score total ∷ past)) rules past Second e
+pass_more rules past line Second rack score total false (Some x) e = ap (passed_with (tally rules false (made line Second rack kind.Pass score total ∷ past)) rules past Second) (sym e)
 
 -- ---- plays
 
@@ -205,39 +178,30 @@ played_from seat before whole laid own drawn n limit t within =
     ∙ ap (out_with seat before (whole - (n + laid))) racks)
     (run_none limit)
 
-pub first_plays : (rules : Rules) (past : List Event) (line : ℕ) (rack : Option (List ℕ)) (dir : Dir) (at : ℕ) (word : List Symbol) (score total : ℤ)
-    → length (laid_at past dir at word) ≤ rack_at rules First false past
-    → after rules (tally rules false past) (play_made line First rack dir at word score total) false ≡ tally rules false ((play_made line First rack dir at word score total) ∷ past)
+pub play_stands : (rules : Rules) (past : List Event) (line : ℕ) (player : Seat) (rack : Option (List ℕ)) (dir : Dir) (at : ℕ) (word : List Symbol) (score total : ℤ)
+    → length (laid_at past dir at word) ≤ rack_at rules player false past
+    → after rules (tally rules false past) (play_made line player rack dir at word score total) false ≡ tally rules false ((play_made line player rack dir at word score total) ∷ past)
 unfolding tally after after_standing
-first_plays rules past line rack dir at word score total fits =
+play_stands rules past line First rack dir at word score total fits =
     let plays = standing false past in
     played_from First (out_after rules plays) (sum rules.counts - 14) (tiles_laid plays) (laid_by First plays) (drawn_by rules First plays) (length (laid_at past dir at word)) rules.zero_limit
     (tally rules false ((play_made line First rack dir at word score total) ∷ past)) (omega arith)
-
-pub second_plays : (rules : Rules) (past : List Event) (line : ℕ) (rack : Option (List ℕ)) (dir : Dir) (at : ℕ) (word : List Symbol) (score total : ℤ)
-    → length (laid_at past dir at word) ≤ rack_at rules Second false past
-    → after rules (tally rules false past) (play_made line Second rack dir at word score total) false ≡ tally rules false ((play_made line Second rack dir at word score total) ∷ past)
-unfolding tally after after_standing
-second_plays rules past line rack dir at word score total fits =
+play_stands rules past line Second rack dir at word score total fits =
     let plays = standing false past in
     played_from Second (out_after rules plays) (sum rules.counts - 14) (tiles_laid plays) (laid_by Second plays) (drawn_by rules Second plays) (length (laid_at past dir at word)) rules.zero_limit
     (tally rules false ((play_made line Second rack dir at word score total) ∷ past)) (omega arith)
 
-pub first_waits : (rules : Rules) (past : List Event) (line : ℕ) (rack : Option (List ℕ)) (dir : Dir) (at : ℕ) (word : List Symbol) (score total : ℤ)
-    → after rules (tally rules false past) (play_made line First rack dir at word score total) true ≡ tally rules true ((play_made line First rack dir at word score total) ∷ past)
-unfolding tally after after_waiting
-first_waits rules past line rack dir at word score total =
-    let t = tally rules true ((play_made line First rack dir at word score total) ∷ past) in
-    ap (λ (r : ℕ). record t { sides = with_rack t.sides First r })
-    (rack_waits (rack_after rules First (standing false past)) (length (laid_at past dir at word)))
+-- a state behind a play that awaits its withdrawal, as the change makes it and as it is read from the events
+waits_from : (seat : Seat) (rack n : ℕ) (t : State) → record t { sides = with_rack t.sides seat (rack - 0 - n) } ≡ record t { sides = with_rack t.sides seat (rack - (n + 0)) }
+waits_from seat rack n t = ap (λ (r : ℕ). record t { sides = with_rack t.sides seat r }) (rack_waits rack n)
 
-pub second_waits : (rules : Rules) (past : List Event) (line : ℕ) (rack : Option (List ℕ)) (dir : Dir) (at : ℕ) (word : List Symbol) (score total : ℤ)
-    → after rules (tally rules false past) (play_made line Second rack dir at word score total) true ≡ tally rules true ((play_made line Second rack dir at word score total) ∷ past)
+pub play_waits : (rules : Rules) (past : List Event) (line : ℕ) (player : Seat) (rack : Option (List ℕ)) (dir : Dir) (at : ℕ) (word : List Symbol) (score total : ℤ)
+    → after rules (tally rules false past) (play_made line player rack dir at word score total) true ≡ tally rules true ((play_made line player rack dir at word score total) ∷ past)
 unfolding tally after after_waiting
-second_waits rules past line rack dir at word score total =
-    let t = tally rules true ((play_made line Second rack dir at word score total) ∷ past) in
-    ap (λ (r : ℕ). record t { sides = with_rack t.sides Second r })
-    (rack_waits (rack_after rules Second (standing false past)) (length (laid_at past dir at word)))
+play_waits rules past line First rack dir at word score total =
+    waits_from First (rack_after rules First (standing false past)) (length (laid_at past dir at word)) (tally rules true ((play_made line First rack dir at word score total) ∷ past))
+play_waits rules past line Second rack dir at word score total =
+    waits_from Second (rack_after rules Second (standing false past)) (length (laid_at past dir at word)) (tally rules true ((play_made line Second rack dir at word score total) ∷ past))
 
 -- ---- withdrawals
 
@@ -277,24 +241,17 @@ withdrawn_from restores rules past seat dir at word t within free =
     (ap (λ (r : ℕ). with_rack t.sides seat r) (rack_restored whole (length ps) within))
     (run_more rules.zero_limit (idle_turns rules false past))
 
-pub first_withdraws : TakingBackRestores → (rules : Rules) (past : List Event) (line : ℕ) (rack : Option (List ℕ)) (dir : Dir) (at : ℕ) (word : List Symbol) (score total : ℤ)
+pub play_withdraws : TakingBackRestores → (rules : Rules) (past : List Event) (line : ℕ) (player : Seat) (rack : Option (List ℕ)) (dir : Dir) (at : ℕ) (word : List Symbol) (score total : ℤ)
     (line2 : ℕ) (rack2 : Option (List ℕ)) (score2 total2 : ℤ) (w : Bool)
-    → length (laid_at past dir at word) ≤ rack_at rules First false past
+    → length (laid_at past dir at word) ≤ rack_at rules player false past
     → overlaps (board_at false past) (laid_at past dir at word) ≡ false
-    → after rules (tally rules true ((play_made line First rack dir at word score total) ∷ past)) (withdraw_made line2 First rack2 score2 total2) w ≡ tally rules w ((withdraw_made line2 First rack2 score2 total2) ∷ (play_made line First rack dir at word score total) ∷ past)
+    → after rules (tally rules true ((play_made line player rack dir at word score total) ∷ past)) (withdraw_made line2 player rack2 score2 total2) w ≡ tally rules w ((withdraw_made line2 player rack2 score2 total2) ∷ (play_made line player rack dir at word score total) ∷ past)
 unfolding tally after after_withdraw
-first_withdraws restores rules past line rack dir at word score total line2 rack2 score2 total2 true fits free =
+play_withdraws restores rules past line First rack dir at word score total line2 rack2 score2 total2 true fits free =
     withdrawn_from restores rules past First dir at word (tally rules true ((withdraw_made line2 First rack2 score2 total2) ∷ (play_made line First rack dir at word score total) ∷ past)) (omega arith) free
-first_withdraws restores rules past line rack dir at word score total line2 rack2 score2 total2 false fits free =
+play_withdraws restores rules past line First rack dir at word score total line2 rack2 score2 total2 false fits free =
     withdrawn_from restores rules past First dir at word (tally rules false ((withdraw_made line2 First rack2 score2 total2) ∷ (play_made line First rack dir at word score total) ∷ past)) (omega arith) free
-
-pub second_withdraws : TakingBackRestores → (rules : Rules) (past : List Event) (line : ℕ) (rack : Option (List ℕ)) (dir : Dir) (at : ℕ) (word : List Symbol) (score total : ℤ)
-    (line2 : ℕ) (rack2 : Option (List ℕ)) (score2 total2 : ℤ) (w : Bool)
-    → length (laid_at past dir at word) ≤ rack_at rules Second false past
-    → overlaps (board_at false past) (laid_at past dir at word) ≡ false
-    → after rules (tally rules true ((play_made line Second rack dir at word score total) ∷ past)) (withdraw_made line2 Second rack2 score2 total2) w ≡ tally rules w ((withdraw_made line2 Second rack2 score2 total2) ∷ (play_made line Second rack dir at word score total) ∷ past)
-unfolding tally after after_withdraw
-second_withdraws restores rules past line rack dir at word score total line2 rack2 score2 total2 true fits free =
+play_withdraws restores rules past line Second rack dir at word score total line2 rack2 score2 total2 true fits free =
     withdrawn_from restores rules past Second dir at word (tally rules true ((withdraw_made line2 Second rack2 score2 total2) ∷ (play_made line Second rack dir at word score total) ∷ past)) (omega arith) free
-second_withdraws restores rules past line rack dir at word score total line2 rack2 score2 total2 false fits free =
+play_withdraws restores rules past line Second rack dir at word score total line2 rack2 score2 total2 false fits free =
     withdrawn_from restores rules past Second dir at word (tally rules false ((withdraw_made line2 Second rack2 score2 total2) ∷ (play_made line Second rack dir at word score total) ∷ past)) (omega arith) free
