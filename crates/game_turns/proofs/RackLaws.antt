@@ -73,11 +73,17 @@ fit_rack sides new old event Second rack fit here none is =
 stands_none : (laid : Laid) (seat : Seat) → laid.stands ≡ true → waiting_tiles seat (latest.Played laid) ≡ 0
 stands_none laid seat e = ap (λ b. if not b && same_seat laid.player seat then length laid.play.tiles.items else 0) e
 
-pub fit_standing : (sides new : Sides) (seat : Seat) (rack : ℕ) (laid : Laid) → FitRacks sides latest.Other → rack ≤ (side_of sides seat).rack
-    → laid.stands ≡ true → new ≡ with_rack sides seat rack → FitRacks new (latest.Played laid)
-fit_standing sides new seat rack laid fit less stands is =
-    fit_rack sides new latest.Other (latest.Played laid) seat rack fit
-    (let none = stands_none laid seat stands in let f = fit seat in omega arith)
+-- the rack of a player whose total is set is the same
+scored_rack : (sides new : Sides) (seat : Seat) (total : ℤ) → new ≡ with_total sides seat total → (side_of new seat).rack ≡ (side_of sides seat).rack
+scored_rack sides new seat total is = ap (λ s. (side_of s seat).rack) is ∙ total_racks sides seat total seat
+
+-- a play that stands: its player's total is set, and then the rack, which is no larger
+pub fit_standing : (sides scored new : Sides) (event : LatestEvent) (seat : Seat) (total : ℤ) (rack : ℕ) (laid : Laid) → FitRacks sides event → scored ≡ with_total sides seat total
+    → rack ≤ (side_of sides seat).rack → laid.stands ≡ true → new ≡ with_rack scored seat rack → FitRacks new (latest.Played laid)
+fit_standing sides scored new event seat total rack laid fit totals less stands is =
+    let idle = fit_scored sides scored event seat total fit totals in
+    fit_rack scored new latest.Other (latest.Played laid) seat rack idle
+    (let none = stands_none laid seat stands in let f = idle seat in let same = scored_rack sides scored seat total totals in omega arith)
     (λ other e. stands_none laid other stands) is
 
 nothing : (b : Bool) (n : ℕ) → (if b && false then n else 0) ≡ 0
@@ -98,12 +104,14 @@ waits_other laid seat other p e =
     ap (λ s. if not laid.stands && same_seat s other then length laid.play.tiles.items else 0) p
     ∙ ap (λ b. if not laid.stands && b then length laid.play.tiles.items else 0) e ∙ nothing (not laid.stands) (length laid.play.tiles.items)
 
-pub fit_waiting : (sides new : Sides) (seat : Seat) (laid : Laid) → FitRacks sides latest.Other → length laid.play.tiles.items ≤ (side_of sides seat).rack
-    → laid.player ≡ seat → new ≡ with_rack sides seat ((side_of sides seat).rack - length laid.play.tiles.items) → FitRacks new (latest.Played laid)
-fit_waiting sides new seat laid fit few player is =
-    let n = length laid.play.tiles.items in
-    fit_rack sides new latest.Other (latest.Played laid) seat ((side_of sides seat).rack - n) fit
-    (let most = waits_few laid seat in let f = fit seat in omega arith)
+-- a play that waits: its player's total is set, and its tiles are not on the rack
+pub fit_waiting : (sides scored new : Sides) (event : LatestEvent) (seat : Seat) (total : ℤ) (rack : ℕ) (laid : Laid) → FitRacks sides event → scored ≡ with_total sides seat total
+    → length laid.play.tiles.items ≤ (side_of sides seat).rack → rack ≡ (side_of sides seat).rack - length laid.play.tiles.items
+    → laid.player ≡ seat → new ≡ with_rack scored seat rack → FitRacks new (latest.Played laid)
+fit_waiting sides scored new event seat total rack laid fit totals few left player is =
+    let idle = fit_scored sides scored event seat total fit totals in
+    fit_rack scored new latest.Other (latest.Played laid) seat rack idle
+    (let most = waits_few laid seat in let f = idle seat in let same = scored_rack sides scored seat total totals in omega arith)
     (λ other e. waits_other laid seat other player e) is
 
 -- a play that was taken back left room on the rack
@@ -130,6 +138,3 @@ holds_taken board play laid e = cc
 pub holds_played : (board : List (Option Tile)) (laid : Laid) → HasTiles board laid.play.tiles.items → HoldsLatest board (latest.Played laid)
 holds_played board laid has other e =
     let same : laid ≡ other = cc in subst (λ (x : Laid). HasTiles board x.play.tiles.items) same has
-
-pub scored_rack : (sides new : Sides) (seat : Seat) (total : ℤ) → new ≡ with_total sides seat total → (side_of new seat).rack ≡ (side_of sides seat).rack
-scored_rack sides new seat total is = ap (λ s. (side_of s seat).rack) is ∙ total_racks sides seat total seat
