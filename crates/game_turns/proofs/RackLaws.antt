@@ -39,11 +39,11 @@ pub fit_scored : (sides new : Sides) (event : LatestEvent) (seat : Seat) (total 
 fit_scored sides new event seat total fit is =
     subst (λ s. FitRacks s latest.Other) (sym is) (idle_racks sides (with_total sides seat total) event (total_racks sides seat total) fit)
 
-pub fit_flagged : (sides between new : Sides) (event : LatestEvent) (seat : Seat) (total : ℤ) (side : Side) → FitRacks sides event → between ≡ with_total sides seat total
-    → side.rack ≡ (side_of between seat).rack → new ≡ with_side between seat side → FitRacks new latest.Other
-fit_flagged sides between new event seat total side fit scored same is =
-    subst (λ s. FitRacks s latest.Other) (sym is)
-    (idle_racks between (with_side between seat side) latest.Other (flagged_racks between seat side same) (fit_scored sides between event seat total fit scored))
+-- one player's other flags change no rack
+pub fit_flagged : (sides new : Sides) (event : LatestEvent) (seat : Seat) (side : Side) → FitRacks sides event → side.rack ≡ (side_of sides seat).rack
+    → new ≡ with_side sides seat side → FitRacks new event
+fit_flagged sides new event seat side fit same is =
+    subst (λ s. FitRacks s event) (sym is) (λ other. let s = flagged_racks sides seat side same other in let f = fit other in omega arith)
 
 rack_same : (sides : Sides) (seat : Seat) (rack : ℕ) → (side_of (with_rack sides seat rack) seat).rack ≡ rack
 rack_same sides First rack = refl

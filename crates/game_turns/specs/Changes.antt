@@ -17,6 +17,10 @@ use Rattle.game_turns.specs.Checks.{total_after}
 abbrev pub scored : State → Event → Sides
 scored s e = with_total s.sides e.player (total_after s e)
 
+-- the score is counted, and the event is neither a play nor a withdrawal
+abbrev pub after_scored : State → Event → State
+after_scored s e = record s { sides = scored s e; latest = other }
+
 -- one more turn in the zero run
 abbrev pub longer_run : Rules → State → ℕ
 longer_run rules s = min rules.zero_limit (s.zero_run + 1)

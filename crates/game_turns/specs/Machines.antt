@@ -1,4 +1,5 @@
 -- What contracts see of a machine: its rules, and the state of the game.
+use Rattle.std.specs.Prelude.{◌≡◌}
 use Rattle.ref_tiles.specs.declared.rulebook.Rules.{Rules}
 use Rattle.game_turns.specs.declared.machine.Machine.{Machine}
 use Rattle.game_turns.specs.Tallies.{State}
@@ -22,3 +23,8 @@ state_of machine =
       complete = machine.complete;
       latest = latest_of machine.latest;
     }
+
+-- a machine that judges by the same rules is in this state now
+pub record Becomes (old new : Machine) (after : State) : Type 0 where
+  pub state : state_of new ≡ after
+  pub rules : rules_of new ≡ rules_of old

@@ -3,7 +3,7 @@ ghost use Rattle.std.specs.Prelude.{◌≡◌, ◌+◌, ◌==◌, ◌&&◌, ◌�
 ghost use Rattle.ref_play.specs.Legality.{IsLegal};
 ghost use Rattle.game_turns.specs.Seats.{side_of};
 ghost use Rattle.game_turns.specs.Checks.{total_after};
-ghost use Rattle.game_turns.specs.Changes.{longer_run, after_standing, after_waiting, after_idle, after_idle_pass, after_withdraw, after_challenge, after_time, after_last_rack};
+ghost use Rattle.game_turns.specs.Changes.{after_scored, longer_run, after_standing, after_waiting, after_idle, after_idle_pass, after_withdraw, after_time, after_last_rack};
 ghost use Rattle.game_turns.specs.LatestEvents.{play_of, latest_of, IsAwaited};
 
 use crate::latest::{Laid, LatestEvent};
@@ -24,7 +24,7 @@ fn out_after(player: Seat, before: Option<Seat>, bag: usize, rack: usize) -> Opt
 }
 
 impl Machine {
-    ghost use Rattle.game_turns.specs.Machines.{rules_of, state_of};
+    ghost use Rattle.game_turns.specs.Machines.{rules_of, state_of, Becomes};
 
     /// A play that stands.
     #[tactic(auto, unfolding(crate::specs::Changes::after_standing))]
@@ -33,8 +33,7 @@ impl Machine {
         requires legal { IsLegal self.old.board laid.play.tiles.items }
         requires fits { length laid.play.tiles.items ≤ (side_of self.old.sides event.now.player).rack }
         requires total { event.now.total ≡ total_after (state_of self.old) event.now }
-        ensures state { state_of self.new ≡ after_standing (state_of self.old) event.now (play_of laid) }
-        ensures rules { rules_of self.new ≡ rules_of self.old }
+        ensures { Becomes self.old self.new (after_standing (state_of self.old) event.now (play_of laid)) }
     {
         let used = laid.play.tiles.len();
         let drawn = used.min(self.bag);
@@ -57,8 +56,7 @@ impl Machine {
         requires legal { IsLegal self.old.board laid.play.tiles.items }
         requires fits { length laid.play.tiles.items ≤ (side_of self.old.sides event.now.player).rack }
         requires total { event.now.total ≡ total_after (state_of self.old) event.now }
-        ensures state { state_of self.new ≡ after_waiting (state_of self.old) event.now (play_of laid) }
-        ensures rules { rules_of self.new ≡ rules_of self.old }
+        ensures { Becomes self.old self.new (after_waiting (state_of self.old) event.now (play_of laid)) }
     {
         let rack = self.sides.of(event.player).rack - laid.play.tiles.len();
         apply(&mut self.board, &laid.play);
@@ -75,68 +73,58 @@ impl Machine {
         run.min(self.rules.zero_limit as usize) as u8
     }
 
+    /// An event that is neither a play nor a withdrawal: its score goes into its player's total.
+    pub(crate) fn add_score(&mut self, event: &Event)
+        requires { event.now.total ≡ total_after (state_of self.old) event.now }
+        ensures { Becomes self.old self.new (after_scored (state_of self.old) event.now) }
+    {
+        self.sides.set_total(event.player, event.total);
+        self.latest = LatestEvent::Other;
+    }
+
     /// An exchange, or a pass that is a turn.
     #[tactic(auto, unfolding(crate::specs::Changes::after_idle))]
     pub(crate) fn idle(&mut self, event: &Event)
         requires { event.now.total ≡ total_after (state_of self.old) event.now }
-        ensures state { state_of self.new ≡ after_idle (rules_of self.old) (state_of self.old) event.now }
-        ensures rules { rules_of self.new ≡ rules_of self.old }
+        ensures { Becomes self.old self.new (after_idle (rules_of self.old) (state_of self.old) event.now) }
     {
         self.zero_run = self.longer_run();
-        self.sides.set_total(event.player, event.total);
+        self.add_score(event);
         self.mover = Some(event.player.other());
-        self.latest = LatestEvent::Other;
     }
 
     /// A pass after the other player is out.
     #[tactic(auto, unfolding(crate::specs::Changes::after_idle_pass))]
     pub(crate) fn idle_out(&mut self, event: &Event)
         requires { event.now.total ≡ total_after (state_of self.old) event.now }
-        ensures state { state_of self.new ≡ after_idle_pass (state_of self.old) event.now }
-        ensures rules { rules_of self.new ≡ rules_of self.old }
+        ensures { Becomes self.old self.new (after_idle_pass (state_of self.old) event.now) }
     {
-        self.sides.set_total(event.player, event.total);
+        self.add_score(event);
         self.idle_pass = true;
-        self.latest = LatestEvent::Other;
-    }
-
-    /// An unsuccessful challenge.
-    #[tactic(auto, unfolding(crate::specs::Changes::after_challenge))]
-    pub(crate) fn challenge(&mut self, event: &Event)
-        requires { event.now.total ≡ total_after (state_of self.old) event.now }
-        ensures state { state_of self.new ≡ after_challenge (state_of self.old) event.now }
-        ensures rules { rules_of self.new ≡ rules_of self.old }
-    {
-        self.sides.set_total(event.player, event.total);
-        self.latest = LatestEvent::Other;
     }
 
     /// A time penalty.
     #[tactic(auto, unfolding(crate::specs::Changes::after_time))]
     pub(crate) fn penalize(&mut self, event: &Event)
         requires { event.now.total ≡ total_after (state_of self.old) event.now }
-        ensures state { state_of self.new ≡ after_time (state_of self.old) event.now }
-        ensures rules { rules_of self.new ≡ rules_of self.old }
+        ensures { Becomes self.old self.new (after_time (state_of self.old) event.now) }
     {
-        self.sides.set_total(event.player, event.total);
+        self.add_score(event);
         self.sides.set_timed(event.player);
-        self.latest = LatestEvent::Other;
     }
 
     /// A last rack.
     #[tactic(auto, unfolding(crate::specs::Changes::after_last_rack))]
     pub(crate) fn end(&mut self, event: &Event)
         requires { event.now.total ≡ total_after (state_of self.old) event.now }
-        ensures state { state_of self.new ≡ after_last_rack (state_of self.old) event.now }
-        ensures rules { rules_of self.new ≡ rules_of self.old }
+        ensures { Becomes self.old self.new (after_last_rack (state_of self.old) event.now) }
     {
         self.complete = self.out.is_some()
             || self.sides.first.ended
             || self.sides.second.ended
             || self.complete;
-        self.sides.set_total(event.player, event.total);
+        self.add_score(event);
         self.sides.set_ended(event.player);
-        self.latest = LatestEvent::Other;
     }
 
     /// A withdrawal of the latest play.
@@ -144,9 +132,7 @@ impl Machine {
     pub(crate) fn take_back(&mut self, event: &Event)
         requires awaits { IsAwaited self.old.latest event.now.player }
         requires total { event.now.total ≡ total_after (state_of self.old) event.now }
-        ensures state { state_of self.new
-            ≡ after_withdraw (rules_of self.old) (state_of self.old) event.now (latest_of self.old.latest) }
-        ensures rules { rules_of self.new ≡ rules_of self.old }
+        ensures { Becomes self.old self.new (after_withdraw (rules_of self.old) (state_of self.old) event.now (latest_of self.old.latest)) }
     {
         let LatestEvent::Played(laid) = replace(&mut self.latest, LatestEvent::Other) else {
             unreachable!()

@@ -1,7 +1,7 @@
 //! A step of the machine: the checks of an event, and then its change.
 ghost use Rattle.std.specs.Prelude.{◌≡◌, not, sum, IfOk, OnOk, OnErr};
 ghost use Rattle.std.specs.Option.{option_copied};
-ghost use Rattle.game_turns.specs.Answers.{Tells};
+ghost use Rattle.game_turns.specs.Answers.{Tells, Takes};
 ghost use Rattle.game_turns.specs.Tallies.{withdraws, latest_play};
 ghost use Rattle.game_turns.specs.Checks.{check_play, check_pass, check_exchange, check_withdraw, check_challenge, check_time, check_last_rack, check_kind, interrupts, fault_in};
 ghost use Rattle.game_turns.specs.Changes.{after_play, after_pass, after_idle, after_withdraw, after_challenge, after_time, after_last_rack, after_kind, after, turn_of};
@@ -29,13 +29,9 @@ impl Machine {
         word: &[Symbol],
         withdrawn: bool,
     ) -> Result<(), RuleFault>
-        ensures told { Tells result
-            (check_play (rules_of self.old) (state_of self.old) event.now dir at word.now) }
-        ensures state { OnOk result (state_of self.new ≡ after_play (state_of self.old) event.now
-            (latest_play (rules_of self.old) (state_of self.old).board event.now.player dir at word.now (not withdrawn))
-            withdrawn) }
-        ensures rules { rules_of self.new ≡ rules_of self.old }
-        ensures refused { OnErr result (self.new ≡ self.old) }
+        ensures { Takes result self.old self.new
+            (check_play (rules_of self.old) (state_of self.old) event.now dir at word.now)
+            (after_play (state_of self.old) event.now (latest_play (rules_of self.old) (state_of self.old).board event.now.player dir at word.now (not withdrawn)) withdrawn) }
     {
         let laid = self.allowed_play(event, at, dir, word, !withdrawn)?;
         if withdrawn {
@@ -48,11 +44,9 @@ impl Machine {
 
     /// A pass.
     fn take_pass(&mut self, event: &Event) -> Result<(), RuleFault>
-        ensures told { Tells result (check_pass (state_of self.old) event.now) }
-        ensures state { OnOk result (state_of self.new
-            ≡ after_pass (rules_of self.old) (state_of self.old) event.now (state_of self.old).out) }
-        ensures rules { rules_of self.new ≡ rules_of self.old }
-        ensures refused { OnErr result (self.new ≡ self.old) }
+        ensures { Takes result self.old self.new
+            (check_pass (state_of self.old) event.now)
+            (after_pass (rules_of self.old) (state_of self.old) event.now (state_of self.old).out) }
     {
         self.check_pass(event)?;
         match self.out {
@@ -64,11 +58,9 @@ impl Machine {
 
     /// An exchange of so many tiles.
     fn take_exchange(&mut self, event: &Event, size: usize) -> Result<(), RuleFault>
-        ensures told { Tells result (check_exchange (rules_of self.old) (state_of self.old) event.now size) }
-        ensures state { OnOk result (state_of self.new
-            ≡ after_idle (rules_of self.old) (state_of self.old) event.now) }
-        ensures rules { rules_of self.new ≡ rules_of self.old }
-        ensures refused { OnErr result (self.new ≡ self.old) }
+        ensures { Takes result self.old self.new
+            (check_exchange (rules_of self.old) (state_of self.old) event.now size)
+            (after_idle (rules_of self.old) (state_of self.old) event.now) }
     {
         self.check_exchange(event, size)?;
         self.idle(event);
@@ -77,12 +69,9 @@ impl Machine {
 
     /// A withdrawal.
     fn take_withdraw(&mut self, event: &Event, list: &WordList) -> Result<(), RuleFault>
-        ensures told { Tells result
-            (check_withdraw list.now (state_of self.old) event.now (state_of self.old).latest) }
-        ensures state { OnOk result (state_of self.new
-            ≡ after_withdraw (rules_of self.old) (state_of self.old) event.now (state_of self.old).latest) }
-        ensures rules { rules_of self.new ≡ rules_of self.old }
-        ensures refused { OnErr result (self.new ≡ self.old) }
+        ensures { Takes result self.old self.new
+            (check_withdraw list.now (state_of self.old) event.now (state_of self.old).latest)
+            (after_withdraw (rules_of self.old) (state_of self.old) event.now (state_of self.old).latest) }
     {
         self.check_withdraw(event, list)?;
         self.take_back(event);
@@ -90,24 +79,22 @@ impl Machine {
     }
 
     /// The bonus of an unsuccessful challenge.
+    #[tactic(auto, unfolding(crate::specs::Changes::after_challenge))]
     fn take_challenge(&mut self, event: &Event, list: &WordList) -> Result<(), RuleFault>
-        ensures told { Tells result
-            (check_challenge (rules_of self.old) list.now (state_of self.old) event.now (state_of self.old).latest) }
-        ensures state { OnOk result (state_of self.new ≡ after_challenge (state_of self.old) event.now) }
-        ensures rules { rules_of self.new ≡ rules_of self.old }
-        ensures refused { OnErr result (self.new ≡ self.old) }
+        ensures { Takes result self.old self.new
+            (check_challenge (rules_of self.old) list.now (state_of self.old) event.now (state_of self.old).latest)
+            (after_challenge (state_of self.old) event.now) }
     {
         self.check_challenge(event, list)?;
-        self.challenge(event);
+        self.add_score(event);
         Ok(())
     }
 
     /// A time penalty.
     fn take_time(&mut self, event: &Event) -> Result<(), RuleFault>
-        ensures told { Tells result (check_time (rules_of self.old) (state_of self.old) event.now) }
-        ensures state { OnOk result (state_of self.new ≡ after_time (state_of self.old) event.now) }
-        ensures rules { rules_of self.new ≡ rules_of self.old }
-        ensures refused { OnErr result (self.new ≡ self.old) }
+        ensures { Takes result self.old self.new
+            (check_time (rules_of self.old) (state_of self.old) event.now)
+            (after_time (state_of self.old) event.now) }
     {
         self.check_time(event)?;
         self.penalize(event);
@@ -116,11 +103,9 @@ impl Machine {
 
     /// A last rack.
     fn take_last_rack(&mut self, event: &Event, tiles: &Counts) -> Result<(), RuleFault>
-        ensures told { Tells result
-            (check_last_rack (rules_of self.old) (state_of self.old) event.now tiles.now) }
-        ensures state { OnOk result (state_of self.new ≡ after_last_rack (state_of self.old) event.now) }
-        ensures rules { rules_of self.new ≡ rules_of self.old }
-        ensures refused { OnErr result (self.new ≡ self.old) }
+        ensures { Takes result self.old self.new
+            (check_last_rack (rules_of self.old) (state_of self.old) event.now tiles.now)
+            (after_last_rack (state_of self.old) event.now) }
     {
         self.check_last_rack(event, tiles)?;
         self.end(event);
@@ -141,12 +126,9 @@ impl Machine {
 
     /// Takes an event where the rules allow it. A withdrawal stands behind it, or none does.
     fn take(&mut self, event: &Event, withdrawn: bool, list: &WordList) -> Result<(), RuleFault>
-        ensures told { Tells result
-            (check_kind (rules_of self.old) list.now (state_of self.old) event.now event.now.kind) }
-        ensures state { OnOk result (state_of self.new
-            ≡ after_kind (rules_of self.old) (state_of self.old) event.now event.now.kind withdrawn) }
-        ensures rules { rules_of self.new ≡ rules_of self.old }
-        ensures refused { OnErr result (self.new ≡ self.old) }
+        ensures { Takes result self.old self.new
+            (check_kind (rules_of self.old) list.now (state_of self.old) event.now event.now.kind)
+            (after_kind (rules_of self.old) (state_of self.old) event.now event.now.kind withdrawn) }
     {
         match &event.kind {
             EventKind::Play { at, dir, word } => {

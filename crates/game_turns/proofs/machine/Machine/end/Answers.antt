@@ -1,9 +1,8 @@
 use Rattle.std.proofs.Common.{refl}
-use Rattle.game_turns.proofs.RackLaws.{fit_flagged, holds_other}
+use Rattle.game_turns.proofs.RackLaws.{fit_flagged}
 use Rattle.game_turns.proofs.machine.Machine.end.Goals as goal
 
-pub invariant_of-self : goal.invariant_of-self
-invariant_of-self c =
-    let self = c.args.self.now in
-    let event = c.args.event.now in
-    record { racks = fit_flagged self.sides c.set_total.new.self c.set_ended.new.self self.latest event.player event.total _ self.racks c.set_total.ensures refl c.set_ended.ensures; tiles = holds_other self.board }
+pub invariant_of-self-2 : goal.invariant_of-self-2
+invariant_of-self-2 c =
+    let scored = c.add_score.new.self in
+    record { racks = fit_flagged scored.sides c.set_ended.new.self scored.latest c.args.event.now.player _ scored.racks refl c.set_ended.ensures; tiles = scored.tiles }

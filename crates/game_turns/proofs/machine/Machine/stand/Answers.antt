@@ -18,6 +18,6 @@ invariant_of-self c =
       tiles = holds_played c.apply.new.board laid c.apply.ensures.there;
     }
 
-pub returns-clause-state : goal.returns-clause-state
+pub returns : goal.returns
 unfolding after_standing
-returns-clause-state c = search rules
+returns c = search rules

@@ -21,6 +21,6 @@ invariant_of-self-2 c =
       tiles = holds_taken _ laid.play;
     }
 
-pub returns-clause-state : goal.returns-clause-state
+pub returns : goal.returns
 unfolding after_withdraw
-returns-clause-state c = search rules
+returns c = search rules

@@ -1,5 +1,7 @@
 use Rattle.std.proofs.Common.{rules}
+use Rattle.game_turns.specs.Changes.{after_challenge}
 use Rattle.game_turns.proofs.machine.Machine.take_challenge.Goals as goal
 
-pub returns-clause-state : goal.returns-clause-state
-returns-clause-state c = search rules
+pub returns : goal.returns
+unfolding after_challenge
+returns c = search rules

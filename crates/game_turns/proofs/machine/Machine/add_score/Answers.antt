@@ -1,5 +1,5 @@
 use Rattle.game_turns.proofs.RackLaws.{fit_scored, holds_other}
-use Rattle.game_turns.proofs.machine.Machine.idle.Goals as goal
+use Rattle.game_turns.proofs.machine.Machine.add_score.Goals as goal
 
 pub invariant_of-self : goal.invariant_of-self
 invariant_of-self c =
