@@ -123,15 +123,29 @@ on_time_drawn seat steps rack reserved bag number due q known on picks = record 
 
 -- ---- the last moment
 
--- The whole of what is asked for is asked for up to a moment, or nothing is.
-pub record IsLastMoment (seat : Seat) (steps : List Step) : Type 0 where
+-- A step that asks for some tiles, and what lies before and behind it.
+pub record IsMoment (Asks : Step → List ℕ → Type 0) (steps : List Step) : Type 0 where
   pub before : List Step
   pub step : Step
   pub behind : List Step
   pub tiles : List ℕ
   pub parts : steps ≡ before ++ step ∷ behind
-  pub asks : needed seat step ≡ Some tiles
-  pub asked_before : (k : ℕ) → k < 27 → demand seat steps k ≡ demand seat (before ++ step ∷ []) k
+  pub asks : Asks step tiles
+
+abbrev pub moment_here : (Asks : Step → List ℕ → Type 0) (s : Step) (steps : List Step) (tiles : List ℕ) → Asks s tiles → IsMoment Asks (s ∷ steps)
+moment_here Asks s steps tiles asks = record { before = []; step = s; behind = steps; tiles = tiles; parts = refl; asks = asks }
+
+abbrev pub moment_later : (Asks : Step → List ℕ → Type 0) (s : Step) (steps : List Step) → IsMoment Asks steps → IsMoment Asks (s ∷ steps)
+moment_later Asks s steps m =
+    record { before = s ∷ m.before; step = m.step; behind = m.behind; tiles = m.tiles; parts = ap (λ (l : List Step). s ∷ l) m.parts; asks = m.asks }
+
+abbrev pub Needs : Seat → Step → List ℕ → Type 0
+Needs seat step tiles = needed seat step ≡ Some tiles
+
+-- The whole of what is asked for is asked for up to a moment, or nothing is.
+pub record IsLastMoment (seat : Seat) (steps : List Step) : Type 0 where
+  pub moment : IsMoment (Needs seat) steps
+  pub asked_before : (k : ℕ) → k < 27 → demand seat steps k ≡ demand seat (moment.before ++ moment.step ∷ []) k
 
 abbrev pub AsksNothing : Seat → List Step → Type 0
 AsksNothing seat steps = (k : ℕ) → k < 27 → demand seat steps k ≡ 0
@@ -144,12 +158,7 @@ pub last_moment : (seat : Seat) (steps : List Step) → AsksNothing seat steps �
 last_moment seat [] = inl (λ k h. refl)
 last_moment seat (s ∷ steps) = elim (last_moment seat steps) [
   | inr last ↦ inr (record {
-    before = s ∷ last.before;
-    step = last.step;
-    behind = last.behind;
-    tiles = last.tiles;
-    parts = ap (λ (l : List Step). s ∷ l) last.parts;
-    asks = last.asks;
+    moment = moment_later (Needs seat) s steps last.moment;
     asked_before = λ k h. ap (λ (n : ℕ). max (get_or (asked_or_none (needed seat s)) k 0) (get_or (left_in seat s) k 0 + n)) (last.asked_before k h);
   })
   | inl nothing ↦ elim (cases_Option (needed seat s)) [
@@ -160,12 +169,7 @@ last_moment seat (s ∷ steps) = elim (last_moment seat steps) [
         let n = nothing k h in
         omega arith)
     | inr some ↦ inr (record {
-      before = [];
-      step = s;
-      behind = steps;
-      tiles = some.0;
-      parts = refl;
-      asks = some.1;
+      moment = moment_here (Needs seat) s steps some.0 some.1;
       asked_before = λ k h. let n = nothing k h in omega arith;
     })
   ]
@@ -179,11 +183,12 @@ missing_comes seat steps rack due on = elim (last_moment seat steps) [
       let none = sum_of_none kinds in
       omega arith
   | inr last ↦
-      let all = on.on_time last.before last.step last.behind last.tiles last.parts last.asks in
-      let same = sum_kinds_same (λ k. demand seat steps k - get_or rack k 0) (λ k. demand seat (last.before ++ last.step ∷ []) k - get_or rack k 0)
+      let m = last.moment in
+      let all = on.on_time m.before m.step m.behind m.tiles m.parts m.asks in
+      let same = sum_kinds_same (λ k. demand seat steps k - get_or rack k 0) (λ k. demand seat (m.before ++ m.step ∷ []) k - get_or rack k 0)
       (λ k h. ap (λ (n : ℕ). n - get_or rack k 0) (last.asked_before k h)) in
-      let come = ap (to_come seat) last.parts in
-      let both = to_come-append seat last.before (last.step ∷ last.behind) in
+      let come = ap (to_come seat) m.parts in
+      let both = to_come-append seat m.before (m.step ∷ m.behind) in
       omega arith
 ]
 

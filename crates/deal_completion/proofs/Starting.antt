@@ -23,7 +23,7 @@ use Rattle.deal_completion.specs.Plain.{IsPlain}
 use Rattle.deal_completion.proofs.WantLaws.{asked_or_none, left_asked}
 use Rattle.deal_completion.proofs.Demand.{demand, IsKnownThroughout}
 use Rattle.deal_completion.proofs.PickLaws.{find_range}
-use Rattle.deal_completion.proofs.OnTime.{to_come, IsOnTime, cases_Option}
+use Rattle.deal_completion.proofs.OnTime.{to_come, IsOnTime, cases_Option, Needs, IsMoment, moment_here, moment_later}
 
 -- the past with more steps
 abbrev pub past_with : List Step → (past : List Step) → List Step
@@ -194,28 +194,21 @@ known_if_plain seat (s ∷ steps) plain = (and_right (is_by seat s) (throws_unkn
 
 -- ---- the last moment of both players
 
+abbrev pub EitherNeeds : Step → List ℕ → Type 0
+EitherNeeds step tiles = Needs First step tiles ⊎ Needs Second step tiles
+
 pub record IsLastOfBoth (steps : List Step) : Type 0 where
-  pub before : List Step
-  pub step : Step
-  pub behind : List Step
-  pub tiles : List ℕ
-  pub parts : steps ≡ before ++ step ∷ behind
-  pub asks : (needed First step ≡ Some tiles) ⊎ (needed Second step ≡ Some tiles)
-  pub first_before : (k : ℕ) → k < 27 → demand First steps k ≡ demand First (before ++ step ∷ []) k
-  pub second_before : (k : ℕ) → k < 27 → demand Second steps k ≡ demand Second (before ++ step ∷ []) k
+  pub moment : IsMoment EitherNeeds steps
+  pub first_before : (k : ℕ) → k < 27 → demand First steps k ≡ demand First (moment.before ++ moment.step ∷ []) k
+  pub second_before : (k : ℕ) → k < 27 → demand Second steps k ≡ demand Second (moment.before ++ moment.step ∷ []) k
 
 abbrev AskNothing : List Step → Type 0
 AskNothing steps = (k : ℕ) → k < 27 → (demand First steps k ≡ 0) × (demand Second steps k ≡ 0)
 
 -- a step behind which nothing is asked for is the last moment of both, where it is one
-last_here : (s : Step) (steps : List Step) (tiles : List ℕ) → (needed First s ≡ Some tiles) ⊎ (needed Second s ≡ Some tiles) → AskNothing steps → IsLastOfBoth (s ∷ steps)
+last_here : (s : Step) (steps : List Step) (tiles : List ℕ) → EitherNeeds s tiles → AskNothing steps → IsLastOfBoth (s ∷ steps)
 last_here s steps tiles asks nothing = record {
-  before = [];
-  step = s;
-  behind = steps;
-  tiles = tiles;
-  parts = refl;
-  asks = asks;
+  moment = moment_here EitherNeeds s steps tiles asks;
   first_before = λ k h. let n = (nothing k h).0 in omega arith;
   second_before = λ k h. let n = (nothing k h).1 in omega arith;
 }
@@ -232,12 +225,7 @@ last_of_both : (steps : List Step) → AskNothing steps ⊎ IsLastOfBoth steps
 last_of_both [] = inl (λ k h. (refl, refl))
 last_of_both (s ∷ steps) = elim (last_of_both steps) [
   | inr last ↦ inr (record {
-    before = s ∷ last.before;
-    step = last.step;
-    behind = last.behind;
-    tiles = last.tiles;
-    parts = ap (λ (l : List Step). s ∷ l) last.parts;
-    asks = last.asks;
+    moment = moment_later EitherNeeds s steps last.moment;
     first_before = λ k h. ap (λ (n : ℕ). max (get_or (asked_or_none (needed First s)) k 0) (get_or (left_in First s) k 0 + n)) (last.first_before k h);
     second_before = λ k h. ap (λ (n : ℕ). max (get_or (asked_or_none (needed Second s)) k 0) (get_or (left_in Second s) k 0 + n)) (last.second_before k h);
   })
@@ -313,22 +301,23 @@ pub covered_at_start : (rules : Rules) (steps : List Step) → first_bound rules
 covered_at_start rules steps none plain k h = elim (last_of_both steps) [
   | inl nothing ↦ let n = nothing k h in omega arith
   | inr last ↦
-      let before = last.before in
-      let s = last.step in
+      let m = last.moment in
+      let before = m.before in
+      let s = m.step in
       let past = past_with before [] in
-      let plain_here = subst IsPlain last.parts plain in
-      let none_here = no_bound rules before s last.behind [] (subst (λ (l : List Step). first_bound rules l ≡ None) last.parts none) in
-      let a = held_most First before s last.behind k plain_here h in
-      let b = held_most Second before s last.behind k plain_here h in
+      let plain_here = subst IsPlain m.parts plain in
+      let none_here = no_bound rules before s m.behind [] (subst (λ (l : List Step). first_bound rules l ≡ None) m.parts none) in
+      let a = held_most First before s m.behind k plain_here h in
+      let b = held_most Second before s m.behind k plain_here h in
       let c = last.first_before k h in
       let d = last.second_before k h in
-      elim last.asks [
+      elim m.asks [
         | inl asks ↦
-            let bound = bound_at_moment rules First s past last.tiles asks none_here in
+            let bound = bound_at_moment rules First s past m.tiles asks none_here in
             let e = enough rules First s past (bound_parts rules First s past bound).1 k h in
             omega arith
         | inr asks ↦
-            let bound = bound_at_moment rules Second s past last.tiles asks none_here in
+            let bound = bound_at_moment rules Second s past m.tiles asks none_here in
             let e = enough rules Second s past (bound_parts rules Second s past bound).1 k h in
             omega arith
       ]
