@@ -7,7 +7,7 @@ use Rattle.ref_tiles.specs.Counting.{no_tiles}
 use Rattle.ref_tiles.specs.declared.rulebook.Rules.{Rules}
 use Rattle.gcg_read.specs.declared.events.Seat.{Seat}
 use Rattle.gcg_read.specs.declared.events.Seat.TheVariants.{First, Second}
-use Rattle.gcg_read.specs.Players.{same_seat}
+use Rattle.gcg_read.specs.Players.{other_seat, same_seat}
 use Rattle.deal_steps.specs.declared.steps.Motion.{Motion}
 use Rattle.deal_steps.specs.declared.steps.Motion.TheVariants as motion
 use Rattle.deal_steps.specs.declared.steps.Act.{Act}
@@ -247,86 +247,81 @@ ready_moved c new rest h after ready first second bag same_bag first_same second
 
 -- ---- a play that stands
 
+-- What a play that stands leaves behind, where its player draws these: the rack and the bag have their sizes, what is asked
+-- for comes in time, and the bag has it.
+record IsDrawn (seat other : Seat) (rest : List Step) (rack waiting other_rack other_waiting bag used : List ℕ) (number : ℕ) (q : Pick) : Type 0 where
+  pub size : sum (joined (without rack used) q.taken) ≡ sum rack - sum used + number
+  pub left : sum q.left ≡ sum bag - number
+  pub on : IsOnTime seat rest (joined (joined (without rack used) q.taken) waiting) 0
+  pub covered : IsCovered (demand seat rest) (demand other rest) (joined (joined (without rack used) q.taken) waiting) (joined other_rack other_waiting) q.left
+
 -- a player lays tiles that are on the rack, and draws
-player_draws : (seat other : Seat) (s : Step) (rest : List Step) (rack other_rack bag used : List ℕ) (number : ℕ)
-    → IsOnTime seat (s ∷ rest) rack 0 → IsOnTime other (s ∷ rest) other_rack 0 → IsCovered (demand seat (s ∷ rest)) (demand other (s ∷ rest)) rack other_rack bag
-    → left_in seat s ≡ used → left_in other s ≡ no_tiles → drawn_in seat s ≡ number → drawn_in other s ≡ 0 → length bag ≡ 27
+player_draws : (seat other : Seat) (s : Step) (rest : List Step) (rack waiting other_rack other_waiting bag used : List ℕ) (number : ℕ) → waiting ≡ no_tiles → other_waiting ≡ no_tiles
+    → IsOnTime seat (s ∷ rest) (joined rack waiting) 0 → IsOnTime other (s ∷ rest) (joined other_rack other_waiting) 0
+    → IsCovered (demand seat (s ∷ rest)) (demand other (s ∷ rest)) (joined rack waiting) (joined other_rack other_waiting) bag
+    → left_in seat s ≡ used → left_in other s ≡ no_tiles → drawn_in seat s ≡ number → drawn_in other s ≡ 0 → length used ≡ 27 → length rack ≡ 27 → length bag ≡ 27
     → ((k : ℕ) → k < 27 → get_or used k 0 ≤ get_or rack k 0) → IsPlain rest → number + to_come other rest ≤ sum bag
-    → DrawsWell seat other rest (without rack used) other_rack bag number (pick (want_list seat rest (without rack used)) (want_list other rest other_rack) number bag)
-player_draws seat other s rest rack other_rack bag used number on other_on covered left other_left draws other_draws long there plain room =
+    → IsDrawn seat other rest rack waiting other_rack other_waiting bag used number (pick (want_list seat rest (without rack used)) (want_list other rest other_rack) number bag)
+player_draws seat other s rest rack waiting other_rack other_waiting bag used number nothing other_nothing on other_on covered left other_left draws other_draws long rack_long bag_long there plain room =
+    let none = with_none rack waiting nothing in
+    let other_none = with_none other_rack other_waiting other_nothing in
+    let on_rack = on_time_same seat (s ∷ rest) (joined rack waiting) rack 0 on none in
+    let other_on_rack = on_time_same other (s ∷ rest) (joined other_rack other_waiting) other_rack 0 other_on other_none in
+    let covered_here = covered_same (demand seat (s ∷ rest)) (demand other (s ∷ rest)) (joined rack waiting) rack (joined other_rack other_waiting) other_rack bag covered none other_none in
     let there_left : (k : ℕ) → k < 27 → get_or (left_in seat s) k 0 ≤ get_or rack k 0 =
     λ k h. subst (λ (l : List ℕ). get_or l k 0 ≤ get_or rack k 0) (sym left) (there k h) in
-    let after = subst (λ (l : List ℕ). IsOnTime seat rest (without rack l) (drawn_in seat s)) left (on_time_after seat s rest rack on there_left) in
+    let after = subst (λ (l : List ℕ). IsOnTime seat rest (without rack l) (drawn_in seat s)) left (on_time_after seat s rest rack on_rack there_left) in
     let on_rest = subst (λ (n : ℕ). IsOnTime seat rest (without rack used) n) draws after in
     let covered_rest = subst (λ (l : List ℕ). IsCovered (demand seat rest) (demand other rest) (without rack l) other_rack bag) left
-    (covered_after seat other s rest rack other_rack bag covered there_left) in
-    draws_well seat other rest (without rack used) other_rack bag number 0 plain long on_rest (on_time_rests other s rest other_rack other_on other_left other_draws) covered_rest (omega arith)
-
-pub first_draws : (c : Course) (s : Step) (rest : List Step) (h : Hands) (used : List ℕ) (number : ℕ) → IsReady c (s ∷ rest) h → c.waiting ≡ none_waiting
-    → left_in First s ≡ used → left_in Second s ≡ no_tiles → drawn_in First s ≡ number → drawn_in Second s ≡ 0 → length used ≡ 27 → length h.racks.first ≡ 27 → length h.bag ≡ 27
-    → ((k : ℕ) → k < 27 → get_or used k 0 ≤ get_or h.racks.first k 0) → IsPlain rest → number + to_come Second rest ≤ c.bag
-    → IsReady (turn_course c First (motion.Lays used number)) rest (draw First number rest (take_off First used h))
-unfolding draw
-first_draws c s rest h used number ready waiting left second_left draws second_draws long rack_long bag_long there plain room =
-    let rack = h.racks.first in
-    let other_rack = h.racks.second in
-    let none = with_none rack c.waiting.first (ap (λ (w : Racks). w.first) waiting) in
-    let other_none = with_none other_rack c.waiting.second (ap (λ (w : Racks). w.second) waiting) in
-    let on = on_time_same First (s ∷ rest) (joined rack c.waiting.first) rack 0 ready.first_on none in
-    let other_on = on_time_same Second (s ∷ rest) (joined other_rack c.waiting.second) other_rack 0 ready.second_on other_none in
-    let covered = covered_same (demand First (s ∷ rest)) (demand Second (s ∷ rest)) (joined rack c.waiting.first) rack (joined other_rack c.waiting.second) other_rack h.bag ready.covered none other_none in
-    let bag_size = ready.bag_size in
-    let well = player_draws First Second s rest rack other_rack h.bag used number on other_on covered left second_left draws second_draws bag_long there plain (omega arith) in
-    let q = pick (want_list First rest (without rack used)) (want_list Second rest other_rack) number h.bag in
+    (covered_after seat other s rest rack other_rack bag covered_here there_left) in
+    let well = draws_well seat other rest (without rack used) other_rack bag number 0 plain bag_long on_rest (on_time_rests other s rest other_rack other_on_rack other_left other_draws) covered_rest (omega arith) in
+    let q = pick (want_list seat rest (without rack used)) (want_list other rest other_rack) number bag in
     let new = joined (without rack used) q.taken in
-    let new_none = with_none new c.waiting.first (ap (λ (w : Racks). w.first) waiting) in
-    let size = ready.first_size in
+    let new_none = with_none new waiting nothing in
     let less = sum-without rack used rack_long long there in
     let more = sum-joined (without rack used) q.taken (length-without rack used) well.is_of.long in
     let all = well.all in
     let bag_left = well.left in
     record {
-      first_size = omega arith;
-      second_size = ready.second_size;
-      bag_size = omega arith;
-      first_on = on_time_same First rest new (joined new c.waiting.first) 0 well.on (λ k h. sym (new_none k h));
-      second_on = on_time_rests Second s rest (joined other_rack c.waiting.second) ready.second_on second_left second_draws;
-      covered = covered_same (demand First rest) (demand Second rest) new (joined new c.waiting.first) other_rack (joined other_rack c.waiting.second) q.left well.covered
+      size = omega arith;
+      left = omega arith;
+      on = on_time_same seat rest new (joined new waiting) 0 well.on (λ k h. sym (new_none k h));
+      covered = covered_same (demand seat rest) (demand other rest) new (joined new waiting) other_rack (joined other_rack other_waiting) q.left well.covered
           (λ k h. sym (new_none k h)) (λ k h. sym (other_none k h));
     }
 
-pub second_draws : (c : Course) (s : Step) (rest : List Step) (h : Hands) (used : List ℕ) (number : ℕ) → IsReady c (s ∷ rest) h → c.waiting ≡ none_waiting
-    → left_in Second s ≡ used → left_in First s ≡ no_tiles → drawn_in Second s ≡ number → drawn_in First s ≡ 0 → length used ≡ 27 → length h.racks.second ≡ 27 → length h.bag ≡ 27
-    → ((k : ℕ) → k < 27 → get_or used k 0 ≤ get_or h.racks.second k 0) → IsPlain rest → number + to_come First rest ≤ c.bag
-    → IsReady (turn_course c Second (motion.Lays used number)) rest (draw Second number rest (take_off Second used h))
+pub play_stands : (player : Seat) (c : Course) (s : Step) (rest : List Step) (h : Hands) (used : List ℕ) (number : ℕ) → IsReady c (s ∷ rest) h → c.waiting ≡ none_waiting
+    → left_in player s ≡ used → left_in (other_seat player) s ≡ no_tiles → drawn_in player s ≡ number → drawn_in (other_seat player) s ≡ 0
+    → length used ≡ 27 → length (rack_of h.racks player) ≡ 27 → length h.bag ≡ 27
+    → ((k : ℕ) → k < 27 → get_or used k 0 ≤ get_or (rack_of h.racks player) k 0) → IsPlain rest → number + to_come (other_seat player) rest ≤ c.bag
+    → IsReady (turn_course c player (motion.Lays used number)) rest (draw player number rest (take_off player used h))
 unfolding draw
-second_draws c s rest h used number ready waiting left first_left draws first_none long rack_long bag_long there plain room =
-    let rack = h.racks.second in
-    let other_rack = h.racks.first in
-    let none = with_none rack c.waiting.second (ap (λ (w : Racks). w.second) waiting) in
-    let other_none = with_none other_rack c.waiting.first (ap (λ (w : Racks). w.first) waiting) in
-    let on = on_time_same Second (s ∷ rest) (joined rack c.waiting.second) rack 0 ready.second_on none in
-    let other_on = on_time_same First (s ∷ rest) (joined other_rack c.waiting.first) other_rack 0 ready.first_on other_none in
-    let covered = covered_swapped (demand First (s ∷ rest)) (demand Second (s ∷ rest)) other_rack rack h.bag
-    (covered_same (demand First (s ∷ rest)) (demand Second (s ∷ rest)) (joined other_rack c.waiting.first) other_rack (joined rack c.waiting.second) rack h.bag ready.covered other_none none) in
+play_stands First c s rest h used number ready waiting left second_left draws second_draws long rack_long bag_long there plain room =
     let bag_size = ready.bag_size in
-    let well = player_draws Second First s rest rack other_rack h.bag used number on other_on covered left first_left draws first_none bag_long there plain (omega arith) in
-    let q = pick (want_list Second rest (without rack used)) (want_list First rest other_rack) number h.bag in
-    let new = joined (without rack used) q.taken in
-    let new_none = with_none new c.waiting.second (ap (λ (w : Racks). w.second) waiting) in
-    let size = ready.second_size in
-    let less = sum-without rack used rack_long long there in
-    let more = sum-joined (without rack used) q.taken (length-without rack used) well.is_of.long in
-    let all = well.all in
-    let bag_left = well.left in
+    let size = ready.first_size in
+    let drawn = player_draws First Second s rest h.racks.first c.waiting.first h.racks.second c.waiting.second h.bag used number (ap (λ (w : Racks). w.first) waiting) (ap (λ (w : Racks). w.second) waiting)
+    ready.first_on ready.second_on ready.covered left second_left draws second_draws long rack_long bag_long there plain (omega arith) in
+    record {
+      first_size = let now = drawn.size in omega arith;
+      second_size = ready.second_size;
+      bag_size = let now = drawn.left in omega arith;
+      first_on = drawn.on;
+      second_on = on_time_rests Second s rest (joined h.racks.second c.waiting.second) ready.second_on second_left second_draws;
+      covered = drawn.covered;
+    }
+play_stands Second c s rest h used number ready waiting left first_left draws first_draws long rack_long bag_long there plain room =
+    let bag_size = ready.bag_size in
+    let drawn = player_draws Second First s rest h.racks.second c.waiting.second h.racks.first c.waiting.first h.bag used number (ap (λ (w : Racks). w.second) waiting) (ap (λ (w : Racks). w.first) waiting)
+    ready.second_on ready.first_on
+    (covered_swapped (demand First (s ∷ rest)) (demand Second (s ∷ rest)) (joined h.racks.first c.waiting.first) (joined h.racks.second c.waiting.second) h.bag ready.covered)
+    left first_left draws first_draws long rack_long bag_long there plain (omega arith) in
     record {
       first_size = ready.first_size;
-      second_size = omega arith;
-      bag_size = omega arith;
-      first_on = on_time_rests First s rest (joined other_rack c.waiting.first) ready.first_on first_left first_none;
-      second_on = on_time_same Second rest new (joined new c.waiting.second) 0 well.on (λ k h. sym (new_none k h));
-      covered = covered_same (demand First rest) (demand Second rest) other_rack (joined other_rack c.waiting.first) new (joined new c.waiting.second) q.left
-          (covered_swapped (demand Second rest) (demand First rest) new other_rack q.left well.covered) (λ k h. sym (other_none k h)) (λ k h. sym (new_none k h));
+      second_size = let size = ready.second_size in let now = drawn.size in omega arith;
+      bag_size = let now = drawn.left in omega arith;
+      first_on = on_time_rests First s rest (joined h.racks.first c.waiting.first) ready.first_on first_left first_draws;
+      second_on = drawn.on;
+      covered = covered_swapped (demand Second rest) (demand First rest) _ _ _ drawn.covered;
     }
 
 -- ---- a play that is taken back
@@ -417,12 +412,12 @@ ready_by rules player (act.Turns shown motion.Keeps) c s rest h by is ready whol
     ready_same player (act.Turns shown motion.Keeps) c s rest h by is ready refl refl
 ready_by rules First (act.Turns shown (motion.Lays used drawn)) c s rest h by is ready whole may are plain rest_plain met room =
     let what = act.Turns shown (motion.Lays used drawn) in
-    first_draws c s rest h used drawn ready may.0 (left_is First s First what by is) (left_is Second s First what by is)
+    play_stands First c s rest h used drawn ready may.0 (left_is First s First what by is) (left_is Second s First what by is)
     (drawn_is First s First what by is) (drawn_is Second s First what by is) are.1 whole.first_long whole.bag_long
     (λ k h. (shown_there shown used _ met k h).1) rest_plain (omega arith)
 ready_by rules Second (act.Turns shown (motion.Lays used drawn)) c s rest h by is ready whole may are plain rest_plain met room =
     let what = act.Turns shown (motion.Lays used drawn) in
-    second_draws c s rest h used drawn ready may.0 (left_is Second s Second what by is) (left_is First s Second what by is)
+    play_stands Second c s rest h used drawn ready may.0 (left_is Second s Second what by is) (left_is First s Second what by is)
     (drawn_is Second s Second what by is) (drawn_is First s Second what by is) are.1 whole.second_long whole.bag_long
     (λ k h. (shown_there shown used _ met k h).1) rest_plain (omega arith)
 ready_by rules player (act.Turns shown (motion.Tries used)) c s rest h by is ready whole may are plain rest_plain met room =
