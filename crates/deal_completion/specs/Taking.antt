@@ -32,10 +32,13 @@ HasRoomIn p = (k : ℕ) → k < 27 → slice_index p.taken k + slice_index p.lef
 abbrev pub HasRoomToDraw : Seat → Hands → Type 0
 HasRoomToDraw seat h = (k : ℕ) → k < 27 → slice_index (rack_of h.racks seat) k + slice_index h.bag k < 256
 
+-- a player may throw these tiles: they are on the rack, and there is room to draw
+abbrev pub MayThrow : Seat → (thrown : List ℕ) → Hands → Type 0
+MayThrow seat thrown h = HasRoomToDraw seat h × ((k : ℕ) → k < 27 → slice_index thrown k ≤ slice_index (rack_of h.racks seat) k)
+
 -- the tiles that a step moves can be counted
 abbrev pub MayMove : Seat → Act → (thrown : List ℕ) → Hands → Type 0
-MayMove seat (act.Turns shown what) thrown h =
-    HasRoomToDraw seat h × ((k : ℕ) → k < 27 → slice_index thrown k ≤ slice_index (rack_of h.racks seat) k)
+MayMove seat (act.Turns shown what) thrown h = MayThrow seat thrown h
 MayMove seat (act.TakesBack used) thrown h = (k : ℕ) → k < 27 → slice_index (rack_of h.racks seat) k + slice_index used k < 256
 MayMove seat (act.Ends holder tiles) thrown h = Unit {0}
 MayMove seat act.Rests thrown h = Unit {0}

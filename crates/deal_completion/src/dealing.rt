@@ -1,11 +1,11 @@
 //! The deal of a game, step by step.
-ghost use Rattle.std.specs.Prelude.{◌≡◌, ℕ, ◌≤◌, ◌<◌, true, ◌∷◌, [], ◌++◌, slice_index, IfOk, IsSomeAnd};
-ghost use Rattle.deal_steps.specs.Fitting.{rack_of, Fits};
+ghost use Rattle.std.specs.Prelude.{◌≡◌, true, ◌∷◌, [], ◌++◌, IfOk, IsSomeAnd};
+ghost use Rattle.deal_steps.specs.Fitting.{Fits};
 ghost use Rattle.deal_steps.specs.Bounds.{first_bound};
 ghost use Rattle.deal_steps.specs.Runs.{IsRun, HasKindsBy, HasKinds, HaveKinds};
 ghost use Rattle.deal_completion.specs.Completion.{turn_throws, throws, turned, acted, is_within, is_met, held_at, opener, start, dealt};
 ghost use Rattle.deal_completion.specs.Plain.{IsPlain};
-ghost use Rattle.deal_completion.specs.Taking.{HasRoomToDraw, MayMove};
+ghost use Rattle.deal_completion.specs.Taking.{MayThrow, MayMove};
 
 use crate::drawing::{chosen, draw, exchange};
 use crate::hands::Hands;
@@ -51,8 +51,7 @@ fn turned(
     steps: &[Step],
     hands: &Hands,
 ) -> Result<Hands, AllocError>
-    requires room { HasRoomToDraw seat hands.now }
-    requires there { (k : ℕ) → k < 27 → slice_index thrown.now k ≤ slice_index (rack_of hands.now.racks seat) k }
+    requires { MayThrow seat thrown.now hands.now }
     ensures { IfOk result (λ after. after ≡ turned seat motion.now thrown.now steps.now hands.now) }
 {
     match motion {

@@ -1,8 +1,7 @@
 //! Draws from the bag, and what a player throws whose tiles are not known.
-ghost use Rattle.std.specs.Prelude.{◌≡◌, ℕ, ◌≤◌, ◌<◌, slice_index, IfOk};
-ghost use Rattle.deal_steps.specs.Fitting.{rack_of};
+ghost use Rattle.std.specs.Prelude.{◌≡◌, IfOk};
 ghost use Rattle.deal_completion.specs.Completion.{draw, exchange, chosen};
-ghost use Rattle.deal_completion.specs.Taking.{HasRoomToDraw};
+ghost use Rattle.deal_completion.specs.Taking.{HasRoomToDraw, MayThrow};
 
 use crate::hands::Hands;
 use crate::picking::pick_tiles;
@@ -45,8 +44,7 @@ pub fn exchange(
     steps: &[Step],
     hands: &Hands,
 ) -> Result<Hands, AllocError>
-    requires room { HasRoomToDraw seat hands.now }
-    requires there { (k : ℕ) → k < 27 → slice_index thrown.now k ≤ slice_index (rack_of hands.now.racks seat) k }
+    requires { MayThrow seat thrown.now hands.now }
     ensures { IfOk result (λ after. after ≡ exchange seat thrown.now steps.now hands.now) }
 {
     are_small(&hands.bag);
