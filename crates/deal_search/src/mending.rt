@@ -109,72 +109,6 @@ fn swap_along(arcs: &mut Vec<Arc>, quest: &Quest, other: usize, reach: &[Reach])
     }
 }
 
-/// A cut that proves that there is no deal, from the ways of one swap.
-fn cut_by(
-    alloc: Global,
-    rules: &Rules,
-    steps: &[Step],
-    net: &Net,
-    quest: &Quest,
-    reach: &mut Vec<Reach>,
-    budget: &mut usize,
-) -> Result<Option<Cut>, AllocError> {
-    if !find_paths(&net.arcs, quest, reach, budget) {
-        return Ok(None);
-    }
-    match cut_below(alloc, net, reach, quest.goal)? {
-        Some(cut) if rules_out(rules, steps, &cut) => Ok(Some(cut)),
-        Some(_) | None => Ok(None),
-    }
-}
-
-/// A cut that proves that there is no deal, from the ways of all swaps.
-fn find_cut(
-    alloc: Global,
-    rules: &Rules,
-    steps: &[Step],
-    net: &Net,
-    quest: &Quest,
-    reach: &mut Vec<Reach>,
-    budget: &mut usize,
-) -> Result<Option<Cut>, AllocError> {
-    for kind in 0..KINDS {
-        if can_spare(&net.arcs, quest.arc, kind) {
-            let swap = with_other(quest, Other::Kind(kind));
-            if let Some(cut) = cut_by(alloc, rules, steps, net, &swap, reach, budget)? {
-                return Ok(Some(cut));
-            }
-        }
-    }
-    cut_by(alloc, rules, steps, net, quest, reach, budget)
-}
-
-/// Mends one lack. The answer is what became of the net, where that is known.
-fn mend_one(
-    alloc: Global,
-    rules: &Rules,
-    steps: &[Step],
-    net: &mut Net,
-    reach: &mut Vec<Reach>,
-    budget: &mut usize,
-) -> Result<Option<Mended>, AllocError> {
-    let Some(quest) = first_lack(&net.arcs) else {
-        return Ok(Some(Mended::Whole));
-    };
-    let choice = choose(&net.arcs, &quest, reach, budget);
-    if choice.cost > 0 {
-        if let Some(cut) = find_cut(alloc, rules, steps, net, &quest, reach, budget)? {
-            return Ok(Some(Mended::Cut(cut)));
-        }
-        let swap = with_other(&quest, Other::Kind(choice.kind));
-        if choice.cost == FAR || !find_paths(&net.arcs, &swap, reach, budget) {
-            return Ok(Some(Mended::Open));
-        }
-    }
-    swap_along(&mut net.arcs, &quest, choice.kind, reach);
-    Ok(None)
-}
-
 /// Ways to all nodes of a net.
 fn no_ways(alloc: Global, nodes: usize) -> Result<Vec<Reach>, AllocError> {
     let mut reach = Vec::new(alloc);
@@ -188,6 +122,65 @@ fn no_ways(alloc: Global, nodes: usize) -> Result<Vec<Reach>, AllocError> {
     Ok(reach)
 }
 
+/// What the mending of the net of a game works with.
+#[derive(Drop)]
+struct Mending<'a> {
+    alloc: Global,
+    rules: &'a Rules,
+    steps: &'a [Step],
+    /// The ways to all nodes that were looked for last.
+    reach: Vec<Reach>,
+    /// How many looks at an arc are left.
+    budget: usize,
+}
+
+impl<'a> Mending<'a> {
+    /// A cut that proves that there is no deal, from the ways of one swap.
+    fn cut_by(&mut self, net: &Net, quest: &Quest) -> Result<Option<Cut>, AllocError> {
+        if !find_paths(&net.arcs, quest, &mut self.reach, &mut self.budget) {
+            return Ok(None);
+        }
+        match cut_below(self.alloc, net, &self.reach, quest.goal)? {
+            Some(cut) if rules_out(self.rules, self.steps, &cut) => Ok(Some(cut)),
+            Some(_) | None => Ok(None),
+        }
+    }
+
+    /// A cut that proves that there is no deal, from the ways of all swaps.
+    fn find_cut(&mut self, net: &Net, quest: &Quest) -> Result<Option<Cut>, AllocError> {
+        for kind in 0..KINDS {
+            if can_spare(&net.arcs, quest.arc, kind) {
+                let swap = with_other(quest, Other::Kind(kind));
+                if let Some(cut) = self.cut_by(net, &swap)? {
+                    return Ok(Some(cut));
+                }
+            }
+        }
+        self.cut_by(net, quest)
+    }
+
+    /// Mends one lack. The answer is what became of the net, where that is known.
+    fn mend_one(&mut self, net: &mut Net) -> Result<Option<Mended>, AllocError> {
+        let Some(quest) = first_lack(&net.arcs) else {
+            return Ok(Some(Mended::Whole));
+        };
+        let choice = choose(&net.arcs, &quest, &mut self.reach, &mut self.budget);
+        if choice.cost > 0 {
+            if let Some(cut) = self.find_cut(net, &quest)? {
+                return Ok(Some(Mended::Cut(cut)));
+            }
+            let swap = with_other(&quest, Other::Kind(choice.kind));
+            if choice.cost == FAR
+                || !find_paths(&net.arcs, &swap, &mut self.reach, &mut self.budget)
+            {
+                return Ok(Some(Mended::Open));
+            }
+        }
+        swap_along(&mut net.arcs, &quest, choice.kind, &self.reach);
+        Ok(None)
+    }
+}
+
 /// Mends a net, within a budget of looks at an arc.
 pub fn mend(
     alloc: Global,
@@ -196,10 +189,15 @@ pub fn mend(
     net: &mut Net,
     budget: usize,
 ) -> Result<Mended, AllocError> {
-    let mut reach = no_ways(alloc, net.nodes())?;
-    let mut left = budget;
+    let mut mending = Mending {
+        alloc,
+        rules,
+        steps,
+        reach: no_ways(alloc, net.nodes())?,
+        budget,
+    };
     for _ in 0..budget {
-        if let Some(mended) = mend_one(alloc, rules, steps, net, &mut reach, &mut left)? {
+        if let Some(mended) = mending.mend_one(net)? {
             return Ok(mended);
         }
     }
