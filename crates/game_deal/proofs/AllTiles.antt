@@ -96,6 +96,26 @@ laid_down total c new used long is laid waits sizes =
           omega arith;
     }
 
+-- tiles move between racks, the bag and those that wait
+moved : (total : ℕ) (c new : Course) → HasAll total c → new.laid ≡ c.laid → length new.waiting.first ≡ 27 → length new.waiting.second ≡ 27
+    → new.first + new.second + new.bag + (sum new.waiting.first + sum new.waiting.second) ≡ c.first + c.second + c.bag + (sum c.waiting.first + sum c.waiting.second) → HasAll total new
+moved total c new is laid first second sizes =
+    record {
+      laid = ap length laid ∙ is.laid;
+      first = first;
+      second = second;
+      all =
+          let whole = is.all in
+          let on_board = ap sum laid in
+          omega arith;
+    }
+
+none_wait : (waiting : Racks) → waiting ≡ none_waiting → sum waiting.first + sum waiting.second ≡ 0
+none_wait waiting none =
+    let first : sum waiting.first ≡ 0 = ap (λ (w : Racks). sum w.first) none ∙ sum-no_tiles in
+    let second : sum waiting.second ≡ 0 = ap (λ (w : Racks). sum w.second) none ∙ sum-no_tiles in
+    omega arith
+
 -- a turn moves tiles, and loses none
 turn_keeps : (total : ℕ) (c : Course) (seat : Seat) (what : Motion) → c.waiting ≡ none_waiting → MayTurn c seat what → UsesKindsBy what → HasAll total c → HasAll total (turn_course c seat what)
 turn_keeps total c seat motion.Keeps none may long is = is
@@ -104,29 +124,9 @@ turn_keeps total c First (motion.Lays used drawn) none may long is =
 turn_keeps total c Second (motion.Lays used drawn) none may long is =
     laid_down total c (turn_course c Second (motion.Lays used drawn)) used long is refl refl (let drawn_is = may.0 in let fits = may.1 in omega arith)
 turn_keeps total c First (motion.Tries used) none may long is =
-    record {
-      laid = is.laid;
-      first = long;
-      second = length-no_tiles;
-      all =
-          let whole = is.all in
-          let first : sum c.waiting.first ≡ 0 = ap (λ (w : Racks). sum w.first) none ∙ sum-no_tiles in
-          let second : sum c.waiting.second ≡ 0 = ap (λ (w : Racks). sum w.second) none ∙ sum-no_tiles in
-          let empty = sum-no_tiles in
-          omega arith;
-    }
+    moved total c (turn_course c First (motion.Tries used)) is refl long length-no_tiles (let before = none_wait c.waiting none in let empty = sum-no_tiles in omega arith)
 turn_keeps total c Second (motion.Tries used) none may long is =
-    record {
-      laid = is.laid;
-      first = length-no_tiles;
-      second = long;
-      all =
-          let whole = is.all in
-          let first : sum c.waiting.first ≡ 0 = ap (λ (w : Racks). sum w.first) none ∙ sum-no_tiles in
-          let second : sum c.waiting.second ≡ 0 = ap (λ (w : Racks). sum w.second) none ∙ sum-no_tiles in
-          let empty = sum-no_tiles in
-          omega arith;
-    }
+    moved total c (turn_course c Second (motion.Tries used)) is refl length-no_tiles long (let before = none_wait c.waiting none in let empty = sum-no_tiles in omega arith)
 turn_keeps total c seat (motion.Throws tiles) none may long is = is
 turn_keeps total c seat (motion.ThrowsUnknown n) none may long is = is
 
@@ -145,17 +145,8 @@ waits_sum waiting Second used is =
 given_back : (total : ℕ) (c new : Course) (used : List ℕ) → sum c.waiting.first + sum c.waiting.second ≡ sum used → new.laid ≡ c.laid → new.waiting ≡ none_waiting
     → new.first + new.second + new.bag ≡ c.first + c.second + c.bag + sum used → HasAll total c → HasAll total new
 given_back total c new used waited laid none sizes is =
-    record {
-      laid = ap length laid ∙ is.laid;
-      first = ap (λ (w : Racks). length w.first) none ∙ length-no_tiles;
-      second = ap (λ (w : Racks). length w.second) none ∙ length-no_tiles;
-      all =
-          let whole = is.all in
-          let on_board = ap sum laid in
-          let first : sum new.waiting.first ≡ 0 = ap (λ (w : Racks). sum w.first) none ∙ sum-no_tiles in
-          let second : sum new.waiting.second ≡ 0 = ap (λ (w : Racks). sum w.second) none ∙ sum-no_tiles in
-          omega arith;
-    }
+    moved total c new is laid (ap (λ (w : Racks). length w.first) none ∙ length-no_tiles) (ap (λ (w : Racks). length w.second) none ∙ length-no_tiles)
+    (let after = none_wait new.waiting none in omega arith)
 
 back_keeps : (total : ℕ) (c : Course) (seat : Seat) (used : List ℕ) → c.waiting ≡ waits seat used → HasAll total c → HasAll total (act_course c seat (act.TakesBack used))
 back_keeps total c First used waiting is = given_back total c (act_course c First (act.TakesBack used)) used (waits_sum c.waiting First used waiting) refl refl (omega arith) is
