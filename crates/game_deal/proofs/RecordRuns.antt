@@ -9,6 +9,7 @@ use mathlib.Core.List.{reverse_aux}
 use Rattle.ref_tiles.specs.declared.rulebook.Rules.{Rules}
 use Rattle.ref_tiles.specs.declared.symbols.Symbol.{Symbol}
 use Rattle.ref_board.specs.declared.directions.Dir.{Dir}
+use Rattle.ref_play.specs.declared.placed.Placed.{Placed}
 use Rattle.gcg_read.specs.Players.{same_seat}
 use Rattle.gcg_read.specs.declared.events.Seat.{Seat}
 use Rattle.gcg_read.specs.declared.events.Seat.TheVariants.{First, Second}
@@ -161,25 +162,26 @@ lays_goes rules past line Second rack dir at word score total fits =
 restored : (rack n used : ℕ) → used ≡ n → n ≤ rack - 0 → rack - (n + 0) + used ≡ rack - 0
 restored rack n used e fits = omega arith
 
+-- what is made of the size of the rack, where it has the tiles of the play again
+with_restored : {A : Type 0} (make : ℕ → A) (rack : ℕ) (ps : List Placed) → length ps ≤ rack - 0
+    → make (rack - (length ps + 0) + sum (placed_tiles ps)) ≡ make (rack - 0)
+with_restored make rack ps fits = ap make (restored rack (length ps) (sum (placed_tiles ps)) (sum-placed ps) fits)
+
 takes_back : (rules : Rules) (past : List Event) (line : ℕ) (player : Seat) (rack : Option (List ℕ)) (dir : Dir) (at : ℕ) (word : List Symbol) (score total : ℤ)
     (line2 : ℕ) (player2 : Seat) (rack2 : Option (List ℕ)) (score2 total2 : ℤ) (w : Bool)
     → same_seat player player2 ≡ true → length (laid_at past dir at word) ≤ rack_at rules player false past
     → Goes rules true (made line player rack (kind.Play at dir word) score total ∷ past) (act.TakesBack (placed_tiles (laid_at past dir at word)))
     (made line2 player2 rack2 kind.Withdraw score2 total2) w
 takes_back rules past line First rack dir at word score total line2 First rack2 score2 total2 true same fits =
-    let ps = laid_at past dir at word in
-    (refl, ap (λ (n : ℕ). record (course_at rules false past) { first = n }) (restored (rack_after rules First (standing false past)) (length ps) (sum (placed_tiles ps)) (sum-placed ps) fits))
+    (refl, with_restored (λ (n : ℕ). record (course_at rules false past) { first = n }) (rack_after rules First (standing false past)) (laid_at past dir at word) fits)
 takes_back rules past line First rack dir at word score total line2 First rack2 score2 total2 false same fits =
-    let ps = laid_at past dir at word in
-    (refl, ap (λ (n : ℕ). record (course_at rules false past) { first = n }) (restored (rack_after rules First (standing false past)) (length ps) (sum (placed_tiles ps)) (sum-placed ps) fits))
+    (refl, with_restored (λ (n : ℕ). record (course_at rules false past) { first = n }) (rack_after rules First (standing false past)) (laid_at past dir at word) fits)
 takes_back rules past line First rack dir at word score total line2 Second rack2 score2 total2 w same fits = cc
 takes_back rules past line Second rack dir at word score total line2 First rack2 score2 total2 w same fits = cc
 takes_back rules past line Second rack dir at word score total line2 Second rack2 score2 total2 true same fits =
-    let ps = laid_at past dir at word in
-    (refl, ap (λ (n : ℕ). record (course_at rules false past) { second = n }) (restored (rack_after rules Second (standing false past)) (length ps) (sum (placed_tiles ps)) (sum-placed ps) fits))
+    (refl, with_restored (λ (n : ℕ). record (course_at rules false past) { second = n }) (rack_after rules Second (standing false past)) (laid_at past dir at word) fits)
 takes_back rules past line Second rack dir at word score total line2 Second rack2 score2 total2 false same fits =
-    let ps = laid_at past dir at word in
-    (refl, ap (λ (n : ℕ). record (course_at rules false past) { second = n }) (restored (rack_after rules Second (standing false past)) (length ps) (sum (placed_tiles ps)) (sum-placed ps) fits))
+    (refl, with_restored (λ (n : ℕ). record (course_at rules false past) { second = n }) (rack_after rules Second (standing false past)) (laid_at past dir at word) fits)
 
 -- the latest event, by its kind
 withdraw_goes_kind : (rules : Rules) (list : List (List ℕ)) (past : List Event) (line : ℕ) (player : Seat) (rack : Option (List ℕ)) (what : EventKind) (score total : ℤ)
