@@ -11,11 +11,7 @@ loop-place-preserved c =
     let steps = steps_of passed.rules.now passed.record.now.events in
     let more = steps_more steps c.loop-place.place c.take_step-step.result c.take_step-step.ensures.step in
     let pushed = c.in_ok-append.ensures in
-    record {
-      rules = c.take_step-step.ensures.rules;
-      state = c.take_step-step.ensures.state;
-      steps = cc;
-    }
+    record { before = c.take_step-step.ensures.behind; steps = cc }
 
 pub returns : goal.returns
 returns c =
