@@ -7,7 +7,7 @@ use Rattle.lex_file.specs.declared.lexicons.Step.{Step}
 use Rattle.lex_file.specs.Walking.{strings, IsOpen}
 use Rattle.lex_agree.specs.declared.kept.Kept.{Kept}
 use Rattle.lex_agree.specs.Walks.{node_tail, no_step, no_kept, IsNodeOf, IsStepAt, AreAlike, AreTurned, IsKept, AreKept}
-use Rattle.lex_agree.proofs.Walking.{step_more}
+use Rattle.lex_agree.proofs.Walking.{step_more, each_more}
 
 -- one more label of the front
 pub turned_more : (bytes : List ℕ) (first : ℕ) (front : List ℕ) (split : ℕ) (steps : List (Step Node)) (step : Step Node) → length front < 15
@@ -18,16 +18,7 @@ turned_more bytes first front split steps step few inside before open_there walk
     let room = before.room in
     record {
       room = length-set steps (split + 1) step ∙ room;
-      each = λ count le. elim (cases_lt count (split + 1)) [
-        | inl less ↦
-            let other = get_or-set_other steps (split + 1) count step no_step (λ e. omega arith) in
-            subst (IsStepAt bytes (first ∷ take count front)) (sym other) (before.each count (omega arith))
-        | inr last ↦
-            let at : split + 1 ≡ count = omega arith in
-            let own = get_or-set_same steps (split + 1) step no_step (omega arith) in
-            subst (λ (n : ℕ). IsStepAt bytes (first ∷ take n front) (get_or (set steps (split + 1) step) n no_step)) at
-            (subst (IsStepAt bytes (first ∷ take (split + 1) front)) (sym own) here)
-      ];
+      each = each_more (λ count there. IsStepAt bytes (first ∷ take count front) there) steps split step (omega arith) before.each here;
     }
   where
     here : IsStepAt bytes (first ∷ take (split + 1) front) step

@@ -202,6 +202,18 @@ there_none has front label found is = subst (λ (o : Option Node). TurnsThere ha
 
 -- ---- the steps of a word
 
+-- what is known of each step up to a place is known up to the next place, where it is known of the step put there
+pub each_more : (known : ℕ → Step Node → Type 0) (steps : List (Step Node)) (place : ℕ) (step : Step Node) → place + 1 < length steps
+    → ((count : ℕ) → count ≤ place → known count (get_or steps count no_step)) → known (place + 1) step
+    → (count : ℕ) → count ≤ place + 1 → known count (get_or (set steps (place + 1) step) count no_step)
+each_more known steps place step inside before here count le = elim (cases_lt count (place + 1)) [
+  | inl less ↦ subst (known count) (sym (get_or-set_other steps (place + 1) count step no_step (λ e. omega arith))) (before count (omega arith))
+  | inr last ↦
+      let at : place + 1 ≡ count = omega arith in
+      let own = get_or-set_same steps (place + 1) step no_step inside in
+      subst (λ (n : ℕ). known n (get_or (set steps (place + 1) step) n no_step)) at (subst (known (place + 1)) (sym own) here)
+]
+
 pub steps_more : (bytes word : List ℕ) (split : ℕ) (steps : List (Step Node)) (step past : Step Node) → length word ≤ 15 → split < length word
     → AreSteps bytes word split steps → IsOpen (IsNodeOf bytes) step.next
     → ((t : List ℕ) → strings (node_tail bytes) (get_or steps split no_step) (label_of (get_or word split 0) ∷ t) ≡ strings (node_tail bytes) step t)
@@ -210,16 +222,8 @@ steps_more bytes word split steps step past few inside before open_there walked 
     let room = before.room in
     record {
       room = length-set steps (split + 1) past ∙ room;
-      each = λ count le. elim (cases_lt count (split + 1)) [
-        | inl less ↦
-            let other = get_or-set_other steps (split + 1) count past no_step (λ e. omega arith) in
-            subst (IsStepAt bytes (first_path (take count word))) (sym other) (before.each count (omega arith))
-        | inr last ↦
-            let at : split + 1 ≡ count = omega arith in
-            let own = get_or-set_same steps (split + 1) past no_step (omega arith) in
-            subst (λ (n : ℕ). IsStepAt bytes (first_path (take n word)) (get_or (set steps (split + 1) past) n no_step)) at
-            (subst (IsStepAt bytes (first_path (take (split + 1) word))) (sym own) (by split inside (before.each split (omega arith)) walked passed))
-      ];
+      each = each_more (λ count there. IsStepAt bytes (first_path (take count word)) there) steps split past (omega arith) before.each
+          (by split inside (before.each split (omega arith)) walked passed);
     }
   where
     by : (n : ℕ) → n < length word → IsStepAt bytes (first_path (take n word)) (get_or steps n no_step)
