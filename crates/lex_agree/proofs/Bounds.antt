@@ -11,13 +11,13 @@ use Rattle.std.proofs.lemmas.List.Elements.{Contains-append_left, Contains-appen
 use Rattle.lex_file.specs.declared.files.Node.{Node}
 use Rattle.lex_file.specs.Files.{number_of, IsNextNode}
 use Rattle.lex_file.specs.Languages.{file_tail}
-use Rattle.lex_file.specs.Lexicons.{is_label, NextGives}
+use Rattle.lex_file.specs.Lexicons.{is_label}
 use Rattle.lex_file.specs.Shapes.{file_node, is_file_node, fault_of}
 use Rattle.lex_file.specs.SoundFiles.{file_labels, sound}
 use Rattle.lex_file.specs.Graphs.{none_of_zero}
 use Rattle.lex_file.specs.Walking.{next_strings}
 use Rattle.lex_agree.specs.Counts.{HasAtMost, most_counted, slot_of, IsCount, IsCountedBy, AreCountedBeside, IsCounted, IsCountedThere, AreCountedBelow, AreCountedUntil, IsFirstTable, IsPut}
-use Rattle.lex_agree.specs.Walks.{node_tail}
+use Rattle.lex_agree.specs.Walks.{node_tail, Leads}
 use Rattle.lex_agree.specs.declared.tables.CountTable.{CountTable}
 
 -- the strings of a set that begin with a label below one
@@ -114,12 +114,6 @@ last_label has from count empty none before low = let one = before low in record
     ]
 
 -- ---- what a branch gives
-
--- what goes on behind the label of a branch
-abbrev pub Leads : List ℕ → Node → ℕ → Option Node → Type 0
-Leads bytes node label next =
-    NextGives (λ (n : Node). IsTrue (is_file_node bytes (number_of n))) (λ (n : Node) (string : List ℕ). file_tail bytes (number_of n) string) (λ (n : Node). number_of n)
-    node label next
 
 pub longer : (bytes : List ℕ) (node : Node) (label : ℕ) (next : Option Node) → Leads bytes node label next
     → (after : ℕ) (rest : List ℕ) → file_tail bytes (number_of node) (label ∷ after ∷ rest) ≡ next_strings (node_tail bytes) next (after ∷ rest)

@@ -13,8 +13,8 @@ use Rattle.lex_file.specs.Walking.{strings, next_strings, IsOpen}
 use Rattle.lex_list.specs.RotatedPaths.{label_of, behind_mark}
 use Rattle.lex_list.proofs.RotatedPaths.{not_equal}
 use Rattle.lex_agree.specs.Chains.{AreLetters, TurnsOver, TurnsOverFrom, first_path}
-use Rattle.lex_agree.specs.Walks.{node_tail, no_step, IsNodeOf, IsStepAt, IsNodeAt, AreSteps, IsPast, AreAlike}
-use Rattle.lex_agree.proofs.Bounds.{Leads, longer}
+use Rattle.lex_agree.specs.Walks.{node_tail, no_step, IsNodeOf, IsStepAt, IsNodeAt, Leads, AreSteps, IsPast, AreAlike}
+use Rattle.lex_agree.proofs.Bounds.{longer}
 
 -- ---- steps
 

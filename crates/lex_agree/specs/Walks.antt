@@ -1,9 +1,10 @@
 -- Where a walk over a file is, as the strings that it still allows.
-use Rattle.std.specs.Prelude.{◌≡◌, ℕ, ◌<◌, ◌≤◌, Bool, true, false, List, [], ◌∷◌, ◌++◌, length, take, slice_index_or, None, IsTrue}
+use Rattle.std.specs.Prelude.{◌≡◌, ℕ, ◌<◌, ◌≤◌, Bool, true, false, List, [], ◌∷◌, ◌++◌, length, take, slice_index_or, Option, None, IsTrue}
 use Rattle.lex_file.specs.declared.files.Node.{Node}
 use Rattle.lex_file.specs.declared.lexicons.Step.{Step}
 use Rattle.lex_file.specs.Files.{number_of}
 use Rattle.lex_file.specs.Languages.{file_tail, language_of}
+use Rattle.lex_file.specs.Lexicons.{NextGives}
 use Rattle.lex_file.specs.Shapes.{is_file_node}
 use Rattle.lex_file.specs.Walking.{strings, IsOpen}
 use Rattle.lex_agree.specs.Chains.{first_path}
@@ -16,6 +17,12 @@ node_tail bytes node string = file_tail bytes (number_of node) string
 -- a node is one of a file
 abbrev pub IsNodeOf : List ℕ → Node → Type 0
 IsNodeOf bytes node = IsTrue (is_file_node bytes (number_of node))
+
+-- what goes on behind the label of a branch
+abbrev pub Leads : List ℕ → Node → ℕ → Option Node → Type 0
+Leads bytes node label next =
+    NextGives (λ (n : Node). IsTrue (is_file_node bytes (number_of n))) (λ (n : Node) (string : List ℕ). file_tail bytes (number_of n) string) (λ (n : Node). number_of n)
+    node label next
 
 -- where nothing goes on
 abbrev pub no_step : Step Node

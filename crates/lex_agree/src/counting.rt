@@ -7,6 +7,7 @@ ghost use Rattle.lex_file.specs.Walking.{next_strings};
 ghost use Rattle.lex_agree.specs.Counts.{most_counted, IsCount, IsCountedThere, AreCountedBelow};
 ghost use Rattle.lex_agree.specs.Walks.{node_tail};
 
+use crate::steps::law_of_labels;
 use crate::tables::CountTable;
 use lex_file::{LexFile, Node, PathLex};
 use std::alloc::{AllocError, Global};
@@ -37,7 +38,7 @@ pub fn count_strings(alloc: Global, file: &LexFile<'_>) -> Result<u32, AllocErro
 }
 
 /// The count of a node, by those of the nodes before it.
-#[tactic(auto, using(crate::proofs::Bounds::first_label, crate::proofs::Bounds::last_label, crate::proofs::Bounds::label_more, crate::proofs::Bounds::label_low, crate::proofs::Bounds::counted_there, crate::proofs::Bounds::longer))]
+#[tactic(auto, using(crate::proofs::Bounds::first_label, crate::proofs::Bounds::last_label, crate::proofs::Bounds::label_more, crate::proofs::Bounds::counted_there, crate::proofs::Bounds::longer))]
 fn count_node(file: &LexFile<'_>, counts: &CountTable, node: Node) -> u32
     requires node { IsTrue (is_file_node (bytes_of file.now) (number_of node)) }
     requires before { AreCountedBelow (bytes_of file.now) counts.now (number_of node) }
@@ -48,6 +49,7 @@ fn count_node(file: &LexFile<'_>, counts: &CountTable, node: Node) -> u32
     let mut rest = file.rest(node);
     while let Some(on) = file.branch_on(node, from, rest) {
         let branch = on.branch;
+        law_of_labels(file, node, branch);
         let more = count_behind(file, counts, branch.step.next);
         count = sum_of(count, more, branch.step.accepts);
         from = branch.label + 1;

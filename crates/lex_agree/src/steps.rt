@@ -1,13 +1,14 @@
 //! Steps over a file: what stands behind labels.
-ghost use Rattle.std.specs.Prelude.{◌≡◌, ◌++◌, ◌∷◌, [], ℕ, List, IsTrue, true};
+ghost use Rattle.std.specs.Prelude.{◌≡◌, ◌<◌, ◌++◌, ◌∷◌, [], ℕ, List, IsSome, IsTrue, true, false};
 ghost use Rattle.std.specs.Bool.{OnTrue};
 ghost use Rattle.std.specs.Char.{is_ascii_uppercase};
 ghost use Rattle.lex_list.specs.RotatedPaths.{label_of};
-ghost use Rattle.lex_file.specs.Files.{bytes_of};
+ghost use Rattle.lex_file.specs.Files.{bytes_of, number_of};
+ghost use Rattle.lex_file.specs.Languages.{file_tail};
 ghost use Rattle.lex_file.specs.Walking.{strings, next_strings, IsOpen};
-ghost use Rattle.lex_agree.specs.Walks.{node_tail, IsNodeOf, IsStepAt};
+ghost use Rattle.lex_agree.specs.Walks.{node_tail, IsNodeOf, IsStepAt, Leads};
 
-use lex_file::{LexFile, Node, PathLex, Step, advance};
+use lex_file::{Branch, LexFile, Node, PathLex, Step, advance};
 
 /// The mark between the two parts of a rotated word.
 pub const MARK: u8 = 0;
@@ -63,3 +64,13 @@ pub fn is_same(file: &LexFile<'_>, one: Option<Node>, other: Option<Node>) -> bo
         _ => false,
     }
 }
+
+/// The label of a branch of a node is the mark or a letter. The function does nothing: its contract is the law.
+#[inline(always)]
+pub fn law_of_labels(file: &LexFile<'_>, node: Node, branch: Branch<Node>)
+    requires node { IsNodeOf (bytes_of file.now) node }
+    requires accepts { branch.step.accepts ≡ file_tail (bytes_of file.now) (number_of node) (branch.label ∷ []) }
+    requires next { Leads (bytes_of file.now) node branch.label branch.step.next }
+    requires alive { branch.step.accepts ≡ false → IsSome branch.step.next }
+    ensures { branch.label < 27 }
+{}

@@ -8,7 +8,7 @@ ghost use Rattle.lex_agree.specs.Chains.{TurnsOverFrom};
 ghost use Rattle.lex_agree.specs.Walks.{IsNodeOf, IsNodeAt, AreKept};
 
 use crate::kept::{Kept, MOST_LABELS, none_kept, walk_on};
-use crate::steps::{MARK, follow, is_same, start};
+use crate::steps::{MARK, follow, is_same, law_of_labels, start};
 use lex_file::{LABELS, LexFile, Node, PathLex};
 
 /// The number of labels.
@@ -55,6 +55,7 @@ fn turn_over(
     let mut rest = file.rest(node);
     while let Some(on) = file.branch_on(node, from, rest) {
         let branch = on.branch;
+        law_of_labels(file, node, branch);
         match branch.step.next {
             None => {}
             Some(behind) if branch.label == MARK => {
@@ -90,6 +91,7 @@ fn turn_over_at(
     let mut rest = file.rest(behind);
     while let Some(on) = file.branch_on(behind, from, rest) {
         let branch = on.branch;
+        law_of_labels(file, behind, branch);
         let turned = walk_on(file, branch.label, front, &mut kept[branch.label as usize]);
         let marked = follow(file, turned, MARK);
         if !is_kept(branch.step.accepts, turned.accepts) {

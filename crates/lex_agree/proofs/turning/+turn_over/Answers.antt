@@ -1,24 +1,8 @@
 use Rattle.std.proofs.Common.{◌≡◌, ◌+◌, ◌∙◌, length, set, take, arith}
 use Rattle.lex_agree.specs.Walks.{AreKept}
-use Rattle.lex_agree.proofs.Bounds.{label_low}
 use Rattle.lex_agree.proofs.Walking.{TurnsBehind, behind_none_there, behind_same, front_kept, front_longer, behind_mark_there, behind_letter_there, so_far_more, so_far_all}
 use Rattle.lex_agree.proofs.turning.+turn_over.Goals as goal
 use Rattle.lex_agree.proofs.turning.+turn_over.Goals.{in-None, in-Some-next+else-not-turn_over_at, in-Some-2+in_ok-left-in-Some-2}
-
-pub overflow_add-from : goal.overflow_add-from
-overflow_add-from t c =
-    let branch = c.in-Some.on.branch in
-    let low = label_low c.args.file.now.bytes.now c.args.file.now.shape c.args.node branch.label branch.step.accepts branch.step.next c.requires.node.node_there
-    c.in-Some.ensures.accepts c.in-Some.ensures.next c.in-Some.ensures.alive in
-    omega arith
-
-pub loop-on-smaller : goal.loop-on-smaller
-loop-on-smaller t c =
-    let branch = c.in-Some.on.branch in
-    let low = label_low c.args.file.now.bytes.now c.args.file.now.shape c.args.node branch.label branch.step.accepts branch.step.next c.requires.node.node_there
-    c.in-Some.ensures.accepts c.in-Some.ensures.next c.in-Some.ensures.alive in
-    let reached = c.in-Some.ensures.reached in
-    omega arith
 
 pub loop-on-preserved : goal.loop-on-preserved
 loop-on-preserved t c =
@@ -28,8 +12,6 @@ loop-on-preserved t c =
     let same = c.loop-on.invariant.front in
     let room = c.loop-on.invariant.room in
     let branch = c.in-Some.on.branch in
-    let low = label_low bytes c.args.file.now.shape c.args.node branch.label branch.step.accepts branch.step.next c.requires.node.node_there
-    c.in-Some.ensures.accepts c.in-Some.ensures.next c.in-Some.ensures.alive in
     let there : TurnsBehind bytes front branch.label branch.step.next = elim c.match-branch.branch [
       | in-None w ↦ behind_none_there bytes front c.args.node branch.label branch.step.next c.requires.node w.in-None.is c.in-Some.ensures.next
       | in-Some-next+else-not-turn_over_at w ↦
