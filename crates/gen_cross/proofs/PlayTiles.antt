@@ -7,6 +7,7 @@ use Rattle.std.proofs.lemmas.List.Elements.{Contains-get_or}
 use Rattle.ref_tiles.specs.declared.tiles.Tile.{Tile}
 use Rattle.ref_tiles.specs.declared.rulebook.Rules.{Rules}
 use Rattle.ref_board.specs.declared.directions.Dir.{Dir}
+use Rattle.ref_board.specs.declared.directions.Dir.TheVariants.{Across, Down}
 use Rattle.ref_board.specs.Lines.{line_of, place_of, other_dir}
 use Rattle.ref_play.specs.declared.placed.Placed.{Placed}
 use Rattle.ref_play.specs.Placements.{is_play, covers}
@@ -100,6 +101,14 @@ module _ (rules : Rules) (words : List (List ℕ)) (d : Dir) (before after : Lis
       is
 
 -- ---- the line of the play
+
+other_twice : (d : Dir) → d ≡ other_dir (other_dir d)
+other_twice Across = refl
+other_twice Down = refl
+
+-- a direction is across the one that is across it
+pub other_back : (d e : Dir) → e ≡ other_dir d → d ≡ other_dir e
+other_back d e is = other_twice d ∙ ap other_dir (sym is)
 
 last_at : (first : Placed) (ps : List Placed) (d : Placed) → (get_or (first ∷ ps) (length ps) d).square ≡ last_square first ps
 last_at first [] d = refl

@@ -7,7 +7,7 @@ ghost use Rattle.gen_cross.specs.Values.{value_at, AreValues, IsRight};
 ghost use Rattle.gen_cross.specs.Changes.{IsPut, IsLifted, DifferOn};
 
 use crate::masks::LETTERS;
-use crate::renewals::{renew_beside, renew_line, renew_tiles};
+use crate::renewals::{renew_beside, renew_play};
 use crate::values::{nothing, value_of};
 use lex_file::PathLex;
 use ref_board::{Board, Dir, SIDE, Square};
@@ -71,28 +71,8 @@ impl Cross {
             → IsRight rules.now words before self.old → IsRight rules.now words board.now self.new }
     {
         match play.dir {
-            Dir::Across => {
-                renew_tiles(
-                    rules,
-                    board,
-                    lex,
-                    Dir::Across,
-                    &play.tiles,
-                    &mut self.across,
-                );
-                renew_line(rules, board, lex, Dir::Down, &play.tiles, &mut self.down);
-            }
-            Dir::Down => {
-                renew_tiles(rules, board, lex, Dir::Down, &play.tiles, &mut self.down);
-                renew_line(
-                    rules,
-                    board,
-                    lex,
-                    Dir::Across,
-                    &play.tiles,
-                    &mut self.across,
-                );
-            }
+            Dir::Across => renew_play(rules, board, lex, play, &mut self.across, &mut self.down),
+            Dir::Down => renew_play(rules, board, lex, play, &mut self.down, &mut self.across),
         }
     }
 

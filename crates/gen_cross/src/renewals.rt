@@ -12,12 +12,12 @@ use crate::stretches::Stretch;
 use crate::values::value_of;
 use lex_file::PathLex;
 use ref_board::{Board, Dir, SIDE, Square};
-use ref_play::Placed;
+use ref_play::{Placed, Play};
 use ref_tiles::{Rules, SQUARES};
 
 /// Renews, for plays of a direction, the values that the tiles of a play of this direction decide, each on its own line
 /// across the play.
-pub fn renew_tiles<L: PathLex>(
+fn renew_tiles<L: PathLex>(
     rules: &Rules,
     board: &Board,
     lex: &L,
@@ -36,24 +36,27 @@ pub fn renew_tiles<L: PathLex>(
     }
 }
 
-/// Renews, for plays of a direction, the values that the tiles of a play of the other direction decide, all on the line of
-/// that play.
-pub fn renew_line<L: PathLex>(
+/// Renews the values that the tiles of a play decide: for plays along it those on each tile's own line across it, and for plays
+/// across it those on its line.
+pub fn renew_play<L: PathLex>(
     rules: &Rules,
     board: &Board,
     lex: &L,
-    dir: Dir,
-    tiles: &[Placed],
-    values: &mut [Value; SQUARES],
+    play: &Play,
+    along: &mut [Value; SQUARES],
+    across: &mut [Value; SQUARES],
 )
-    requires { is_play (other_dir dir) tiles.now ≡ true }
-    ensures { (words : List (List ℕ)) (before : List (Option Tile)) → StandsFor (L.language lex.now) words
-        → DifferOn tiles.now before board.now
-        → AreValues rules.now words dir before values.old → AreValues rules.now words dir board.now values.new }
+    ensures along { (words : List (List ℕ)) (before : List (Option Tile)) → StandsFor (L.language lex.now) words
+        → DifferOn play.now.tiles.items before board.now
+        → AreValues rules.now words play.now.dir before along.old → AreValues rules.now words play.now.dir board.now along.new }
+    ensures across { (words : List (List ℕ)) (before : List (Option Tile)) → StandsFor (L.language lex.now) words
+        → DifferOn play.now.tiles.items before board.now
+        → AreValues rules.now words (other_dir play.now.dir) before across.old
+        → AreValues rules.now words (other_dir play.now.dir) board.now across.new }
 {
-    let _squares = board.len();
-    let stretch = stretch_of(dir.other(), tiles);
-    renew_stretch(rules, board, lex, dir, &stretch, values);
+    renew_tiles(rules, board, lex, play.dir, &play.tiles, along);
+    let stretch = stretch_of(play.dir, &play.tiles);
+    renew_stretch(rules, board, lex, play.dir.other(), &stretch, across);
 }
 
 /// The stretch of a line from the first tile of a play of its direction to the last.

@@ -6,14 +6,15 @@ use Rattle.gen_cross.proofs.crosses.Cross.after_play.Goals as goal
 pub returns-in-Across : goal.returns-in-Across
 returns-in-Across g c =
     λ words before stands differ right.
-    let cross : Cross = record { across = c.renew_tiles.new.values; down = c.renew_line.new.values } in
-    right_both_ways c.args.rules.now words c.args.board.now cross
-    (c.renew_tiles.ensures words before stands (rw c.deref.ensures.0 differ) (right Across)) (c.renew_line.ensures words before stands (rw c.deref-in-Across.ensures.0 differ) (right Down))
+    let cross : Cross = record { across = c.renew_play.new.along; down = c.renew_play.new.across } in
+    let along = rw c.in-Across.is at (c.renew_play.ensures.along words before stands differ) in
+    let across = rw c.in-Across.is at (c.renew_play.ensures.across words before stands differ) in
+    right_both_ways c.args.rules.now words c.args.board.now cross (along (right Across)) (across (right Down))
 
 pub returns-in-Down : goal.returns-in-Down
 returns-in-Down g c =
     λ words before stands differ right.
-    let cross : Cross = record { across = c.renew_line-in-Down.new.values; down = c.renew_tiles-in-Down.new.values } in
-    right_both_ways c.args.rules.now words c.args.board.now cross
-    (c.renew_line-in-Down.ensures words before stands (rw c.deref-in-Down-2.ensures.0 differ) (right Across))
-    (c.renew_tiles-in-Down.ensures words before stands (rw c.deref-in-Down.ensures.0 differ) (right Down))
+    let cross : Cross = record { across = c.renew_play-in-Down.new.across; down = c.renew_play-in-Down.new.along } in
+    let along = rw c.in-Down.is at (c.renew_play-in-Down.ensures.along words before stands differ) in
+    let across = rw c.in-Down.is at (c.renew_play-in-Down.ensures.across words before stands differ) in
+    right_both_ways c.args.rules.now words c.args.board.now cross (across (right Across)) (along (right Down))
