@@ -1,7 +1,7 @@
 //! The lines of the best plays on the board after a record.
 ghost use Rattle.std.specs.Prelude.{◌≡◌, ◌≤◌, ◌++◌, IfOk, OnOk, map, take};
 ghost use Rattle.ref_play.specs.Legality.{IsLegal};
-ghost use Rattle.gen_sinks.specs.Sinks.{seen, seen_pair};
+ghost use Rattle.gen_sinks.specs.Sinks.{seen_pair};
 ghost use Rattle.game_turns.specs.Passing.{rules_in, record_in};
 ghost use Rattle.game_notes.specs.Following.{board_of, Follows};
 ghost use Rattle.game_report.specs.TopPlays.{play_line, top_text, AreLegal, board_after, TellsFirst, TellsTop};
@@ -33,16 +33,11 @@ fn follow_all(passed: &Passed<'_>, pair: &Checked<'_>) -> Follow
 }
 
 /// Appends the line of a play.
-fn push_play_line(
-    text: &mut Vec<u8>,
-    board: &Board,
-    play: &Play,
-    score: i32,
-) -> Result<(), AllocError>
-    requires { IsLegal board.now play.now.tiles.items }
-    ensures { OnOk result (text.new.items ≡ text.old.items ++ play_line board.now (seen play.now score)) }
+fn push_play_line(text: &mut Vec<u8>, board: &Board, scored: &(Play, i32)) -> Result<(), AllocError>
+    requires { IsLegal board.now scored.now.0.tiles.items }
+    ensures { OnOk result (text.new.items ≡ text.old.items ++ play_line board.now (seen_pair scored.now)) }
 {
-    push_scored(text, board, play, score)?;
+    push_scored(text, board, &scored.0, scored.1)?;
     text.push(b'\n')?;
     Ok(())
 }
@@ -59,7 +54,7 @@ fn top_lines(alloc: Global, board: &Board, plays: &[(Play, i32)]) -> Result<Vec<
     }
     let mut text = Vec::new(alloc);
     for scored in plays {
-        push_play_line(&mut text, board, &scored.0, scored.1)?;
+        push_play_line(&mut text, board, scored)?;
     }
     Ok(text)
 }
