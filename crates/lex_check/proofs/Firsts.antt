@@ -283,11 +283,15 @@ same_of_all file list empty of_file of_list below (label ∷ rest) = by (file (l
 
 -- ---- tests
 
-pub same_test : (x y : Bool) → not (beq x y) ≡ false → x ≡ y
+same_test : (x y : Bool) → not (beq x y) ≡ false → x ≡ y
 same_test true true e = refl
 same_test false false e = refl
 same_test true false e = absurd (false≢true (sym e))
 same_test false true e = absurd (false≢true (sym e))
+
+-- two looks that tell the same of what they stand for
+pub same_ends : (here listed in_file in_list : Bool) → here ≡ in_file → listed ≡ in_list → not (beq here listed) ≡ false → in_file ≡ in_list
+same_ends here listed in_file in_list a b same = sym a ∙ same_test here listed same ∙ b
 
 -- what a meeting tells that goes on
 pub are_behind : {M N : Type 0} (is_m : M → Type 0) (tail_m : M → List ℕ → Bool) (height_m : M → ℕ) (m : M)

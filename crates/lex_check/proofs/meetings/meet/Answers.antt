@@ -1,5 +1,5 @@
 use Rattle.std.proofs.Common.{ℕ, ◌∷◌, List, sym, ap, ◌∙◌}
-use Rattle.lex_check.proofs.Firsts.{same_test, ended_first, same_under, extra_one, extra_two, missing_more, looked_none, looked_longer}
+use Rattle.lex_check.proofs.Firsts.{same_ends, ended_first, same_under, extra_one, extra_two, missing_more, looked_none, looked_longer}
 use Rattle.lex_check.proofs.meetings.meet.Goals as goal
 
 pub returns-then-here-listed-clause-gives : goal.returns-then-here-listed-clause-gives
@@ -9,36 +9,29 @@ returns-then-here-listed-clause-gives g c =
 
 pub returns-in-None-None-clause-gives : goal.returns-in-None-None-clause-gives
 returns-in-None-None-clause-gives g c =
-    let file = g.A.PathLex.tail c.args.file.now c.args.of_file in
-    let list = g.B.PathLex.tail c.args.list.now c.args.of_list in
     let none = rw c.in-None-None.is-0 at c.requires.here.next in
     let listed_none = rw c.in-None-None.is-1 at c.requires.listed.next in
-    let same = same_test c.args.fork.here.accepts c.args.fork.listed.accepts c.if-here-listed.false in
-    same_under file list c.args.fork.label (sym c.requires.here.accepts ∙ same ∙ c.requires.listed.accepts)
-    (λ after rest. none after rest ∙ sym (listed_none after rest))
+    same_under (g.A.PathLex.tail c.args.file.now c.args.of_file) (g.B.PathLex.tail c.args.list.now c.args.of_list) c.args.fork.label
+    (same_ends _ _ _ _ c.requires.here.accepts c.requires.listed.accepts c.if-here-listed.false) (λ after rest. none after rest ∙ sym (listed_none after rest))
 
 pub returns-in-None-Some-clause-gives : goal.returns-in-None-Some-clause-gives
 returns-in-None-Some-clause-gives g c =
-    let file = g.A.PathLex.tail c.args.file.now c.args.of_file in
-    let list = g.B.PathLex.tail c.args.list.now c.args.of_list in
     let none = rw c.in-None-Some.is-0 at c.requires.here.next in
     let behind = rw c.in-None-Some.is-1 at c.requires.listed.next in
-    let same = same_test c.args.fork.here.accepts c.args.fork.listed.accepts c.if-here-listed.false in
-    missing_more file list (g.B.PathLex.tail c.args.list.now c.in-None-Some.listed_next) c.args.fork.label c.least_tail.result c.with_front.result
-    c.with_front.ensures (sym c.requires.here.accepts ∙ same ∙ c.requires.listed.accepts) none behind.tails
+    missing_more (g.A.PathLex.tail c.args.file.now c.args.of_file) (g.B.PathLex.tail c.args.list.now c.args.of_list)
+    (g.B.PathLex.tail c.args.list.now c.in-None-Some.listed_next) c.args.fork.label c.least_tail.result c.with_front.result c.with_front.ensures
+    (same_ends _ _ _ _ c.requires.here.accepts c.requires.listed.accepts c.if-here-listed.false) none behind.tails
     (g.met.B.PathLex.nonempty c.args.list.now c.in-None-Some.listed_next behind.node) c.least_tail.ensures
 
 pub returns-in-Some-None-clause-gives : goal.returns-in-Some-None-clause-gives
 returns-in-Some-None-clause-gives g c =
-    let file = g.A.PathLex.tail c.args.file.now c.args.of_file in
-    let list = g.B.PathLex.tail c.args.list.now c.args.of_list in
     let behind = rw c.in-Some-None.is-0 at c.requires.here.next in
     let none = rw c.in-Some-None.is-1 at c.requires.listed.next in
-    let same = same_test c.args.fork.here.accepts c.args.fork.listed.accepts c.if-here-listed.false in
-    extra_two file list (g.A.PathLex.tail c.args.file.now c.in-Some-None.next) c.args.fork.label c.first_label.result c.with_front-in-Some-None.result
+    extra_two (g.A.PathLex.tail c.args.file.now c.args.of_file) (g.B.PathLex.tail c.args.list.now c.args.of_list)
+    (g.A.PathLex.tail c.args.file.now c.in-Some-None.next) c.args.fork.label c.first_label.result c.with_front-in-Some-None.result
     (c.with_front-in-Some-None.ensures ∙ ap (λ (items : List ℕ). c.args.fork.label ∷ items) c.only.ensures)
-    (sym c.requires.here.accepts ∙ same ∙ c.requires.listed.accepts) (sym c.requires.listed.accepts ∙ c.if-listed.true) behind.tails none
-    c.first_label.ensures.found c.first_label.ensures.least
+    (same_ends _ _ _ _ c.requires.here.accepts c.requires.listed.accepts c.if-here-listed.false) (sym c.requires.listed.accepts ∙ c.if-listed.true)
+    behind.tails none c.first_label.ensures.found c.first_label.ensures.least
 
 pub returns-in-Some-None-2-clause-gives : goal.returns-in-Some-None-2-clause-gives
 returns-in-Some-None-2-clause-gives g c =
