@@ -206,10 +206,6 @@ in_part paths stretch label low high is with rest at =
 pub of_part : (paths : List (List ℕ)) (stretch : Stretch) (label low high : ℕ) → IsStretch paths stretch → IsPartWith paths stretch label low high
     → (rest : List ℕ) → IsLeft paths (stretch.depth + 1) rest low high → IsLeft paths stretch.depth (label ∷ rest) stretch.low stretch.high
 of_part paths stretch label low high is with rest at =
-    let below = with.from in
-    let above = with.to in
-    let from = at.from in
-    let to = at.to in
     record {
       place = at.place;
       from = omega arith;
