@@ -206,20 +206,17 @@ module _ (words : List ℕ) (arcs inner : List Arc) (last : Arc) (sound : IsBody
   is_last_one : Contains arcs last
   is_last_one = subst (λ (xs : List Arc). Contains xs last) (sym split.0) (Contains-push inner last)
 
-  pub labels_front : HaveLabels inner
-  labels_front = record { each = λ arc there. (next.each arc (is_front arc there)).label }
+  pub front_fits : HaveLabels inner × HaveTargets inner
+  front_fits = (
+    record { each = λ arc there. (next.each arc (is_front arc there)).label },
+    record { each = λ arc there. each_small arc (is_front arc there) },
+  )
 
-  pub targets_front : HaveTargets inner
-  targets_front = record { each = λ arc there. each_small arc (is_front arc there) }
-
-  pub last_label : last.label ≤ 26
-  last_label = (next.each last is_last_one).label
-
-  pub last_target : last.target ≤ most_arcs
-  last_target = each_small last is_last_one
+  pub last_fits : (last.label ≤ 26) × (last.target ≤ most_arcs)
+  last_fits = ((next.each last is_last_one).label, each_small last is_last_one)
 
   pub last_unmarked : (word : ℕ) → word ≡ word_of last → is_last word ≡ false
-  last_unmarked word is = let low = last_label in ap is_last is ∙ word_unmarked last (omega (arith, low))
+  last_unmarked word is = let low = last_fits.0 in ap is_last is ∙ word_unmarked last (omega (arith, low))
 
 pub has_stored_run : (old mid new : List ℕ) (arcs inner : List Arc) (last : Arc) (word marked : ℕ) → IsBody (body_of old) → AreNextArcs form.Gad1 (body_of old) arcs
     → length (body_of old) + length arcs ≤ most_arcs → IsLastAndRest arcs last inner → HasAppended old mid (words_of inner) → word ≡ word_of last → marked ≡ word + 64

@@ -1,22 +1,18 @@
 use Rattle.lex_file.specs.FileWords.{body_of}
-use Rattle.lex_build.proofs.ArcStoring.{labels_front, targets_front, last_label, last_target, last_unmarked, has_stored_run}
+use Rattle.lex_build.proofs.ArcStoring.{front_fits, last_fits, last_unmarked, has_stored_run}
 use Rattle.lex_build.proofs.run_writing.store_run.Goals as goal
 
-pub push_open_words-requires-clause-labels : goal.push_open_words-requires-clause-labels
-push_open_words-requires-clause-labels c =
-    labels_front (body_of c.args.bytes.now.items) c.args.arcs.now c.in-Some.inner.now c.in-Some.last.now c.requires.sound c.requires.arcs c.in-Some.ensures.cases
+pub push_open_words-requires : goal.push_open_words-requires
+push_open_words-requires c =
+    let front =
+    front_fits (body_of c.args.bytes.now.items) c.args.arcs.now c.in-Some.inner.now c.in-Some.last.now c.requires.sound c.requires.arcs c.in-Some.ensures.cases in
+    record { whole = c.requires.whole; labels = front.0; targets = front.1 }
 
-pub push_open_words-requires-clause-targets : goal.push_open_words-requires-clause-targets
-push_open_words-requires-clause-targets c =
-    targets_front (body_of c.args.bytes.now.items) c.args.arcs.now c.in-Some.inner.now c.in-Some.last.now c.requires.sound c.requires.arcs c.in-Some.ensures.cases
-
-pub open_word-requires-clause-label : goal.open_word-requires-clause-label
-open_word-requires-clause-label c =
-    last_label (body_of c.args.bytes.now.items) c.args.arcs.now c.in-Some.inner.now c.in-Some.last.now c.requires.sound c.requires.arcs c.in-Some.ensures.cases
-
-pub open_word-requires-clause-target : goal.open_word-requires-clause-target
-open_word-requires-clause-target c =
-    last_target (body_of c.args.bytes.now.items) c.args.arcs.now c.in-Some.inner.now c.in-Some.last.now c.requires.sound c.requires.arcs c.in-Some.ensures.cases
+pub open_word-requires : goal.open_word-requires
+open_word-requires c =
+    let one =
+    last_fits (body_of c.args.bytes.now.items) c.args.arcs.now c.in-Some.inner.now c.in-Some.last.now c.requires.sound c.requires.arcs c.in-Some.ensures.cases in
+    record { label = one.0; target = one.1 }
 
 pub last_arc_word-requires : goal.last_arc_word-requires
 last_arc_word-requires c =
