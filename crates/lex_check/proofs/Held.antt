@@ -168,8 +168,12 @@ number_of_row bytes is = ap (from_be_bytes w128) is.row
 number_spelt : (path : List ℕ) → from_be_bytes w128 (held 16 path) ≡ spelt (held 16 path)
 number_spelt path = spelt_is (held 16 path) (held_length 16 path)
 
+-- the number by which a path is put in order
+abbrev pub number_of : List ℕ → ℕ
+number_of path = from_be_bytes w128 (held 16 path)
+
 pub number_order : (x y : List ℕ) → length x ≤ 16 → length y ≤ 16 → IsTrue (list_all is_label x) → IsTrue (list_all is_label y)
-    → nat_cmp (from_be_bytes w128 (held 16 x)) (from_be_bytes w128 (held 16 y)) ≡ slice_cmp nat_cmp x y
+    → nat_cmp (number_of x) (number_of y) ≡ slice_cmp nat_cmp x y
 number_order x y few few' all all' =
     ap (λ (n : ℕ). nat_cmp n (from_be_bytes w128 (held 16 y))) (number_spelt x)
     ∙ ap (nat_cmp (spelt (held 16 x))) (number_spelt y)

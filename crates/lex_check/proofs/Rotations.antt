@@ -4,12 +4,12 @@ use Rattle.std.specs.Prelude.{reverse, nat_eq}
 use Rattle.std.specs.Char.{is_ascii_uppercase}
 use Rattle.std.specs.Cmp.Lexicographic.{pointwise, slice_cmp, texts_ties}
 use Rattle.std.specs.List.{list_all, Contains, dedup}
-use Rattle.std.specs.List.Sorted.{IsPermutation, IsSorted, IsStrictlySortedBy}
-use Rattle.std.specs.Ordering.{nat_cmp}
+use Rattle.std.specs.List.Sorted.{IsPermutation, IsSorted, IsSortedByKey, IsStrictlySortedBy}
+use Rattle.std.specs.Ordering.{nat_cmp, is_lt}
 use Rattle.std.proofs.Math.Seq.{take-append_seam, drop-append_seam}
 use Rattle.std.proofs.lemmas.Bool.{and_parts, leb-true, lt-ltb, cases_lt}
 use Rattle.std.proofs.lemmas.Cmp.{nat_list_cmp_total, nat_list_eq_equiv}
-use Rattle.std.proofs.lemmas.List.{length-map, length-reverse, reverse-append, take-append-drop}
+use Rattle.std.proofs.lemmas.List.{get_or_default, length-map, length-reverse, reverse-append, take-append-drop}
 use Rattle.std.proofs.lemmas.List.Elements.{Contains-append_left, Contains-append_right, Contains-append_cases}
 use Rattle.std.proofs.lemmas.List.Folds.{list_all-append}
 use Rattle.std.proofs.lemmas.List.Kept.{IsStrictlySortedBy-dedup, Contains-dedup, Contains-from_dedup}
@@ -24,6 +24,7 @@ use Rattle.lex_check.specs.Stretches.{IsPathOfLabels, IsPathList, is_one_of}
 use Rattle.lex_check.specs.StretchLaws.{left_from, left_to}
 use Rattle.lex_check.proofs.Stretches.{same_tests}
 use Rattle.lex_check.specs.Rotations.{paths_of, gathered}
+use Rattle.lex_check.proofs.Held.{number_of, number_order}
 
 pub paths_none : (word : List ℕ) → paths_of word 0 ≡ []
 unfolding paths_of
@@ -230,6 +231,24 @@ pub record IsInOrder (gathered sorted kept : List (List ℕ)) : Type 0 where
   pub moved : IsPermutation gathered sorted
   pub ordered : IsSorted (slice_cmp nat_cmp) sorted
   pub once : kept ≡ dedup (pointwise nat_eq) sorted
+
+-- paths that are put in order by their numbers are in order
+pub in_order : (words paths sorted kept : List (List ℕ)) → list_all is_word words ≡ true → paths ≡ gathered words (length words) → IsPermutation paths sorted
+    → IsSortedByKey number_of nat_cmp sorted → kept ≡ dedup (pointwise nat_eq) sorted → IsInOrder paths sorted kept
+in_order words paths sorted kept all e moved rising once = record {
+  moved = moved;
+  ordered = λ k d low high.
+      let x = fine (k + 1) d (omega arith) in
+      let y = fine k d (omega arith) in
+      ap is_lt (sym (number_order (get_or sorted (k + 1) d) (get_or sorted k d) x.few y.few x.labels y.labels)) ∙ rising k d low high;
+  once = once;
+}
+  where
+    fine : (place : ℕ) (d : List ℕ) → place < length sorted → IsPathOfLabels (get_or sorted place d)
+    fine place d lt =
+        let path = get_or sorted place d in
+        let there : Contains paths path = Contains-permutation sorted paths path (IsPermutation-sym paths sorted moved) (place, lt, get_or_default sorted place path d lt) in
+        gathered_path words path all (gathered_to words (length words) path (subst (λ (xs : List (List ℕ)). Contains xs path) e there))
 
 kept_from : (paths sorted kept : List (List ℕ)) (string : List ℕ) → IsInOrder paths sorted kept → Contains paths string → Contains kept string
 kept_from paths sorted kept string o at =

@@ -1,23 +1,20 @@
 //! Rotated paths, label by label.
-ghost use Rattle.std.specs.Prelude.{◌≡◌, ◌≤◌, ◌<◌, ◌==◌, Some, refl, IsTrue, length, nat_eq, slice_index};
-ghost use Rattle.std.specs.Cmp.Lexicographic.{pointwise, slice_cmp};
+ghost use Rattle.std.specs.Prelude.{◌≡◌, ◌≤◌, ◌<◌, ◌==◌, IsTrue, length, nat_eq, slice_index};
+ghost use Rattle.std.specs.Cmp.Lexicographic.{pointwise};
 ghost use Rattle.std.specs.Int.{w128, from_be_bytes};
 ghost use Rattle.std.specs.List.{list_all};
-ghost use Rattle.std.specs.Ordering.{nat_cmp};
 ghost use Rattle.lex_file.specs.Lexicons.{is_label};
 ghost use Rattle.lex_check.specs.Held.{held};
 
-use std::cmp::Ordering;
 use std::marker::Model;
 
 /// The most labels of a rotated path: the letters of a word, and the mark.
 pub const MAX_LABELS: usize = 16;
 
-/// A rotated path: at most 16 labels, ordered label by label, and a path before all that it begins. Contracts see the
-/// list of them.
+/// A rotated path: at most 16 labels. Contracts see the list of them.
 ///
-/// Each label is held as the number above it, and zeros follow the last one. So the order of paths is that of the
-/// numbers that their 16 bytes spell, the first byte the highest.
+/// Each label is held as the number above it, and zeros follow the last one. So the order of paths, label by label and a path
+/// before all that it begins, is that of the numbers that their 16 bytes spell, the first byte the highest.
 #[derive(Debug, Drop)]
 pub struct Rotated {
     bytes: [u8; MAX_LABELS],
@@ -67,9 +64,9 @@ impl Rotated {
         depth == MAX_LABELS || self.bytes[depth] == 0
     }
 
-    /// The number that the bytes of the path spell.
+    /// The number that the bytes of the path spell: paths are in order where their numbers are.
     #[tactic(auto, using(crate::proofs::Held::number_of_row))]
-    fn number(&self) -> u128
+    pub fn number(&self) -> u128
         ensures number { result ≡ from_be_bytes w128 (held 16 self.now) }
         ensures few { length self.now ≤ 16 }
         ensures labels { IsTrue (list_all is_label self.now) }
@@ -89,42 +86,5 @@ impl PartialEq for Rotated {
     #[tactic(auto, using(crate::proofs::Held::same_numbers))]
     fn eq(&self, other: &Rotated) -> bool {
         self.number() == other.number()
-    }
-}
-
-impl Eq for Rotated {
-    ghost use Rattle.std.proofs.lemmas.Cmp.{nat_list_eq_equiv};
-
-    ghost laws = { nat_list_eq_equiv };
-}
-
-impl PartialOrd for Rotated {
-    ghost use Rattle.std.specs.Cmp.Lexicographic.{texts_po};
-
-    ghost partial_cmp = { λ x y. Some (slice_cmp nat_cmp x y) };
-
-    ghost laws = { texts_po };
-
-    fn partial_cmp(&self, other: &Rotated) -> Option<Ordering> {
-        Some(self.cmp(other))
-    }
-}
-
-impl Ord for Rotated {
-    ghost use Rattle.std.proofs.lemmas.Cmp.{nat_list_cmp_total};
-    ghost use Rattle.std.specs.Cmp.{unsigned_ties};
-    ghost use Rattle.std.specs.Cmp.Lexicographic.{lists_ties};
-
-    ghost cmp = { slice_cmp nat_cmp };
-
-    ghost total = { nat_list_cmp_total };
-
-    ghost matches_partial_cmp = { λ x y. refl };
-
-    ghost matches_eq = { lists_ties nat_cmp unsigned_ties };
-
-    #[tactic(auto, using(crate::proofs::Held::number_order))]
-    fn cmp(&self, other: &Rotated) -> Ordering {
-        self.number().cmp(&other.number())
     }
 }

@@ -284,7 +284,7 @@ impl SortedPaths {
         // From here on it is known that the words are a word list.
         let _words = list.len();
         let mut paths = gather(alloc, list)?;
-        paths.sort_unstable();
+        paths.sort_unstable_by_key(|path| path.number());
         paths.dedup();
         Ok(SortedPaths { paths })
     }
