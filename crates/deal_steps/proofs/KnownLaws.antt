@@ -9,9 +9,10 @@ use Rattle.std.proofs.lemmas.Bool.Decides.{nat_tests}
 use Rattle.ref_tiles.specs.Counting.{no_tiles}
 use Rattle.ref_tiles.specs.Limits.{most_tiles}
 use Rattle.ref_tiles.specs.declared.rulebook.Rules.{Rules}
-use Rattle.gcg_read.specs.Players.{same_seat}
+use Rattle.gcg_read.specs.Players.{other_seat, same_seat}
 use Rattle.gcg_read.specs.declared.events.Seat.{Seat}
 use Rattle.gcg_read.specs.declared.events.Seat.TheVariants.{First, Second}
+use Rattle.deal_steps.specs.declared.steps.Motion.{Motion}
 use Rattle.deal_steps.specs.declared.steps.Motion.TheVariants as motion
 use Rattle.deal_steps.specs.declared.steps.Act.{Act}
 use Rattle.deal_steps.specs.declared.steps.Act.TheVariants as act
@@ -20,9 +21,9 @@ use Rattle.deal_steps.specs.declared.faults.DealFault.{DealFault}
 use Rattle.deal_steps.specs.declared.faults.DealFault.TheVariants as fault
 use Rattle.deal_steps.specs.declared.known.Known.{Known}
 use Rattle.deal_steps.specs.Piles.{kinds, joined, without, greater}
-use Rattle.deal_steps.specs.Steps.{used_by, left_by, laid_by, thrown_by, of_act, throws_unknown, needed_of, size_of}
+use Rattle.deal_steps.specs.Steps.{used_by, left_by, laid_by, thrown_by, of_act, is_unknown, throws_unknown, needed_of, size_of}
 use Rattle.deal_steps.specs.Bounds.{gone, low, low_at, laid, laid_earlier, thrown, held, raised, is_too_big, short_kind, kind_at, bound_of, bound_for, bound_at, first_bound_after}
-use Rattle.deal_steps.specs.Knowing.{known_of, raised_by, IsKnown, IsShown, short_of, excess_of, excess, shown_by, moved_by, HasRoom}
+use Rattle.deal_steps.specs.Knowing.{known_of, with_known, raised_by, IsKnown, IsShown, short_of, excess_of, excess, shown_by, turned_by, moved_by, HasRoom}
 use Rattle.deal_steps.proofs.PileLaws.{joined_is, get-joined, get-without, get-greater, get-no_tiles, length-joined, length-without, length-greater, length-no_tiles, sum-joined, sum_is, part_of_kinds}
 
 -- ---- numbers
@@ -83,46 +84,81 @@ used_is_shown shown used k below = let most = get-greater shown used k below in 
 
 -- ---- what is known of a player, step by step
 
+-- a player's tiles after a change of one player's, or of the tiles that lie
+set_known : (known : Known) (seat : Seat) (tiles : List ℕ) → known_of (with_known known seat tiles) seat ≡ tiles
+set_known known First tiles = refl
+set_known known Second tiles = refl
+
+kept_known : (known : Known) (seat : Seat) (tiles : List ℕ) → known_of (with_known known (other_seat seat) tiles) seat ≡ known_of known seat
+kept_known known First tiles = refl
+kept_known known Second tiles = refl
+
+beside_laid : (known : Known) (seat : Seat) (tiles : List ℕ) → known_of (record known { laid = tiles }) seat ≡ known_of known seat
+beside_laid known First tiles = refl
+beside_laid known Second tiles = refl
+
+-- a player's own turn
+own_turn : (seat : Seat) (shown : List ℕ) (what : Motion) (low gone : List ℕ) (known : Known) → low ≡ joined (known_of known seat) gone
+    → (if is_unknown what then no_tiles else greater low (joined gone (greater shown (used_by what))))
+    ≡ joined (known_of (turned_by seat what (raised_by seat (greater shown (used_by what)) known)) seat) (if is_unknown what then no_tiles else joined gone (left_by what))
+own_turn seat shown motion.Keeps low gone known e =
+    let tiles = greater shown no_tiles in
+    rw (set_known known seat (greater (known_of known seat) tiles)) (tiles_stay low (known_of known seat) gone tiles e)
+own_turn seat shown (motion.Lays used drawn) low gone known e =
+    let tiles = greater shown used in
+    let raised = raised_by seat tiles known in
+    let rest = without (known_of raised seat) used in
+    rw (beside_laid (with_known raised seat rest) seat (joined known.laid used), set_known raised seat rest, set_known known seat (greater (known_of known seat) tiles))
+    (tiles_shown low (known_of known seat) gone tiles used e (used_is_shown shown used))
+own_turn seat shown (motion.Tries used) low gone known e =
+    let tiles = greater shown used in
+    rw (set_known known seat (greater (known_of known seat) tiles)) (tiles_stay low (known_of known seat) gone tiles e)
+own_turn seat shown (motion.Throws thrown) low gone known e =
+    let tiles = greater shown thrown in
+    let raised = raised_by seat tiles known in
+    rw (set_known raised seat (without (known_of raised seat) thrown), set_known known seat (greater (known_of known seat) tiles))
+    (tiles_shown low (known_of known seat) gone tiles thrown e (used_is_shown shown thrown))
+own_turn seat shown (motion.ThrowsUnknown n) low gone known e =
+    rw (set_known (raised_by seat (greater shown no_tiles) known) seat no_tiles) new_epoch
+
+-- a turn of the other player
+other_turn : (seat : Seat) (what : Motion) (known : Known) → known_of (turned_by (other_seat seat) what known) seat ≡ known_of known seat
+other_turn seat motion.Keeps known = refl
+other_turn seat (motion.Lays used drawn) known =
+    let rest = without (known_of known (other_seat seat)) used in
+    beside_laid (with_known known (other_seat seat) rest) seat (joined known.laid used) ∙ kept_known known seat rest
+other_turn seat (motion.Tries used) known = refl
+other_turn seat (motion.Throws tiles) known = kept_known known seat (without (known_of known (other_seat seat)) tiles)
+other_turn seat (motion.ThrowsUnknown n) known = kept_known known seat no_tiles
+
+not_own : (seat : Seat) (shown : List ℕ) (what : Motion) (low gone : List ℕ) (known : Known) → low ≡ joined (known_of known seat) gone
+    → low ≡ joined (known_of (turned_by (other_seat seat) what (raised_by (other_seat seat) shown known)) seat) (joined gone no_tiles)
+not_own seat shown what low gone known e =
+    let other = other_seat seat in
+    rw (other_turn seat what (raised_by other shown known), kept_known known seat (greater (known_of known other) shown)) (nothing_new low (known_of known seat) gone e)
+
+-- no turn, whoever makes it
+no_turn : (own : Bool) (low known gone : List ℕ) → low ≡ joined known (joined gone no_tiles)
+    → (if own && false then no_tiles else low) ≡ joined known (if own && false then no_tiles else joined gone (if own then no_tiles else no_tiles))
+no_turn true low known gone e = e
+no_turn false low known gone e = e
+
 pub side_known : (seat player : Seat) (what : Act) (low gone : List ℕ) (known : Known) → low ≡ joined (known_of known seat) gone
     → (if same_seat player seat && throws_unknown what then no_tiles else raised gone low (needed_of seat player what))
     ≡ joined (known_of (moved_by player what (shown_by player what known)) seat)
     (if same_seat player seat && throws_unknown what then no_tiles else joined gone (if same_seat player seat then of_act left_by what else no_tiles))
-side_known First First (act.Turns shown motion.Keeps) low gone known e = tiles_stay low known.first gone (greater shown no_tiles) e
-side_known First First (act.Turns shown (motion.Lays used drawn)) low gone known e = tiles_shown low known.first gone (greater shown used) used e (used_is_shown shown used)
-side_known First First (act.Turns shown (motion.Tries used)) low gone known e = tiles_stay low known.first gone (greater shown used) e
-side_known First First (act.Turns shown (motion.Throws tiles)) low gone known e = tiles_shown low known.first gone (greater shown tiles) tiles e (used_is_shown shown tiles)
-side_known First First (act.Turns shown (motion.ThrowsUnknown n)) low gone known e = new_epoch
-side_known First First (act.TakesBack used) low gone known e = nothing_new low known.first gone e
-side_known First First (act.Ends First tiles) low gone known e = tiles_stay low known.first gone tiles e
-side_known First First (act.Ends Second tiles) low gone known e = nothing_new low known.first gone e
-side_known First First act.Rests low gone known e = nothing_new low known.first gone e
-side_known First Second (act.Turns shown motion.Keeps) low gone known e = nothing_new low known.first gone e
-side_known First Second (act.Turns shown (motion.Lays used drawn)) low gone known e = nothing_new low known.first gone e
-side_known First Second (act.Turns shown (motion.Tries used)) low gone known e = nothing_new low known.first gone e
-side_known First Second (act.Turns shown (motion.Throws tiles)) low gone known e = nothing_new low known.first gone e
-side_known First Second (act.Turns shown (motion.ThrowsUnknown n)) low gone known e = nothing_new low known.first gone e
-side_known First Second (act.TakesBack used) low gone known e = nothing_new low known.first gone e
-side_known First Second (act.Ends First tiles) low gone known e = tiles_stay low known.first gone tiles e
-side_known First Second (act.Ends Second tiles) low gone known e = nothing_new low known.first gone e
-side_known First Second act.Rests low gone known e = nothing_new low known.first gone e
-side_known Second First (act.Turns shown motion.Keeps) low gone known e = nothing_new low known.second gone e
-side_known Second First (act.Turns shown (motion.Lays used drawn)) low gone known e = nothing_new low known.second gone e
-side_known Second First (act.Turns shown (motion.Tries used)) low gone known e = nothing_new low known.second gone e
-side_known Second First (act.Turns shown (motion.Throws tiles)) low gone known e = nothing_new low known.second gone e
-side_known Second First (act.Turns shown (motion.ThrowsUnknown n)) low gone known e = nothing_new low known.second gone e
-side_known Second First (act.TakesBack used) low gone known e = nothing_new low known.second gone e
-side_known Second First (act.Ends First tiles) low gone known e = nothing_new low known.second gone e
-side_known Second First (act.Ends Second tiles) low gone known e = tiles_stay low known.second gone tiles e
-side_known Second First act.Rests low gone known e = nothing_new low known.second gone e
-side_known Second Second (act.Turns shown motion.Keeps) low gone known e = tiles_stay low known.second gone (greater shown no_tiles) e
-side_known Second Second (act.Turns shown (motion.Lays used drawn)) low gone known e = tiles_shown low known.second gone (greater shown used) used e (used_is_shown shown used)
-side_known Second Second (act.Turns shown (motion.Tries used)) low gone known e = tiles_stay low known.second gone (greater shown used) e
-side_known Second Second (act.Turns shown (motion.Throws tiles)) low gone known e = tiles_shown low known.second gone (greater shown tiles) tiles e (used_is_shown shown tiles)
-side_known Second Second (act.Turns shown (motion.ThrowsUnknown n)) low gone known e = new_epoch
-side_known Second Second (act.TakesBack used) low gone known e = nothing_new low known.second gone e
-side_known Second Second (act.Ends First tiles) low gone known e = nothing_new low known.second gone e
-side_known Second Second (act.Ends Second tiles) low gone known e = tiles_stay low known.second gone tiles e
-side_known Second Second act.Rests low gone known e = nothing_new low known.second gone e
+side_known First First (act.Turns shown what) low gone known e = own_turn First shown what low gone known e
+side_known First Second (act.Turns shown what) low gone known e = not_own First (greater shown (used_by what)) what low gone known e
+side_known Second First (act.Turns shown what) low gone known e = not_own Second (greater shown (used_by what)) what low gone known e
+side_known Second Second (act.Turns shown what) low gone known e = own_turn Second shown what low gone known e
+side_known seat player (act.TakesBack used) low gone known e = no_turn (same_seat player seat) low (known_of known seat) gone (nothing_new low (known_of known seat) gone e)
+side_known First player (act.Ends First tiles) low gone known e =
+    no_turn (same_seat player First) (greater low (joined gone tiles)) (greater known.first tiles) gone (tiles_stay low known.first gone tiles e)
+side_known First player (act.Ends Second tiles) low gone known e = no_turn (same_seat player First) low known.first gone (nothing_new low known.first gone e)
+side_known Second player (act.Ends First tiles) low gone known e = no_turn (same_seat player Second) low known.second gone (nothing_new low known.second gone e)
+side_known Second player (act.Ends Second tiles) low gone known e =
+    no_turn (same_seat player Second) (greater low (joined gone tiles)) (greater known.second tiles) gone (tiles_stay low known.second gone tiles e)
+side_known seat player act.Rests low gone known e = no_turn (same_seat player seat) low (known_of known seat) gone (nothing_new low (known_of known seat) gone e)
 
 pub side_shown : (seat player : Seat) (what : Act) (low gone : List ℕ) (known : Known) → low ≡ joined (known_of known seat) gone
     → raised gone low (needed_of seat player what) ≡ joined (known_of (shown_by player what known) seat) gone
@@ -141,25 +177,22 @@ side_shown Second player act.Rests low gone known e = e
 
 -- ---- the tiles on the board
 
-first_laid : (laid first second used : List ℕ) → laid ≡ joined first second → joined laid used ≡ joined (joined first used) (joined second no_tiles)
-first_laid laid first second used e =
-    joined_is (joined laid used) (joined first used) (joined second no_tiles) (length-joined laid used) (λ k below.
+parts_laid : (laid first second used own others : List ℕ) → laid ≡ joined first second → ((k : ℕ) → k < 27 → get_or used k 0 ≡ get_or own k 0 + get_or others k 0)
+    → joined laid used ≡ joined (joined first own) (joined second others)
+parts_laid laid first second used own others e parts =
+    joined_is (joined laid used) (joined first own) (joined second others) (length-joined laid used) (λ k below.
     let whole = number_in laid first second k e below in
     let now = get-joined laid used k below in
-    let one = get-joined first used k below in
-    let two = get-joined second no_tiles k below in
-    let none = get-no_tiles k below in
-    omega (arith, whole, now, one, two, none))
+    let one = get-joined first own k below in
+    let two = get-joined second others k below in
+    let sum = parts k below in
+    omega (arith, whole, now, one, two, sum))
+
+first_laid : (laid first second used : List ℕ) → laid ≡ joined first second → joined laid used ≡ joined (joined first used) (joined second no_tiles)
+first_laid laid first second used e = parts_laid laid first second used used no_tiles e (λ k below. let none = get-no_tiles k below in omega (arith, none))
 
 second_laid : (laid first second used : List ℕ) → laid ≡ joined first second → joined laid used ≡ joined (joined first no_tiles) (joined second used)
-second_laid laid first second used e =
-    joined_is (joined laid used) (joined first no_tiles) (joined second used) (length-joined laid used) (λ k below.
-    let whole = number_in laid first second k e below in
-    let now = get-joined laid used k below in
-    let one = get-joined first no_tiles k below in
-    let two = get-joined second used k below in
-    let none = get-no_tiles k below in
-    omega (arith, whole, now, one, two, none))
+second_laid laid first second used e = parts_laid laid first second used no_tiles used e (λ k below. let none = get-no_tiles k below in omega (arith, none))
 
 none_laid : (laid first second : List ℕ) → laid ≡ joined first second → laid ≡ joined (joined first no_tiles) (joined second no_tiles)
 none_laid laid first second e =
@@ -170,27 +203,41 @@ none_laid laid first second e =
     let none = get-no_tiles k below in
     omega (arith, whole, one, two, none))
 
+-- the tiles of a player's step, which lie with those of both players
+player_laid : (player : Seat) (laid first second used : List ℕ) → laid ≡ joined first second
+    → joined laid used ≡ joined (joined first (if same_seat player First then used else no_tiles)) (joined second (if same_seat player Second then used else no_tiles))
+player_laid First laid first second used e = first_laid laid first second used e
+player_laid Second laid first second used e = second_laid laid first second used e
+
+nothing_laid : (player : Seat) (laid first second : List ℕ) → laid ≡ joined first second
+    → laid ≡ joined (joined first (if same_seat player First then no_tiles else no_tiles)) (joined second (if same_seat player Second then no_tiles else no_tiles))
+nothing_laid First laid first second e = none_laid laid first second e
+nothing_laid Second laid first second e = none_laid laid first second e
+
+same_laid : (known : Known) (seat : Seat) (tiles : List ℕ) → (with_known known seat tiles).laid ≡ known.laid
+same_laid known First tiles = refl
+same_laid known Second tiles = refl
+
 pub laid_known : (player : Seat) (what : Act) (first second : List ℕ) (known : Known) → known.laid ≡ joined first second
     → (moved_by player what (shown_by player what known)).laid
     ≡ joined (joined first (if same_seat player First then of_act laid_by what else no_tiles)) (joined second (if same_seat player Second then of_act laid_by what else no_tiles))
-laid_known First (act.Turns shown motion.Keeps) first second known e = none_laid known.laid first second e
-laid_known First (act.Turns shown (motion.Lays used drawn)) first second known e = first_laid known.laid first second used e
-laid_known First (act.Turns shown (motion.Tries used)) first second known e = none_laid known.laid first second e
-laid_known First (act.Turns shown (motion.Throws tiles)) first second known e = none_laid known.laid first second e
-laid_known First (act.Turns shown (motion.ThrowsUnknown n)) first second known e = none_laid known.laid first second e
-laid_known First (act.TakesBack used) first second known e = none_laid known.laid first second e
-laid_known First (act.Ends First tiles) first second known e = none_laid known.laid first second e
-laid_known First (act.Ends Second tiles) first second known e = none_laid known.laid first second e
-laid_known First act.Rests first second known e = none_laid known.laid first second e
-laid_known Second (act.Turns shown motion.Keeps) first second known e = none_laid known.laid first second e
-laid_known Second (act.Turns shown (motion.Lays used drawn)) first second known e = second_laid known.laid first second used e
-laid_known Second (act.Turns shown (motion.Tries used)) first second known e = none_laid known.laid first second e
-laid_known Second (act.Turns shown (motion.Throws tiles)) first second known e = none_laid known.laid first second e
-laid_known Second (act.Turns shown (motion.ThrowsUnknown n)) first second known e = none_laid known.laid first second e
-laid_known Second (act.TakesBack used) first second known e = none_laid known.laid first second e
-laid_known Second (act.Ends First tiles) first second known e = none_laid known.laid first second e
-laid_known Second (act.Ends Second tiles) first second known e = none_laid known.laid first second e
-laid_known Second act.Rests first second known e = none_laid known.laid first second e
+laid_known player (act.Turns shown what) first second known e = by what (same_laid known player (greater (known_of known player) (greater shown (used_by what))))
+  where
+    by : (what : Motion) → (raised_by player (greater shown (used_by what)) known).laid ≡ known.laid
+        → (turned_by player what (raised_by player (greater shown (used_by what)) known)).laid
+        ≡ joined (joined first (if same_seat player First then laid_by what else no_tiles)) (joined second (if same_seat player Second then laid_by what else no_tiles))
+    by motion.Keeps same = same ∙ nothing_laid player known.laid first second e
+    by (motion.Lays used drawn) same = ap (λ laid. joined laid used) same ∙ player_laid player known.laid first second used e
+    by (motion.Tries used) same = same ∙ nothing_laid player known.laid first second e
+    by (motion.Throws tiles) same =
+        let raised = raised_by player (greater shown tiles) known in
+        same_laid raised player (without (known_of raised player) tiles) ∙ same ∙ nothing_laid player known.laid first second e
+    by (motion.ThrowsUnknown n) same =
+        same_laid (raised_by player (greater shown no_tiles) known) player no_tiles ∙ same ∙ nothing_laid player known.laid first second e
+laid_known player (act.TakesBack used) first second known e = nothing_laid player known.laid first second e
+laid_known player (act.Ends holder tiles) first second known e =
+    same_laid known holder (greater (known_of known holder) tiles) ∙ nothing_laid player known.laid first second e
+laid_known player act.Rests first second known e = nothing_laid player known.laid first second e
 
 -- ---- epochs
 
@@ -471,21 +518,23 @@ not_short rules seat s known e = by (nat_lt (size_of s seat) (sum (known_of know
     by false None e = refl
     by false (Some k) e = absurd cc
 
+room_beside : (rules : Rules) (laid known shown used : List ℕ) → length rules.counts ≡ 27
+    → (k : ℕ) → k < 27 → get_or laid k 0 + get_or (greater known (greater shown used)) k 0 ≤ get_or rules.counts k 0 → get_or laid k 0 + get_or used k 0 < 256
+room_beside rules laid known shown used long k below all =
+    let more = get-greater known (greater shown used) k below in
+    let most = get-greater shown used k below in
+    let few = few_counts rules long k below in
+    omega (arith, all, more, most, few)
+
 room_for_used : (rules : Rules) (player : Seat) (shown used : List ℕ) (known : Known) → length rules.counts ≡ 27
     → short_of rules (raised_by player (greater shown used) known) ≡ None
     → (k : ℕ) → k < 27 → get_or (raised_by player (greater shown used) known).laid k 0 + get_or used k 0 < 256
 room_for_used rules First shown used known long e k below =
     let all = none_short rules (raised_by First (greater shown used) known) e k below in
-    let more = get-greater known.first (greater shown used) k below in
-    let most = get-greater shown used k below in
-    let few = few_counts rules long k below in
-    omega (arith, all, more, most, few)
+    room_beside rules known.laid known.first shown used long k below (omega (arith, all))
 room_for_used rules Second shown used known long e k below =
     let all = none_short rules (raised_by Second (greater shown used) known) e k below in
-    let more = get-greater known.second (greater shown used) k below in
-    let most = get-greater shown used k below in
-    let few = few_counts rules long k below in
-    omega (arith, all, more, most, few)
+    room_beside rules known.laid known.second shown used long k below (omega (arith, all))
 
 room_by : (rules : Rules) (s : Step) (player : Seat) (what : Act) (known : Known) → length rules.counts ≡ 27
     → excess rules s what (shown_by player what known) ≡ None → HasRoom what (shown_by player what known).laid
