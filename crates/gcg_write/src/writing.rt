@@ -1,5 +1,5 @@
 //! The public calls: a record, an event and a play, appended whole or not at all.
-ghost use Rattle.std.specs.Prelude.{◌≡◌, ◌++◌, ◌<◌, length, OnOk, OnErr};
+ghost use Rattle.std.specs.Prelude.{◌≡◌, ◌++◌, ◌<◌, length, take, OnOk, OnErr};
 ghost use Rattle.std.specs.List.{HoldsAt};
 ghost use Rattle.gcg_write.specs.Fields.{play_text, tiles_text};
 ghost use Rattle.gcg_write.specs.Normal.{normal_of, event_text_of};
@@ -13,6 +13,18 @@ use ref_tiles::{Counts, Symbol};
 /// Memory ran out.
 pub use std::alloc::AllocError as NoMemory;
 
+/// What an append behind so many bytes came to. Where it failed, only those bytes stay.
+fn restored(written: Result<(), NoMemory>, len: usize, out: &mut Vec<u8>) -> Result<(), NoMemory>
+    ensures same { result ≡ written }
+    ensures written { OnOk result (out.new.items ≡ out.old.items) }
+    ensures refused { OnErr result (out.new.items ≡ take len out.old.items) }
+{
+    if written.is_err() {
+        out.truncate(len);
+    }
+    written
+}
+
 /// Appends the normal form of a record: a line for each player who has a nickname, and a line for each
 /// event. It fails only where the growth of `out` was refused, and then `out` is as it was.
 pub fn write(game: &Record, out: &mut Vec<u8>) -> Result<(), NoMemory>
@@ -20,11 +32,7 @@ pub fn write(game: &Record, out: &mut Vec<u8>) -> Result<(), NoMemory>
     ensures refused { OnErr result (out.new.items ≡ out.old.items) }
 {
     let len = out.len();
-    let written = push_record(game, out);
-    if written.is_err() {
-        out.truncate(len);
-    }
-    written
+    restored(push_record(game, out), len, out)
 }
 
 /// Appends what the line of event `i` says behind its rack, in the normal form: the event, its score and the
@@ -36,11 +44,7 @@ pub fn event_text(game: &Record, i: usize, out: &mut Vec<u8>) -> Result<(), NoMe
 {
     let len = out.len();
     let events = game.events.as_slice();
-    let written = push_event(&events[i], out);
-    if written.is_err() {
-        out.truncate(len);
-    }
-    written
+    restored(push_event(&events[i], out), len, out)
 }
 
 /// Appends a play as event lines have it: the square of its first symbol, row and column of one across, column and row of
@@ -50,11 +54,7 @@ pub fn play_text(at: Square, dir: Dir, word: &[Symbol], out: &mut Vec<u8>) -> Re
     ensures refused { OnErr result (out.new.items ≡ out.old.items) }
 {
     let len = out.len();
-    let written = push_play(at, dir, word, out);
-    if written.is_err() {
-        out.truncate(len);
-    }
-    written
+    restored(push_play(at, dir, word, out), len, out)
 }
 
 /// Appends tiles, A to Z and then `?` for each blank. It fails only where the growth of `out` was refused, and then `out` is
@@ -64,9 +64,5 @@ pub fn tiles_text(tiles: &Counts, out: &mut Vec<u8>) -> Result<(), NoMemory>
     ensures refused { OnErr result (out.new.items ≡ out.old.items) }
 {
     let len = out.len();
-    let written = push_tiles(tiles, out);
-    if written.is_err() {
-        out.truncate(len);
-    }
-    written
+    restored(push_tiles(tiles, out), len, out)
 }
