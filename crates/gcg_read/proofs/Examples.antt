@@ -1,5 +1,5 @@
 -- Records and faults as the definitions give them, computed.
-use Rattle.std.proofs.Common.{◌≡◌, ℕ, pos, negsuc, List, [], ◌∷◌, ◌++◌, map, Some, None, Result, Ok, Err, refl, replicate}
+use Rattle.std.proofs.Common.{◌≡◌, ℕ, ℤ, pos, negsuc, List, [], ◌∷◌, ◌++◌, map, Option, Some, None, Result, Ok, Err, refl, replicate}
 use Rattle.std.specs.Prelude.{codes}
 use Rattle.std.specs.List.{filter_map}
 use Rattle.check_lists.proofs.Rows.{Agree}
@@ -12,7 +12,9 @@ use Rattle.gcg_read.specs.declared.faults.Why.{Why}
 use Rattle.gcg_read.specs.declared.faults.Why.TheVariants as why
 use Rattle.gcg_read.specs.declared.faults.ReadFault.{ReadFault}
 use Rattle.gcg_read.specs.declared.events.Event.{Event}
+use Rattle.gcg_read.specs.declared.events.EventKind.{EventKind}
 use Rattle.gcg_read.specs.declared.events.EventKind.TheVariants as kind
+use Rattle.gcg_read.specs.declared.events.Seat.{Seat}
 use Rattle.gcg_read.specs.declared.events.Seat.TheVariants.{First, Second}
 use Rattle.gcg_read.specs.declared.players.Players.{Players}
 use Rattle.gcg_read.specs.declared.records.Record.{Record}
@@ -25,6 +27,10 @@ use Rattle.gcg_read.specs.Records.{no_record, entry_of, with_event, with_pragma,
 use Rattle.gcg_read.specs.Pragmas.{names_of, naming_of}
 use Rattle.gcg_read.specs.Texts.{symbols_of}
 
+-- an event line, as its line, its player, its rack, what happened, its score and its total
+abbrev event_on : ℕ → Seat → Option (List ℕ) → EventKind → ℤ → ℤ → Event
+event_on line player rack what score total = record { line = line; player = player; rack = rack; kind = what; score = score; total = total }
+
 abbrev only_a : Players
 only_a = record { first = record { nick = codes "A"; full = [] }; second = no_player }
 
@@ -32,14 +38,10 @@ only_a = record { first = record { nick = codes "A"; full = [] }; second = no_pl
 word_play : record_of (codes ">A: DORWAAE 8E WORD +16 16")
     ≡ Ok (record {
       players = only_a;
-      events = record {
-        line = 1;
-        player = First;
-        rack = Some (2 ∷ 0 ∷ 0 ∷ 1 ∷ 1 ∷ 0 ∷ 0 ∷ 0 ∷ 0 ∷ 0 ∷ 0 ∷ 0 ∷ 0 ∷ 0 ∷ 1 ∷ 0 ∷ 0 ∷ 1 ∷ 0 ∷ 0 ∷ 0 ∷ 0 ∷ 1 ∷ 0 ∷ 0 ∷ 0 ∷ 0 ∷ []);
-        kind = kind.Play 109 Across (symbols_of (codes "WORD"));
-        score = pos 16;
-        total = pos 16;
-      } ∷ [];
+      events =
+          event_on 1 First (Some (2 ∷ 0 ∷ 0 ∷ 1 ∷ 1 ∷ 0 ∷ 0 ∷ 0 ∷ 0 ∷ 0 ∷ 0 ∷ 0 ∷ 0 ∷ 0 ∷ 1 ∷ 0 ∷ 0 ∷ 1 ∷ 0 ∷ 0 ∷ 0 ∷ 0 ∷ 1 ∷ 0 ∷ 0 ∷ 0 ∷ 0 ∷ []))
+          (kind.Play 109 Across (symbols_of (codes "WORD"))) (pos 16) (pos 16)
+          ∷ [];
     })
 unfolding record_of record_from with_line with_event with_pragma naming_of names_of players_with entry_of head_of fields_of lines_in event_of played_of scored_of coded_of dashed_of bracketed_of counted letter_at
 word_play = refl
@@ -88,15 +90,9 @@ two_lines : record_of good_lines
     ≡ Ok (record {
       players = record { first = record { nick = codes "X"; full = [] }; second = record { nick = codes "B"; full = [] } };
       events =
-          (record { line = 3; player = First; rack = None; kind = kind.Play 109 Across (symbols_of (codes "WORD")); score = pos 16; total = pos 16 })
-          ∷ (record {
-            line = 4;
-            player = Second;
-            rack = Some (0 ∷ 0 ∷ 0 ∷ 0 ∷ 0 ∷ 0 ∷ 0 ∷ 0 ∷ 0 ∷ 0 ∷ 0 ∷ 0 ∷ 0 ∷ 0 ∷ 0 ∷ 0 ∷ 0 ∷ 0 ∷ 0 ∷ 0 ∷ 0 ∷ 0 ∷ 0 ∷ 0 ∷ 0 ∷ 0 ∷ 1 ∷ []);
-            kind = kind.Play 210 Down (symbols_of (codes "Wo.rd"));
-            score = negsuc 6;
-            total = pos 0;
-          })
+          event_on 3 First None (kind.Play 109 Across (symbols_of (codes "WORD"))) (pos 16) (pos 16)
+          ∷ event_on 4 Second (Some (0 ∷ 0 ∷ 0 ∷ 0 ∷ 0 ∷ 0 ∷ 0 ∷ 0 ∷ 0 ∷ 0 ∷ 0 ∷ 0 ∷ 0 ∷ 0 ∷ 0 ∷ 0 ∷ 0 ∷ 0 ∷ 0 ∷ 0 ∷ 0 ∷ 0 ∷ 0 ∷ 0 ∷ 0 ∷ 0 ∷ 1 ∷ []))
+          (kind.Play 210 Down (symbols_of (codes "Wo.rd"))) (negsuc 6) (pos 0)
           ∷ [];
     })
 unfolding record_of record_from with_line with_event with_pragma naming_of names_of players_with entry_of head_of fields_of lines_in event_of played_of scored_of coded_of dashed_of bracketed_of counted letter_at
