@@ -9,5 +9,6 @@ pub mod Codes
 pub mod EventLines
 pub mod Pragmas
 pub mod Records
+pub mod Changes
 pub mod FirstFaults
 pub mod Laws

@@ -103,8 +103,9 @@ impl Model for Events {
 }
 
 impl Events {
-    ghost use Rattle.std.specs.Prelude.{slice_get, slice_set, Some, None};
+    ghost use Rattle.std.specs.Prelude.{slice_get, None};
     ghost use Rattle.gcg_read.specs.declared.events.Event.{Event};
+    ghost use Rattle.gcg_read.specs.Changes.{IsChangedAt};
 
     /// No events. It takes no memory.
     pub fn new(alloc: Global) -> Events
@@ -138,8 +139,7 @@ impl Events {
 
     /// Gives the event at a place another score. Where there is no event, nothing is changed.
     pub fn set_score(&mut self, place: usize, score: Points)
-        ensures there { (e : Event) → slice_get self.old place ≡ Some e
-            → self.new ≡ slice_set self.old place (record e { score = score }) }
+        ensures there { IsChangedAt self.old place (λ (e : Event). record e { score = score }) self.new }
         ensures past { slice_get self.old place ≡ None → self.new ≡ self.old }
     {
         if let Some(event) = self.items.get_mut(place) {
@@ -149,8 +149,7 @@ impl Events {
 
     /// Gives the event at a place another total. Where there is no event, nothing is changed.
     pub fn set_total(&mut self, place: usize, total: Points)
-        ensures there { (e : Event) → slice_get self.old place ≡ Some e
-            → self.new ≡ slice_set self.old place (record e { total = total }) }
+        ensures there { IsChangedAt self.old place (λ (e : Event). record e { total = total }) self.new }
         ensures past { slice_get self.old place ≡ None → self.new ≡ self.old }
     {
         if let Some(event) = self.items.get_mut(place) {
