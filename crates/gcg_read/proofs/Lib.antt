@@ -1,6 +1,7 @@
 pub mod Lists
 pub mod Cuts
 pub mod Steps
+pub mod Fields
 pub mod FirstFaults
 pub mod LinesRise
 pub mod Examples

@@ -1,7 +1,7 @@
 -- How a text falls into lines, a line into fields, and what stands before its colon.
 use Rattle.std.specs.Prelude.{ℕ, Bool, ◌==◌, List, [], ◌∷◌, Option, Some, None, is_some, if◌then◌else◌}
 use Rattle.std.specs.List.{position, before_first, after_first}
-use Rattle.gcg_read.specs.declared.cutting.Head.{Head}
+use Rattle.text_lines.specs.declared.fields.Field.{Field}
 pub use Rattle.text_lines.specs.Lines.{without_mark, without_return, is_feed, lines_of, lines_behind}
 unfoldable pub use Rattle.text_lines.specs.Lines.{lines_in}
 pub use Rattle.text_lines.specs.Fields.{is_blank, is_filled, fields_from}
@@ -28,6 +28,6 @@ head_of text = if is_some (position is_colon text) then named_by (fields_of (bef
 -- ---- what the reader cuts off
 
 -- the nickname, and what stands behind its colon
-abbrev pub head_in : Option Head → Option Named
+abbrev pub head_in : Option Field → Option Named
 head_in None = None
-head_in (Some head) = Some (record { nick = head.nick.now; after = head.after.now })
+head_in (Some head) = Some (record { nick = head.bytes.now; after = head.after.now })

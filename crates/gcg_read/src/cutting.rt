@@ -3,16 +3,7 @@ ghost use Rattle.std.specs.Prelude.{◌≡◌};
 ghost use Rattle.std.specs.List.{position};
 ghost use Rattle.gcg_read.specs.Cutting.{is_colon, head_of, head_in};
 
-use text_lines::next_field;
-
-/// The nickname of an event line.
-#[derive(Clone, Copy)]
-pub struct Head<'a> {
-    /// The nickname.
-    pub nick: &'a [u8],
-    /// The text behind the colon.
-    pub after: &'a [u8],
-}
+use text_lines::{Field, next_field};
 
 fn find_colon(text: &[u8]) -> Option<usize>
     ensures { result ≡ position is_colon text.now }
@@ -20,9 +11,9 @@ fn find_colon(text: &[u8]) -> Option<usize>
     text.iter().position(|byte| *byte == b':')
 }
 
-/// The nickname before the first colon of a text: the only field there. None where there is no colon, no
-/// field or a second one.
-pub fn read_head(text: &[u8]) -> Option<Head<'_>>
+/// The nickname before the first colon of a text, which is the only field there, with the text behind the colon. None where
+/// there is no colon, no field or a second one.
+pub fn read_head(text: &[u8]) -> Option<Field<'_>>
     ensures { head_of text.now ≡ head_in result }
 {
     let colon = find_colon(text)?;
@@ -30,8 +21,8 @@ pub fn read_head(text: &[u8]) -> Option<Head<'_>>
     if next_field(field.after).is_some() {
         return None;
     }
-    Some(Head {
-        nick: field.bytes,
+    Some(Field {
+        bytes: field.bytes,
         after: &text[colon + 1..],
     })
 }

@@ -1,5 +1,5 @@
 //! An event from the fields of its line.
-ghost use Rattle.std.specs.Prelude.{◌≡◌, ◌∷◌, []};
+ghost use Rattle.std.specs.Prelude.{◌≡◌, ◌<◌, ◌∷◌, [], length, MatchOption};
 ghost use Rattle.std.specs.List.{list_any};
 ghost use Rattle.std.specs.Char.{is_ascii_digit};
 ghost use Rattle.gcg_read.specs.Cutting.{fields_of};
@@ -24,51 +24,74 @@ pub struct Heading {
     pub player: Seat,
 }
 
+/// The first three fields of a text.
+#[derive(Clone, Copy)]
+struct Start<'a> {
+    /// The first.
+    first: &'a [u8],
+    /// The second.
+    second: &'a [u8],
+    /// The third.
+    third: &'a [u8],
+    /// The text behind them.
+    after: &'a [u8],
+}
+
+/// The first three fields of a text, where it has so many.
+fn read_start(text: &[u8]) -> Option<Start<'_>>
+    ensures { MatchOption result (length (fields_of text.now) < 3)
+        (λ start. fields_of text.now ≡ start.first.now ∷ start.second.now ∷ start.third.now ∷ fields_of start.after.now) }
+{
+    let first = next_field(text)?;
+    let second = next_field(first.after)?;
+    let third = next_field(second.after)?;
+    Some(Start {
+        first: first.bytes,
+        second: second.bytes,
+        third: third.bytes,
+        after: third.after,
+    })
+}
+
 /// The event that the text behind a nickname says.
-#[tactic(auto, unfolding(crate::specs::EventLines::event_of))]
+#[tactic(auto, using(crate::proofs::Fields::too_few), unfolding(crate::specs::EventLines::event_of))]
 pub fn read_event(heading: Heading, text: &[u8]) -> Result<Event, Why>
     ensures { result ≡ event_of heading (fields_of text.now) }
 {
-    let Some(first) = next_field(text) else {
+    let Some(start) = read_start(text) else {
         return Err(Why::Fields);
     };
-    let Some(second) = next_field(first.after) else {
-        return Err(Why::Fields);
-    };
-    let Some(third) = next_field(second.after) else {
-        return Err(Why::Fields);
-    };
-    match next_field(third.after) {
-        None => read_coded(heading, None, first.bytes, second.bytes, third.bytes),
-        Some(fourth) => read_longer(heading, first.bytes, second.bytes, third.bytes, fourth),
+    match next_field(start.after) {
+        None => read_coded(heading, None, start.first, start.second, start.third),
+        Some(fourth) => read_longer(heading, start, fourth),
     }
 }
 
 /// The event of a line with four fields or more.
 #[tactic(auto, unfolding(crate::specs::EventLines::event_of))]
-fn read_longer(
-    heading: Heading,
-    first: &[u8],
-    second: &[u8],
-    third: &[u8],
-    fourth: Field<'_>,
-) -> Result<Event, Why>
-    ensures { result ≡ event_of heading (first.now ∷ second.now ∷ third.now ∷ fourth.entry.bytes.now ∷ fields_of fourth.entry.after.now) }
+fn read_longer(heading: Heading, start: Start<'_>, fourth: Field<'_>) -> Result<Event, Why>
+    ensures { result ≡ event_of heading (start.entry.first.now ∷ start.entry.second.now ∷ start.entry.third.now ∷ fourth.entry.bytes.now ∷ fields_of fourth.entry.after.now) }
 {
     let Some(fifth) = next_field(fourth.after) else {
-        return read_four(heading, first, second, third, fourth.bytes);
+        return read_four(
+            heading,
+            start.first,
+            start.second,
+            start.third,
+            fourth.bytes,
+        );
     };
     if next_field(fifth.after).is_some() {
         return Err(Why::Fields);
     }
-    let Some(rack) = read_rack(first) else {
+    let Some(rack) = read_rack(start.first) else {
         return Err(Why::Rack);
     };
     read_play(
         heading,
         Some(rack),
-        second,
-        third,
+        start.second,
+        start.third,
         fourth.bytes,
         fifth.bytes,
     )
