@@ -128,12 +128,12 @@ fn read_entry<'a>(so_far: &Record, line: u32, text: &'a [u8]) -> Result<Entry<'a
     let Some(head) = read_head(text) else {
         return Err(Why::NoColon);
     };
-    let Some(player) = so_far.players.seat_for(head.nick) else {
+    let Some(player) = so_far.players.seat_for(head.bytes) else {
         return Err(Why::ThirdPlayer);
     };
     let event = read_event(Heading { line, player }, head.after)?;
     Ok(Entry {
-        nick: head.nick,
+        nick: head.bytes,
         event,
     })
 }
