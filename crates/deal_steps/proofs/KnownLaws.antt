@@ -84,7 +84,7 @@ used_is_shown shown used k below = let most = get-greater shown used k below in 
 
 -- ---- what is known of a player, step by step
 
--- a player's tiles after a change of one player's, or of the tiles that lie
+-- a player's tiles after a change of one player's
 set_known : (known : Known) (seat : Seat) (tiles : List ℕ) → known_of (with_known known seat tiles) seat ≡ tiles
 set_known known First tiles = refl
 set_known known Second tiles = refl
@@ -92,10 +92,6 @@ set_known known Second tiles = refl
 kept_known : (known : Known) (seat : Seat) (tiles : List ℕ) → known_of (with_known known (other_seat seat) tiles) seat ≡ known_of known seat
 kept_known known First tiles = refl
 kept_known known Second tiles = refl
-
-beside_laid : (known : Known) (seat : Seat) (tiles : List ℕ) → known_of (record known { laid = tiles }) seat ≡ known_of known seat
-beside_laid known First tiles = refl
-beside_laid known Second tiles = refl
 
 -- a player's own turn
 own_turn : (seat : Seat) (shown : List ℕ) (what : Motion) (low gone : List ℕ) (known : Known) → low ≡ joined (known_of known seat) gone
@@ -108,7 +104,7 @@ own_turn seat shown (motion.Lays used drawn) low gone known e =
     let tiles = greater shown used in
     let raised = raised_by seat tiles known in
     let rest = without (known_of raised seat) used in
-    rw (beside_laid (with_known raised seat rest) seat (joined known.laid used), set_known raised seat rest, set_known known seat (greater (known_of known seat) tiles))
+    rw (set_known raised seat rest, set_known known seat (greater (known_of known seat) tiles))
     (tiles_shown low (known_of known seat) gone tiles used e (used_is_shown shown used))
 own_turn seat shown (motion.Tries used) low gone known e =
     let tiles = greater shown used in
@@ -124,9 +120,7 @@ own_turn seat shown (motion.ThrowsUnknown n) low gone known e =
 -- a turn of the other player
 other_turn : (seat : Seat) (what : Motion) (known : Known) → known_of (turned_by (other_seat seat) what known) seat ≡ known_of known seat
 other_turn seat motion.Keeps known = refl
-other_turn seat (motion.Lays used drawn) known =
-    let rest = without (known_of known (other_seat seat)) used in
-    beside_laid (with_known known (other_seat seat) rest) seat (joined known.laid used) ∙ kept_known known seat rest
+other_turn seat (motion.Lays used drawn) known = kept_known known seat (without (known_of known (other_seat seat)) used)
 other_turn seat (motion.Tries used) known = refl
 other_turn seat (motion.Throws tiles) known = kept_known known seat (without (known_of known (other_seat seat)) tiles)
 other_turn seat (motion.ThrowsUnknown n) known = kept_known known seat no_tiles

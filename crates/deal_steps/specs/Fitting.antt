@@ -13,12 +13,11 @@ use Rattle.deal_steps.specs.declared.steps.Step.{Step}
 use Rattle.deal_steps.specs.declared.deals.Racks.{Racks}
 use Rattle.deal_steps.specs.declared.deals.Held.{Held}
 use Rattle.deal_steps.specs.Piles.{without}
-use Rattle.deal_steps.specs.Steps.{used_by}
+use Rattle.deal_steps.specs.Steps.{used_by, of_seat}
 
 -- the rack of a player
 abbrev pub rack_of : Racks → Seat → List ℕ
-rack_of racks First = racks.first
-rack_of racks Second = racks.second
+rack_of racks seat = of_seat seat racks.first racks.second
 
 -- the racks with another one for a player
 abbrev pub with_rack : Racks → Seat → List ℕ → Racks

@@ -16,12 +16,11 @@ use Rattle.deal_steps.specs.declared.faults.DealFault.{DealFault}
 use Rattle.deal_steps.specs.declared.faults.DealFault.TheVariants as fault
 use Rattle.deal_steps.specs.declared.known.Known.{Known}
 use Rattle.deal_steps.specs.Piles.{kinds, joined, without, greater}
-use Rattle.deal_steps.specs.Steps.{used_by, size_of}
+use Rattle.deal_steps.specs.Steps.{used_by, of_seat, size_of}
 use Rattle.deal_steps.specs.Bounds.{low, low_at, gone, laid, kind_at}
 
 abbrev pub known_of : Known → Seat → List ℕ
-known_of known First = known.first
-known_of known Second = known.second
+known_of known seat = of_seat seat known.first known.second
 
 abbrev pub with_known : Known → Seat → List ℕ → Known
 with_known known First tiles = record known { first = tiles }

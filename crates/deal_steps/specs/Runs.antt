@@ -11,6 +11,7 @@ use Rattle.deal_steps.specs.declared.steps.Act.TheVariants as act
 use Rattle.deal_steps.specs.declared.steps.Step.{Step}
 use Rattle.deal_steps.specs.declared.deals.Racks.{Racks}
 use Rattle.deal_steps.specs.Piles.{joined}
+use Rattle.deal_steps.specs.Steps.{of_seat}
 
 -- Between two steps: the sizes, the tiles of the plays that stand, and those of a play that does not.
 pub record Course : Type 0 where
@@ -28,8 +29,7 @@ waits First tiles = record { first = tiles; second = no_tiles }
 waits Second tiles = record { first = no_tiles; second = tiles }
 
 abbrev pub size_in : Course → Seat → ℕ
-size_in c First = c.first
-size_in c Second = c.second
+size_in c seat = of_seat seat c.first c.second
 
 abbrev pub with_size : Course → Seat → ℕ → Course
 with_size c First n = record c { first = n }

@@ -93,7 +93,11 @@ needed_of seat player act.Rests = None
 abbrev pub needed : Seat → Step → Option (List ℕ)
 needed seat s = needed_of seat s.player s.act
 
+-- what one player has, of what the first and the second have
+abbrev pub of_seat : {A : Type 0} → Seat → (first second : A) → A
+of_seat First first second = first
+of_seat Second first second = second
+
 -- how many tiles a player has before a step
 abbrev pub size_of : Step → Seat → ℕ
-size_of s First = s.first
-size_of s Second = s.second
+size_of s seat = of_seat seat s.first s.second
