@@ -11,7 +11,7 @@ use crate::faults::{ReadFault, Why};
 use crate::pragmas::read_naming;
 use crate::records::Record;
 use std::alloc::Global;
-use text_lines::{cut_line, without_mark};
+use text_lines::{Lines, without_mark};
 
 /// The most bytes of a record.
 pub const MAX_BYTES: usize = 1_048_576;
@@ -52,13 +52,10 @@ fn read_lines(alloc: Global, text: &[u8]) -> Result<Record, ReadFault>
     ensures { Gives result (record_from no_record 1 (lines_in text.now)) }
 {
     let mut record = Record::empty(alloc);
-    let mut line = 0;
-    let mut left = Some(text);
-    while let Some(rest) = left {
-        let cut = cut_line(rest);
-        line += 1;
-        take_line(alloc, &mut record, line, cut.line)?;
-        left = cut.after;
+    let mut number = 0;
+    for line in Lines::of(text) {
+        number += 1;
+        take_line(alloc, &mut record, number, line)?;
     }
     Ok(record)
 }

@@ -1,25 +1,18 @@
 -- Lines read one after the other.
-use Rattle.std.specs.Prelude.{IfSome, option_map}
-use Rattle.std.proofs.Common.{◌≡◌, ℕ, ◌+◌, ◌<◌, ◌≤◌, arith, List, [], ◌∷◌, ◌++◌, length, Option, Some, None, Ok, Err, sym, subst, ap, ◌∙◌, refl, ◌⊎◌, inl, inr, append_assoc, append-nil, true, false}
+use Rattle.std.specs.Prelude.{option_map}
+use Rattle.std.proofs.Common.{◌≡◌, ℕ, ◌+◌, ◌<◌, ◌≤◌, arith, List, [], ◌∷◌, ◌++◌, length, Some, None, Ok, Err, sym, subst, ap, ◌∙◌, refl, ◌⊎◌, inl, inr, append_assoc, append-nil, true, false}
 use Rattle.std.proofs.lemmas.Bool.{lt-leb, le-leb}
-use Rattle.std.specs.Borrow.{Bor}
-use Rattle.std.proofs.lemmas.List.{length_push}
+use Rattle.std.proofs.lemmas.List.{length-append, length_push}
 use Rattle.std.proofs.lemmas.List.Sums.{fold-append}
 use Rattle.check_lists.proofs.CheckLaws.{or_fault_none, or_fault_some}
 use Rattle.lex_list.specs.declared.faults.ListWhy.{ListWhy}
 use Rattle.lex_list.specs.declared.faults.ListFault.{ListFault}
 use Rattle.lex_list.specs.Faults.{no_memory}
-use Rattle.lex_list.specs.Lines.{lines_in, lines_behind}
 use Rattle.std.specs.BTreeSet.{insert_key}
 use Rattle.std.proofs.Common.{leb}
 use Rattle.lex_list.specs.declared.faults.ListWhy.TheVariants as why
 use Rattle.lex_list.specs.Words.{word_order, most_words}
 use Rattle.lex_list.specs.Lists.{with_line, words_in, spelling_fault, fault_of, first_bad_line, at_line, list_in, line_in, capitals}
-
--- how much of a text is left
-abbrev pub size_of : Option (Bor (List ℕ)) → ℕ
-size_of None = 0
-size_of (Some rest) = length rest.now + 1
 
 -- how far a reading has come: these are the words of the lines so far, of which there are so many, and what is
 -- wrong with the whole is wrong with what stands behind
@@ -43,42 +36,49 @@ unfolding words_in
 words_in_more before line = fold-append with_line [] before (line ∷ [])
 
 -- one more line
-pub progress_more : (lines words next : List (List ℕ)) (n : ℕ) (left : Option (Bor (List ℕ))) (rest : Bor (List ℕ)) (text : List ℕ) (others : List (List ℕ))
-    → left ≡ Some rest → lines_in rest.now ≡ text ∷ others → line_in words (n + 1) text ≡ Ok next
-    → Progress lines words n (lines_behind left) → Progress lines next (n + 1) others
+pub progress_more : (lines words next : List (List ℕ)) (n : ℕ) (behind : List (List ℕ)) (text : List ℕ) (others : List (List ℕ))
+    → behind ≡ text ∷ others → line_in words (n + 1) text ≡ Ok next → Progress lines words n behind → Progress lines next (n + 1) others
 unfolding first_bad_line
-progress_more lines words next n left rest text others at cut step p =
+progress_more lines words next n behind text others cut step p =
     let fine = or_fault_none (at_line (n + 1)) (fault_of words text) (with_line words text) next step in
-    let behind : lines_behind left ≡ text ∷ others = rw at cut in
     let none : fault_of (words_in p.before) text ≡ None = rw p.there at fine.0 in
     let here : first_bad_line p.before (text ∷ others) ≡ first_bad_line (p.before ++ text ∷ []) others = rw none refl in
     record {
       before = p.before ++ text ∷ [];
       count = omega (arith, length_push p.before text, p.count);
       there = sym fine.1 ∙ ap (λ ws. with_line ws text) p.there ∙ sym (words_in_more p.before text);
-      same = sym here ∙ ap (first_bad_line p.before) (sym behind) ∙ p.same;
-      whole = append_assoc p.before (text ∷ []) others ∙ ap (λ rest. p.before ++ rest) (sym behind) ∙ p.whole;
+      same = sym here ∙ ap (first_bad_line p.before) (sym cut) ∙ p.same;
+      whole = append_assoc p.before (text ∷ []) others ∙ ap (λ rest. p.before ++ rest) (sym cut) ∙ p.whole;
     }
 
 -- a line with a fault, or no memory for it
-pub progress_fails : (lines words : List (List ℕ)) (n : ℕ) (left : Option (Bor (List ℕ))) (rest : Bor (List ℕ)) (text : List ℕ) (others : List (List ℕ)) (fault : ListFault)
-    → left ≡ Some rest → lines_in rest.now ≡ text ∷ others → (fault ≡ no_memory) ⊎ (line_in words (n + 1) text ≡ Err fault)
-    → Progress lines words n (lines_behind left) → (fault ≡ no_memory) ⊎ (list_in lines ≡ Err fault)
+pub progress_fails : (lines words : List (List ℕ)) (n : ℕ) (behind : List (List ℕ)) (text : List ℕ) (others : List (List ℕ)) (fault : ListFault)
+    → behind ≡ text ∷ others → (fault ≡ no_memory) ⊎ (line_in words (n + 1) text ≡ Err fault)
+    → Progress lines words n behind → (fault ≡ no_memory) ⊎ (list_in lines ≡ Err fault)
 unfolding first_bad_line list_in
-progress_fails lines words n left rest text others fault at cut (inl memory) p = inl memory
-progress_fails lines words n left rest text others fault at cut (inr step) p =
+progress_fails lines words n behind text others fault cut (inl memory) p = inl memory
+progress_fails lines words n behind text others fault cut (inr step) p =
     let found = or_fault_some (option_map (at_line (n + 1)) (fault_of words text)) (with_line words text) fault step in
-    let behind : lines_behind left ≡ text ∷ others = rw at cut in
     let here : option_map (at_line (length p.before + 1)) (fault_of (words_in p.before) text) ≡ Some fault = rw (p.count, ← p.there) found in
     let first : first_bad_line p.before (text ∷ others) ≡ Some fault = rw here refl in
-    let whole : first_bad_line [] lines ≡ Some fault = sym p.same ∙ ap (first_bad_line p.before) behind ∙ first in
+    let whole : first_bad_line [] lines ≡ Some fault = sym p.same ∙ ap (first_bad_line p.before) cut ∙ first in
     inr (rw whole refl)
 
--- what is left grows shorter by more than the lines count up
-pub room_more : (left after : Option (Bor (List ℕ))) (rest : Bor (List ℕ)) (n limit : ℕ) → left ≡ Some rest → IfSome left (λ text. n + length text.now ≤ limit)
-    → IfSome after (λ text. length text.now < length rest.now) → IfSome after (λ text. n + 1 + length text.now ≤ limit) × (n + 1 ≤ limit + 1)
-room_more left None rest n limit at room shorter = let here = rw at at room in (tt, omega arith)
-room_more left (Some text) rest n limit at room shorter = let here = rw at at room in (omega arith, omega arith)
+-- no more lines are read than there are
+pub progress_room : (lines words : List (List ℕ)) (n : ℕ) (behind : List (List ℕ)) (text : List ℕ) (others : List (List ℕ))
+    → behind ≡ text ∷ others → Progress lines words n behind → n < length lines
+progress_room lines words n behind text others cut p = omega (arith, p.count, ap length cut, ap length p.whole, length-append p.before behind)
+
+-- no more lines
+pub progress_done : (lines words : List (List ℕ)) (n : ℕ) (behind : List (List ℕ)) → behind ≡ [] → Progress lines words n behind → list_in lines ≡ Ok words
+unfolding first_bad_line list_in
+progress_done lines words n behind none p =
+    let fine : first_bad_line [] lines ≡ None = sym p.same ∙ ap (first_bad_line p.before) none in
+    let all : p.before ≡ lines = sym (append-nil p.before) ∙ ap (λ rest. p.before ++ rest) (sym none) ∙ p.whole in
+    rw fine (ap Ok (sym (p.there ∙ ap words_in all)))
+
+-- what a loop over the lines of a text needs
+pub ruleset steps = (progress_empty, progress_more, progress_fails, progress_room, progress_done)
 
 -- ---- one line
 
@@ -111,12 +111,3 @@ line_good words new n [] word lt (e, spelt) is few = absurd (omega arith)
 line_good words new n (byte ∷ rest) word lt (e, spelt) is few =
     let under : leb (length (insert_key word_order words (capitals (byte ∷ rest)))) 400000 ≡ true = rw (is, spelt) at (le-leb (length new) 400000 few) in
     rw (e, under) (ap Ok (ap (insert_key word_order words) (sym spelt) ∙ sym is))
-
--- no more lines
-pub progress_done : (lines words : List (List ℕ)) (n : ℕ) (left : Option (Bor (List ℕ))) → left ≡ None → Progress lines words n (lines_behind left) → list_in lines ≡ Ok words
-unfolding first_bad_line list_in
-progress_done lines words n left at p =
-    let none : lines_behind left ≡ [] = rw at refl in
-    let fine : first_bad_line [] lines ≡ None = sym p.same ∙ ap (first_bad_line p.before) none in
-    let all : p.before ≡ lines = sym (append-nil p.before) ∙ ap (λ rest. p.before ++ rest) (sym none) ∙ p.whole in
-    rw fine (ap Ok (sym (p.there ∙ ap words_in all)))

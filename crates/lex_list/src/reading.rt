@@ -12,7 +12,7 @@ use crate::lists::WordList;
 use crate::word_sets::WordSet;
 use crate::words::{MAX_LETTERS, Word};
 use std::alloc::Global;
-use text_lines::{cut_line, without_mark};
+use text_lines::{Lines, without_mark};
 
 /// The most bytes of a word list: 16 MiB.
 pub const MAX_BYTES: usize = 16_777_216;
@@ -48,19 +48,16 @@ impl WordList {
 }
 
 /// Reads the lines of a text.
-#[tactic(auto, using(crate::proofs::Steps::progress_empty))]
+#[tactic(auto, using(crate::proofs::Steps::steps))]
 fn read_lines(alloc: Global, text: &[u8]) -> Result<WordSet, ListFault>
     requires { length text.now ≤ most_list_bytes }
     ensures { Reads result (list_in (lines_in text.now)) }
 {
     let mut words = WordSet::new(alloc);
-    let mut line = 0;
-    let mut left = Some(text);
-    while let Some(rest) = left {
-        let cut = cut_line(rest);
-        line += 1;
-        take_line(&mut words, line, cut.line)?;
-        left = cut.after;
+    let mut number = 0;
+    for line in Lines::of(text) {
+        number += 1;
+        take_line(&mut words, number, line)?;
     }
     Ok(words)
 }

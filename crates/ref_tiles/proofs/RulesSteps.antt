@@ -1,12 +1,10 @@
 -- The lines of a rules text read one after the other.
-use Rattle.std.specs.Prelude.{IfSome, option_map, is_some, slice_set}
-use Rattle.std.proofs.Common.{◌≡◌, ◌≢◌, ℕ, ◌+◌, ◌<◌, ◌≤◌, cond, eqb, arith, List, [], ◌∷◌, ◌++◌, length, get_or, replicate, Option, Some, None, Result, Ok, Err, sym, subst, ap, ◌∙◌, refl, inl, inr, append_assoc, append-nil}
-use Rattle.std.specs.Borrow.{Bor}
+use Rattle.std.specs.Prelude.{option_map, is_some, slice_set}
+use Rattle.std.proofs.Common.{◌≡◌, ◌≢◌, ℕ, ◌+◌, ◌<◌, cond, eqb, arith, List, [], ◌∷◌, ◌++◌, length, get_or, replicate, Option, Some, None, Result, Ok, Err, sym, subst, ap, ◌∙◌, refl, inl, inr, append_assoc, append-nil}
 use Rattle.std.specs.Option.{option_or}
-use Rattle.std.proofs.lemmas.List.{length_push, get_or-set_same, get_or-set_other, length-set}
+use Rattle.std.proofs.lemmas.List.{length-append, length_push, get_or-set_same, get_or-set_other, length-set}
 use Rattle.std.proofs.lemmas.List.FromFn.{length-map-range_with_len, get_or-map-range_with_len, fill_by_all}
 use Rattle.std.proofs.lemmas.Bool.Decides.{eqb_tells, nat_tests}
-use Rattle.text_lines.specs.Lines.{lines_in, lines_behind}
 use Rattle.check_lists.specs.Checks.{or_fault}
 use Rattle.check_lists.proofs.CheckLaws.{or_fault_none, or_fault_some}
 use Rattle.ref_tiles.specs.declared.rules_faults.RulesWhy.{RulesWhy}
@@ -102,11 +100,6 @@ line_more before line n place = by (statement_of line) refl place
 
 -- ---- how far a reading has come
 
--- how much of a text is left
-abbrev pub size_of : Option (Bor (List ℕ)) → ℕ
-size_of None = 0
-size_of (Some rest) = length rest.now + 1
-
 -- how far a reading has come: these are the entries of the lines so far, of which there are so many, and what is wrong
 -- with the whole is wrong with what stands behind
 pub record Progress (lines : List (List ℕ)) (entries : List (Option Entry)) (line : ℕ) (behind : List (List ℕ)) : Type 0 where
@@ -122,49 +115,48 @@ unfolding entries_in entry_in
 progress_empty lines entries none = record { before = []; count = refl; there = none ∙ refl; same = refl; whole = refl }
 
 -- one more line
-pub progress_more : (lines : List (List ℕ)) (entries next : List (Option Entry)) (n : ℕ) (left : Option (Bor (List ℕ))) (rest : Bor (List ℕ)) (text : List ℕ) (others : List (List ℕ))
-    → left ≡ Some rest → lines_in rest.now ≡ text ∷ others → IsLinePlace (statement_of text) → more_by entries (n + 1) (statement_of text) ≡ Ok next
-    → Progress lines entries n (lines_behind left) → Progress lines next (n + 1) others
+pub progress_more : (lines : List (List ℕ)) (entries next : List (Option Entry)) (n : ℕ) (behind : List (List ℕ)) (text : List ℕ) (others : List (List ℕ))
+    → behind ≡ text ∷ others → IsLinePlace (statement_of text) → more_by entries (n + 1) (statement_of text) ≡ Ok next
+    → Progress lines entries n behind → Progress lines next (n + 1) others
 unfolding first_bad_line
-progress_more lines entries next n left rest text others at cut place step p =
+progress_more lines entries next n behind text others cut place step p =
     let made = sym (line_more p.before text (n + 1) place) ∙ ap (λ d. more_by d (n + 1) (statement_of text)) (sym p.there) ∙ step in
     let fine = or_fault_none (at_line (n + 1)) (fault_behind p.before text) (entries_in (p.before ++ text ∷ [])) next made in
-    let behind : lines_behind left ≡ text ∷ others = rw at cut in
     let here : first_bad_line p.before (text ∷ others) ≡ first_bad_line (p.before ++ text ∷ []) others = rw fine.0 refl in
     record {
       before = p.before ++ text ∷ [];
       count = omega (arith, length_push p.before text, p.count);
       there = sym fine.1;
-      same = sym here ∙ ap (first_bad_line p.before) (sym behind) ∙ p.same;
-      whole = append_assoc p.before (text ∷ []) others ∙ ap (λ rest. p.before ++ rest) (sym behind) ∙ p.whole;
+      same = sym here ∙ ap (first_bad_line p.before) (sym cut) ∙ p.same;
+      whole = append_assoc p.before (text ∷ []) others ∙ ap (λ rest. p.before ++ rest) (sym cut) ∙ p.whole;
     }
 
 -- a line with a fault
-pub progress_fails : (lines : List (List ℕ)) (entries : List (Option Entry)) (n : ℕ) (left : Option (Bor (List ℕ))) (rest : Bor (List ℕ)) (text : List ℕ) (others : List (List ℕ)) (fault : RulesFault)
-    → left ≡ Some rest → lines_in rest.now ≡ text ∷ others → IsLinePlace (statement_of text) → more_by entries (n + 1) (statement_of text) ≡ Err fault
-    → Progress lines entries n (lines_behind left) → drafted lines ≡ Err fault
+pub progress_fails : (lines : List (List ℕ)) (entries : List (Option Entry)) (n : ℕ) (behind : List (List ℕ)) (text : List ℕ) (others : List (List ℕ)) (fault : RulesFault)
+    → behind ≡ text ∷ others → IsLinePlace (statement_of text) → more_by entries (n + 1) (statement_of text) ≡ Err fault
+    → Progress lines entries n behind → drafted lines ≡ Err fault
 unfolding first_bad_line drafted
-progress_fails lines entries n left rest text others fault at cut place step p =
+progress_fails lines entries n behind text others fault cut place step p =
     let made = sym (line_more p.before text (n + 1) place) ∙ ap (λ d. more_by d (n + 1) (statement_of text)) (sym p.there) ∙ step in
     let found = or_fault_some (option_map (at_line (n + 1)) (fault_behind p.before text)) (entries_in (p.before ++ text ∷ [])) fault made in
-    let behind : lines_behind left ≡ text ∷ others = rw at cut in
     let here : option_map (at_line (length p.before + 1)) (fault_behind p.before text) ≡ Some fault = rw p.count found in
     let first : first_bad_line p.before (text ∷ others) ≡ Some fault = rw here refl in
-    let whole : first_bad_line [] lines ≡ Some fault = sym p.same ∙ ap (first_bad_line p.before) behind ∙ first in
+    let whole : first_bad_line [] lines ≡ Some fault = sym p.same ∙ ap (first_bad_line p.before) cut ∙ first in
     rw whole refl
 
--- what is left grows shorter by more than the lines count up
-pub room_more : (left after : Option (Bor (List ℕ))) (rest : Bor (List ℕ)) (n limit : ℕ) → left ≡ Some rest → IfSome left (λ text. n + length text.now ≤ limit)
-    → IfSome after (λ text. length text.now < length rest.now) → IfSome after (λ text. n + 1 + length text.now ≤ limit) × (n + 1 ≤ limit + 1)
-room_more left None rest n limit at room shorter = let here = rw at at room in (tt, omega arith)
-room_more left (Some text) rest n limit at room shorter = let here = rw at at room in (omega arith, omega arith)
+-- no more lines are read than there are
+pub progress_room : (lines : List (List ℕ)) (entries : List (Option Entry)) (n : ℕ) (behind : List (List ℕ)) (text : List ℕ) (others : List (List ℕ))
+    → behind ≡ text ∷ others → Progress lines entries n behind → n < length lines
+progress_room lines entries n behind text others cut p = omega (arith, p.count, ap length cut, ap length p.whole, length-append p.before behind)
 
 -- no more lines
-pub progress_done : (lines : List (List ℕ)) (entries : List (Option Entry)) (n : ℕ) (left : Option (Bor (List ℕ))) → left ≡ None → Progress lines entries n (lines_behind left)
+pub progress_done : (lines : List (List ℕ)) (entries : List (Option Entry)) (n : ℕ) (behind : List (List ℕ)) → behind ≡ [] → Progress lines entries n behind
     → drafted lines ≡ Ok entries
 unfolding first_bad_line drafted
-progress_done lines entries n left at p =
-    let none : lines_behind left ≡ [] = rw at refl in
+progress_done lines entries n behind none p =
     let fine : first_bad_line [] lines ≡ None = sym p.same ∙ ap (first_bad_line p.before) none in
     let all : p.before ≡ lines = sym (append-nil p.before) ∙ ap (λ rest. p.before ++ rest) (sym none) ∙ p.whole in
     rw fine (ap Ok (sym (p.there ∙ ap entries_in all)))
+
+-- what a loop over the lines of a text needs
+pub ruleset steps = (progress_empty, progress_more, progress_fails, progress_room, progress_done)

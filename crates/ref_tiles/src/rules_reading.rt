@@ -9,7 +9,7 @@ use crate::drafts::Draft;
 use crate::rulebook::Rules;
 use crate::rules_faults::{RulesFault, RulesWhy};
 use crate::statements::read_line;
-use text_lines::{cut_line, without_mark};
+use text_lines::{Lines, without_mark};
 
 /// The most bytes of a rules text.
 pub const MAX_RULES_BYTES: usize = 65_536;
@@ -42,19 +42,16 @@ impl Rules {
 }
 
 /// Reads the lines of a text.
-#[tactic(auto, using(crate::proofs::RulesSteps::progress_empty))]
+#[tactic(auto, using(crate::proofs::RulesSteps::steps))]
 fn read_lines(text: &[u8]) -> Result<Draft, RulesFault>
     requires { length text.now ≤ most_text_bytes }
     ensures { result ≡ drafted (lines_in text.now) }
 {
     let mut draft = Draft::empty();
-    let mut line = 0;
-    let mut left = Some(text);
-    while let Some(rest) = left {
-        let cut = cut_line(rest);
-        line += 1;
-        take_line(&mut draft, line, cut.line)?;
-        left = cut.after;
+    let mut number = 0;
+    for line in Lines::of(text) {
+        number += 1;
+        take_line(&mut draft, number, line)?;
     }
     Ok(draft)
 }

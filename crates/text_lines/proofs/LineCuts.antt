@@ -1,6 +1,9 @@
 -- A text that is cut at its first LF.
-use Rattle.std.proofs.Common.{◌≡◌, ℕ, ◌+◌, ◌-◌, List, [], ◌∷◌, length, take, drop, Some, None, sym, refl}
-use Rattle.std.specs.List.{position}
+use Rattle.std.proofs.Common.{◌≡◌, ℕ, ◌+◌, ◌-◌, ◌≤◌, List, [], ◌∷◌, length, take, drop, Some, None, arith, sym, refl}
+use Rattle.std.specs.List.{position, slice_split}
+use Rattle.std.proofs.lemmas.List.{length-map}
+use Rattle.std.proofs.lemmas.List.Splits.{length-slice_split}
+use Rattle.std.proofs.lemmas.List.Sums.{count_by-le-length}
 use Rattle.text_lines.specs.Lines.{is_feed, lines_in, without_return}
 use Rattle.text_lines.proofs.Cuts.{rest_is, split_none, split_at}
 
@@ -21,3 +24,9 @@ lines_cut text line i e cut =
 
 pub lines_end : (text line : List ℕ) → None ≡ position is_feed text → line ≡ without_return text → lines_in text ≡ line ∷ []
 lines_end text line e cut = rw cut (line_last text (sym e))
+
+-- a text has at most one line more than bytes
+pub few_lines : (text : List ℕ) → length (lines_in text) ≤ length text + 1
+unfolding lines_in
+few_lines text =
+    omega (arith, length-map (slice_split is_feed text) without_return, length-slice_split is_feed text, count_by-le-length is_feed text)

@@ -2,6 +2,7 @@
 use Rattle.std.specs.Prelude.{ℕ, ◌-◌, Bool, ◌==◌, eqb, List, [], ◌∷◌, length, take, drop, map, Option, Some, None, if◌then◌else◌}
 use Rattle.std.specs.List.{slice_split, starts_with, ends_with}
 use Rattle.std.specs.Borrow.{Bor}
+use Rattle.text_lines.specs.declared.lines.Lines.{Lines}
 
 -- a byte order mark at the front is passed over
 abbrev pub without_mark : List ℕ → List ℕ
@@ -29,3 +30,7 @@ lines_of text = lines_in (without_mark text)
 abbrev pub lines_behind : Option (Bor (List ℕ)) → List (List ℕ)
 lines_behind None = []
 lines_behind (Some after) = lines_in after.now
+
+-- the lines that are still to come
+abbrev pub lines_left : Lines → List (List ℕ)
+lines_left lines = lines_behind lines.left

@@ -9,5 +9,5 @@ mod lines;
 mod numerals;
 
 pub use fields::{Field, find_blank, find_filled, next_field};
-pub use lines::{Cut, cut_line, without_mark};
+pub use lines::{Cut, Lines, cut_line, without_mark};
 pub use numerals::numeral;

@@ -1,7 +1,8 @@
 //! Lines of a text, and a mark at its front.
-ghost use Rattle.std.specs.Prelude.{◌≡◌, ◌<◌, ◌∷◌, IfSome, length};
+ghost use Rattle.std.specs.Prelude.{◌≡◌, ◌<◌, ◌≤◌, ◌+◌, ◌∷◌, IfSome, length};
+ghost use Rattle.std.specs.Iterator.{YieldsFirstRef, item_count};
 ghost use Rattle.std.specs.List.{position};
-ghost use Rattle.text_lines.specs.Lines.{without_mark, without_return, is_feed, lines_in, lines_behind};
+ghost use Rattle.text_lines.specs.Lines.{without_mark, without_return, is_feed, lines_in, lines_behind, lines_left};
 
 use bstr::ByteSlice;
 
@@ -57,5 +58,36 @@ pub fn cut_line(text: &[u8]) -> Cut<'_>
             line: without_return(&text[..end]),
             after: Some(&text[end + 1..]),
         },
+    }
+}
+
+/// The lines of a text, one after the other.
+#[derive(Drop)]
+pub struct Lines<'a> {
+    left: Option<&'a [u8]>,
+}
+
+impl<'a> Lines<'a> {
+    /// All lines of a text.
+    #[tactic(auto, using(crate::proofs::LineCuts::few_lines))]
+    pub fn of(text: &'a [u8]) -> Lines<'a>
+        ensures lines { lines_left result ≡ lines_in text.now }
+        ensures few { length (lines_in text.now) ≤ length text.now + 1 }
+    {
+        Lines { left: Some(text) }
+    }
+}
+
+impl<'a> Iterator for Lines<'a> {
+    type Item = &'a [u8];
+
+    ghost next_gives = { YieldsFirstRef lines_left };
+
+    ghost remaining = { item_count lines_left };
+
+    fn next(&mut self) -> Option<&'a [u8]> {
+        let cut = cut_line(self.left?);
+        self.left = cut.after;
+        Some(cut.line)
     }
 }

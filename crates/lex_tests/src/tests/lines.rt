@@ -1,6 +1,6 @@
 //! How texts fall into lines and fields.
 use std::process::Abort;
-use text_lines::{cut_line, find_blank, find_filled, next_field, without_mark};
+use text_lines::{Lines, cut_line, find_blank, find_filled, next_field, without_mark};
 
 /// Texts and their lines.
 const TEXTS: [(&[u8], &[&[u8]]); 8] = [
@@ -19,13 +19,16 @@ const TEXTS: [(&[u8], &[&[u8]]); 8] = [
 
 fn assert_lines(rt: &impl Abort, text: &[u8], lines: &[&[u8]]) {
     let mut left = Some(without_mark(text));
+    let mut all = Lines::of(without_mark(text));
     for line in lines {
         assert!(rt; left.is_some(), "{:?}", text);
         let cut = cut_line(left.unwrap_or(&[]));
         assert_eq!(rt; cut.line, *line, "{:?}", text);
         left = cut.after;
+        assert_eq!(rt; all.next(), Some(*line), "{:?}", text);
     }
     assert!(rt; left.is_none(), "{:?}", text);
+    assert!(rt; all.next().is_none(), "{:?}", text);
 }
 
 #[test]
