@@ -1,5 +1,5 @@
 //! The statement of one line of a rules text.
-ghost use Rattle.std.specs.Prelude.{◌≡◌, ◌<◌, IfOk, IfSome};
+ghost use Rattle.std.specs.Prelude.{◌≡◌, ◌≢◌, ◌<◌, ◌∷◌, [], IfNone, IfSome, length};
 ghost use Rattle.ref_tiles.specs.Statements.{kind_in, row_in, parameter_in, tile_of, row_of, tile_in, premiums_in, number_in, statement_in, statement_of, IsPlace, IsLinePlace};
 ghost use Rattle.text_lines.specs.Fields.{fields_of};
 
@@ -112,6 +112,38 @@ fn premiums(codes: &[u8]) -> Option<[Premium; SIDE]>
     Some(premiums)
 }
 
+/// The only field of a text; none where it has not exactly one.
+fn one_field(text: &[u8]) -> Option<&[u8]>
+    ensures none { IfNone result (length (fields_of text.now) ≢ 1) }
+    ensures fields { IfSome result (λ field. fields_of text.now ≡ field.now ∷ []) }
+{
+    let field = next_field(text)?;
+    if next_field(field.after).is_some() {
+        return None;
+    }
+    Some(field.bytes)
+}
+
+/// The fields of a text with two; none where it has not exactly two.
+fn two_fields(text: &[u8]) -> Option<(&[u8], &[u8])>
+    ensures none { IfNone result (length (fields_of text.now) ≢ 2) }
+    ensures fields { IfSome result (λ pair. fields_of text.now ≡ pair.0.now ∷ pair.1.now ∷ []) }
+{
+    let first = next_field(text)?;
+    let second = one_field(first.after)?;
+    Some((first.bytes, second))
+}
+
+/// The fields of a text with three; none where it has not exactly three.
+fn three_fields(text: &[u8]) -> Option<(&[u8], &[u8], &[u8])>
+    ensures none { IfNone result (length (fields_of text.now) ≢ 3) }
+    ensures fields { IfSome result (λ all. fields_of text.now ≡ all.0.now ∷ all.1.now ∷ all.2.now ∷ []) }
+{
+    let first = next_field(text)?;
+    let (second, third) = two_fields(first.after)?;
+    Some((first.bytes, second, third))
+}
+
 /// What is stated of a tile.
 #[tactic(auto, unfolding(crate::specs::Statements::tile_of))]
 fn tile(name: &[u8], count: &[u8], points: &[u8]) -> Result<Statement, RulesWhy>
@@ -137,45 +169,30 @@ fn tile(name: &[u8], count: &[u8], points: &[u8]) -> Result<Statement, RulesWhy>
 }
 
 /// The statement of a line about a tile, behind its first field.
-#[tactic(auto, unfolding(crate::specs::Statements::tile_in))]
+#[tactic(auto, using(crate::proofs::FieldCounts::tile_of_others), unfolding(crate::specs::Statements::tile_in))]
 fn read_tile(text: &[u8]) -> Result<Statement, RulesWhy>
     ensures statement { result ≡ tile_in (fields_of text.now) }
     ensures place { IsPlace result }
 {
-    let Some(name) = next_field(text) else {
+    let Some((name, count, points)) = three_fields(text) else {
         return Err(RulesWhy::Fields);
     };
-    let Some(count) = next_field(name.after) else {
-        return Err(RulesWhy::Fields);
-    };
-    let Some(points) = next_field(count.after) else {
-        return Err(RulesWhy::Fields);
-    };
-    if next_field(points.after).is_some() {
-        return Err(RulesWhy::Fields);
-    }
-    tile(name.bytes, count.bytes, points.bytes)
+    tile(name, count, points)
 }
 
 /// The statement of a line about a row, behind its first field.
-#[tactic(auto, unfolding(crate::specs::Statements::row_of))]
+#[tactic(auto, using(crate::proofs::FieldCounts::row_of_others), unfolding(crate::specs::Statements::row_of))]
 fn read_row(text: &[u8]) -> Result<Statement, RulesWhy>
     ensures statement { result ≡ row_of (fields_of text.now) }
     ensures place { IsPlace result }
 {
-    let Some(number) = next_field(text) else {
+    let Some((number, codes)) = two_fields(text) else {
         return Err(RulesWhy::Fields);
     };
-    let Some(codes) = next_field(number.after) else {
-        return Err(RulesWhy::Fields);
-    };
-    if next_field(codes.after).is_some() {
-        return Err(RulesWhy::Fields);
-    }
-    let Some(row) = row_of_digits(number.bytes) else {
+    let Some(row) = row_of_digits(number) else {
         return Err(RulesWhy::Name);
     };
-    let Some(premiums) = premiums(codes.bytes) else {
+    let Some(premiums) = premiums(codes) else {
         return Err(RulesWhy::Name);
     };
     Ok(Statement {
@@ -185,19 +202,16 @@ fn read_row(text: &[u8]) -> Result<Statement, RulesWhy>
 }
 
 /// The statement of a line about a parameter, behind its first field.
-#[tactic(auto, unfolding(crate::specs::Statements::number_in))]
+#[tactic(auto, using(crate::proofs::FieldCounts::number_of_others), unfolding(crate::specs::Statements::number_in))]
 fn read_number(item: usize, text: &[u8]) -> Result<Statement, RulesWhy>
     requires { item < 47 }
     ensures statement { result ≡ number_in item (fields_of text.now) }
     ensures place { IsPlace result }
 {
-    let Some(number) = next_field(text) else {
+    let Some(digits) = one_field(text) else {
         return Err(RulesWhy::Fields);
     };
-    if next_field(number.after).is_some() {
-        return Err(RulesWhy::Fields);
-    }
-    let Some(number) = numeral(MAX_DIGITS, number.bytes) else {
+    let Some(number) = numeral(MAX_DIGITS, digits) else {
         return Err(RulesWhy::Number);
     };
     Ok(Statement {
