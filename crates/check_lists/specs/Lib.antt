@@ -1,2 +1,3 @@
 pub mod Checks
+pub mod FirstBad
 pub mod Laws

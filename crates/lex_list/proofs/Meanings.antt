@@ -1,12 +1,11 @@
 -- What the words of lines are: a word list, with the words that the lines hold.
-use Rattle.std.specs.Prelude.{option_map, nat_eq}
+use Rattle.std.specs.Prelude.{nat_eq}
 use Rattle.std.proofs.Common.{◌≡◌, ℕ, ◌+◌, ◌≤◌, Bool, true, false, cond, ◌||◌, leb, ltb, List, [], ◌∷◌, ◌++◌, length, Option, Some, None, Result, Ok, Err, arith, sym, ap, refl, ◌∙◌, subst, append_assoc, append-nil, inl, inr, ◌⊎◌}
 use Rattle.std.specs.BTreeSet.{insert_key}
 use Rattle.std.specs.Char.{is_ascii_alphabetic, is_ascii_uppercase, to_ascii_uppercase}
 use Rattle.std.specs.Cmp.Lexicographic.{pointwise}
 use Rattle.std.specs.List.{fold, list_all, list_any}
 use Rattle.std.specs.List.Sorted.{IsStrictlySortedBy}
-use Rattle.std.specs.Option.{option_or}
 use Rattle.std.proofs.Math.Bool.{or-false}
 use Rattle.std.proofs.lemmas.Bool.{and_parts, leb-true, false≢true}
 use Rattle.std.proofs.lemmas.Bool.Decides.{nat_tests}
@@ -15,21 +14,17 @@ use Rattle.std.proofs.lemmas.List.Folds.{Any-from_list_any, list_any-from_Any}
 use Rattle.std.proofs.lemmas.Slice.Eq.{bytes_eq-Decides}
 use Rattle.check_lists.specs.Checks.{passes, or_fault}
 use Rattle.check_lists.proofs.CheckLaws.{checked, none_first, or_fault_some}
-use Rattle.lex_list.specs.declared.faults.ListWhy.{ListWhy}
+use Rattle.check_lists.proofs.FirstBadLaws.{no_earlier, first_bad-is}
 use Rattle.lex_list.specs.declared.faults.ListWhy.TheVariants as why
 use Rattle.lex_list.specs.declared.faults.ListFault.{ListFault}
 use Rattle.lex_list.specs.Faults.{no_memory}
 use Rattle.lex_list.specs.Lines.{lines_of}
 use Rattle.lex_list.specs.Words.{most_words, has_word_length, is_word, word_order, is_listed, IsWordList}
-use Rattle.lex_list.specs.Lists.{list_of, spelling_fault, capitals, with_line, words_in, fault_of, first_bad_line, at_line, list_in, Holds, HoldsWordsOf, IsFirstFault, IsFaultOf, most_list_bytes}
+use Rattle.lex_list.specs.Lists.{list_of, spelling_fault, capitals, with_line, words_in, fault_of, fault_behind, first_bad_line, at_line, list_in, Holds, HoldsWordsOf, IsFirstFault, IsFaultOf, most_list_bytes}
 use Rattle.lex_list.proofs.Orders.{ordered_more, all_more, any_more, listed_from_member, member_from_listed}
 use Rattle.lex_list.proofs.Steps.{words_in_more}
 
 -- ---- a line without a fault
-
-no_earlier : (n : ℕ) (o : Option ListWhy) (later : Option ListFault) → option_or (option_map (at_line n) o) later ≡ None → (o ≡ None) × (later ≡ None)
-no_earlier n None later e = (refl, e)
-no_earlier n (Some w) later e = absurd cc
 
 capital_is : (byte : ℕ) → is_ascii_alphabetic byte ≡ true → is_ascii_uppercase (to_ascii_uppercase byte) ≡ true
 capital_is byte e = grind (arith, nat_tests)
@@ -65,7 +60,7 @@ proper_from : (before rest : List (List ℕ)) → IsWordList (words_in before) �
 unfolding first_bad_line
 proper_from before [] p e = subst (λ lines. IsWordList (words_in lines)) (sym (append-nil before)) p
 proper_from before (line ∷ rest) p e =
-    let parts = no_earlier (length before + 1) (fault_of (words_in before) line) (first_bad_line (before ++ line ∷ []) rest) e in
+    let parts = no_earlier (at_line (length before + 1)) (fault_of (words_in before) line) (first_bad_line (before ++ line ∷ []) rest) e in
     let more : IsWordList (words_in (before ++ line ∷ [])) = rw (words_in_more before line) (proper_more (words_in before) line p parts.0) in
     rw append_assoc at (proper_from (before ++ line ∷ []) rest more parts.1)
 
@@ -132,44 +127,10 @@ list_holds lines list e =
 
 -- ---- the first fault
 
-first_bad_line-append : (a xs ys : List (List ℕ)) → first_bad_line a xs ≡ None → first_bad_line a (xs ++ ys) ≡ first_bad_line (a ++ xs) ys
-unfolding first_bad_line
-first_bad_line-append a [] ys e = rw (append-nil a) refl
-first_bad_line-append a (x ∷ xs) ys e =
-    let parts = no_earlier (length a + 1) (fault_of (words_in a) x) (first_bad_line (a ++ x ∷ []) xs) e in
-    let here : first_bad_line a (x ∷ (xs ++ ys)) ≡ first_bad_line (a ++ x ∷ []) (xs ++ ys) = rw parts.0 refl in
-    here ∙ first_bad_line-append (a ++ x ∷ []) xs ys parts.1 ∙ ap (λ front. first_bad_line front ys) (append_assoc a (x ∷ []) xs)
-
-one_more_none : (before : List (List ℕ)) (line : List ℕ) → first_bad_line [] before ≡ None → fault_of (words_in before) line ≡ None → first_bad_line [] (before ++ line ∷ []) ≡ None
-unfolding first_bad_line
-one_more_none before line e here = first_bad_line-append [] before (line ∷ []) e ∙ rw here refl
-
-first_from : (before rest : List (List ℕ)) (fault : ListFault) → first_bad_line [] before ≡ None → first_bad_line before rest ≡ Some fault → IsFirstFault (before ++ rest) fault
-unfolding first_bad_line list_in
-first_from before [] fault none e = absurd cc
-first_from before (line ∷ rest) fault none e =
-    by (fault_of (words_in before) line) refl (λ here later. first_from (before ++ line ∷ []) rest fault (one_more_none before line none here) later) e
-  where
-    by : (o : Option ListWhy) → fault_of (words_in before) line ≡ o
-        → (fault_of (words_in before) line ≡ None → first_bad_line (before ++ line ∷ []) rest ≡ Some fault → IsFirstFault ((before ++ line ∷ []) ++ rest) fault)
-        → option_or (option_map (at_line (length before + 1)) o) (first_bad_line (before ++ line ∷ []) rest) ≡ Some fault → IsFirstFault (before ++ line ∷ rest) fault
-    by None here later e = subst (λ lines. IsFirstFault lines fault) (append_assoc before (line ∷ []) rest) (later here e)
-    by (Some w) here later e =
-        let is : at_line (length before + 1) w ≡ fault = cc in
-        record {
-          before = before;
-          line = line;
-          behind = rest;
-          whole = refl;
-          earlier = rw none refl;
-          number = ap (λ f. f.line) (sym is);
-          fails = here ∙ ap (λ f. Some f.why) is;
-        }
-
 -- the fault of lines is that of the first with one
 pub list_first : (lines : List (List ℕ)) (fault : ListFault) → list_in lines ≡ Err fault → IsFirstFault lines fault
 unfolding list_in first_bad_line
-list_first lines fault e = first_from [] lines fault refl (or_fault_some (first_bad_line [] lines) (words_in lines) fault e)
+list_first lines fault e = first_bad-is at_line fault_behind lines fault (or_fault_some (first_bad_line [] lines) (words_in lines) fault e)
 
 -- the fault of a text that is not too long
 pub text_fault : (text : List ℕ) (lines : List (List ℕ)) (fault : ListFault) → length text ≤ most_list_bytes → lines ≡ lines_of text

@@ -1,10 +1,11 @@
 -- Lines read one after the other.
 use Rattle.std.specs.Prelude.{option_map}
-use Rattle.std.proofs.Common.{◌≡◌, ℕ, ◌+◌, ◌<◌, ◌≤◌, arith, List, [], ◌∷◌, ◌++◌, length, Some, None, Ok, Err, sym, subst, ap, ◌∙◌, refl, ◌⊎◌, inl, inr, append_assoc, append-nil, true, false}
+use Rattle.std.proofs.Common.{◌≡◌, ℕ, ◌+◌, ◌<◌, ◌≤◌, arith, List, [], ◌∷◌, ◌++◌, length, Some, None, Ok, Err, sym, subst, ap, ◌∙◌, refl, ◌⊎◌, inl, inr, append_assoc, true, false}
 use Rattle.std.proofs.lemmas.Bool.{lt-leb, le-leb}
 use Rattle.std.proofs.lemmas.List.{length-append, length_push}
 use Rattle.std.proofs.lemmas.List.Sums.{fold-append}
 use Rattle.check_lists.proofs.CheckLaws.{or_fault_none, or_fault_some}
+use Rattle.check_lists.proofs.FirstBadLaws.{none_left}
 use Rattle.lex_list.specs.declared.faults.ListWhy.{ListWhy}
 use Rattle.lex_list.specs.declared.faults.ListFault.{ListFault}
 use Rattle.lex_list.specs.Faults.{no_memory}
@@ -12,7 +13,7 @@ use Rattle.std.specs.BTreeSet.{insert_key}
 use Rattle.std.proofs.Common.{leb}
 use Rattle.lex_list.specs.declared.faults.ListWhy.TheVariants as why
 use Rattle.lex_list.specs.Words.{word_order, most_words}
-use Rattle.lex_list.specs.Lists.{with_line, words_in, spelling_fault, fault_of, first_bad_line, at_line, list_in, line_in, capitals}
+use Rattle.lex_list.specs.Lists.{with_line, words_in, spelling_fault, fault_of, fault_behind, first_bad_line, at_line, list_in, line_in, capitals}
 
 -- how far a reading has come: these are the words of the lines so far, of which there are so many, and what is
 -- wrong with the whole is wrong with what stands behind
@@ -73,9 +74,8 @@ progress_room lines words n behind text others cut p = omega (arith, p.count, ap
 pub progress_done : (lines words : List (List ℕ)) (n : ℕ) (behind : List (List ℕ)) → behind ≡ [] → Progress lines words n behind → list_in lines ≡ Ok words
 unfolding first_bad_line list_in
 progress_done lines words n behind none p =
-    let fine : first_bad_line [] lines ≡ None = sym p.same ∙ ap (first_bad_line p.before) none in
-    let all : p.before ≡ lines = sym (append-nil p.before) ∙ ap (λ rest. p.before ++ rest) (sym none) ∙ p.whole in
-    rw fine (ap Ok (sym (p.there ∙ ap words_in all)))
+    let all = none_left at_line fault_behind lines p.before behind none p.same p.whole in
+    rw all.0 (ap Ok (sym (p.there ∙ ap words_in all.1)))
 
 -- what a loop over the lines of a text needs
 pub ruleset steps = (progress_empty, progress_more, progress_fails, progress_room, progress_done)

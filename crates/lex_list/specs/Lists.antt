@@ -1,11 +1,11 @@
 -- The word list of a text: the set of the words of its lines, or the first fault.
-use Rattle.std.specs.Prelude.{◌≡◌, ◌≢◌, ◌⊎◌, ℕ, ◌+◌, ◌<◌, ◌≤◌, nat_lt, nat_le, List, [], ◌∷◌, ◌++◌, length, map, Option, Some, None, Result, Ok, Err, ◌↔◌, if◌then◌else◌}
+use Rattle.std.specs.Prelude.{◌≡◌, ◌≢◌, ◌⊎◌, ℕ, ◌<◌, ◌≤◌, nat_lt, nat_le, List, [], ◌∷◌, length, map, Option, Some, None, Result, Ok, Err, ◌↔◌, if◌then◌else◌}
 use Rattle.std.specs.BTreeSet.{insert_key}
 use Rattle.std.specs.Char.{is_ascii_alphabetic, to_ascii_uppercase}
 use Rattle.std.specs.List.{fold, list_all, Any, Contains}
-use Rattle.std.specs.Option.{option_or}
 use Rattle.std.specs.Prelude.{option_map}
 use Rattle.check_lists.specs.Checks.{passes, first_fault, or_fault}
+use Rattle.check_lists.specs.FirstBad.{first_bad, IsFirstBad}
 use Rattle.lex_list.specs.declared.faults.ListWhy.{ListWhy}
 use Rattle.lex_list.specs.declared.faults.ListWhy.TheVariants as why
 use Rattle.lex_list.specs.declared.faults.ListFault.{ListFault}
@@ -46,11 +46,13 @@ fault_of words (byte ∷ line) =
 abbrev pub at_line : ℕ → ListWhy → ListFault
 at_line line w = record { line = line; why = w }
 
+-- what is wrong with a line behind these lines
+abbrev pub fault_behind : List (List ℕ) → List ℕ → Option ListWhy
+fault_behind before line = fault_of (words_in before) line
+
 -- the first fault of further lines; the lines before them have none, and are numbered from 1
 unfoldable pub first_bad_line : List (List ℕ) → List (List ℕ) → Option ListFault
-first_bad_line before [] = None
-first_bad_line before (line ∷ rest) =
-    option_or (option_map (at_line (length before + 1)) (fault_of (words_in before) line)) (first_bad_line (before ++ line ∷ []) rest)
+first_bad_line before lines = first_bad at_line fault_behind before lines
 
 -- the words of lines, or their first fault
 unfoldable pub list_in : List (List ℕ) → Result (List (List ℕ)) ListFault
@@ -73,14 +75,8 @@ HoldsWordsOf words lines = (word : List ℕ) → Contains words word ↔ Any (Ho
 
 -- A line is the first with a fault: the lines before it have none, and behind their words it has this one. Lines are
 -- numbered from 1.
-pub record IsFirstFault (lines : List (List ℕ)) (fault : ListFault) : Type 0 where
-  pub before : List (List ℕ)
-  pub line : List ℕ
-  pub behind : List (List ℕ)
-  pub whole : before ++ line ∷ behind ≡ lines
-  pub earlier : list_in before ≡ Ok (words_in before)
-  pub number : fault.line ≡ length before + 1
-  pub fails : fault_of (words_in before) line ≡ Some fault.why
+abbrev pub IsFirstFault : List (List ℕ) → ListFault → Type 0
+IsFirstFault lines fault = IsFirstBad at_line fault_behind lines fault
 
 -- what a text has for a fault, want of memory apart: it is too long, or else a line of it is the first with a fault
 abbrev pub IsFaultOf : List ℕ → ListFault → Type 0

@@ -6,6 +6,7 @@ use Rattle.std.specs.Option.{option_or, IsSomeAnd}
 use Rattle.std.proofs.lemmas.Bool.Decides.{eqb_tells}
 use Rattle.std.proofs.lemmas.List.Folds.{list_all_at}
 use Rattle.check_lists.specs.Checks.{passes, first_fault, or_fault}
+use Rattle.check_lists.proofs.FirstBadLaws.{no_earlier}
 use Rattle.text_lines.specs.Lines.{lines_of}
 use Rattle.ref_tiles.specs.declared.rules_faults.RulesWhy.{RulesWhy}
 use Rattle.ref_tiles.specs.declared.rules_faults.RulesWhy.TheVariants as why
@@ -19,7 +20,6 @@ use Rattle.ref_tiles.specs.RulesFaults.{at_line}
 use Rattle.ref_tiles.specs.Statements.{statement_of}
 use Rattle.ref_tiles.specs.RulesTexts.{stated_by, entry_in, entries_in, repeats, fault_behind, first_bad_line, parts_with, whole_fault, drafted, ended, Gives, IsOnce, AreOnce}
 use Rattle.ref_tiles.proofs.RulesSteps.{entry_in-append, entries_at, length-entries}
-use Rattle.ref_tiles.proofs.RulesMeanings.{no_earlier}
 
 some-or : (a b : Option Entry) → is_some a ≡ true → is_some (option_or a b) ≡ true
 some-or None b e = absurd cc
@@ -46,7 +46,7 @@ none_later : (front rest : List (List ℕ)) (item : ℕ) → first_bad_line fron
 unfolding first_bad_line entry_in
 none_later front [] item fine some = refl
 none_later front (line ∷ rest) item fine some =
-    let parts = no_earlier (length front + 1) (fault_behind front line) (first_bad_line (front ++ line ∷ []) rest) fine in
+    let parts = no_earlier (at_line (length front + 1)) (fault_behind front line) (first_bad_line (front ++ line ∷ []) rest) fine in
     let here = not_again front line item parts.0 some in
     let more : is_some (entry_in (front ++ line ∷ []) item) ≡ true = rw (entry_in-append front line item) (some-or (entry_in front item) (stated_by item (statement_of line)) some) in
     rw here (none_later (front ++ line ∷ []) rest item parts.1 more)
@@ -55,7 +55,7 @@ once_from : (before rest : List (List ℕ)) (item : ℕ) (e : Entry) → first_b
 unfolding first_bad_line entry_in
 once_from before [] item e fine none there = absurd cc
 once_from before (line ∷ rest) item e fine none there =
-    let parts = no_earlier (length before + 1) (fault_behind before line) (first_bad_line (before ++ line ∷ []) rest) fine in
+    let parts = no_earlier (at_line (length before + 1)) (fault_behind before line) (first_bad_line (before ++ line ∷ []) rest) fine in
     by (stated_by item (statement_of line)) refl parts.1
     (λ nothing behind. once_from (before ++ line ∷ []) rest item e parts.1 (entry_in-append before line item ∙ rw (none, nothing) refl) behind)
     there

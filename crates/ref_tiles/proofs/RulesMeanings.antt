@@ -1,10 +1,11 @@
 -- The rules that a text states, and its first fault.
 use Rattle.std.specs.Prelude.{option_map, IfErr}
-use Rattle.std.proofs.Common.{◌≡◌, ℕ, ◌+◌, ◌<◌, ◌≤◌, Bool, true, false, cond, ltb, arith, List, [], ◌∷◌, ◌++◌, length, Option, Some, None, Result, Ok, Err, sym, subst, ap, ◌∙◌, refl, ◌⊎◌, inl, inr, append_assoc, append-nil}
+use Rattle.std.proofs.Common.{◌≡◌, ℕ, ◌<◌, ◌≤◌, Bool, true, false, cond, ltb, arith, List, [], length, Option, Some, None, Result, Ok, Err, sym, subst, ap, ◌∙◌, refl, ◌⊎◌, inl, inr}
 use Rattle.std.specs.Option.{option_or}
 use Rattle.std.proofs.lemmas.Bool.Decides.{nat_tests}
 use Rattle.text_lines.specs.Lines.{lines_of}
 use Rattle.check_lists.specs.Checks.{or_fault}
+use Rattle.check_lists.proofs.FirstBadLaws.{first_bad-is}
 use Rattle.ref_tiles.specs.declared.rules_faults.RulesWhy.{RulesWhy}
 use Rattle.ref_tiles.specs.declared.rules_faults.RulesWhy.TheVariants as why
 use Rattle.ref_tiles.specs.declared.rules_faults.RulesFault.{RulesFault}
@@ -57,51 +58,9 @@ too_long text long =
 
 -- ---- the first fault
 
-pub no_earlier : (n : ℕ) (o : Option RulesWhy) (later : Option RulesFault) → option_or (option_map (at_line n) o) later ≡ None → (o ≡ None) × (later ≡ None)
-no_earlier n None later e = (refl, e)
-no_earlier n (Some w) later e = absurd cc
-
-first_bad_line-append : (a xs ys : List (List ℕ)) → first_bad_line a xs ≡ None → first_bad_line a (xs ++ ys) ≡ first_bad_line (a ++ xs) ys
-unfolding first_bad_line
-first_bad_line-append a [] ys e = rw (append-nil a) refl
-first_bad_line-append a (x ∷ xs) ys e =
-    let parts = no_earlier (length a + 1) (fault_behind a x) (first_bad_line (a ++ x ∷ []) xs) e in
-    let here : first_bad_line a (x ∷ (xs ++ ys)) ≡ first_bad_line (a ++ x ∷ []) (xs ++ ys) = rw parts.0 refl in
-    here ∙ first_bad_line-append (a ++ x ∷ []) xs ys parts.1 ∙ ap (λ front. first_bad_line front ys) (append_assoc a (x ∷ []) xs)
-
-one_more_none : (before : List (List ℕ)) (line : List ℕ) → first_bad_line [] before ≡ None → fault_behind before line ≡ None → first_bad_line [] (before ++ line ∷ []) ≡ None
-unfolding first_bad_line
-one_more_none before line e here = first_bad_line-append [] before (line ∷ []) e ∙ rw here refl
-
-first_from : (before rest : List (List ℕ)) (fault : RulesFault) → first_bad_line [] before ≡ None → first_bad_line before rest ≡ Some fault → IsFirstFault (before ++ rest) fault
-unfolding first_bad_line
-first_from before [] fault none e = absurd cc
-first_from before (line ∷ rest) fault none e =
-    by (fault_behind before line) refl (λ here later. first_from (before ++ line ∷ []) rest fault (one_more_none before line none here) later) e
-  where
-    by : (o : Option RulesWhy) → fault_behind before line ≡ o
-        → (fault_behind before line ≡ None → first_bad_line (before ++ line ∷ []) rest ≡ Some fault → IsFirstFault ((before ++ line ∷ []) ++ rest) fault)
-        → option_or (option_map (at_line (length before + 1)) o) (first_bad_line (before ++ line ∷ []) rest) ≡ Some fault → IsFirstFault (before ++ line ∷ rest) fault
-    by None here later e = subst (λ lines. IsFirstFault lines fault) (append_assoc before (line ∷ []) rest) (later here e)
-    by (Some w) here later e =
-        let is : at_line (length before + 1) w ≡ fault = cc in
-        record {
-          before = before;
-          line = line;
-          behind = rest;
-          whole = refl;
-          earlier = none;
-          number = ap (λ f. f.line) (sym is);
-          fails = here ∙ ap (λ f. Some f.why) is;
-        }
-
-no_line : first_bad_line [] [] ≡ None
-unfolding first_bad_line
-no_line = refl
-
 -- the fault of lines
 lines_fault : (lines : List (List ℕ)) (fault : RulesFault) → parts_in lines ≡ Err fault → IsFirstFault lines fault ⊎ IsWholeFault lines fault
-unfolding parts_in
+unfolding parts_in first_bad_line
 lines_fault lines fault e = by (first_bad_line [] lines) refl e
   where
     whole : (o : Option RulesWhy) → whole_fault (entries_in lines) ≡ o → first_bad_line [] lines ≡ None → or_fault (option_map (at_line 0) o) (parts_with (entries_in lines)) ≡ Err fault
@@ -115,7 +74,7 @@ lines_fault lines fault e = by (first_bad_line [] lines) refl e
         → or_fault (option_or o (option_map (at_line 0) (whole_fault (entries_in lines)))) (parts_with (entries_in lines)) ≡ Err fault
         → IsFirstFault lines fault ⊎ IsWholeFault lines fault
     by None none e = inr (whole (whole_fault (entries_in lines)) refl none e)
-    by (Some f) is e = let same : f ≡ fault = cc in inl (first_from [] lines fault no_line (is ∙ ap Some same))
+    by (Some f) is e = let same : f ≡ fault = cc in inl (first_bad-is at_line fault_behind lines fault (is ∙ ap Some same))
 
 -- the fault of a text
 pub text_fault : (text : List ℕ) (fault : RulesFault) → meaning_of text ≡ Err fault → IsFaultOf text fault

@@ -1,12 +1,13 @@
 -- The lines of a rules text read one after the other.
 use Rattle.std.specs.Prelude.{option_map, is_some, slice_set}
-use Rattle.std.proofs.Common.{◌≡◌, ◌≢◌, ℕ, ◌+◌, ◌<◌, cond, eqb, arith, List, [], ◌∷◌, ◌++◌, length, get_or, replicate, Option, Some, None, Result, Ok, Err, sym, subst, ap, ◌∙◌, refl, inl, inr, append_assoc, append-nil}
+use Rattle.std.proofs.Common.{◌≡◌, ◌≢◌, ℕ, ◌+◌, ◌<◌, cond, eqb, arith, List, [], ◌∷◌, ◌++◌, length, get_or, replicate, Option, Some, None, Result, Ok, Err, sym, subst, ap, ◌∙◌, refl, inl, inr, append_assoc}
 use Rattle.std.specs.Option.{option_or}
 use Rattle.std.proofs.lemmas.List.{length-append, length_push, get_or-set_same, get_or-set_other, length-set}
 use Rattle.std.proofs.lemmas.List.FromFn.{length-map-range_with_len, get_or-map-range_with_len, fill_by_all}
 use Rattle.std.proofs.lemmas.Bool.Decides.{eqb_tells, nat_tests}
 use Rattle.check_lists.specs.Checks.{or_fault}
 use Rattle.check_lists.proofs.CheckLaws.{or_fault_none, or_fault_some}
+use Rattle.check_lists.proofs.FirstBadLaws.{none_left}
 use Rattle.ref_tiles.specs.declared.rules_faults.RulesWhy.{RulesWhy}
 use Rattle.ref_tiles.specs.declared.rules_faults.RulesWhy.TheVariants as why
 use Rattle.ref_tiles.specs.declared.rules_faults.RulesFault.{RulesFault}
@@ -154,9 +155,8 @@ pub progress_done : (lines : List (List ℕ)) (entries : List (Option Entry)) (n
     → drafted lines ≡ Ok entries
 unfolding first_bad_line drafted
 progress_done lines entries n behind none p =
-    let fine : first_bad_line [] lines ≡ None = sym p.same ∙ ap (first_bad_line p.before) none in
-    let all : p.before ≡ lines = sym (append-nil p.before) ∙ ap (λ rest. p.before ++ rest) (sym none) ∙ p.whole in
-    rw fine (ap Ok (sym (p.there ∙ ap entries_in all)))
+    let all = none_left at_line fault_behind lines p.before behind none p.same p.whole in
+    rw all.0 (ap Ok (sym (p.there ∙ ap entries_in all.1)))
 
 -- what a loop over the lines of a text needs
 pub ruleset steps = (progress_empty, progress_more, progress_fails, progress_room, progress_done)

@@ -1,8 +1,9 @@
 -- The rules of a text: what its lines state, or the first fault.
-use Rattle.std.specs.Prelude.{◌≡◌, ◌⊎◌, ℕ, ◌+◌, ◌/◌, ◌%◌, ◌<◌, ◌≤◌, ◌==◌, nat_lt, List, [], ◌∷◌, ◌++◌, length, map, slice_index_or, slice_set, Option, Some, None, is_some, Result, Ok, Err, if◌then◌else◌}
+use Rattle.std.specs.Prelude.{◌≡◌, ◌⊎◌, ℕ, ◌/◌, ◌%◌, ◌<◌, ◌≤◌, ◌==◌, nat_lt, List, [], ◌∷◌, ◌++◌, length, map, slice_index_or, slice_set, Option, Some, None, is_some, Result, Ok, Err, if◌then◌else◌}
 use Rattle.std.specs.List.{list_all, range_with_len}
 use Rattle.std.specs.Option.{option_or, option_map, IsSomeAnd}
 use Rattle.check_lists.specs.Checks.{passes, first_fault, or_fault}
+use Rattle.check_lists.specs.FirstBad.{first_bad, IsFirstBad}
 use Rattle.text_lines.specs.Lines.{lines_of}
 use Rattle.ref_tiles.specs.declared.rules_faults.RulesWhy.{RulesWhy}
 use Rattle.ref_tiles.specs.declared.rules_faults.RulesWhy.TheVariants as why
@@ -53,9 +54,7 @@ fault_behind before line = repeats before (statement_of line)
 
 -- the first fault of further lines; the lines before them have none, and are numbered from 1
 unfoldable pub first_bad_line : List (List ℕ) → List (List ℕ) → Option RulesFault
-first_bad_line before [] = None
-first_bad_line before (line ∷ rest) =
-    option_or (option_map (at_line (length before + 1)) (fault_behind before line)) (first_bad_line (before ++ line ∷ []) rest)
+first_bad_line before lines = first_bad at_line fault_behind before lines
 
 -- ---- the rules that entries state
 
@@ -136,14 +135,8 @@ Gives (Err fault) meaning = meaning ≡ Err fault
 
 -- A line is the first with a fault: the lines before it have none, and behind them it has this one. Lines are numbered
 -- from 1.
-pub record IsFirstFault (lines : List (List ℕ)) (fault : RulesFault) : Type 0 where
-  pub before : List (List ℕ)
-  pub line : List ℕ
-  pub behind : List (List ℕ)
-  pub whole : before ++ line ∷ behind ≡ lines
-  pub earlier : first_bad_line [] before ≡ None
-  pub number : fault.line ≡ length before + 1
-  pub fails : fault_behind before line ≡ Some fault.why
+abbrev pub IsFirstFault : List (List ℕ) → RulesFault → Type 0
+IsFirstFault lines fault = IsFirstBad at_line fault_behind lines fault
 
 -- no line has a fault, and this is wrong with the whole
 pub record IsWholeFault (lines : List (List ℕ)) (fault : RulesFault) : Type 0 where
