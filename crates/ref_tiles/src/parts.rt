@@ -71,35 +71,25 @@ impl Rules {
         ensures limits { IsSome result ↔ IsTrue (are_in_limits parts) }
         ensures parts { IfSome result (λ rules. parts_of rules ≡ parts) }
     {
-        let RuleParts {
-            counts,
-            points,
-            premiums,
-            bonus,
-            exchange_min,
-            zero_limit,
-            challenge_unit,
-            time_step,
-        } = parts;
-        if !is_tile_set(&counts) || !are_points(&points) || bonus > MAX_BONUS {
+        if !is_tile_set(&parts.counts) || !are_points(&parts.points) || parts.bonus > MAX_BONUS {
             return None;
         }
-        if !is_parameter(exchange_min)
-            || !is_parameter(zero_limit)
-            || !is_parameter(challenge_unit)
-            || !is_parameter(time_step)
+        if !is_parameter(parts.exchange_min)
+            || !is_parameter(parts.zero_limit)
+            || !is_parameter(parts.challenge_unit)
+            || !is_parameter(parts.time_step)
         {
             return None;
         }
         Some(Rules {
-            counts,
-            points,
-            premiums,
-            bonus,
-            exchange_min,
-            zero_limit,
-            challenge_unit,
-            time_step,
+            counts: parts.counts,
+            points: parts.points,
+            premiums: parts.premiums,
+            bonus: parts.bonus,
+            exchange_min: parts.exchange_min,
+            zero_limit: parts.zero_limit,
+            challenge_unit: parts.challenge_unit,
+            time_step: parts.time_step,
         })
     }
 
