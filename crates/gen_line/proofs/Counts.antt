@@ -4,26 +4,15 @@ use Rattle.std.proofs.lemmas.Bool.{cases_eq, cases_Bool, cond_both, ne_eqb, eq-e
 use Rattle.std.proofs.lemmas.List.{map-id}
 use Rattle.std.proofs.lemmas.Simd.{map-map}
 use Rattle.std.proofs.Math.Bool.{and-true}
+use Rattle.ref_tiles.proofs.Tallies.{tally, once, tally-append, tally-map, tally-never}
 use Rattle.gen_line.specs.declared.cells.Cell.{Cell}
 use Rattle.gen_line.specs.declared.cells.Cell.TheVariants.{Old, Free}
 use Rattle.gen_line.specs.declared.cells.Open.{Open}
 use Rattle.gen_line.specs.Entries.{label_of}
 use Rattle.gen_line.specs.Model.{join_range, zeros, after, longer, may, less, one_try, tries, leaf, right, starts_free, turn, left}
-use Rattle.gen_line.proofs.Tests.{same, fits_right, fits_turn, behind_zeros, fits_left, tally, once, Each}
+use Rattle.gen_line.proofs.Tests.{same, fits_right, fits_turn, behind_zeros, fits_left, Each}
 
 -- ---- tallies
-
-pub tally-append : {X : Type 0} (q : X → Bool) (xs ys : List X) → tally q (xs ++ ys) ≡ tally q xs + tally q ys
-tally-append q [] ys = omega arith
-tally-append q (x ∷ xs) ys = let e = tally-append q xs ys in omega arith
-
-pub tally-map : {X Y : Type 0} (q : Y → Bool) (f : X → Y) (xs : List X) → tally q (map f xs) ≡ tally (λ x. q (f x)) xs
-tally-map q f [] = refl
-tally-map q f (x ∷ xs) = ap (λ n. once (q (f x)) + n) (tally-map q f xs)
-
-pub tally-never : {X : Type 0} (q : X → Bool) → ((x : X) → q x ≡ false) → (xs : List X) → tally q xs ≡ 0
-tally-never q h [] = refl
-tally-never q h (x ∷ xs) = rw (h x) (rw (tally-never q h xs))
 
 pub tally-and : {X : Type 0} (b : Bool) (q : X → Bool) (xs : List X) → tally (λ x. b && q x) xs ≡ (if b then tally q xs else 0)
 tally-and true q xs = refl

@@ -5,10 +5,11 @@ use Rattle.std.specs.List.{AllPairs}
 use Rattle.std.proofs.lemmas.List.Elements.{Contains-get_or}
 use Rattle.std.proofs.lemmas.List.Kept.{AllPairs-cons}
 use Rattle.std.proofs.lemmas.Bool.{cases_Bool}
+use Rattle.ref_tiles.proofs.Tallies.{tally, once}
 use Rattle.gen_line.specs.declared.cells.Cell.{Cell}
 use Rattle.gen_line.specs.Moves.{IsMove, Labelled, AreSplits}
 use Rattle.gen_line.specs.Model.{line_moves}
-use Rattle.gen_line.proofs.Tests.{same, tally, once, owes}
+use Rattle.gen_line.proofs.Tests.{same, owes}
 use Rattle.gen_line.proofs.Counts.{same-true}
 use Rattle.gen_line.proofs.Joins.{same-self, any_of, any_of-some, any_of-from}
 use Rattle.gen_line.proofs.Owing.{owed, owes_from, owed_move, move_owed}

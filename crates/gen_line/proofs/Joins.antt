@@ -3,12 +3,13 @@
 use Rattle.std.proofs.Common.{◌≡◌, ℕ, zero, suc, ◌+◌, ◌-◌, ◌<◌, ◌≤◌, Bool, true, false, ◌&&◌, ◌||◌, ◌==◌, nat_lt, if◌then◌else◌, List, [], ◌∷◌, map, length, get_or, refl, sym, ap, ◌∙◌, arith, ⊎_elim}
 use Rattle.std.proofs.lemmas.Bool.{cases_eq, cases_Bool, ne_eqb, eq-eqb, ltb-true, lt-ltb, cases_lt, and_parts, and_from, or_cases, or_left, or_right, false_from_ne_true, false≢true}
 use Rattle.std.proofs.lemmas.List.{get_or-set_same, get_or-set_other, get_or_past}
+use Rattle.ref_tiles.proofs.Tallies.{tally, once, tally-append, tally-map}
 use Rattle.gen_line.specs.Entries.{kind_of, uses}
 use Rattle.gen_line.specs.Model.{join_range, less}
-use Rattle.gen_line.proofs.Tests.{same, tally, once, Each}
+use Rattle.gen_line.proofs.Tests.{same, Each}
 use Rattle.gen_line.specs.Walk.{Every}
 use Rattle.gen_line.proofs.Meaning.{rack_ok}
-use Rattle.gen_line.proofs.Counts.{tally-append, tally-map, tally-and, once-or, once-and}
+use Rattle.gen_line.proofs.Counts.{tally-and, once-or, once-and}
 
 pub same-self : (x : List ℕ) → same x x ≡ true
 same-self [] = refl

@@ -3,13 +3,14 @@ use Rattle.std.proofs.Common.{map, ◌≡◌, ℕ, zero, suc, ◌+◌, ◌-◌, 
 use Rattle.std.proofs.lemmas.List.{get_or-drop, drop_more, take_more, take-append-drop, drop-drop, drop_at, take_at}
 use Rattle.std.proofs.lemmas.Bool.{cases_order, cases_lt, eqb-true, eq-eqb, and_parts, and_from, cond_both, both_ways, false≢true}
 use Rattle.std.proofs.lemmas.Bool.Decides.{same_from_decides}
+use Rattle.ref_tiles.proofs.Tallies.{tally, once}
 use Rattle.gen_line.specs.declared.cells.Cell.{Cell}
 use Rattle.gen_line.specs.declared.cells.Cell.TheVariants.{Old, Free}
 use Rattle.gen_line.specs.Entries.{label_of}
 use Rattle.gen_line.specs.Cells.{cell_at}
 use Rattle.gen_line.specs.Moves.{back}
 use Rattle.gen_line.specs.Model.{after, may, less, tries, left_of, rest_of_anchor, cell_moves, unwalk, line_moves}
-use Rattle.gen_line.proofs.Tests.{same, fits_turn, behind_zeros, fits_left, tally, once, Each, cell_fits, left_entries, walk, owes}
+use Rattle.gen_line.proofs.Tests.{same, fits_turn, behind_zeros, fits_left, Each, cell_fits, left_entries, walk, owes}
 use Rattle.gen_line.proofs.Meaning.{shape, rack_ok, no_bar, at_anchor}
 use Rattle.gen_line.proofs.Counts.{tries-nil, tries-each, each-left, same-true}
 use Rattle.gen_line.proofs.Joins.{same-self, any_of, each-join, each-map}

@@ -1,5 +1,6 @@
 -- The moves of one line through one anchor as a test, and how often a list has what a test holds for.
 use Rattle.std.proofs.Common.{◌≡◌, ℕ, zero, suc, ◌+◌, ◌==◌, ◌&&◌, ◌||◌, not, nat_lt, Bool, true, false, List, [], ◌∷◌, ◌++◌, length, drop, slice_index, if◌then◌else◌}
+use Rattle.ref_tiles.proofs.Tallies.{tally, once}
 use Rattle.gen_line.specs.declared.cells.Cell.{Cell}
 use Rattle.gen_line.specs.declared.cells.Cell.TheVariants.{Old, Free}
 use Rattle.gen_line.specs.Entries.{label_of}
@@ -43,15 +44,6 @@ fits_left g (Free m ∷ ls) cs rack [] = false
 fits_left g (Free m ∷ ls) cs rack (e ∷ os) =
     if e == 0 then behind_zeros (length ls) (fits_turn g cs rack) os
     else (not m.anchor && (nat_lt e 53 && may m rack e)) && fits_left (after g (label_of e)) ls cs (less rack e) os
-
--- how often a test holds
-abbrev pub tally : {X : Type 0} → (X → Bool) → List X → ℕ
-tally q [] = 0
-tally q (x ∷ xs) = (if q x then 1 else 0) + tally q xs
-
--- one where it is so
-abbrev pub once : Bool → ℕ
-once b = if b then 1 else 0
 
 -- each thing of the set once, and no other
 abbrev pub Each : (List ℕ → Bool) → List (List ℕ) → Type 0

@@ -1,11 +1,12 @@
 -- Lists over a range of places: what a join, a filter and a tally of it are, where one place alone counts.
-use Rattle.std.proofs.Common.{◌≡◌, ℕ, zero, suc, ◌+◌, ◌<◌, ◌≤◌, Bool, true, false, cond, ◌&&◌, ◌==◌, List, [], ◌∷◌, ◌++◌, map, length, get_or, refl, sym, ap, ◌∙◌, arith, ◌⊎◌, inl, inr, ⊎_elim}
+use Rattle.std.proofs.Common.{◌≡◌, ℕ, zero, suc, ◌+◌, ◌<◌, ◌≤◌, Bool, true, false, cond, ◌&&◌, ◌==◌, List, [], ◌∷◌, ◌++◌, length, get_or, refl, sym, ap, ◌∙◌, arith, ◌⊎◌, inl, inr, ⊎_elim}
 use Rattle.std.specs.Prelude.{filter, Contains, All}
 use Rattle.std.specs.List.{flat_map, range_with_len, list_any, list_all, AllPairs}
 use Rattle.std.proofs.lemmas.List.{append-nil}
 use Rattle.std.proofs.lemmas.List.Elements.{All-nil, All-cons, All-append, Contains-get_or}
 use Rattle.std.proofs.lemmas.List.Folds.{Any-from_list_any, list_any-from_Any}
 use Rattle.std.proofs.lemmas.Bool.{cases_Bool, cases_eq, and_parts, or_parts, ne_eqb}
+use Rattle.ref_tiles.proofs.Tallies.{once, tally, tally-append}
 
 -- a join whose pieces are all empty
 pub flat_map-none : {A : Type 0} (f : ℕ → List A) (a n : ℕ) → ((k : ℕ) → a ≤ k → k < a + n → f k ≡ []) → flat_map f (range_with_len a n) ≡ []
@@ -42,23 +43,6 @@ filter-only p a (suc n) m low high yes' h =
     (λ (ne : a ≡ m → ⊥).
     rw (h a (omega arith) (omega arith) ne) (filter-only p (a + 1) n m (omega arith) (omega arith) yes' (λ k b c. h k (omega arith) (omega arith))))
     (cases_eq a m)
-
--- how many elements pass
-abbrev pub once : Bool → ℕ
-once true = 1
-once false = 0
-
-abbrev pub tally : {X : Type 0} → (X → Bool) → List X → ℕ
-tally p [] = 0
-tally p (x ∷ xs) = once (p x) + tally p xs
-
-pub tally-append : {X : Type 0} (p : X → Bool) (xs ys : List X) → tally p (xs ++ ys) ≡ tally p xs + tally p ys
-tally-append p [] ys = omega arith
-tally-append p (x ∷ xs) ys = let e = tally-append p xs ys in omega arith
-
-pub tally-map : {X Y : Type 0} (p : Y → Bool) (f : X → Y) (xs : List X) → tally p (map f xs) ≡ tally (λ x. p (f x)) xs
-tally-map p f [] = refl
-tally-map p f (x ∷ xs) = ap (λ n. once (p (f x)) + n) (tally-map p f xs)
 
 pub tally-filter : {X : Type 0} (p q : X → Bool) (xs : List X) → tally p (filter q xs) ≡ tally (λ x. q x && p x) xs
 tally-filter p q [] = refl
@@ -105,10 +89,6 @@ tally-flat_map_only p f a (suc n) m low high h =
     let here = h a (omega arith) (omega arith) ne in
     let rest = tally-flat_map_only p f (a + 1) n m (omega arith) (omega arith) (λ k b c. h k (omega arith) (omega arith)) in omega arith)
     (cases_eq a m)
-
-pub tally-never : {X : Type 0} (p : X → Bool) → ((x : X) → p x ≡ false) → (xs : List X) → tally p xs ≡ 0
-tally-never p h [] = refl
-tally-never p h (x ∷ xs) = rw (h x) (rw (tally-never p h xs))
 
 -- an element with a test that it passes
 pub list_any-found : {X : Type 0} (p : X → Bool) (xs : List X) → list_any p xs ≡ true → (x : X) × Contains xs x × (p x ≡ true)

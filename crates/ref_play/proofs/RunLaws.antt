@@ -4,6 +4,7 @@ use Rattle.std.specs.Prelude.{filter, Contains, All, ◌↔◌}
 use Rattle.std.specs.List.{range_with_len, AllPairs}
 use Rattle.std.proofs.lemmas.List.Elements.{All-append, All-contains, All-map}
 use Rattle.std.proofs.lemmas.Bool.{and_parts, and_from, and_left, and_right, leb-true, le-leb, eqb-true, eq-eqb, ltb-true, lt-ltb, false_from_ne_true}
+use Rattle.ref_tiles.proofs.Tallies.{tally, once, tally-append, tally-map, tally-never}
 use Rattle.ref_tiles.specs.declared.tiles.Tile.{Tile}
 use Rattle.ref_board.specs.declared.directions.Dir.{Dir}
 use Rattle.ref_board.specs.declared.directions.Dir.TheVariants.{Across, Down}
@@ -15,7 +16,7 @@ use Rattle.ref_play.specs.declared.runs.Run.{Run}
 use Rattle.ref_play.specs.Placements.{fresh_on}
 use Rattle.ref_play.specs.Formed.{is_formed, stretches_on, run_of, runs_of_line, runs_along, runs_formed, is_on, MeetsRun}
 use Rattle.ref_play.specs.Directions.{same_dir}
-use Rattle.ref_play.proofs.RangeLaws.{tally, once, tally-append, tally-map, tally-filter, tally-range_none, tally-range_only, tally-flat_map_none, tally-flat_map_only, tally-never, list_any-found, list_any-in, All-filter_range, All-flat_map_range, Contains-from_tally, AllPairs-from_tally}
+use Rattle.ref_play.proofs.RangeLaws.{tally-filter, tally-range_none, tally-range_only, tally-flat_map_none, tally-flat_map_only, list_any-found, list_any-in, All-filter_range, All-flat_map_range, Contains-from_tally, AllPairs-from_tally}
 use Rattle.ref_play.proofs.LineLaws.{line_of-square_at, place_of-square_at, square_at-of, line_below, square_at_below, stretches_within, stretches_on-is, is_formed-parts, is_formed-from}
 
 -- the same run

@@ -1,6 +1,7 @@
 pub mod LetterLemmas
 pub mod SymbolLemmas
 pub mod Counted
+pub mod Tallies
 pub mod FieldCounts
 pub mod PartLimits
 pub mod RulesSteps
