@@ -12,7 +12,8 @@ use Rattle.gen_line.specs.Model.{line_moves}
 use Rattle.gen_line.proofs.Tests.{same, owes}
 use Rattle.gen_line.proofs.Counts.{same-true}
 use Rattle.gen_line.proofs.Joins.{same-self, any_of, any_of-some, any_of-from}
-use Rattle.gen_line.proofs.Owing.{owed, owes_from, owed_move, move_owed}
+use Rattle.gen_line.proofs.Owing.{owed, owes_from, move_owed}
+use Rattle.gen_line.proofs.Reaching.{owed_reach}
 use Rattle.gen_line.proofs.Lines.{each-line}
 
 -- ---- an element is counted
@@ -59,7 +60,8 @@ gives_the_moves g listed splits line rack y labelled = (
       let some = counted (line_moves g line rack) y c in
       let owing = any_of-some (λ h. owes g line rack h y) 0 15 (is_some (any_of (λ h. owes g line rack h y) 0 15) some each) in
       let below = owing.2 in
-      owed_move g listed splits line rack y owing.0 labelled (omega arith) (owed g line rack owing.0 y owing.3),
+      let reach = owed_reach g listed splits line rack y owing.0 labelled (omega arith) (owed g line rack owing.0 y owing.3) in
+      (reach.0, reach.1, reach.2),
   λ m.
       let owing = move_owed g listed splits line rack y m.0 m.1 labelled m.2 in
       let some = any_of-from (λ h. owes g line rack h y) 0 15 owing.0 (omega arith) owing.1 (owes_from g line rack owing.0 y owing.2) in

@@ -15,7 +15,7 @@ use Rattle.gen_line.proofs.Tests.{left_entries, walk, fits_left, cell_fits, owes
 use Rattle.gen_line.proofs.Meaning.{word, shape, rack_ok, rack_after, no_bar, at_anchor}
 use Rattle.gen_line.proofs.Joins.{rack_ok-uses, uses-rack_ok}
 use Rattle.gen_line.proofs.Means.{fits_left-means}
-use Rattle.gen_line.proofs.Shaping.{spelt, Shaped, shaped, shape_from}
+use Rattle.gen_line.proofs.Shaping.{spelt, Shaped, shape_from}
 use Rattle.gen_line.proofs.Sides.{left_of-size, left_entries-size, left_of-at, left_entries-at, left_entries-past, left-at, right-at, whole_word, spelt-positive, rack_ok-append, uses-walk}
 
 -- ---- what an anchor owes, in parts
@@ -42,6 +42,18 @@ sides_fit : (g : List ℕ → Bool) (line : List Cell) (rack : List ℕ) (h : �
 sides_fit g line rack h y =
     fits_left-means g (left_of line h) (drop (h + 1) line) rack (left_entries y h) (drop (h + 1) y) (left_entries-size y h ∙ sym (left_of-size line h))
 
+-- the tests of the new tile on the anchor: the square takes its letter, and the rack has it
+abbrev takes_letter : Open → ℕ → Bool
+takes_letter m e = slice_index_or m.mask (letter_of e) false
+
+abbrev has_tile : List ℕ → ℕ → Bool
+has_tile rack e = nat_lt 0 (get_or rack (kind_of e) 0)
+
+-- whether the lexicon has the path of the entries around the anchor
+abbrev has_path : (List ℕ → Bool) → List Cell → ℕ → List ℕ → Bool
+has_path g line h y =
+    g (label_of (get_or y h 0) ∷ (word (left_of line h) (left_entries y h) ++ marked (word (drop (h + 1) line) (drop (h + 1) y))))
+
 owed_free : (g : List ℕ → Bool) (line : List Cell) (rack : List ℕ) (h : ℕ) (y : List ℕ) (m : Open) → length y ≡ 15 → cell_at line h ≡ Free m
     → cell_fits g line h rack (Free m) (walk h y) ≡ true → Owed g line rack h y
 unfolding cell_fits may
@@ -50,21 +62,18 @@ owed_free g line rack h y m size is fit =
     let lefts = left_entries y h in
     let rights = drop (h + 1) y in
     let rest = less rack e in
-    let mask = slice_index_or m.mask (letter_of e) false in
-    let has = nat_lt 0 (get_or rack (kind_of e) 0) in
-    let goes = g (label_of e ∷ (word (left_of line h) lefts ++ marked (word (drop (h + 1) line) rights))) in
     let left = shape at_anchor (left_of line h) lefts in
     let right = shape no_bar (drop (h + 1) line) rights in
     let left_rack = rack_ok rest lefts in
     let right_rack = rack_ok (rack_after rest lefts) rights in
-    let parts = and_parts (m.anchor && (not (e == 0) && (nat_lt e 53 && (mask && has)))) (fits_left (after g (label_of e)) (left_of line h) (drop (h + 1) line) rest (lefts ++ rights)) fit in
-    let here = and_parts m.anchor (not (e == 0) && (nat_lt e 53 && (mask && has))) parts.0 in
-    let new = and_parts (not (e == 0)) (nat_lt e 53 && (mask && has)) here.1 in
-    let entry = and_parts (nat_lt e 53) (mask && has) new.1 in
-    let allowed = and_parts mask has entry.1 in
-    let sides = and_parts (left && left_rack) (goes && (right && right_rack)) (sym (sides_fit (after g (label_of e)) line rest h y) ∙ parts.1) in
+    let parts = and_parts (m.anchor && (not (e == 0) && (nat_lt e 53 && (takes_letter m e && has_tile rack e)))) (fits_left (after g (label_of e)) (left_of line h) (drop (h + 1) line) rest (lefts ++ rights)) fit in
+    let here = and_parts m.anchor (not (e == 0) && (nat_lt e 53 && (takes_letter m e && has_tile rack e))) parts.0 in
+    let new = and_parts (not (e == 0)) (nat_lt e 53 && (takes_letter m e && has_tile rack e)) here.1 in
+    let entry = and_parts (nat_lt e 53) (takes_letter m e && has_tile rack e) new.1 in
+    let allowed = and_parts (takes_letter m e) (has_tile rack e) entry.1 in
+    let sides = and_parts (left && left_rack) (has_path g line h y && (right && right_rack)) (sym (sides_fit (after g (label_of e)) line rest h y) ∙ parts.1) in
     let on_left = and_parts left left_rack sides.0 in
-    let word_and_right = and_parts goes (right && right_rack) sides.1 in
+    let word_and_right = and_parts (has_path g line h y) (right && right_rack) sides.1 in
     let on_right = and_parts right right_rack word_and_right.1 in
     let not_zero = not-true (e == 0) new.0 in
     record {
@@ -77,7 +86,7 @@ owed_free g line rack h y m size is fit =
       mask = allowed.0;
       left = on_left.0;
       right = on_right.0;
-      taken = rw not_zero (and_from has (rack_ok rest (lefts ++ rights)) allowed.1 (rack_ok-append rest lefts rights ∙ and_from left_rack right_rack on_left.1 on_right.1));
+      taken = rw not_zero (and_from (has_tile rack e) (rack_ok rest (lefts ++ rights)) allowed.1 (rack_ok-append rest lefts rights ∙ and_from left_rack right_rack on_left.1 on_right.1));
       path = word_and_right.0;
     }
 
@@ -99,25 +108,22 @@ owes_from g line rack h y o =
     let rights = drop (h + 1) y in
     let rest = less rack e in
     let m = o.square in
-    let mask = slice_index_or m.mask (letter_of e) false in
-    let has = nat_lt 0 (get_or rack (kind_of e) 0) in
-    let goes = g (label_of e ∷ (word (left_of line h) lefts ++ marked (word (drop (h + 1) line) rights))) in
     let left = shape at_anchor (left_of line h) lefts in
     let right = shape no_bar (drop (h + 1) line) rights in
     let left_rack = rack_ok rest lefts in
     let right_rack = rack_ok (rack_after rest lefts) rights in
     let not_zero = ne_eqb e 0 o.some in
-    let racks = and_parts has (rack_ok rest (lefts ++ rights)) (rw not_zero at o.taken) in
+    let racks = and_parts (has_tile rack e) (rack_ok rest (lefts ++ rights)) (rw not_zero at o.taken) in
     let both = and_parts left_rack right_rack (sym (rack_ok-append rest lefts rights) ∙ racks.1) in
     let sides = sides_fit (after g (label_of e)) line rest h y
-    ∙ and_from (left && left_rack) (goes && (right && right_rack)) (and_from left left_rack o.left both.0)
-    (and_from goes (right && right_rack) o.path (and_from right right_rack o.right both.1)) in
-    let entry = and_from (nat_lt e 53) (mask && has) (lt-ltb e 53 o.low) (and_from mask has o.mask racks.0) in
-    let here = and_from m.anchor (not (e == 0) && (nat_lt e 53 && (mask && has))) o.anchor
-    (and_from (not (e == 0)) (nat_lt e 53 && (mask && has)) (not_from_false (e == 0) not_zero) entry) in
+    ∙ and_from (left && left_rack) (has_path g line h y && (right && right_rack)) (and_from left left_rack o.left both.0)
+    (and_from (has_path g line h y) (right && right_rack) o.path (and_from right right_rack o.right both.1)) in
+    let entry = and_from (nat_lt e 53) (takes_letter m e && has_tile rack e) (lt-ltb e 53 o.low) (and_from (takes_letter m e) (has_tile rack e) o.mask racks.0) in
+    let here = and_from m.anchor (not (e == 0) && (nat_lt e 53 && (takes_letter m e && has_tile rack e))) o.anchor
+    (and_from (not (e == 0)) (nat_lt e 53 && (takes_letter m e && has_tile rack e)) (not_from_false (e == 0) not_zero) entry) in
     and_from (length y == 15) (cell_fits g line h rack (cell_at line h) (walk h y)) (eq-eqb (length y) 15 o.size)
     (rw o.is
-    (and_from (m.anchor && (not (e == 0) && (nat_lt e 53 && (mask && has)))) (fits_left (after g (label_of e)) (left_of line h) (drop (h + 1) line) rest (lefts ++ rights)) here sides))
+    (and_from (m.anchor && (not (e == 0) && (nat_lt e 53 && (takes_letter m e && has_tile rack e)))) (fits_left (after g (label_of e)) (left_of line h) (drop (h + 1) line) rest (lefts ++ rights)) here sides))
 
 -- ---- an anchor that owes a line makes it a move
 
@@ -212,16 +218,6 @@ move_around g listed splits line rack y h first a b labelled below o s left_word
       word = ap listed (sym (whole_word line y o.square h first a b o.is s.left (omega arith) (omega arith))) ∙ sym (splits front rest (omega arith) none_is_mark) ∙ path;
       fits = λ k. let used = uses-walk k y h (omega arith) in let has = rack_ok-uses rack (walk h y) o.taken k in omega arith;
     }
-
-pub owed_move : (g listed : List ℕ → Bool) → AreSplits g listed → (line : List Cell) (rack y : List ℕ) (h : ℕ) → Labelled line → h < 15
-    → Owed g line rack h y → (first : ℕ) × (len : ℕ) × IsMove listed line rack y first len
-owed_move g listed splits line rack y h labelled below o =
-    let l = shaped at_anchor (left_of line h) (left_entries y h) o.left in
-    let r = shaped no_bar (drop (h + 1) line) (drop (h + 1) y) o.right in
-    let not_zero = ne_eqb (get_or y h 0) 0 o.some in
-    let allowed = and_from (nat_lt (get_or y h 0) 53) (slice_index_or o.square.mask (letter_of (get_or y h 0)) false) (lt-ltb (get_or y h 0) 53 o.low) o.mask in
-    let s = around line y h l.0 r.0 below labelled.size (rw (o.is, not_zero) refl) (rw (o.is, not_zero) allowed) l.1 r.1 in
-    (h - l.0, l.0 + suc r.0, move_around g listed splits line rack y h (h - l.0) l.0 r.0 labelled below o s l.2 r.2)
 
 -- ---- a move is owed by the first anchor that it covers
 
