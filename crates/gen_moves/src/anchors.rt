@@ -73,30 +73,6 @@ fn anchor_bound(
     bound
 }
 
-/// Such a number for each anchor of a line.
-fn anchor_bounds(
-    cells: &[Cell; SIDE],
-    places: &[Place; SIDE],
-    opens: &[bool; SIDE],
-    worth: RackWorth,
-    bonus: u64,
-) -> [u64; SIDE]
-    requires small { (i : ℕ) → i < SIDE → IsSmall (place_in places.now i) }
-    requires points { worth.points ≤ 2000000 }
-    requires ones { worth.ones ≤ 2000000 }
-    requires bonus { bonus ≤ 65535 }
-    ensures { (h : ℕ) → h < SIDE → is_anchor_cell (cell_at cells.now h) ≡ true
-        → IsAnchorBound bonus worth.points worth.ones cells.now (place_in places.now) (open_in opens.now) h (slice_index result h) }
-{
-    let mut bounds = [0; SIDE];
-    for anchor in 0..SIDE {
-        if is_anchor(&cells[anchor]) {
-            bounds[anchor] = anchor_bound(cells, places, opens, anchor, worth, bonus);
-        }
-    }
-    bounds
-}
-
 /// Numbers that no play passes along a line, for each place of which it is the first anchor covered.
 fn line_bounds(
     rules: &Rules,
@@ -117,7 +93,15 @@ fn line_bounds(
 {
     let places = line_places(rules, board, cross, dir, line);
     let opens = open_places(cells, rack);
-    anchor_bounds(cells, &places, &opens, worth, rules.bonus as u64)
+    let bonus = rules.bonus as u64;
+    let mut bounds = [0; SIDE];
+    for anchor in 0..SIDE {
+        if !is_anchor(&cells[anchor]) {
+            continue;
+        }
+        bounds[anchor] = anchor_bound(cells, &places, &opens, anchor, worth, bonus);
+    }
+    bounds
 }
 
 /// Such numbers for all lines of a direction.
