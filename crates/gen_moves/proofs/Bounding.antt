@@ -236,46 +236,44 @@ module _ (rules : Rules) (words : List (List ℕ)) (d : Dir) (board : List (Opti
           (cases_Bool (n == 7))
 
   -- ---- what a stretch adds up to, by the tiles of the rack alone
-  letters_up : (letter : ℕ) → ((i : ℕ) → first ≤ i → i < first + len → (places i).free ≡ true → (places i).letter ≤ letter)
-      → total (letter_sum rules places entry) first len ≤ total (λ i. (places i).old) first len + (total (λ i. ((places i).letter - 1) * single i) first len + total single first len) + letter * total weight first len
-  letters_up letter most =
+  -- a factor of each place counts the points of its new tile: one of these so many times as is said, and all that are above it as often as
+  -- the greatest factor
+  factor_up : (base factor : ℕ → ℕ) (ones : ℕ → ℕ → ℕ) (most : ℕ) → ((i points : ℕ) → factor i * points ≤ ones i (points - (points - 1)) + factor i * (points - 1))
+      → ((i : ℕ) → first ≤ i → i < first + len → (places i).free ≡ true → factor i ≤ most)
+      → total (λ i. base i + factor i * points_on rules (entry i)) first len ≤ total (λ i. base i + ones i (single i)) first len + most * total weight first len
+  factor_up base factor ones most above under =
       let inside = move.whole.inside in
       let each =
-      total-mono (letter_sum rules places entry) (λ i. ((places i).old + (((places i).letter - 1) * single i + single i)) + letter * weight i) first len
-      (λ i from upto. by i (omega arith) (most i from upto) (entry i) refl) in
-      let split = total-scaled (λ i. (places i).old + (((places i).letter - 1) * single i + single i)) weight letter first len in
-      let both = total-both (λ i. (places i).old) (λ i. ((places i).letter - 1) * single i + single i) first len in
-      let parts = total-both (λ i. ((places i).letter - 1) * single i) single first len in
+      total-mono (λ i. base i + factor i * points_on rules (entry i)) (λ i. (base i + ones i (single i)) + most * weight i) first len
+      (λ i from upto. by i (omega arith) (under i from upto) (entry i) refl) in
+      let split = total-scaled (λ i. base i + ones i (single i)) weight most first len in
       omega arith
     where
-      by : (i : ℕ) → i < 15 → ((places i).free ≡ true → (places i).letter ≤ letter) → (o : Option Tile) → entry i ≡ o
-          → (places i).old + (places i).letter * points_on rules o ≤ ((places i).old + (((places i).letter - 1) * sums.at_place (one rules) d line i o + sums.at_place (one rules) d line i o)) + letter * sums.at_place (worth rules) d line i o
+      by : (i : ℕ) → i < 15 → ((places i).free ≡ true → factor i ≤ most) → (o : Option Tile) → entry i ≡ o
+          → base i + factor i * points_on rules o ≤ (base i + ones i (sums.at_place (one rules) d line i o)) + most * sums.at_place (worth rules) d line i o
       by i below top None e = omega arith
       by i below top (Some t) e =
           let points = points_of rules t.kind in
-          let first_one = one_first (places i).letter points in
-          let more : (places i).letter * (points - 1) ≤ letter * (points - 1) = mul-le-mul (top (new_free i below t e)) (omega arith) in
+          let parted = above i points in
+          let more : factor i * (points - 1) ≤ most * (points - 1) = mul-le-mul (top (new_free i below t e)) (omega arith) in
           omega arith
+
+  letters_up : (letter : ℕ) → ((i : ℕ) → first ≤ i → i < first + len → (places i).free ≡ true → (places i).letter ≤ letter)
+      → total (letter_sum rules places entry) first len ≤ total (λ i. (places i).old) first len + (total (λ i. ((places i).letter - 1) * single i) first len + total single first len) + letter * total weight first len
+  letters_up letter most =
+      let up : total (letter_sum rules places entry) first len ≤ total (λ i. (places i).old + (((places i).letter - 1) * single i + single i)) first len + letter * total weight first len =
+      factor_up (λ i. (places i).old) (λ i. (places i).letter) (λ i n. ((places i).letter - 1) * n + n) letter (λ i points. one_first (places i).letter points) most in
+      let both = total-both (λ i. (places i).old) (λ i. ((places i).letter - 1) * single i + single i) first len in
+      let parts = total-both (λ i. ((places i).letter - 1) * single i) single first len in
+      omega arith
 
   crosses_up : (cross : ℕ) → ((i : ℕ) → first ≤ i → i < first + len → (places i).free ≡ true → (places i).cross ≤ cross)
       → total (cross_sum rules places entry) first len ≤ total (λ i. (places i).side) first len + total (λ i. (places i).cross * single i) first len + cross * total weight first len
   crosses_up cross most =
-      let inside = move.whole.inside in
-      let each =
-      total-mono (cross_sum rules places entry) (λ i. ((places i).side + (places i).cross * single i) + cross * weight i) first len
-      (λ i from upto. by i (omega arith) (most i from upto) (entry i) refl) in
-      let split = total-scaled (λ i. (places i).side + (places i).cross * single i) weight cross first len in
+      let up : total (cross_sum rules places entry) first len ≤ total (λ i. (places i).side + (places i).cross * single i) first len + cross * total weight first len =
+      factor_up (λ i. (places i).side) (λ i. (places i).cross) (λ i n. (places i).cross * n) cross (λ i points. one_above (places i).cross points) most in
       let both = total-both (λ i. (places i).side) (λ i. (places i).cross * single i) first len in
       omega arith
-    where
-      by : (i : ℕ) → i < 15 → ((places i).free ≡ true → (places i).cross ≤ cross) → (o : Option Tile) → entry i ≡ o
-          → (places i).side + (places i).cross * points_on rules o ≤ ((places i).side + (places i).cross * sums.at_place (one rules) d line i o) + cross * sums.at_place (worth rules) d line i o
-      by i below top None e = omega arith
-      by i below top (Some t) e =
-          let points = points_of rules t.kind in
-          let above = one_above (places i).cross points in
-          let more : (places i).cross * (points - 1) ≤ cross * (points - 1) = mul-le-mul (top (new_free i below t e)) (omega arith) in
-          omega arith
 
   -- one on each free place at the most
   singles_free : total single first len ≤ free_count places first len
