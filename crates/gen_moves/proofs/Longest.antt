@@ -164,12 +164,6 @@ reach_closed opens first n at is closed len passable =
 pub sum_up : (n m : ℕ) (s : Sum) → n ≤ m → IsSmallSum n s → IsSmallSum m s
 sum_up n m s le small =
     let most : 3 ^ n ≤ 3 ^ m = pow-le-pow_right {n = 3} (omega arith) {i = n} {j = m} le in
-    let a = small.old in
-    let b = small.word in
-    let c = small.side in
-    let d = small.free in
-    let e = small.letters in
-    let f = small.crosses in
     record { old = omega arith; word = omega arith; side = omega arith; free = omega arith; letters = omega arith; crosses = omega arith; letter = small.letter; cross = small.cross }
 
 pub small_more : (n : ℕ) (s more : Sum) (p : Place) → IsSmallSum n s → IsSmall p → more.old ≡ s.old + p.old → more.word ≡ s.word * p.word → more.side ≡ s.side + p.side

@@ -16,10 +16,6 @@ use Rattle.std.specs.Prelude.{◌^◌}
 pub tally_up : (n m : ℕ) (t : Tally) → n ≤ m → IsSmallTally n t → IsSmallTally m t
 tally_up n m t le small =
     let most : 3 ^ n ≤ 3 ^ m = pow-le-pow_right {n = 3} (omega arith) {i = n} {j = m} le in
-    let a = small.letters in
-    let b = small.word in
-    let c = small.crosses in
-    let d = small.free in
     record { letters = omega arith; word = omega arith; crosses = omega arith; free = omega arith }
 
 pub small_none : (len : ℕ) (t : Tally) → t.letters ≡ 0 → t.word ≡ 1 → t.crosses ≡ 0 → t.free ≡ 0 → IsSmallTally len t
