@@ -3,6 +3,7 @@ use Rattle.std.proofs.Common.{◌≡◌, ℕ, zero, suc, ◌+◌, ◌*◌, ◌/�
 use Rattle.std.specs.Prelude.{All, nat_lt, if◌then◌else◌}
 use Rattle.std.specs.List.{flat_map, range_with_len}
 use Rattle.std.proofs.lemmas.Bool.{lt-ltb, ltb-true}
+use Rattle.std.proofs.lemmas.List.{append-nil, take_more}
 use Rattle.std.proofs.lemmas.List.Elements.{All-from_get_or}
 use Rattle.std.proofs.lemmas.List.Concat.{flat_map-append}
 use Rattle.ref_tiles.specs.declared.tiles.Tile.{Tile}
@@ -22,7 +23,7 @@ use Rattle.gen_line.specs.declared.cells.Cell.{Cell}
 use Rattle.gen_line.specs.Model.{join_range, line_moves}
 use Rattle.gen_line.specs.Walk.{Every, Front, add_all, anchor_moves}
 use Rattle.gen_line.proofs.Anchors.{all_given}
-use Rattle.gen_line.proofs.Sinks.{every-same, every-join, all-still, front-same, front-less, front-more}
+use Rattle.gen_line.proofs.Sinks.{every-same, every-join, all-still, add_all-append, front-same, front-less, front-more}
 use Rattle.gen_moves.specs.declared.starts.Start.{Start}
 use Rattle.gen_moves.specs.Findings.{told, given_on, given_along, given_by}
 use Rattle.gen_moves.specs.Laws.{Setting}
@@ -83,6 +84,17 @@ front_of_starts add f xs n d old mid new below e h =
     (front-less add old (flat_map f (take n xs) ++ f (get_or xs n d)) (flat_map f (drop (suc n) xs)) new
     (front-more add old (flat_map f (take n xs)) (f (get_or xs n d)) mid new e h))
 
+-- one start more, of which all was taken
+pub starts_more : {X : Type 0} (add : List Given → Given → List Given) (f : X → List Given) (xs : List X) (n : ℕ) (d : X) (old mid new : List Given) → n < length xs
+    → mid ≡ add_all add old (flat_map f (take n xs)) → new ≡ add_all add mid (f (get_or xs n d)) → new ≡ add_all add old (flat_map f (take (n + 1) xs))
+starts_more add f xs n d old mid new below e h =
+    let one : flat_map f (get_or xs n d ∷ []) ≡ f (get_or xs n d) = append-nil (f (get_or xs n d)) in
+    h ∙ ap (λ items. add_all add items (f (get_or xs n d))) e
+    ∙ sym (add_all-append add old (flat_map f (take n xs)) (f (get_or xs n d)))
+    ∙ ap (λ zs. add_all add old (flat_map f (take n xs) ++ zs)) (sym one)
+    ∙ ap (add_all add old) (sym (flat_map-append f (take n xs) (get_or xs n d ∷ [])))
+    ∙ ap (λ ys. add_all add old (flat_map f ys)) (sym (take_more xs n d below))
+
 -- ---- what is known of each start
 anchor_fits : (words : List (List ℕ)) (board : List (Option Tile)) (g listed : List ℕ → Bool) (cells : Dir → ℕ → List Cell) → Setting words board g listed cells
     → (rack : List ℕ) (d : Dir) (line h : ℕ) → line < 15 → h < 15 → Every (IsFitMove board d line) (anchor_moves g (cells d line) rack h)
@@ -127,10 +139,6 @@ all_good rules words board g listed cells setting rack across down starts size a
 -- ---- what all places give
 split : {A : Type 0} (f : ℕ → List A) (a m n : ℕ) → join_range f a (m + n) ≡ join_range f a m ++ join_range f (a + m) n
 split f a m zero = let at : m + 0 ≡ m = omega arith in rw at (sym (append-nil (join_range f a m)))
-  where
-    append-nil : {A : Type 0} (xs : List A) → xs ++ [] ≡ xs
-    append-nil [] = refl
-    append-nil (x ∷ xs) = ap (λ ys. x ∷ ys) (append-nil xs)
 split f a m (suc n) =
     let at : m + suc n ≡ suc (m + n) = omega arith in
     let there : a + (m + n) ≡ a + m + n = omega arith in

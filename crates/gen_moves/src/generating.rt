@@ -81,33 +81,8 @@ fn walk_start<L: PathLex, S: Sink>(
     walk_anchor(lex, at, cells, place, last, rack, &plays, sink)
 }
 
-/// Gives a sink the plays of one start. They are not looked for where none of them would change what it has.
-fn from_start<L: PathLex, S: Sink>(
-    rules: &Rules,
-    board: &Board,
-    cross: &Cross,
-    across: &[[Cell; SIDE]; SIDE],
-    down: &[[Cell; SIDE]; SIDE],
-    rack: &[u8; KINDS],
-    lex: &L,
-    start: &Start,
-    sink: &mut S,
-) -> Result<(), NoMemory>
-    requires scores { HasScores rules.now board.now cross.now }
-    requires sink { IsFor (S.made_for sink.old) board.now }
-    requires good { IsGood rules.now board.now (L.language lex.now) (both_cells across.now down.now) rack.now start.now }
-    ensures made_for { S.made_for sink.new ≡ S.made_for sink.old }
-    ensures took { Took (S.add (S.made_for sink.old)) (S.items sink.old)
-        (given_from rules.now board.now (L.language lex.now) (both_cells across.now down.now) rack.now start.now) (S.items sink.new) result }
-    ensures steady { S.grows ≡ false → IsOk result }
-{
-    if passes(sink, start.dir, start.bound) {
-        return Ok(());
-    }
-    walk_start(rules, board, cross, across, down, rack, lex, start, sink)
-}
-
-/// Gives a sink the plays of all starts, one after another.
+/// Gives a sink the plays of all starts, one after another. Those of a start are not looked for where none of them would change
+/// what the sink has.
 fn from_starts<L: PathLex, S: Sink>(
     rules: &Rules,
     board: &Board,
@@ -128,17 +103,11 @@ fn from_starts<L: PathLex, S: Sink>(
     ensures steady { S.grows ≡ false → IsOk result }
 {
     for number in 0..STARTS {
-        from_start(
-            rules,
-            board,
-            cross,
-            across,
-            down,
-            rack,
-            lex,
-            &starts[number],
-            sink,
-        )?;
+        let start = &starts[number];
+        if passes(sink, start.dir, start.bound) {
+            continue;
+        }
+        walk_start(rules, board, cross, across, down, rack, lex, start, sink)?;
     }
     Ok(())
 }
