@@ -1,16 +1,18 @@
 -- What the places of a board give, and what is known of them.
 use Rattle.std.proofs.Common.{◌≡◌, ℕ, zero, suc, ◌+◌, ◌*◌, ◌/◌, ◌%◌, ◌<◌, ◌≤◌, ◌≤ℤ◌, pos, Bool, true, false, List, [], ◌∷◌, ◌++◌, length, get_or, refl, sym, ap, ◌∙◌, subst, append_assoc, arith, take, drop, Option, Some, None, ℤ}
-use Rattle.std.specs.Prelude.{All, nat_lt, if◌then◌else◌}
+use Rattle.std.specs.Prelude.{All, nat_lt, slice_index_or, if◌then◌else◌}
 use Rattle.std.specs.List.{flat_map, range_with_len}
+use Rattle.std.specs.List.Sorted.{IsPermutation}
 use Rattle.std.proofs.lemmas.Bool.{lt-ltb, ltb-true}
 use Rattle.std.proofs.lemmas.List.{append-nil, take_more}
 use Rattle.std.proofs.lemmas.List.Elements.{All-from_get_or}
 use Rattle.std.proofs.lemmas.List.Concat.{flat_map-append}
+use Rattle.std.proofs.lemmas.List.Sorted.{All-permutation}
 use Rattle.ref_tiles.specs.declared.tiles.Tile.{Tile}
 use Rattle.ref_tiles.specs.declared.rulebook.Rules.{Rules}
 use Rattle.ref_board.specs.declared.directions.Dir.{Dir}
 use Rattle.ref_board.specs.declared.directions.Dir.TheVariants.{Across, Down}
-use Rattle.ref_play.specs.Best.{Given}
+use Rattle.ref_play.specs.Best.{Given, AreAll}
 use Rattle.ref_play.specs.Scores.{score_of}
 use Rattle.ref_play.specs.Directions.{is_wanted, direction_of}
 use Rattle.ref_play.specs.Notations.{notation_of, written_on}
@@ -27,12 +29,14 @@ use Rattle.gen_line.proofs.Sinks.{every-same, every-join, all-still, add_all-app
 use Rattle.gen_moves.specs.declared.starts.Start.{Start}
 use Rattle.gen_moves.specs.Findings.{told, given_on, given_along, given_by}
 use Rattle.gen_moves.specs.Laws.{Setting}
-use Rattle.gen_moves.specs.Telling.{IsFitMove}
-use Rattle.gen_moves.specs.Bounds.{TellsUnder}
+use Rattle.gen_moves.specs.Telling.{IsFitMove, both_cells}
+use Rattle.gen_moves.specs.Bounds.{TellsUnder, AreOffers, rack_points, rack_ones}
 use Rattle.gen_moves.specs.Starts.{IsStartOf, AreStarts, IsGood, GoesAlong, AreUnder, dir_of, bound_in, given_at, given_from}
 use Rattle.gen_moves.proofs.Fitting.{moves_fit, add_all-flat_map, join_flat}
-use Rattle.gen_moves.proofs.Offering.{passed_over, every-both, all_tallied}
-use Rattle.gen_moves.proofs.Gathering.{line_labelled, wanted_few}
+use Rattle.gen_moves.proofs.Offering.{passed_over, every-both, all_tallied, all_offers}
+use Rattle.gen_moves.proofs.Gathering.{line_labelled, wanted_few, given_all}
+use Rattle.gen_moves.proofs.Settings.{lists}
+use Rattle.gen_moves.proofs.Reordering.{all_reordered}
 
 -- ---- a start that is left out
 -- what a move tells is written along its line
@@ -119,6 +123,12 @@ good_by rules words board g listed cells setting rack s d line h bound is_dir is
 abbrev pub AreBounds : Rules → List (Option Tile) → (List ℕ → Bool) → (Dir → ℕ → List Cell) → List ℕ → Dir → List (List ℕ) → Type 0
 AreBounds rules board g cells rack d bounds = (line : ℕ) → line < 15 → (h : ℕ) → h < 15 → AreUnder rules board g (cells d line) rack d line h (bound_in bounds line h)
 
+-- what makes those of one direction
+abbrev pub MakesBounds : Rules → (points ones : ℕ) → List (Option Tile) → List (List Cell) → List ℕ → Dir → List (List ℕ) → Type 0
+MakesBounds rules points ones board lines rack d bounds =
+    (line : ℕ) → line < 15 → (g : List ℕ → Bool) → AreOffers rules points ones board g (slice_index_or lines line []) rack d line
+    → (h : ℕ) → h < 15 → AreUnder rules board g (slice_index_or lines line []) rack d line h (bound_in bounds line h)
+
 pub all_good : (rules : Rules) (words : List (List ℕ)) (board : List (Option Tile)) (g listed : List ℕ → Bool) (cells : Dir → ℕ → List Cell) → Setting words board g listed cells
     → (rack : List ℕ) (across down : List (List ℕ)) (starts : List Start) → length starts ≡ 450 → AreStarts across down starts
     → AreBounds rules board g cells rack Across across → AreBounds rules board g cells rack Down down → All (IsGood rules board g cells rack) starts
@@ -135,6 +145,20 @@ all_good rules words board g listed cells setting rack across down starts size a
         good_by rules words board g listed cells setting rack s Down (k / 15 % 15) (k % 15) (bound_in down (k / 15 % 15) (k % 15))
         (is.dir ∙ ap (λ (b : Bool). let d : Dir = if b then Across else Down in d) e) is.line is.place
         (is.bound ∙ ap (λ (b : Bool). bound_in (if b then across else down) (k / 15 % 15) (k % 15)) e) (omega arith) (omega arith) (under_down (k / 15 % 15) (omega arith) (k % 15) (omega arith))
+
+-- the bounds of both directions are made by what the tiles of the rack count, and the starts are put in another order
+pub good_sorted : (rules : Rules) (words : List (List ℕ)) (board : List (Option Tile)) (g : List ℕ → Bool) (a b : List (List Cell)) → Setting words board g (lists words) (both_cells a b)
+    → (rack : List ℕ) (points ones : ℕ) → points ≡ rack_points rules rack 27 → ones ≡ rack_ones rules rack 27
+    → (across down : List (List ℕ)) (starts sorted : List Start) → length starts ≡ 450 → AreStarts across down starts → IsPermutation starts sorted
+    → MakesBounds rules points ones board a rack Across across → MakesBounds rules points ones board b rack Down down → All (IsGood rules board g (both_cells a b) rack) sorted
+good_sorted rules words board g a b s rack points ones points_are ones_are across down starts sorted size are order of_across of_down =
+    All-permutation (IsGood rules board g (both_cells a b) rack) starts sorted order
+    (all_good rules words board g (lists words) (both_cells a b) s rack across down starts size are
+    (λ line low h below. of_across line low g (offers Across line low) h below)
+    (λ line low h below. of_down line low g (offers Down line low) h below))
+  where
+    offers : (d : Dir) (line : ℕ) → line < 15 → AreOffers rules points ones board g (both_cells a b d line) rack d line
+    offers d line low = rw (points_are, ones_are) (all_offers rules words board g (lists words) (both_cells a b) s rack d line low)
 
 -- ---- what all places give
 split : {A : Type 0} (f : ℕ → List A) (a m n : ℕ) → join_range f a (m + n) ≡ join_range f a m ++ join_range f (a + m) n
@@ -229,3 +253,12 @@ starts_give rules words board g listed cells s rack across down starts size are 
         by_test : (k : ℕ) (b : Bool) → nat_lt k 225 ≡ b → 225 ≤ k → dir_of k ≡ Down
         by_test k true e high = absurd (let low = ltb-true k 225 e in omega arith)
         by_test k false e high = rw e refl
+
+-- and so do the starts in another order
+pub all_sorted : (rules : Rules) (words : List (List ℕ)) (board : List (Option Tile)) (g : List ℕ → Bool) (a b : List (List Cell)) → Setting words board g (lists words) (both_cells a b)
+    → (rack : List ℕ) (across down : List (List ℕ)) (starts sorted : List Start) → length starts ≡ 450 → AreStarts across down starts → IsPermutation starts sorted
+    → AreAll rules words board rack (flat_map (given_from rules board g (both_cells a b) rack) sorted)
+all_sorted rules words board g a b s rack across down starts sorted size are order =
+    all_reordered (given_from rules board g (both_cells a b) rack) starts sorted rules words board rack order
+    (subst (AreAll rules words board rack) (sym (starts_give rules words board g (lists words) (both_cells a b) s rack across down starts size are))
+    (given_all rules words board g (lists words) (both_cells a b) s rack))
