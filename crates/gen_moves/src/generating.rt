@@ -22,94 +22,94 @@ use lex_file::PathLex;
 use ref_board::{Board, Dir, SIDE};
 use ref_tiles::{Counts, KINDS, Rules};
 
-/// The cells of a line.
-fn cells_of<'a>(
+/// What looks for plays: a board with its rules and cross-sets, a rack and a lexicon.
+#[derive(Drop)]
+struct Finder<'a, L> {
+    rules: &'a Rules,
+    board: &'a Board,
+    cross: &'a Cross,
+    /// The cells of the lines across.
     across: &'a [[Cell; SIDE]; SIDE],
+    /// The cells of the lines down.
     down: &'a [[Cell; SIDE]; SIDE],
-    dir: Dir,
-    line: usize,
-) -> &'a [Cell; SIDE]
-    requires { line < SIDE }
-    ensures { result.now ≡ both_cells across.now down.now dir line }
-{
-    match dir {
-        Dir::Across => &across[line],
-        Dir::Down => &down[line],
-    }
+    /// How many tiles of each kind the rack has.
+    rack: &'a [u8; KINDS],
+    lex: &'a L,
 }
 
-/// Looks for the plays of one start, and gives them to a sink. It is never a part of its caller, since its arrays are set to zero each
-/// time that it is called.
-#[inline(never)]
-fn walk_start<L: PathLex, S: Sink>(
-    rules: &Rules,
-    board: &Board,
-    cross: &Cross,
-    across: &[[Cell; SIDE]; SIDE],
-    down: &[[Cell; SIDE]; SIDE],
-    rack: &[u8; KINDS],
-    lex: &L,
-    start: &Start,
-    sink: &mut S,
-) -> Result<(), NoMemory>
-    requires scores { HasScores rules.now board.now cross.now }
-    requires sink { IsFor (S.made_for sink.old) board.now }
-    requires good { IsGood rules.now board.now (L.language lex.now) (both_cells across.now down.now) rack.now start.now }
-    ensures made_for { S.made_for sink.new ≡ S.made_for sink.old }
-    ensures took { Took (S.add (S.made_for sink.old)) (S.items sink.old)
-        (given_from rules.now board.now (L.language lex.now) (both_cells across.now down.now) rack.now start.now) (S.items sink.new) result }
-    ensures steady { S.grows ≡ false → IsOk result }
-{
-    let Start {
-        dir,
-        line,
-        place,
-        ..
-    } = *start;
-    let cells = cells_of(across, down, dir, line);
-    let Some(at) = front_of(lex, cells, place + 1) else {
-        return Ok(());
-    };
-    let last = behind_olds(cells, place + 1) - 1;
-    let spot = Spot { board, dir, line };
-    let places = line_places(rules, board, cross, dir, line);
-    let plays = LinePlays {
-        rules,
-        spot: &spot,
-        places: &places,
-    };
-    walk_anchor(lex, at, cells, place, last, rack, &plays, sink)
-}
-
-/// Gives a sink the plays of all starts, one after another. Those of a start are not looked for where none of them would change
-/// what the sink has.
-fn from_starts<L: PathLex, S: Sink>(
-    rules: &Rules,
-    board: &Board,
-    cross: &Cross,
-    across: &[[Cell; SIDE]; SIDE],
-    down: &[[Cell; SIDE]; SIDE],
-    rack: &[u8; KINDS],
-    lex: &L,
-    starts: &[Start; STARTS],
-    sink: &mut S,
-) -> Result<(), NoMemory>
-    requires scores { HasScores rules.now board.now cross.now }
-    requires sink { IsFor (S.made_for sink.old) board.now }
-    requires good { All (IsGood rules.now board.now (L.language lex.now) (both_cells across.now down.now) rack.now) starts.now }
-    ensures made_for { S.made_for sink.new ≡ S.made_for sink.old }
-    ensures took { Took (S.add (S.made_for sink.old)) (S.items sink.old)
-        (flat_map (given_from rules.now board.now (L.language lex.now) (both_cells across.now down.now) rack.now) starts.now) (S.items sink.new) result }
-    ensures steady { S.grows ≡ false → IsOk result }
-{
-    for number in 0..STARTS {
-        let start = &starts[number];
-        if passes(sink, start.dir, start.bound) {
-            continue;
+impl<L: PathLex> Finder<'_, L> {
+    /// The cells of a line.
+    fn cells(&self, dir: Dir, line: usize) -> &[Cell; SIDE]
+        requires { line < SIDE }
+        ensures { result.now ≡ both_cells self.now.across.now self.now.down.now dir line }
+    {
+        match dir {
+            Dir::Across => &self.across[line],
+            Dir::Down => &self.down[line],
         }
-        walk_start(rules, board, cross, across, down, rack, lex, start, sink)?;
     }
-    Ok(())
+
+    /// Looks for the plays of one start, and gives them to a sink. It is never a part of its caller, since its arrays are set to zero
+    /// each time that it is called.
+    #[inline(never)]
+    fn walk_start<S: Sink>(&self, start: &Start, sink: &mut S) -> Result<(), NoMemory>
+        requires scores { HasScores self.now.rules.now self.now.board.now self.now.cross.now }
+        requires sink { IsFor (S.made_for sink.old) self.now.board.now }
+        requires good { IsGood self.now.rules.now self.now.board.now (L.language self.now.lex.now)
+            (both_cells self.now.across.now self.now.down.now) self.now.rack.now start.now }
+        ensures made_for { S.made_for sink.new ≡ S.made_for sink.old }
+        ensures took { Took (S.add (S.made_for sink.old)) (S.items sink.old)
+            (given_from self.now.rules.now self.now.board.now (L.language self.now.lex.now)
+            (both_cells self.now.across.now self.now.down.now) self.now.rack.now start.now) (S.items sink.new) result }
+        ensures steady { S.grows ≡ false → IsOk result }
+    {
+        let Start {
+            dir,
+            line,
+            place,
+            ..
+        } = *start;
+        let cells = self.cells(dir, line);
+        let Some(at) = front_of(self.lex, cells, place + 1) else {
+            return Ok(());
+        };
+        let last = behind_olds(cells, place + 1) - 1;
+        let spot = Spot {
+            board: self.board,
+            dir,
+            line,
+        };
+        let places = line_places(self.rules, self.board, self.cross, dir, line);
+        let plays = LinePlays {
+            rules: self.rules,
+            spot: &spot,
+            places: &places,
+        };
+        walk_anchor(self.lex, at, cells, place, last, self.rack, &plays, sink)
+    }
+
+    /// Gives a sink the plays of all starts, one after another. Those of a start are not looked for where none of them would change
+    /// what the sink has.
+    fn from_starts<S: Sink>(&self, starts: &[Start; STARTS], sink: &mut S) -> Result<(), NoMemory>
+        requires scores { HasScores self.now.rules.now self.now.board.now self.now.cross.now }
+        requires sink { IsFor (S.made_for sink.old) self.now.board.now }
+        requires good { All (IsGood self.now.rules.now self.now.board.now (L.language self.now.lex.now)
+            (both_cells self.now.across.now self.now.down.now) self.now.rack.now) starts.now }
+        ensures made_for { S.made_for sink.new ≡ S.made_for sink.old }
+        ensures took { Took (S.add (S.made_for sink.old)) (S.items sink.old)
+            (flat_map (given_from self.now.rules.now self.now.board.now (L.language self.now.lex.now)
+            (both_cells self.now.across.now self.now.down.now) self.now.rack.now) starts.now) (S.items sink.new) result }
+        ensures steady { S.grows ≡ false → IsOk result }
+    {
+        for number in 0..STARTS {
+            let start = &starts[number];
+            if passes(sink, start.dir, start.bound) {
+                continue;
+            }
+            self.walk_start(start, sink)?;
+        }
+        Ok(())
+    }
 }
 
 /// Gives a sink every play that is legal on a board, forms listed words alone and has its tiles on a rack: each once, with
@@ -149,7 +149,14 @@ pub fn generate<L: PathLex, S: Sink>(
         &all_bounds(rules, board, cross, Dir::Across, &across, &numbers, worth),
         &all_bounds(rules, board, cross, Dir::Down, &down, &numbers, worth),
     ));
-    from_starts(
-        rules, board, cross, &across, &down, &numbers, lex, &starts, sink,
-    )
+    let finder = Finder {
+        rules,
+        board,
+        cross,
+        across: &across,
+        down: &down,
+        rack: &numbers,
+        lex,
+    };
+    finder.from_starts(&starts, sink)
 }

@@ -8,16 +8,16 @@ use Rattle.gen_moves.specs.declared.starts.Start.{Start}
 use Rattle.gen_moves.specs.Telling.{both_cells}
 use Rattle.gen_moves.specs.Starts.{IsGood, given_from}
 use Rattle.gen_moves.proofs.Starting.{left_out, starts_more, front_of_starts}
-use Rattle.gen_moves.proofs.generating.from_starts.Goals as goal
+use Rattle.gen_moves.proofs.generating.Finder.from_starts.Goals as goal
 
 -- a start that is passed over
 pub loop-number-preserved-then-passes : goal.loop-number-preserved-then-passes
 loop-number-preserved-then-passes g c =
-    let rules_in = c.args.rules.now in
-    let board = c.args.board.now in
-    let path = g.L.PathLex.language c.args.lex.now in
-    let cells = both_cells c.args.across.now c.args.down.now in
-    let rack = c.args.rack.now in
+    let rules_in = c.args.self.now.rules.now in
+    let board = c.args.self.now.board.now in
+    let path = g.L.PathLex.language c.args.self.now.lex.now in
+    let cells = both_cells c.args.self.now.across.now c.args.self.now.down.now in
+    let rack = c.args.self.now.rack.now in
     let sink = c.loop-number.sink in
     let some : Start = record { dir = Across; line = 0; place = 0; bound = 0 } in
     let start : Start = get_or c.args.starts.now c.loop-number.number some in
@@ -35,7 +35,7 @@ loop-number-preserved-then-passes g c =
 
 pub returns-in_err-walk_start-clause-took : goal.returns-in_err-walk_start-clause-took
 returns-in_err-walk_start-clause-took g c =
-    let given = given_from c.args.rules.now c.args.board.now (g.L.PathLex.language c.args.lex.now) (both_cells c.args.across.now c.args.down.now) c.args.rack.now in
+    let given = given_from c.args.self.now.rules.now c.args.self.now.board.now (g.L.PathLex.language c.args.self.now.lex.now) (both_cells c.args.self.now.across.now c.args.self.now.down.now) c.args.self.now.rack.now in
     let starts = c.args.starts.now in
     let number = c.loop-number.number in
     let some : Start = record { dir = Across; line = 0; place = 0; bound = 0 } in
