@@ -97,9 +97,13 @@ players_text r place =
 abbrev pub kind_mark : (number : ℕ) → ℕ
 kind_mark number = if nat_lt number 26 then 65 + number else 63
 
+-- a kind and a number of its tiles
+abbrev pub counted_kind : (number tiles : ℕ) → List ℕ
+counted_kind number tiles = 32 ∷ 32 ∷ kind_mark number ∷ 32 ∷ decimal tiles
+
 -- a kind and how many of its tiles are not on the board; nine kinds stand on a line
 abbrev pub kind_text : Rules → List (Option Tile) → (number : ℕ) → List ℕ
-kind_text rules board number = 32 ∷ 32 ∷ kind_mark number ∷ 32 ∷ decimal (off_board rules board number)
+kind_text rules board number = counted_kind number (off_board rules board number)
 
 unfoldable pub kinds_text : Rules → List (Option Tile) → (first many : ℕ) → List ℕ
 kinds_text rules board first many = flat_map (kind_text rules board) (range_with_len first many)

@@ -4,7 +4,7 @@ ghost use Rattle.std.specs.Fmt.{signed_decimal};
 ghost use Rattle.std.specs.Option.{option_copied};
 ghost use Rattle.ref_play.specs.Faults.{name_of};
 ghost use Rattle.game_board.specs.Laying.{board_before};
-ghost use Rattle.game_board.specs.Texts.{place_text, refusal_text, end_text, row_name, cell_text, row_line, rows_text, columns_line, marks_lines, squares_text, count_line, player_line, short_nick, rack_text, players_text, kind_mark, kind_text, kinds_line, off_text, board_text};
+ghost use Rattle.game_board.specs.Texts.{place_text, refusal_text, end_text, row_name, cell_text, row_line, rows_text, columns_line, marks_lines, squares_text, count_line, player_line, short_nick, rack_text, players_text, kind_mark, counted_kind, kinds_line, off_text, board_text};
 
 use crate::laying::Laying;
 use crate::marks::square_mark;
@@ -207,20 +207,15 @@ fn push_rack(text: &mut Vec<u8>, event: Option<&Event>) -> Result<(), AllocError
 }
 
 /// Appends the byte of a kind and how many of its tiles are not on the board.
-fn push_kind(
-    text: &mut Vec<u8>,
-    rules: &Rules,
-    board: &Board,
-    number: usize,
-) -> Result<(), AllocError>
+fn push_kind(text: &mut Vec<u8>, number: usize, off: usize) -> Result<(), AllocError>
     requires { number < 27 }
-    ensures { OnOk result (text.new.items ≡ text.old.items ++ kind_text rules.now board.now number) }
+    ensures { OnOk result (text.new.items ≡ text.old.items ++ counted_kind number off) }
 {
     let mut buffer = Buffer::new();
     text.extend_from_slice(b"  ")?;
     text.push(kind_mark(number))?;
     text.push(b' ')?;
-    text.extend_from_slice(buffer.format(off_board(rules, board, number)).as_bytes())
+    text.extend_from_slice(buffer.format(off).as_bytes())
 }
 
 /// The byte of a kind: a capital, or `?` for a blank.
@@ -247,7 +242,8 @@ fn push_kinds(
     ensures { OnOk result (text.new.items ≡ text.old.items ++ kinds_line rules.now board.now first) }
 {
     for k in 0..9 {
-        push_kind(text, rules, board, first + k)?;
+        let number = first + k;
+        push_kind(text, number, off_board(rules, board, number))?;
     }
     text.push(b'\n')?;
     Ok(())

@@ -1,5 +1,5 @@
-use Rattle.std.proofs.Common.{◌+◌}
-use Rattle.game_board.specs.Texts.{kind_text, kinds_text}
+use Rattle.std.proofs.Common.{◌+◌, ◌++◌, ap, ◌∙◌}
+use Rattle.game_board.specs.Texts.{counted_kind, kinds_text}
 use Rattle.game_board.proofs.Lines.{kinds_none, kinds_more, none_yet, longer}
 use Rattle.game_board.proofs.texts.push_kinds.Goals as goal
 
@@ -8,9 +8,5 @@ loop-k-init c = none_yet c.args.text.now.items (kinds_text c.args.rules.now c.ar
 
 pub loop-k-preserved : goal.loop-k-preserved
 loop-k-preserved c =
-    let rules = c.args.rules.now in
-    let board = c.args.board.now in
-    let first = c.args.first in
-    let k = c.loop-k.k in
-    longer c.args.text.now.items (kinds_text rules board first k) (kind_text rules board (first + k)) (kinds_text rules board first (k + 1)) c.loop-k.text.items c.push_kind.new.text.items
-    (kinds_more rules board first k) c.loop-k.invariant c.in_ok-push_kind.ensures
+    longer _ _ _ _ _ _ (kinds_more c.args.rules.now c.args.board.now c.args.first c.loop-k.k) c.loop-k.invariant
+    (c.in_ok-push_kind.ensures ∙ ap (λ off. c.loop-k.text.items ++ counted_kind (c.args.first + c.loop-k.k) off) c.off_board.ensures.number)

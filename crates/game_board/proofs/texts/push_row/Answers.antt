@@ -1,5 +1,4 @@
-use Rattle.std.proofs.Common.{◌+◌}
-use Rattle.game_board.specs.Texts.{cell_text, cells_text}
+use Rattle.game_board.specs.Texts.{cells_text}
 use Rattle.game_board.proofs.Lines.{cells_none, cells_more, none_yet, longer}
 use Rattle.game_board.proofs.texts.push_row.Goals as goal
 
@@ -9,9 +8,4 @@ loop-column-init c =
 
 pub loop-column-preserved : goal.loop-column-preserved
 loop-column-preserved c =
-    let rules = c.args.rules.now in
-    let board = c.args.board.now in
-    let row = c.args.row in
-    let column = c.loop-column.column in
-    longer c.push_row_name.new.text.items (cells_text rules board row column) (cell_text rules board row column) (cells_text rules board row (column + 1)) c.loop-column.text.items c.push_cell.new.text.items
-    (cells_more rules board row column) c.loop-column.invariant c.in_ok-push_cell.ensures
+    longer _ _ _ _ _ _ (cells_more c.args.rules.now c.args.board.now c.args.row c.loop-column.column) c.loop-column.invariant c.in_ok-push_cell.ensures
