@@ -85,23 +85,49 @@ fn push_sum(wrong: &mut Vec<WrongNumber>, event: &Event, had: i32) -> Result<(),
     Ok(())
 }
 
-/// Adds what is wrong at a place.
-#[tactic(auto, using(crate::proofs::WrongPlaces::both_wrong))]
-fn push_wrong(
-    wrong: &mut Vec<WrongNumber>,
-    written: &[Event],
-    right: &[Event],
-    place: usize,
-) -> Result<(), AllocError>
-    requires written { place < length written.now }
-    requires right { place < length right.now }
-    ensures { OnOk result (wrong.new.items ≡ wrong.old.items ++ wrong_at written.now right.now place) }
-{
-    let event = &written[place];
-    push_score(wrong, event, &right[place])?;
-    let had = had_before(written, event.player, place);
-    push_sum(wrong, event, had)?;
-    Ok(())
+/// A sheet beside its correction.
+#[derive(Clone, Copy)]
+struct Beside<'a> {
+    /// The events as they are written.
+    written: &'a [Event],
+    /// The events of the correction.
+    right: &'a [Event],
+}
+
+impl Beside<'_> {
+    /// Adds what is wrong at a place.
+    #[tactic(auto, using(crate::proofs::WrongPlaces::both_wrong))]
+    fn push_wrong(&self, wrong: &mut Vec<WrongNumber>, place: usize) -> Result<(), AllocError>
+        requires written { place < length self.now.written.now }
+        requires right { place < length self.now.right.now }
+        ensures { OnOk result (wrong.new.items ≡ wrong.old.items ++ wrong_at self.now.written.now self.now.right.now place) }
+    {
+        let event = &self.written[place];
+        push_score(wrong, event, &self.right[place])?;
+        let had = had_before(self.written, event.player, place);
+        push_sum(wrong, event, had)?;
+        Ok(())
+    }
+
+    /// Adds the last total of a player, where it is not the right one.
+    fn push_total(&self, wrong: &mut Vec<WrongNumber>, player: Seat) -> Result<(), AllocError>
+        ensures { OnOk result (wrong.new.items ≡ wrong.old.items ++ wrong_total player self.now.written.now self.now.right.now) }
+    {
+        let Some(total) = last_total(self.written, player) else {
+            return Ok(());
+        };
+        let Some(corrected) = last_total(self.right, player) else {
+            return Ok(());
+        };
+        if total.value() != corrected.value() {
+            wrong.push(WrongNumber::Total {
+                player,
+                written: total.value(),
+                right: corrected.value(),
+            })?;
+        }
+        Ok(())
+    }
 }
 
 /// The wrong scores and sums of a sheet beside its correction, in the order of the sheet.
@@ -116,36 +142,12 @@ pub fn wrong_lines(
     ensures { IfOk result (λ wrong. wrong.items ≡ wrong_lines written.now right.now) }
 {
     let mut wrong = Vec::new(alloc);
+    let beside = Beside { written, right };
     let both = written.len().min(right.len());
     for place in 0..both {
-        push_wrong(&mut wrong, written, right, place)?;
+        beside.push_wrong(&mut wrong, place)?;
     }
     Ok(wrong)
-}
-
-/// Adds the last total of a player, where it is not the right one.
-fn push_total(
-    wrong: &mut Vec<WrongNumber>,
-    written: &[Event],
-    right: &[Event],
-    player: Seat,
-) -> Result<(), AllocError>
-    ensures { OnOk result (wrong.new.items ≡ wrong.old.items ++ wrong_total player written.now right.now) }
-{
-    let Some(total) = last_total(written, player) else {
-        return Ok(());
-    };
-    let Some(corrected) = last_total(right, player) else {
-        return Ok(());
-    };
-    if total.value() != corrected.value() {
-        wrong.push(WrongNumber::Total {
-            player,
-            written: total.value(),
-            right: corrected.value(),
-        })?;
-    }
-    Ok(())
 }
 
 /// Adds the last totals of a sheet that are not those of its correction.
@@ -158,6 +160,7 @@ pub fn push_totals(
 ) -> Result<(), AllocError>
     ensures { OnOk result (wrong.new.items ≡ wrong.old.items ++ wrong_totals written.now right.now) }
 {
-    push_total(wrong, written, right, Seat::First)?;
-    push_total(wrong, written, right, Seat::Second)
+    let beside = Beside { written, right };
+    beside.push_total(wrong, Seat::First)?;
+    beside.push_total(wrong, Seat::Second)
 }
