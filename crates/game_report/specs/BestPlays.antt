@@ -20,10 +20,7 @@ is_judged out (kind.Play at dir word) = true
 is_judged out kind.Pass = is_none out
 is_judged out (kind.Exchange tiles) = true
 is_judged out (kind.ExchangeUnknown n) = true
-is_judged out kind.Withdraw = false
-is_judged out kind.Challenge = false
-is_judged out kind.Time = false
-is_judged out (kind.LastRack tiles) = false
+is_judged out other = false
 
 -- a stated rack, where it has this many tiles
 abbrev pub whole_rack : (size : ℕ) → Option (List ℕ) → Option (List ℕ)
