@@ -1,8 +1,9 @@
 use Rattle.std.proofs.Common.{[], ◌∷◌, refl}
 use Rattle.engine.specs.Boards.{IsBoarded}
+use Rattle.engine.specs.Reading.{ByParts}
 use Rattle.engine.specs.Sources.{game_source}
 use Rattle.engine.proofs.ShownBoards.{board_spares}
-use Rattle.engine.proofs.Stages.{rules_bad, rules_good}
+use Rattle.engine.proofs.Stages.{rules_texts, text_bad, rules_good}
 use Rattle.engine.proofs.boards.decide_ruled_board.Goals as goal
 
 pub returns-in-Ok-Ok : goal.returns-in-Ok-Ok
@@ -15,5 +16,5 @@ returns-in-Ok-Ok g c =
 pub returns-in-Ok-Err : goal.returns-in-Ok-Err
 returns-in-Ok-Err g c =
     let arm = c.in-Ok-Err in
-    rules_bad (g.R.Input.device c.args.rules_text.now) (g.R.Input.device c.read_rules.new.rules_text) (game_source (g.G.Input.device c.args.game.now) (g.G.Input.device c.args.game.now) ∷ [])
-    (λ rules. IsBoarded rules c.args.before) arm.field-0 arm.decision arm.ensures arm.field-0-is (refl, tt)
+    text_bad rules_texts (g.R.Input.device c.args.rules_text.now) (g.R.Input.device c.read_rules.new.rules_text) (game_source (g.G.Input.device c.args.game.now) (g.G.Input.device c.args.game.now) ∷ [])
+    (ByParts (λ rules. IsBoarded rules c.args.before)) arm.field-0 arm.decision arm.ensures arm.field-0-is (refl, tt)

@@ -6,7 +6,7 @@ use Rattle.engine.specs.Reports.{ok_line}
 use Rattle.engine.specs.Sources.{lexicon_source}
 use Rattle.engine.specs.Telling.{IsTold}
 use Rattle.engine.proofs.Sparing.{more_spares, lexicon_spares}
-use Rattle.engine.proofs.Stages.{list_bad, list_good}
+use Rattle.engine.proofs.Stages.{lists, text_bad, list_good}
 use Rattle.engine.proofs.checking.decide_check.Goals as goal
 
 pub returns-in-Ok-Ok : goal.returns-in-Ok-Ok
@@ -22,6 +22,6 @@ returns-in-Ok-Ok g c =
 pub returns-in-Ok-Err : goal.returns-in-Ok-Err
 returns-in-Ok-Err g c =
     let arm = c.in-Ok-Err in
-    list_bad (g.W.Input.device c.args.words.now) (g.W.Input.device c.read_list.new.words)
+    text_bad lists (g.W.Input.device c.args.words.now) (g.W.Input.device c.read_list.new.words)
     (lexicon_source (g.L.Input.device c.args.lexicon.now) (g.L.Input.device c.args.lexicon.now) ∷ [])
     (λ ws. ReadsLexicon ws (ReadsNoMore (IsTold verdict.Done (ok_line (length ws))))) arm.field-0 arm.decision arm.ensures arm.field-0-is (refl, tt)

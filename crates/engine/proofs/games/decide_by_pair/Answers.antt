@@ -1,19 +1,19 @@
 use Rattle.std.proofs.Common.{[]}
 use Rattle.lex_check.specs.Pairs.{list_in}
 use Rattle.engine.specs.Reading.{ReadsNoMore}
-use Rattle.engine.proofs.Stages.{record_bad, record_last}
+use Rattle.engine.proofs.Stages.{records, text_bad, text_last}
 use Rattle.engine.proofs.games.decide_by_pair.Goals as goal
 
 pub returns-in-Err : goal.returns-in-Err
 returns-in-Err g c =
     let read = c.in_ok-record in
     let arm = c.in-Err in
-    record_bad (g.G.Input.device c.args.game.now) (g.G.Input.device c.read_record.new.game) []
+    text_bad records (g.G.Input.device c.args.game.now) (g.G.Input.device c.read_record.new.game) []
     (λ r. ReadsNoMore (g.Q.Question.is_answer c.args.question.now c.args.rules.now (list_in c.args.pair.now) r)) read.field-0 arm.decision read.ensures arm.is tt
 
 pub returns : goal.returns
 returns g c =
     let read = c.in_ok-record in
     let arm = c.in-Ok in
-    record_last (g.G.Input.device c.args.game.now) (g.G.Input.device c.read_record.new.game)
+    text_last records (g.G.Input.device c.args.game.now) (g.G.Input.device c.read_record.new.game)
     (λ r. g.Q.Question.is_answer c.args.question.now c.args.rules.now (list_in c.args.pair.now) r) read.field-0 arm.record c.in_ok-answer.field-0 read.ensures arm.is c.in_ok-answer.ensures

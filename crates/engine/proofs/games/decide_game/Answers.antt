@@ -5,7 +5,7 @@ use Rattle.engine.specs.declared.verdicts.Verdict.TheVariants as verdict
 use Rattle.engine.specs.Reading.{ReadsNoMore, ReadsRecord, ReadsLexicon}
 use Rattle.engine.specs.Sources.{lexicon_source, game_source}
 use Rattle.engine.proofs.Sparing.{more_spares, record_spares, lexicon_spares}
-use Rattle.engine.proofs.Stages.{list_bad, list_good}
+use Rattle.engine.proofs.Stages.{lists, text_bad, list_good}
 use Rattle.engine.proofs.games.decide_game.Goals as goal
 
 pub returns-in-Ok-Ok : goal.returns-in-Ok-Ok
@@ -25,7 +25,7 @@ pub returns-in-Ok-Err : goal.returns-in-Ok-Err
 returns-in-Ok-Err g c =
     let arm = c.in-Ok-Err in
     let Asked : List (List ℕ) → Record → Verdict → List ℕ → Type 0 = g.Q.Question.is_answer c.args.question.now c.args.rules.now in
-    list_bad (g.W.Input.device c.args.words.now) (g.W.Input.device c.read_list.new.words)
+    text_bad lists (g.W.Input.device c.args.words.now) (g.W.Input.device c.read_list.new.words)
     (lexicon_source (g.L.Input.device c.args.lexicon.now) (g.L.Input.device c.args.lexicon.now)
     ∷ game_source (g.G.Input.device c.args.game.now) (g.G.Input.device c.args.game.now) ∷ [])
     (λ ws. ReadsLexicon ws (ReadsRecord (λ r. ReadsNoMore (Asked ws r)))) arm.field-0 arm.decision arm.ensures arm.field-0-is (refl, (refl, tt))

@@ -3,19 +3,19 @@ use Rattle.gcg_write.specs.Normal.{normal_of}
 use Rattle.engine.specs.declared.verdicts.Verdict.TheVariants as verdict
 use Rattle.engine.specs.Reading.{ReadsNoMore}
 use Rattle.engine.specs.Telling.{IsTold}
-use Rattle.engine.proofs.Stages.{record_bad, record_last}
+use Rattle.engine.proofs.Stages.{records, text_bad, text_last}
 use Rattle.engine.proofs.tidying.decide_tidy.Goals as goal
 
 pub returns-in-Err : goal.returns-in-Err
 returns-in-Err g c =
     let read = c.in_ok-record in
     let arm = c.in-Err in
-    record_bad (g.G.Input.device c.args.game.now) (g.G.Input.device c.read_record.new.game) []
+    text_bad records (g.G.Input.device c.args.game.now) (g.G.Input.device c.read_record.new.game) []
     (λ r. ReadsNoMore (IsTold verdict.Done (normal_of r))) read.field-0 arm.decision read.ensures arm.is tt
 
 pub returns : goal.returns
 returns g c =
     let read = c.in_ok-record in
     let arm = c.in-Ok in
-    record_last (g.G.Input.device c.args.game.now) (g.G.Input.device c.read_record.new.game)
+    text_last records (g.G.Input.device c.args.game.now) (g.G.Input.device c.read_record.new.game)
     (λ r. IsTold verdict.Done (normal_of r)) read.field-0 arm.record c.in_ok-tidy.field-0 read.ensures arm.is c.in_ok-tidy.ensures
