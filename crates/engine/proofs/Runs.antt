@@ -49,8 +49,12 @@ written sources IsAnswer old new d (Err fault) decides is =
       ended = tt;
     }
 
-pub runs : (sources : List Source) (IsAnswer : List (List ℕ) → Verdict → List ℕ → Type 0) (old new : Device) (decided : Result Decision RunFault) (result : Result Verdict RunFault)
+sent_by : (sources : List Source) (IsAnswer : List (List ℕ) → Verdict → List ℕ → Type 0) (old new : Device) (decided : Result Decision RunFault) (result : Result Verdict RunFault)
     → Decides sources IsAnswer decided → IsSent decided old new result → IsRun sources IsAnswer old new result
-runs sources IsAnswer old new (Ok d) result decides sent = written sources IsAnswer old new d result decides sent
-runs sources IsAnswer old new (Err fault) result decides sent =
+sent_by sources IsAnswer old new (Ok d) result decides sent = written sources IsAnswer old new d result decides sent
+sent_by sources IsAnswer old new (Err fault) result decides sent =
     subst (IsRun sources IsAnswer old new) (sym sent.0) (unwritten sources IsAnswer old new fault decides sent.1)
+
+pub runs : {sources : List Source} {IsAnswer : List (List ℕ) → Verdict → List ℕ → Type 0} {old new : Device} {decided : Result Decision RunFault} {result : Result Verdict RunFault}
+    → Decides sources IsAnswer decided → IsSent decided old new result → IsRun sources IsAnswer old new result
+runs {sources = sources} {IsAnswer = IsAnswer} {old = old} {new = new} {decided = decided} {result = result} decides sent = sent_by sources IsAnswer old new decided result decides sent

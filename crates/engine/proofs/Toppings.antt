@@ -48,7 +48,7 @@ pub runs_without : {A : Type 0} (sources : List Source) (IsAnswer : A → List (
     → IfOk decided (λ d. IsTold verdict.BadRack bad_rack_line d.verdict d.report.items) → IfErr decided (λ fault. fault ≡ run.NoMemory)
     → IsSent decided old new result → IsRun sources (ByRack IsAnswer rack) old new result
 runs_without sources IsAnswer rack old new decided result none still told memory sent =
-    runs sources (ByRack IsAnswer rack) old new decided result (none_decided sources IsAnswer rack decided none still told memory) sent
+    runs (none_decided sources IsAnswer rack decided none still told memory) sent
 
 -- ---- one that is some
 
@@ -56,7 +56,7 @@ pub runs_by_rack : {A : Type 0} (sources : List Source) (IsAnswer : A → List (
     (result : Result Verdict RunFault) → rack ≡ Some tiles → Decides sources (IsAnswer tiles) decided → IsSent decided old new result → IsRun sources (ByRack IsAnswer rack) old new result
 runs_by_rack {A = A} sources IsAnswer rack tiles old new decided result some decides sent =
     subst (λ (o : Option A). IsRun sources (ByRack IsAnswer o) old new result) (sym some)
-    (runs sources (IsAnswer tiles) old new decided result decides sent)
+    (runs decides sent)
 
 -- the same by a question that was made of a number and a line
 pub runs_as_asked : {A : Type 0} (sources : List Source) (IsAnswer : ℕ → Option ℕ → A → List (List ℕ) → Verdict → List ℕ → Type 0) (number own_number : ℕ) (before own_before : Option ℕ) (rack : Option A) (tiles : A)
