@@ -16,7 +16,7 @@ use Rattle.engine.specs.Reports.{illegal_line, bad_rack_line}
 use Rattle.engine.specs.Runs.{Decides, IsSent, IsRun}
 use Rattle.engine.specs.Sources.{Source, AreUntouched}
 use Rattle.engine.specs.Telling.{IsTold}
-use Rattle.engine.specs.Topping.{IsToppedOn, ByRack}
+use Rattle.engine.specs.Topping.{IsToppedOn, ByRack, RefusesRack}
 use Rattle.engine.proofs.Deciding.{decided_unread, stopped_unread}
 use Rattle.engine.proofs.Runs.{runs}
 
@@ -43,12 +43,10 @@ none_decided {A = A} sources IsAnswer rack (Ok d) none still told memory =
 none_decided {A = A} sources IsAnswer rack (Err fault) none still told memory =
     subst (λ (f : RunFault). Decides sources (ByRack IsAnswer rack) (Err f)) (sym memory) (stopped_unread sources (ByRack IsAnswer rack) still)
 
-pub runs_without : {A : Type 0} (sources : List Source) (IsAnswer : A → List (List ℕ) → Verdict → List ℕ → Type 0) (rack : Option A) (old new : Device) (decided : Result Decision RunFault)
-    (result : Result Verdict RunFault) → rack ≡ None → AreUntouched sources
-    → IfOk decided (λ d. IsTold verdict.BadRack bad_rack_line d.verdict d.report.items) → IfErr decided (λ fault. fault ≡ run.NoMemory)
-    → IsSent decided old new result → IsRun sources (ByRack IsAnswer rack) old new result
-runs_without sources IsAnswer rack old new decided result none still told memory sent =
-    runs (none_decided sources IsAnswer rack decided none still told memory) sent
+pub runs_without : {A : Type 0} (sources : List Source) (IsAnswer : A → List (List ℕ) → Verdict → List ℕ → Type 0) (rack : Option A) (old new : Device) (result : Result Verdict RunFault)
+    → rack ≡ None → AreUntouched sources → RefusesRack old new result → IsRun sources (ByRack IsAnswer rack) old new result
+runs_without sources IsAnswer rack old new result none still refuses =
+    runs (none_decided sources IsAnswer rack refuses.decided none still refuses.told refuses.memory) refuses.sent
 
 -- ---- one that is some
 

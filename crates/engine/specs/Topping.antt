@@ -1,15 +1,20 @@
 -- What asking for the best plays on the board after a record answers.
-use Rattle.std.specs.Prelude.{◌≡◌, ◌⊎◌, ℕ, List, Option, Some, None}
+use Rattle.std.specs.Prelude.{◌≡◌, ◌⊎◌, ℕ, List, Option, Some, None, Result, IfOk, IfErr}
+use Rattle.devices.specs.Devices.{Device}
 use Rattle.ref_tiles.specs.declared.rulebook.Rules.{Rules}
 use Rattle.gcg_read.specs.declared.records.Record.{Record}
 use Rattle.gcg_read.specs.Racks.{rack_of}
 use Rattle.game_turns.specs.Places.{AreAllowed}
 use Rattle.game_report.specs.TopPlays.{board_after, TellsTop}
+use Rattle.engine.specs.declared.decisions.Decision.{Decision}
+use Rattle.engine.specs.declared.faults.RunFault.{RunFault}
+use Rattle.engine.specs.declared.faults.RunFault.TheVariants as run
 use Rattle.engine.specs.declared.verdicts.Verdict.{Verdict}
 use Rattle.engine.specs.declared.verdicts.Verdict.TheVariants as verdict
 use Rattle.engine.specs.Judging.{IsRefused}
 use Rattle.engine.specs.Reading.{ReadsNoMore, ReadsList, ReadsLexicon, ReadsRecord, ReadsRules}
 use Rattle.engine.specs.Reports.{bad_rack_line}
+use Rattle.engine.specs.Runs.{IsSent}
 use Rattle.engine.specs.Telling.{IsTold}
 
 -- the rules allow each event, and the ten best candidates by a rack on the board after the last event are told
@@ -31,6 +36,13 @@ IsToppedBy rules rack = ReadsList (λ words. ReadsLexicon words (ReadsRecord (λ
 abbrev pub ByRack : {A : Type 0} → ((rack : A) → (texts : List (List ℕ)) → Verdict → List ℕ → Type 0) → (rack : Option A) → (texts : List (List ℕ)) → Verdict → List ℕ → Type 0
 ByRack IsAnswer None texts v report = IsTold verdict.BadRack bad_rack_line v report
 ByRack IsAnswer (Some rack) texts v report = IsAnswer rack texts v report
+
+-- what goes out where there is no rack: that there is none, and nothing where memory is refused
+pub record RefusesRack (old new : Device) (result : Result Verdict RunFault) : Type 0 where
+  pub decided : Result Decision RunFault
+  pub told : IfOk decided (λ d. IsTold verdict.BadRack bad_rack_line d.verdict d.report.items)
+  pub memory : IfErr decided (λ fault. fault ≡ run.NoMemory)
+  pub sent : IsSent decided old new result
 
 -- What is answered by the bytes of a rack: that they are none, exactly where they are not 1 to 7 of A to Z and '?', and that
 -- before any input is looked at.

@@ -8,7 +8,7 @@ ghost use Rattle.engine.specs.TopBefore.{given_rack, AreTopped, AreToppedByText}
 
 use crate::faults::RunFault;
 use crate::games::{decide_by_rules, decide_game};
-use crate::topping::decide_bad_rack;
+use crate::topping::refuse_rack;
 use crate::transfers::finish;
 use crate::turn_plays::turn_plays;
 use crate::verdicts::Verdict;
@@ -55,8 +55,7 @@ pub fn run_top_before<W: Input, L: Input, G: Input, O: Output>(
         ∷ lexicon_source (L.device lexicon.old) (L.device lexicon.new) ∷ game_source (G.device game.old) (G.device game.new) ∷ []) }
 {
     let Some(question) = turn_plays(rack, number, before) else {
-        let refused = decide_bad_rack(alloc);
-        return finish(out, refused);
+        return refuse_rack(alloc, out);
     };
     let decided = decide_game(alloc, &question, rules, words, lexicon, game);
     finish(out, decided)
@@ -99,8 +98,7 @@ pub fn run_top_before_ruled<R: Input, W: Input, L: Input, G: Input, O: Output>(
         ∷ lexicon_source (L.device lexicon.old) (L.device lexicon.new) ∷ game_source (G.device game.old) (G.device game.new) ∷ []) }
 {
     let Some(question) = turn_plays(rack, number, before) else {
-        let refused = decide_bad_rack(alloc);
-        return finish(out, refused);
+        return refuse_rack(alloc, out);
     };
     let decided = decide_by_rules(alloc, &question, rules_text, words, lexicon, game);
     finish(out, decided)

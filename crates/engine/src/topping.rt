@@ -8,7 +8,7 @@ ghost use Rattle.engine.specs.Reports as reports;
 ghost use Rattle.engine.specs.Runs.{IsRun};
 ghost use Rattle.engine.specs.Sources.{rules_source, words_source, lexicon_source, game_source, AreUntouched};
 ghost use Rattle.engine.specs.Telling.{IsTold};
-ghost use Rattle.engine.specs.Topping.{IsTopped, IsToppedByText};
+ghost use Rattle.engine.specs.Topping.{IsTopped, IsToppedByText, RefusesRack};
 
 use crate::best_plays::BestPlays;
 use crate::decisions::Decision;
@@ -34,11 +34,20 @@ pub(crate) fn bad_rack(alloc: Global) -> Result<Decision, AllocError>
 }
 
 /// The same as what is decided of a call.
-pub(crate) fn decide_bad_rack(alloc: Global) -> Result<Decision, RunFault>
+fn decide_bad_rack(alloc: Global) -> Result<Decision, RunFault>
     ensures told { IfOk result (λ d. IsTold verdict.BadRack reports.bad_rack_line d.verdict d.report.items) }
     ensures memory { IfErr result (λ fault. fault ≡ NoMemory) }
 {
     Ok(bad_rack(alloc)?)
+}
+
+/// Writes the verdict that a rack is none.
+pub(crate) fn refuse_rack<O: Output>(alloc: Global, out: &mut O) -> Result<Verdict, RunFault>
+    requires { HasRoom (O.device out.old) }
+    ensures { RefusesRack (O.device out.old) (O.device out.new) result }
+{
+    let refused = decide_bad_rack(alloc);
+    finish(out, refused)
 }
 
 /// Writes the ten best plays by a rack on the board after a record, by the words of a list and their lexicon.
@@ -76,11 +85,11 @@ pub fn run_top<W: Input, L: Input, G: Input, O: Output>(
     ensures bad_rack { is_rack rack.now ≡ false → AreUntouched (words_source (W.device words.old) (W.device words.new)
         ∷ lexicon_source (L.device lexicon.old) (L.device lexicon.new) ∷ game_source (G.device game.old) (G.device game.new) ∷ []) }
 {
-    let Some(rack) = read_rack(rack) else {
-        let refused = decide_bad_rack(alloc);
-        return finish(out, refused);
+    let Some(tiles) = read_rack(rack) else {
+        return refuse_rack(alloc, out);
     };
-    let decided = decide_game(alloc, &BestPlays { rack }, rules, words, lexicon, game);
+    let question = BestPlays { rack: tiles };
+    let decided = decide_game(alloc, &question, rules, words, lexicon, game);
     finish(out, decided)
 }
 
@@ -120,8 +129,7 @@ pub fn run_top_ruled<R: Input, W: Input, L: Input, G: Input, O: Output>(
         ∷ lexicon_source (L.device lexicon.old) (L.device lexicon.new) ∷ game_source (G.device game.old) (G.device game.new) ∷ []) }
 {
     let Some(rack) = read_rack(rack) else {
-        let decided = decide_bad_rack(alloc);
-        return finish(out, decided);
+        return refuse_rack(alloc, out);
     };
     let decided = decide_by_rules(alloc, &BestPlays { rack }, rules_text, words, lexicon, game);
     finish(out, decided)

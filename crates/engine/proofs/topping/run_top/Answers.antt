@@ -8,11 +8,11 @@ use Rattle.engine.proofs.topping.run_top.Goals as goal
 pub returns-in_default-clause-run : goal.returns-in_default-clause-run
 returns-in_default-clause-run g c =
     runs_without (words_source (g.W.Input.device c.args.words.now) (g.W.Input.device c.args.words.now) ∷ lexicon_source (g.L.Input.device c.args.lexicon.now) (g.L.Input.device c.args.lexicon.now) ∷ game_source (g.G.Input.device c.args.game.now) (g.G.Input.device c.args.game.now) ∷ [])
-    (IsToppedBy c.args.rules.now) (rack_of c.args.rack.now) (g.O.Output.device c.args.out.now) (g.O.Output.device c.finish.new.out) c.decide_bad_rack-refused.result c.finish.result
-    (no_rack (rack_of c.args.rack.now) c.read_rack.result c.read_rack.ensures c.in_default.not-Some) (refl, (refl, (refl, tt))) c.decide_bad_rack-refused.ensures.told c.decide_bad_rack-refused.ensures.memory c.finish.ensures
+    (IsToppedBy c.args.rules.now) (rack_of c.args.rack.now) (g.O.Output.device c.args.out.now) (g.O.Output.device c.refuse_rack.new.out) c.refuse_rack.result
+    (no_rack (rack_of c.args.rack.now) c.read_rack.result c.read_rack.ensures c.in_default.not-Some) (refl, (refl, (refl, tt))) c.refuse_rack.ensures
 
 pub returns-clause-run : goal.returns-clause-run
 returns-clause-run g c =
     runs_by_rack (words_source (g.W.Input.device c.args.words.now) (g.W.Input.device c.decide_game-decided.new.words) ∷ lexicon_source (g.L.Input.device c.args.lexicon.now) (g.L.Input.device c.decide_game-decided.new.lexicon) ∷ game_source (g.G.Input.device c.args.game.now) (g.G.Input.device c.decide_game-decided.new.game) ∷ [])
-    (IsToppedBy c.args.rules.now) (rack_of c.args.rack.now) c.in-Some.rack (g.O.Output.device c.args.out.now) (g.O.Output.device c.finish-2.new.out) c.decide_game-decided.result c.finish-2.result
-    (sym c.read_rack.ensures ∙ c.in-Some.is) c.decide_game-decided.ensures c.finish-2.ensures
+    (IsToppedBy c.args.rules.now) (rack_of c.args.rack.now) c.in-Some.tiles (g.O.Output.device c.args.out.now) (g.O.Output.device c.finish.new.out) c.decide_game-decided.result c.finish.result
+    (sym c.read_rack.ensures ∙ c.in-Some.is) c.decide_game-decided.ensures c.finish.ensures
