@@ -11,7 +11,6 @@ ghost use Rattle.engine.specs.Telling.{IsTold};
 use crate::decisions::Decision;
 use crate::faults::RunFault;
 use crate::meanings::{read_record, read_rules};
-use crate::reports::bad_line_line;
 use crate::transfers::finish;
 use crate::verdicts::Verdict;
 use devices::{Input, Output};
@@ -21,14 +20,15 @@ use ref_tiles::Rules;
 use std::alloc::{AllocError, Global};
 
 /// The verdict that no event stands on the line or behind it.
+#[tactic(auto, unfolding(crate::specs::Reports::bad_line_line))]
 pub(crate) fn bad_line(alloc: Global) -> Result<Decision, AllocError>
     ensures { IfOk result (λ d. IsTold verdict.BadLine reports.bad_line_line d.verdict d.report.items) }
 {
-    let report = bad_line_line(alloc)?;
-    Ok(Decision {
-        verdict: Verdict::BadLine,
-        report,
-    })
+    Decision::told(
+        alloc,
+        Verdict::BadLine,
+        b"bad line: no event is on it or after it\n",
+    )
 }
 
 /// The place that is asked for: that of a line, or behind the last event.

@@ -5,7 +5,7 @@ ghost use Rattle.lex_check.specs.Checks.{symbol_of};
 ghost use Rattle.game_turns.specs.Passing.{rules_in, record_in};
 ghost use Rattle.lex_check.specs.Pairs as pairs;
 ghost use Rattle.game_turns.specs.Places.{is_finished};
-ghost use Rattle.engine.specs.Reports.{rule_text, kind_byte, fault_text, line_text, illegal_line, unsettled_line, bad_record_line, bad_rules_line, bad_list_line, lexicon_text, bad_file_line, bad_rack_line, bad_line_line, ok_line, legal_line, IsLegalReport};
+ghost use Rattle.engine.specs.Reports.{rule_text, kind_byte, fault_text, line_text, illegal_line, unsettled_line, bad_record_line, bad_rules_line, bad_list_line, lexicon_text, bad_file_line, ok_line, legal_line, IsLegalReport};
 
 use crate::lexicons::LexiconFault;
 use crate::verdicts::GameFault;
@@ -199,22 +199,6 @@ pub fn bad_file_line(alloc: Global, fault: &LexiconFault) -> Result<Vec<u8>, All
     push_lexicon_fault(&mut text, fault)?;
     text.extend_from_slice(b"\n")?;
     Ok(text)
-}
-
-/// `bad rack`.
-#[tactic(auto, unfolding(crate::specs::Reports::bad_rack_line))]
-pub fn bad_rack_line(alloc: Global) -> Result<Vec<u8>, AllocError>
-    ensures { IfOk result (λ text. text.items ≡ bad_rack_line) }
-{
-    Vec::from_slice(alloc, b"bad rack\n")
-}
-
-/// `bad line: no event is on it or after it`.
-#[tactic(auto, unfolding(crate::specs::Reports::bad_line_line))]
-pub fn bad_line_line(alloc: Global) -> Result<Vec<u8>, AllocError>
-    ensures { IfOk result (λ text. text.items ≡ bad_line_line) }
-{
-    Vec::from_slice(alloc, b"bad line: no event is on it or after it\n")
 }
 
 /// `ok N`, the number of words.

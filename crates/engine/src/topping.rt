@@ -14,7 +14,6 @@ use crate::best_plays::BestPlays;
 use crate::decisions::Decision;
 use crate::faults::RunFault;
 use crate::games::{decide_by_rules, decide_game};
-use crate::reports::bad_rack_line;
 use crate::transfers::finish;
 use crate::verdicts::Verdict;
 use devices::{Input, Output};
@@ -23,14 +22,11 @@ use ref_tiles::Rules;
 use std::alloc::{AllocError, Global};
 
 /// The verdict that a rack is none.
+#[tactic(auto, unfolding(crate::specs::Reports::bad_rack_line))]
 pub(crate) fn bad_rack(alloc: Global) -> Result<Decision, AllocError>
     ensures { IfOk result (λ d. IsTold verdict.BadRack reports.bad_rack_line d.verdict d.report.items) }
 {
-    let report = bad_rack_line(alloc)?;
-    Ok(Decision {
-        verdict: Verdict::BadRack,
-        report,
-    })
+    Decision::told(alloc, Verdict::BadRack, b"bad rack\n")
 }
 
 /// The same as what is decided of a call.
