@@ -5,12 +5,14 @@ use Rattle.gcg_read.specs.declared.records.Record.{Record}
 use Rattle.game_turns.specs.Places.{is_finished}
 use Rattle.deal_steps.specs.declared.faults.DealFault.{DealFault}
 use Rattle.deal_steps.specs.declared.faults.DealFault.TheVariants as deal
+use Rattle.engine.specs.declared.judging.Judging.{Judging}
+use Rattle.engine.specs.declared.judging.Judging.TheVariants as judging
 use Rattle.engine.specs.declared.verdicts.GameFault.{GameFault}
 use Rattle.engine.specs.declared.verdicts.GameFault.TheVariants as game
 use Rattle.engine.specs.declared.verdicts.Verdict.{Verdict}
 use Rattle.engine.specs.declared.verdicts.Verdict.TheVariants as verdict
 use Rattle.engine.specs.Judging.{IsLegal, IsRefused, IsPastBound, IsLeftOpen, IsToldBound, IsJudged}
-use Rattle.engine.specs.Settling.{IsSettledLegal, IsUndealt, IsStillOpen, IsSettled}
+use Rattle.engine.specs.Settling.{IsSettledLegal, IsUndealt, IsStillOpen, IsSettled, IsJudgedBy}
 use Rattle.engine.specs.Telling.{IsOwn}
 use Rattle.engine.specs.Boards.{place_asked}
 use Rattle.engine.specs.TopBefore.{rack_asked, AreToldBefore, IsToldRefusal, ByRackAsked, ByPlaceAsked, IsToppedBefore}
@@ -38,7 +40,7 @@ bound_own : (bound : DealFault) (v : Verdict) (report : List ℕ) → IsToldBoun
 bound_own (deal.RackTooBig line) v report is = own_as v (verdict.Illegal line game.RackTooBig) is.verdict_is (illegal_own line game.RackTooBig)
 bound_own (deal.TilesShort line kind) v report is = own_as v (verdict.Illegal line (game.TilesShort kind)) is.verdict_is (illegal_own line (game.TilesShort kind))
 
-pub judged_own : (rules : Rules) (words : List (List ℕ)) (r : Record) (v : Verdict) (report : List ℕ) → IsJudged rules words r v report → IsOwn v
+judged_own : (rules : Rules) (words : List (List ℕ)) (r : Record) (v : Verdict) (report : List ℕ) → IsJudged rules words r v report → IsOwn v
 judged_own rules words r v report is =
     ⊎_elim
     (λ (legal : IsLegal rules words r v report). own_as v (verdict.Legal (is_finished rules r.events)) legal.told.verdict_is (legal_own (is_finished rules r.events)))
@@ -81,7 +83,7 @@ by_place_own number rules words r given (Some place) v report is = by_rack_own n
 pub topped_before_own : (number : ℕ) (before : Option ℕ) (rules : Rules) (words : List (List ℕ)) (given : Option (List ℕ)) (r : Record) (v : Verdict) (report : List ℕ) → IsToppedBefore number before rules words given r v report → IsOwn v
 topped_before_own number before rules words given r v report is = by_place_own number rules words r given (place_asked r.events before) v report is
 
-pub settled_own : (rules : Rules) (words : List (List ℕ)) (r : Record) (v : Verdict) (report : List ℕ) → IsSettled rules words r v report → IsOwn v
+settled_own : (rules : Rules) (words : List (List ℕ)) (r : Record) (v : Verdict) (report : List ℕ) → IsSettled rules words r v report → IsOwn v
 settled_own rules words r v report is =
     ⊎_elim
     (λ (legal : IsSettledLegal rules words r v report). own_as v (verdict.Legal (is_finished rules r.events)) legal.told.verdict_is (legal_own (is_finished rules r.events)))
@@ -99,3 +101,7 @@ settled_own rules words r v report is =
     others)
     rest)
     is
+
+pub judged_by_own : (question : Judging) (rules : Rules) (words : List (List ℕ)) (r : Record) (v : Verdict) (report : List ℕ) → IsJudgedBy question rules words r v report → IsOwn v
+judged_by_own judging.ByRule rules words r v report is = judged_own rules words r v report is
+judged_by_own judging.BySearch rules words r v report is = settled_own rules words r v report is

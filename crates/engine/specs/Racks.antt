@@ -1,18 +1,34 @@
 -- What is found of the racks of a record that passed.
 use Rattle.std.specs.Prelude.{◌≡◌, List, Some}
 use Rattle.game_turns.specs.declared.passed.Passed.{Passed}
-use Rattle.game_turns.specs.Passing.{record_in}
+use Rattle.game_turns.specs.Passing.{rules_in, record_in}
 use Rattle.deal_steps.specs.declared.deals.Held.{Held}
 use Rattle.game_deal.specs.Bounded.{bound_in, IsBounded, FitsRecord}
 use Rattle.game_deal.specs.Plain.{HaveNoExchange}
 use Rattle.game_deal.specs.Settling.{EndsOnLine}
+use Rattle.engine.specs.declared.judging.Judging.{Judging}
+use Rattle.engine.specs.declared.judging.Judging.TheVariants as judging
 use Rattle.engine.specs.declared.racks.RackFinding.{RackFinding}
 use Rattle.engine.specs.declared.racks.RackFinding.TheVariants as rack
+use Rattle.engine.specs.Verdicts.{IsDealt}
 
 -- some deal yields every rack
 pub record HasDeal (passed : Passed) : Type 0 where
   pub racks : List Held
   pub fits : FitsRecord passed racks
+
+-- no bound is exceeded, but the rule of completion gives no deal that fits, and that only where tiles were exchanged
+pub record IsUndealtByRule (passed : Passed) : Type 0 where
+  pub bounded : IsBounded passed
+  pub undealt : IsDealt (rules_in passed) (record_in passed).events → ⊥
+  pub exchanged : HaveNoExchange (record_in passed).events → ⊥
+
+-- The deal of the rule of completion fits, or a bound is exceeded, or neither.
+abbrev pub AreTried : Passed → RackFinding → Type 0
+AreTried passed rack.Dealt = IsDealt (rules_in passed) (record_in passed).events
+AreTried passed (rack.PastBound bound) = bound_in passed ≡ Some bound
+AreTried passed (rack.NoDeal line) = ⊥
+AreTried passed rack.Unknown = IsUndealtByRule passed
 
 -- A deal fits, or a bound is exceeded, or no racks fit the steps up to a line; or neither a deal nor a proof that there is none
 -- was found, and that only where tiles were exchanged.
@@ -21,3 +37,8 @@ AreFound passed rack.Dealt = HasDeal passed
 AreFound passed (rack.PastBound bound) = bound_in passed ≡ Some bound
 AreFound passed (rack.NoDeal line) = IsBounded passed × EndsOnLine passed line
 AreFound passed rack.Unknown = IsBounded passed × (HaveNoExchange (record_in passed).events → ⊥)
+
+-- what a question of a game finds
+abbrev pub AreFoundBy : Judging → Passed → RackFinding → Type 0
+AreFoundBy judging.ByRule passed found = AreTried passed found
+AreFoundBy judging.BySearch passed found = AreFound passed found

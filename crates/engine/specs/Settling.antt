@@ -2,11 +2,13 @@
 use Rattle.std.specs.Prelude.{◌⊎◌, ℕ, List}
 use Rattle.ref_tiles.specs.declared.rulebook.Rules.{Rules}
 use Rattle.gcg_read.specs.declared.records.Record.{Record}
+use Rattle.engine.specs.declared.judging.Judging.{Judging}
+use Rattle.engine.specs.declared.judging.Judging.TheVariants as judging
 use Rattle.engine.specs.declared.verdicts.GameFault.TheVariants as game
 use Rattle.engine.specs.declared.verdicts.Verdict.{Verdict}
 use Rattle.engine.specs.declared.verdicts.Verdict.TheVariants as verdict
 use Rattle.engine.specs.Headlines.{MeansLegal, MeansNoGame}
-use Rattle.engine.specs.Judging.{IsToldLegal, IsRefused, IsPastBound}
+use Rattle.engine.specs.Judging.{IsToldLegal, IsRefused, IsPastBound, IsJudged}
 use Rattle.engine.specs.Reading.{ReadsNoMore, ReadsList, ReadsLexicon, ReadsRecord, ReadsRules}
 use Rattle.engine.specs.Reports.{illegal_line, unsettled_line}
 use Rattle.engine.specs.Telling.{IsTold}
@@ -33,6 +35,11 @@ abbrev pub IsSettled : Rules → (words : List (List ℕ)) → Record → Verdic
 IsSettled rules words r v report =
     IsSettledLegal rules words r v report ⊎ IsRefused rules words r v report ⊎ IsPastBound rules words r v report ⊎ IsUndealt rules words r v report
     ⊎ IsStillOpen rules words r v report
+
+-- the same by the deal of the rule of completion alone, or by a search
+abbrev pub IsJudgedBy : Judging → Rules → (words : List (List ℕ)) → Record → Verdict → (report : List ℕ) → Type 0
+IsJudgedBy judging.ByRule rules words r v report = IsJudged rules words r v report
+IsJudgedBy judging.BySearch rules words r v report = IsSettled rules words r v report
 
 -- What is answered on the bytes of a word list, a lexicon and a record.
 abbrev pub IsSettledBy : Rules → (texts : List (List ℕ)) → Verdict → (report : List ℕ) → Type 0

@@ -1,11 +1,13 @@
 //! What is found of the racks of a record that passed.
-ghost use Rattle.std.specs.Prelude.{IfOk};
-ghost use Rattle.game_turns.specs.Passing.{record_in};
-ghost use Rattle.game_deal.specs.{Bounded.{IsBounded}, Plain.{HaveNoExchange}, Stepping.{passed_in}};
-ghost use Rattle.engine.specs.Racks.{AreFound};
+ghost use Rattle.std.specs.Prelude.{◌≡◌, ◌↔◌, IsTrue, IfOk, None};
+ghost use Rattle.game_turns.specs.Passing.{rules_in, record_in};
+ghost use Rattle.deal_steps.specs.Bounds.{first_bound};
+ghost use Rattle.game_deal.specs.{Bounded.{IsBounded}, Plain.{HaveNoExchange}, Recorded.{steps_of}, Stepping.{passed_in}};
+ghost use Rattle.engine.specs.Racks.{AreTried, AreFound, AreFoundBy};
+ghost use Rattle.engine.specs.Verdicts.{IsDealt};
 
-use crate::judging::is_dealt;
-use game_deal::{DealFault, Settled, Steps, bounds, settle};
+use crate::judging::Judging;
+use game_deal::{DealFault, Settled, Steps, bounds, complete, fits, settle};
 use game_turns::Passed;
 use std::alloc::{AllocError, Global};
 
@@ -21,8 +23,36 @@ pub enum RackFinding {
         /// The line, counted from 1.
         line: u32,
     },
-    /// Neither a deal nor a proof that there is none was found within the budget of the search.
+    /// Neither a deal nor a proof that there is none was found.
     Unknown,
+}
+
+/// Whether the rule of completion gives a deal, and it fits.
+#[tactic(auto, using(crate::proofs::Deals::deal_fits, crate::proofs::Deals::no_deal_fits, crate::proofs::Deals::plain_fits))]
+fn is_dealt(alloc: Global, steps: &Steps<'_>) -> Result<bool, AllocError>
+    ensures same { IfOk result (λ b. IsTrue b ↔ IsDealt (rules_in (passed_in steps.now)) (record_in (passed_in steps.now)).events) }
+    ensures plain { IfOk result (λ b. first_bound (rules_in (passed_in steps.now)) (steps_of (rules_in (passed_in steps.now)) (record_in (passed_in steps.now)).events) ≡ None
+        → HaveNoExchange (record_in (passed_in steps.now)).events → IsTrue b) }
+{
+    match complete(alloc, steps)? {
+        Some(deal) => Ok(fits(steps, &deal)),
+        None => Ok(false),
+    }
+}
+
+/// What is found of racks by the bounds, and by the deal that is tried first.
+#[tactic(auto, using(crate::proofs::Settled::tried_dealt, crate::proofs::Settled::tried_open))]
+fn try_racks(alloc: Global, steps: &Steps<'_>) -> Result<RackFinding, AllocError>
+    ensures { IfOk result (AreTried (passed_in steps.now)) }
+{
+    if let Some(bound) = bounds(steps) {
+        return Ok(RackFinding::PastBound(bound));
+    }
+    if is_dealt(alloc, steps)? {
+        Ok(RackFinding::Dealt)
+    } else {
+        Ok(RackFinding::Unknown)
+    }
 }
 
 /// What a search finds of racks that exceed no bound.
@@ -43,16 +73,30 @@ fn search_racks(alloc: Global, steps: &Steps<'_>) -> Result<RackFinding, AllocEr
 /// record without an exchange it is never `Unknown`.
 ///
 /// It fails only where memory runs out.
-#[tactic(auto, using(crate::proofs::Settled::dealt_first, crate::proofs::Settled::not_plain))]
+#[tactic(auto, using(crate::proofs::Settled::tried_found))]
 pub fn settle_racks(alloc: Global, passed: &Passed<'_>) -> Result<RackFinding, AllocError>
     ensures { IfOk result (AreFound passed.now) }
 {
     let steps = Steps::of(alloc, passed)?;
-    if let Some(bound) = bounds(&steps) {
-        return Ok(RackFinding::PastBound(bound));
+    match try_racks(alloc, &steps)? {
+        RackFinding::Unknown => search_racks(alloc, &steps),
+        found => Ok(found),
     }
-    if is_dealt(alloc, &steps)? {
-        return Ok(RackFinding::Dealt);
+}
+
+/// What a question of a game finds of the racks of its record.
+pub fn find_racks(
+    alloc: Global,
+    passed: &Passed<'_>,
+    question: Judging,
+) -> Result<RackFinding, AllocError>
+    ensures { IfOk result (AreFoundBy question passed.now) }
+{
+    match question {
+        Judging::ByRule => {
+            let steps = Steps::of(alloc, passed)?;
+            try_racks(alloc, &steps)
+        }
+        Judging::BySearch => settle_racks(alloc, passed),
     }
-    search_racks(alloc, &steps)
 }

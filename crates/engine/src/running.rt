@@ -52,7 +52,7 @@ pub fn run<W: Input, L: Input, G: Input, O: Output>(
         complete (O.device out.old) (O.device out.new)) }
 {
     law_of_legal();
-    let decided = decide_game(alloc, &Judging, rules, words, lexicon, game);
+    let decided = decide_game(alloc, &Judging::ByRule, rules, words, lexicon, game);
     finish(out, decided)
 }
 
@@ -83,6 +83,6 @@ pub fn run_ruled<R: Input, W: Input, L: Input, G: Input, O: Output>(
         ∷ lexicon_source (L.device lexicon.old) (L.device lexicon.new) ∷ game_source (G.device game.old) (G.device game.new) ∷ [])
         IsDecidedByText (O.device out.old) (O.device out.new) result }
 {
-    let decided = decide_by_rules(alloc, &Judging, rules_text, words, lexicon, game);
+    let decided = decide_by_rules(alloc, &Judging::ByRule, rules_text, words, lexicon, game);
     finish(out, decided)
 }

@@ -1,78 +1,21 @@
-//! Whether the game of a record is legal, by any deal that is found, or by a proof that there is none.
+//! Judging a game by the bytes of its inputs, by any deal that is found, or by a proof that there is none.
 ghost use Rattle.std.specs.Prelude.{◌≡◌, ◌∷◌, [], Bool, IfOk};
 ghost use Rattle.devices.specs.Devices.{HasRoom};
-ghost use Rattle.game_turns.specs.Passing.{rules_in, record_in};
-ghost use Rattle.game_turns.specs.Places.{AreAllowed};
-ghost use Rattle.lex_check.specs.Pairs as pairs;
-ghost use Rattle.engine.specs.declared.verdicts.GameFault.TheVariants as game;
 ghost use Rattle.engine.specs.declared.verdicts.Verdict.TheVariants as verdict;
 ghost use Rattle.engine.specs.Headlines.{IsLegalRun};
 ghost use Rattle.engine.specs.Runs.{IsRun};
-ghost use Rattle.engine.specs.Settling.{IsSettled, IsSettledBy, IsSettledByText};
+ghost use Rattle.engine.specs.Settling.{IsSettledBy, IsSettledByText};
 ghost use Rattle.engine.specs.Sources.{rules_source, words_source, lexicon_source, game_source};
 
-use crate::decisions::Decision;
 use crate::faults::RunFault;
 use crate::games::{decide_by_rules, decide_game};
-use crate::judging::{illegal, legal, past_bound, unsettled};
+use crate::judging::Judging;
 use crate::laws::law_of_settled_games;
-use crate::questions::{AskedGame, Question};
-use crate::racks::{RackFinding, settle_racks};
 use crate::transfers::finish;
-use crate::verdicts::{GameFault, Verdict};
+use crate::verdicts::Verdict;
 use devices::{Input, Output};
-use game_deal::law_of_bounds;
-use game_turns::{Passed, play_through};
-use lex_check::Checked;
 use ref_tiles::Rules;
-use std::alloc::{AllocError, Global};
-
-/// The verdict on a record of which every event is allowed, by what is found of its racks.
-#[tactic(auto, using(crate::proofs::Settled::by_deal, crate::proofs::Settled::past, crate::proofs::Settled::ruled_out, crate::proofs::Settled::left_open))]
-fn settle_passed(
-    alloc: Global,
-    passed: &Passed<'_>,
-    pair: &Checked<'_>,
-) -> Result<Decision, AllocError>
-    requires { AreAllowed (rules_in passed.now) (pairs.list_in pair.now) (record_in passed.now).events }
-    ensures { IfOk result (λ d. IsSettled (rules_in passed.now) (pairs.list_in pair.now) (record_in passed.now) d.verdict d.report.items) }
-{
-    law_of_bounds();
-    match settle_racks(alloc, passed)? {
-        RackFinding::Dealt => legal(alloc, passed, pair),
-        RackFinding::PastBound(bound) => past_bound(alloc, &bound),
-        RackFinding::NoDeal { line } => illegal(alloc, line, GameFault::NoDeal),
-        RackFinding::Unknown => unsettled(alloc),
-    }
-}
-
-/// The verdict on a record, by the list of a pair.
-#[tactic(auto, using(crate::proofs::Settled::refused))]
-fn settle_record(alloc: Global, asked: &AskedGame<'_>) -> Result<Decision, AllocError>
-    ensures { IfOk result (λ d. IsSettled asked.now.rules.now (pairs.list_in asked.now.pair.now) asked.now.record.now d.verdict d.report.items) }
-{
-    match play_through(asked.rules, asked.record, asked.pair.list()) {
-        Ok(passed) => settle_passed(alloc, &passed, asked.pair),
-        Err(refusal) => illegal(alloc, refusal.line, GameFault::Rule(refusal.fault)),
-    }
-}
-
-/// Whether the game is legal, and the best play of each turn where it is; its deals are searched.
-#[derive(Clone, Copy, Debug)]
-pub struct Settling;
-
-impl Question for Settling {
-    ghost use Rattle.engine.specs.Settling.{IsSettled};
-    ghost use Rattle.engine.specs.OwnVerdicts.{settled_own};
-
-    ghost is_answer = { λ question rules words game v report. IsSettled rules words game v report };
-
-    fn answer(&self, alloc: Global, asked: &AskedGame<'_>) -> Result<Decision, AllocError> {
-        settle_record(alloc, asked)
-    }
-
-    ghost own = { λ question rules words game v report is. settled_own rules words game v report is };
-}
+use std::alloc::Global;
 
 /// Judges a game as [`run`](crate::run) does, but searches for a deal where `run` would say `Unsettled`.
 ///
@@ -108,7 +51,7 @@ pub fn run_settled<W: Input, L: Input, G: Input, O: Output>(
         complete (O.device out.old) (O.device out.new)) }
 {
     law_of_settled_games();
-    let decided = decide_game(alloc, &Settling, rules, words, lexicon, game);
+    let decided = decide_game(alloc, &Judging::BySearch, rules, words, lexicon, game);
     finish(out, decided)
 }
 
@@ -137,6 +80,6 @@ pub fn run_settled_ruled<R: Input, W: Input, L: Input, G: Input, O: Output>(
         ∷ lexicon_source (L.device lexicon.old) (L.device lexicon.new) ∷ game_source (G.device game.old) (G.device game.new) ∷ [])
         IsSettledByText (O.device out.old) (O.device out.new) result }
 {
-    let decided = decide_by_rules(alloc, &Settling, rules_text, words, lexicon, game);
+    let decided = decide_by_rules(alloc, &Judging::BySearch, rules_text, words, lexicon, game);
     finish(out, decided)
 }

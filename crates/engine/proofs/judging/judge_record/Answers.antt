@@ -1,5 +1,5 @@
 use Rattle.std.proofs.Common.{rules}
-use Rattle.engine.proofs.Deals.{judged_refused}
+use Rattle.engine.proofs.Settled.{judged_refused}
 use Rattle.engine.proofs.judging.judge_record.Goals as goal
 
 pub returns-in-Err : goal.returns-in-Err
