@@ -30,7 +30,6 @@ mod questions;
 mod racks;
 mod reports;
 mod running;
-mod settling;
 mod tidying;
 mod top_before;
 mod topping;
@@ -64,8 +63,7 @@ pub use meanings::{
 pub use questions::{AskedGame, Question};
 pub use racks::{RackFinding, settle_racks};
 pub use reports::{fault_text, legal_report};
-pub use running::{run, run_ruled};
-pub use settling::{run_settled, run_settled_ruled};
+pub use running::{run, run_ruled, run_settled, run_settled_ruled};
 pub use tidying::run_tidy;
 pub use top_before::{run_top_before, run_top_before_ruled};
 pub use topping::{run_top, run_top_ruled};

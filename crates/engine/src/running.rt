@@ -1,16 +1,17 @@
-//! Judging a game by the bytes of its inputs. The contract of [`run`] is the theorem of the whole.
+//! Judging a game by the bytes of its inputs, by the deal of the rule or by a search. The contract of [`run`] is the theorem of the whole.
 ghost use Rattle.std.specs.Prelude.{◌≡◌, ◌∷◌, [], Bool, IfOk};
 ghost use Rattle.devices.specs.Devices.{HasRoom};
 ghost use Rattle.engine.specs.declared.verdicts.Verdict.TheVariants as verdict;
 ghost use Rattle.engine.specs.Headlines.{IsLegalRun};
 ghost use Rattle.engine.specs.Judging.{IsDecided, IsDecidedByText};
 ghost use Rattle.engine.specs.Runs.{IsRun};
+ghost use Rattle.engine.specs.Settling.{IsSettledBy, IsSettledByText};
 ghost use Rattle.engine.specs.Sources.{rules_source, words_source, lexicon_source, game_source};
 
 use crate::faults::RunFault;
 use crate::games::{decide_by_rules, decide_game};
 use crate::judging::Judging;
-use crate::laws::law_of_legal;
+use crate::laws::{law_of_legal, law_of_settled_games};
 use crate::transfers::finish;
 use crate::verdicts::Verdict;
 use devices::{Input, Output};
@@ -84,5 +85,72 @@ pub fn run_ruled<R: Input, W: Input, L: Input, G: Input, O: Output>(
         IsDecidedByText (O.device out.old) (O.device out.new) result }
 {
     let decided = decide_by_rules(alloc, &Judging::ByRule, rules_text, words, lexicon, game);
+    finish(out, decided)
+}
+
+/// Judges a game as [`run`] does, but searches for a deal where `run` would say `Unsettled`.
+///
+/// A deal that fits makes the game legal. A proof that no racks fit the steps up to a line makes it illegal: the verdict is
+/// `NoDeal` with that line, the first up to which the search finds a proof. `Unsettled` is left where the search finds
+/// neither within its budget, which never happens to a record without an exchange.
+///
+/// # Errors
+///
+/// `ReadFailed` and `WriteFailed` come only where that device failed, or a write took no byte; `NoMemory` where memory
+/// was refused. After `WriteFailed` a front of the report went out, after the other two nothing.
+pub fn run_settled<W: Input, L: Input, G: Input, O: Output>(
+    alloc: Global,
+    words: &mut W,
+    lexicon: &mut L,
+    game: &mut G,
+    out: &mut O,
+    rules: &Rules,
+) -> Result<Verdict, RunFault>
+    requires words { HasRoom (W.device words.old) }
+    requires lexicon { HasRoom (L.device lexicon.old) }
+    requires game { HasRoom (G.device game.old) }
+    requires out { HasRoom (O.device out.old) }
+
+    ensures run { IsRun (words_source (W.device words.old) (W.device words.new)
+        ∷ lexicon_source (L.device lexicon.old) (L.device lexicon.new) ∷ game_source (G.device game.old) (G.device game.new) ∷ [])
+        (IsSettledBy rules.now) (O.device out.old) (O.device out.new) result }
+
+    // What the verdict legal means.
+    ensures legal { IfOk result (λ v. (complete : Bool) → v ≡ verdict.Legal complete
+        → IsLegalRun rules.now (words_source (W.device words.old) (W.device words.new)
+        ∷ lexicon_source (L.device lexicon.old) (L.device lexicon.new) ∷ game_source (G.device game.old) (G.device game.new) ∷ [])
+        complete (O.device out.old) (O.device out.new)) }
+{
+    law_of_settled_games();
+    let decided = decide_game(alloc, &Judging::BySearch, rules, words, lexicon, game);
+    finish(out, decided)
+}
+
+/// Judges a game as [`run_settled`] does, by the rules that a text states.
+///
+/// The rules text is read before all other inputs, as [`run_ruled`] reads it.
+///
+/// # Errors
+///
+/// `ReadFailed` and `WriteFailed` come only where that device failed, or a write took no byte; `NoMemory` where memory
+/// was refused. After `WriteFailed` a front of the report went out, after the other two nothing.
+pub fn run_settled_ruled<R: Input, W: Input, L: Input, G: Input, O: Output>(
+    alloc: Global,
+    rules_text: &mut R,
+    words: &mut W,
+    lexicon: &mut L,
+    game: &mut G,
+    out: &mut O,
+) -> Result<Verdict, RunFault>
+    requires rules_text { HasRoom (R.device rules_text.old) }
+    requires words { HasRoom (W.device words.old) }
+    requires lexicon { HasRoom (L.device lexicon.old) }
+    requires game { HasRoom (G.device game.old) }
+    requires out { HasRoom (O.device out.old) }
+    ensures { IsRun (rules_source (R.device rules_text.old) (R.device rules_text.new) ∷ words_source (W.device words.old) (W.device words.new)
+        ∷ lexicon_source (L.device lexicon.old) (L.device lexicon.new) ∷ game_source (G.device game.old) (G.device game.new) ∷ [])
+        IsSettledByText (O.device out.old) (O.device out.new) result }
+{
+    let decided = decide_by_rules(alloc, &Judging::BySearch, rules_text, words, lexicon, game);
     finish(out, decided)
 }

@@ -1,6 +1,6 @@
 use Rattle.engine.proofs.Runs.{runs}
 use Rattle.engine.proofs.Headlines.{settled_run}
-use Rattle.engine.proofs.settling.run_settled.Goals as goal
+use Rattle.engine.proofs.running.run_settled.Goals as goal
 
 pub returns-clause-run : goal.returns-clause-run
 returns-clause-run g c = runs c.decide_game-decided.ensures c.finish.ensures
