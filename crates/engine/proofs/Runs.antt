@@ -1,12 +1,14 @@
 -- Calls: what was decided, and then written.
-use Rattle.std.proofs.Common.{◌≡◌, ℕ, List, Result, Ok, Err, sym, subst}
+use Rattle.std.proofs.Common.{◌≡◌, ℕ, List, ◌∷◌, Result, Ok, Err, refl, sym, subst}
 use Rattle.devices.specs.Devices.{Device}
 use Rattle.engine.specs.declared.decisions.Decision.{Decision}
 use Rattle.engine.specs.declared.faults.RunFault.{RunFault}
 use Rattle.engine.specs.declared.faults.RunFault.TheVariants as run
 use Rattle.engine.specs.declared.verdicts.Verdict.{Verdict}
 use Rattle.engine.specs.Runs.{IsAnswered, StopsReading, Decides, IsWritten, IsSent, GivesUp, IsRun}
-use Rattle.engine.specs.Sources.{Source, EndsAt}
+use Rattle.engine.specs.Sources.{Source, AreUntouched, EndsAt}
+use Rattle.engine.specs.Stages.{IsRead}
+use Rattle.engine.proofs.Deciding.{front_failed}
 
 -- nothing was decided
 gives_up : (sources : List Source) (IsAnswer : List (List ℕ) → Verdict → List ℕ → Type 0) (old new : Device) (fault : RunFault) → StopsReading sources fault → new ≡ old
@@ -58,3 +60,9 @@ sent_by sources IsAnswer old new (Err fault) result decides sent =
 pub runs : {sources : List Source} {IsAnswer : List (List ℕ) → Verdict → List ℕ → Type 0} {old new : Device} {decided : Result Decision RunFault} {result : Result Verdict RunFault}
     → Decides sources IsAnswer decided → IsSent decided old new result → IsRun sources IsAnswer old new result
 runs {sources = sources} {IsAnswer = IsAnswer} {old = old} {new = new} {decided = decided} {result = result} decides sent = sent_by sources IsAnswer old new decided result decides sent
+
+-- the first input is not read
+pub runs_unread : {A : Type 0} {s : Source} {sources : List Source} {Means : List ℕ → A → Type 0} {IsAnswer : List (List ℕ) → Verdict → List ℕ → Type 0} {old : Device} {fault : RunFault}
+    → IsRead s.limit s.old s.new Means (Err fault) → AreUntouched sources → IsRun (s ∷ sources) IsAnswer old old (Err fault)
+runs_unread {s = s} {sources = sources} {Means = Means} {IsAnswer = IsAnswer} {old = old} {fault = fault} read still =
+    unwritten (s ∷ sources) IsAnswer old old fault (front_failed s sources Means IsAnswer fault read still) refl

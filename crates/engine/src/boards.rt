@@ -93,25 +93,6 @@ fn decide_board<G: Input>(
     Ok(tell_board(alloc, rules, &record, before)?)
 }
 
-/// The same by the rules of a text, which is read first.
-fn decide_ruled_board<R: Input, G: Input>(
-    alloc: Global,
-    rules_text: &mut R,
-    before: Option<u32>,
-    game: &mut G,
-) -> Result<Decision, RunFault>
-    requires rules_text { HasRoom (R.device rules_text.old) }
-    requires game { HasRoom (G.device game.old) }
-    ensures { Decides (rules_source (R.device rules_text.old) (R.device rules_text.new) ∷ game_source (G.device game.old) (G.device game.new) ∷ [])
-        (IsBoardedByText before) result }
-{
-    match read_rules(alloc, rules_text) {
-        Ok(Ok(rules)) => decide_board(alloc, &rules, before, game),
-        Ok(Err(decision)) => Ok(decision),
-        Err(fault) => Err(fault),
-    }
-}
-
 /// Writes the board of a record before the first event on a line or behind it, or without a line behind the last event, as a
 /// text of lines of 80 bytes at the most.
 ///
@@ -162,6 +143,11 @@ pub fn run_board_ruled<R: Input, G: Input, O: Output>(
     ensures { IsRun (rules_source (R.device rules_text.old) (R.device rules_text.new) ∷ game_source (G.device game.old) (G.device game.new) ∷ [])
         (IsBoardedByText before) (O.device out.old) (O.device out.new) result }
 {
-    let decided = decide_ruled_board(alloc, rules_text, before, game);
+    let rules = match read_rules(alloc, rules_text) {
+        Ok(Ok(rules)) => rules,
+        Ok(Err(decision)) => return finish(out, Ok(decision)),
+        Err(fault) => return Err(fault),
+    };
+    let decided = decide_board(alloc, &rules, before, game);
     finish(out, decided)
 }

@@ -57,23 +57,6 @@ fn decide_file<L: Input>(
     Ok(check_bytes(alloc, list, &bytes)?)
 }
 
-/// Reads a word list and a lexicon, and gives the number of the words, or the first fault.
-fn decide_check<W: Input, L: Input>(
-    alloc: Global,
-    words: &mut W,
-    lexicon: &mut L,
-) -> Result<Decision, RunFault>
-    requires words { HasRoom (W.device words.old) }
-    requires lexicon { HasRoom (L.device lexicon.old) }
-    ensures { Decides (words_source (W.device words.old) (W.device words.new) ∷ lexicon_source (L.device lexicon.old) (L.device lexicon.new) ∷ []) IsChecked result }
-{
-    match read_list(alloc, words) {
-        Ok(Ok(list)) => decide_file(alloc, &list, lexicon),
-        Ok(Err(decision)) => Ok(decision),
-        Err(fault) => Err(fault),
-    }
-}
-
 /// Checks that a file is the lexicon of a word list, and writes the number of words, or the line of the first fault.
 ///
 /// The words are read before the lexicon, each to its end, or to one byte past its limit of 16 MiB or 268,435,468 bytes
@@ -96,6 +79,11 @@ pub fn run_check<W: Input, L: Input, O: Output>(
     ensures { IsRun (words_source (W.device words.old) (W.device words.new) ∷ lexicon_source (L.device lexicon.old) (L.device lexicon.new) ∷ [])
         IsChecked (O.device out.old) (O.device out.new) result }
 {
-    let decided = decide_check(alloc, words, lexicon);
+    let list = match read_list(alloc, words) {
+        Ok(Ok(list)) => list,
+        Ok(Err(decision)) => return finish(out, Ok(decision)),
+        Err(fault) => return Err(fault),
+    };
+    let decided = decide_file(alloc, &list, lexicon);
     finish(out, decided)
 }
