@@ -1,4 +1,3 @@
-use Rattle.std.proofs.Common.{[]}
 use Rattle.engine.specs.Boards.{place_asked, IsShownAt}
 use Rattle.engine.specs.Reading.{ReadsNoMore}
 use Rattle.engine.proofs.Stages.{records, text_bad, text_last}
@@ -8,12 +7,10 @@ pub returns-in-Err : goal.returns-in-Err
 returns-in-Err g c =
     let read = c.in_ok-record in
     let arm = c.in-Err in
-    text_bad records (g.G.Input.device c.args.game.now) (g.G.Input.device c.read_record.new.game) []
-    (λ r. ReadsNoMore (IsShownAt c.args.rules.now r (place_asked r.events c.args.before))) read.field-0 arm.decision read.ensures arm.is tt
+    text_bad records _ _ _ (λ r. ReadsNoMore (IsShownAt c.args.rules.now r (place_asked r.events c.args.before))) read.field-0 arm.decision read.ensures arm.is tt
 
 pub returns : goal.returns
 returns g c =
     let read = c.in_ok-record in
     let arm = c.in-Ok in
-    text_last records (g.G.Input.device c.args.game.now) (g.G.Input.device c.read_record.new.game)
-    (λ r. IsShownAt c.args.rules.now r (place_asked r.events c.args.before)) read.field-0 arm.record c.in_ok-tell_board.field-0 read.ensures arm.is c.in_ok-tell_board.ensures
+    text_last records _ _ (λ r. IsShownAt c.args.rules.now r (place_asked r.events c.args.before)) read.field-0 arm.record c.in_ok-tell_board.field-0 read.ensures arm.is c.in_ok-tell_board.ensures

@@ -8,6 +8,6 @@ use Rattle.engine.proofs.checking.decide_file.Goals as goal
 
 pub returns : goal.returns
 returns g c =
-    lexicon_last (λ b. b.items) (g.L.Input.device c.args.lexicon.now) (g.L.Input.device c.read_lexicon.new.lexicon) c.args.list.now
+    lexicon_last (λ b. b.items) _ _ c.args.list.now
     (ReadsNoMore (IsTold verdict.Done (ok_line (length c.args.list.now)))) c.in_ok-bytes.bytes c.deref.result.now c.in_ok-check_bytes.field-0 c.in_ok-bytes.ensures
     c.deref.ensures.value c.in_ok-check_bytes.ensures

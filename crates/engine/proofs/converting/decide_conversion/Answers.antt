@@ -4,5 +4,5 @@ use Rattle.engine.proofs.converting.decide_conversion.Goals as goal
 
 pub returns : goal.returns
 returns g c =
-    file_last (λ b. b.items) (g.L.Input.device c.args.lexicon.now) (g.L.Input.device c.read_lexicon.new.lexicon) (IsConvertedBy c.args.format)
+    file_last (λ b. b.items) _ _ (IsConvertedBy c.args.format)
     c.in_ok-bytes.bytes c.deref.result.now c.in_ok-convert_bytes.field-0 c.in_ok-bytes.ensures c.deref.ensures.value c.in_ok-convert_bytes.ensures

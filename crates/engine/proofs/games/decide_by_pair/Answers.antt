@@ -1,4 +1,3 @@
-use Rattle.std.proofs.Common.{[]}
 use Rattle.lex_check.specs.Pairs.{list_in}
 use Rattle.engine.specs.Reading.{ReadsNoMore}
 use Rattle.engine.proofs.Stages.{records, text_bad, text_last}
@@ -8,12 +7,10 @@ pub returns-in-Err : goal.returns-in-Err
 returns-in-Err g c =
     let read = c.in_ok-record in
     let arm = c.in-Err in
-    text_bad records (g.G.Input.device c.args.game.now) (g.G.Input.device c.read_record.new.game) []
-    (λ r. ReadsNoMore (g.Q.Question.is_answer c.args.question.now c.args.rules.now (list_in c.args.pair.now) r)) read.field-0 arm.decision read.ensures arm.is tt
+    text_bad records _ _ _ (λ r. ReadsNoMore (g.Q.Question.is_answer c.args.question.now c.args.rules.now (list_in c.args.pair.now) r)) read.field-0 arm.decision read.ensures arm.is tt
 
 pub returns : goal.returns
 returns g c =
     let read = c.in_ok-record in
     let arm = c.in-Ok in
-    text_last records (g.G.Input.device c.args.game.now) (g.G.Input.device c.read_record.new.game)
-    (λ r. g.Q.Question.is_answer c.args.question.now c.args.rules.now (list_in c.args.pair.now) r) read.field-0 arm.record c.in_ok-answer.field-0 read.ensures arm.is c.in_ok-answer.ensures
+    text_last records _ _ (λ r. g.Q.Question.is_answer c.args.question.now c.args.rules.now (list_in c.args.pair.now) r) read.field-0 arm.record c.in_ok-answer.field-0 read.ensures arm.is c.in_ok-answer.ensures

@@ -1,4 +1,3 @@
-use Rattle.std.proofs.Common.{[]}
 use Rattle.gcg_write.specs.Normal.{normal_of}
 use Rattle.engine.specs.declared.verdicts.Verdict.TheVariants as verdict
 use Rattle.engine.specs.Reading.{ReadsNoMore}
@@ -10,12 +9,10 @@ pub returns-in-Err : goal.returns-in-Err
 returns-in-Err g c =
     let read = c.in_ok-record in
     let arm = c.in-Err in
-    text_bad records (g.G.Input.device c.args.game.now) (g.G.Input.device c.read_record.new.game) []
-    (λ r. ReadsNoMore (IsTold verdict.Done (normal_of r))) read.field-0 arm.decision read.ensures arm.is tt
+    text_bad records _ _ _ (λ r. ReadsNoMore (IsTold verdict.Done (normal_of r))) read.field-0 arm.decision read.ensures arm.is tt
 
 pub returns : goal.returns
 returns g c =
     let read = c.in_ok-record in
     let arm = c.in-Ok in
-    text_last records (g.G.Input.device c.args.game.now) (g.G.Input.device c.read_record.new.game)
-    (λ r. IsTold verdict.Done (normal_of r)) read.field-0 arm.record c.in_ok-tidy.field-0 read.ensures arm.is c.in_ok-tidy.ensures
+    text_last records _ _ (λ r. IsTold verdict.Done (normal_of r)) read.field-0 arm.record c.in_ok-tidy.field-0 read.ensures arm.is c.in_ok-tidy.ensures
