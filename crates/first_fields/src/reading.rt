@@ -88,7 +88,9 @@ impl<R: Read + Drop> Read for FirstFields<R> {
 #[cfg(test)]
 mod tests {
     use super::FirstFields;
+    use std::alloc::Global;
     use std::io::{Read, Result};
+    use std::process::Abort;
     use std::rt::HostRuntime;
 
     /// A reader that gives a few bytes at a time.
@@ -107,31 +109,52 @@ mod tests {
         }
     }
 
-    /// Texts, and what is handed out of them.
-    const ROWS: [(&[u8], &[u8]); 12] = [
-        (b"", b""),
-        (b"AA", b"AA"),
-        (b"AA 4\nAB\t5 a muscle\n", b"AA\nAB\n"),
-        (b"AA 4\r\nAB\r\n", b"AA\nAB\r\n"),
-        (b"# a list\nAA\n#\n", b"\nAA\n\n"),
-        (b" AA\n\tAB\n", b"\n\n"),
-        (b"AA # two\nAB#\n", b"AA\nAB#\n"),
-        (b"\n\n", b"\n\n"),
-        (b"#", b""),
-        (b"AA ", b"AA"),
-        (b"#x\n#y\n#z", b"\n\n"),
-        (b"AA  BB\n", b"AA\n"),
+    /// Texts, each with what is handed out of it, by what they show.
+    const ROWS: [(&str, &[(&[u8], &[u8])]); 4] = [
+        (
+            "no more than a field",
+            &[
+                (b"", b""),
+                (b"AA", b"AA"),
+                (b"AA ", b"AA"),
+                (b"\n\n", b"\n\n"),
+            ],
+        ),
+        (
+            "more fields",
+            &[
+                (b"AA 4\nAB\t5 a muscle\n", b"AA\nAB\n"),
+                (b"AA 4\r\nAB\r\n", b"AA\nAB\r\n"),
+                (b"AA  BB\n", b"AA\n"),
+                (b"AA # two\nAB#\n", b"AA\nAB#\n"),
+            ],
+        ),
+        (
+            "# at the front",
+            &[
+                (b"# a list\nAA\n#\n", b"\nAA\n\n"),
+                (b"#", b""),
+                (b"#x\n#y\n#z", b"\n\n"),
+            ],
+        ),
+        ("white space at the front", &[(b" AA\n\tAB\n", b"\n\n")]),
     ];
+
+    /// Asserts what is handed out of a text of which 1, 2 or 3 bytes come at a time.
+    fn assert_fields(rt: &impl Abort, alloc: Global, text: &[u8], fields: &[u8], what: &str) {
+        for most in 1..4 {
+            let mut read = Vec::new(alloc);
+            let count = FirstFields::new(Slow { left: text, most }).read_to_end(&mut read);
+            assert_eq!(rt; count.ok(), Some(fields.len()), "{what}");
+            assert_eq!(rt; read.as_slice(), fields, "{what}");
+        }
+    }
 
     #[test]
     fn first_fields_of_texts(rt: HostRuntime) {
-        for row in &ROWS {
-            for most in 1..4 {
-                let slow = Slow { left: row.0, most };
-                let mut read = Vec::new(rt.alloc());
-                let count = FirstFields::new(slow).read_to_end(&mut read);
-                assert_eq!(rt; count.ok(), Some(row.1.len()));
-                assert_eq!(rt; read.as_slice(), row.1);
+        for (what, rows) in &ROWS {
+            for (text, fields) in *rows {
+                assert_fields(&rt, rt.alloc(), text, fields, what);
             }
         }
     }
