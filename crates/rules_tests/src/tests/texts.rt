@@ -6,49 +6,63 @@ use ref_tiles::{
 use std::alloc::Global;
 use std::process::Abort;
 
-/// Texts and their first faults.
-const FAULTS: [(&[u8], u32, RulesWhy); 33] = [
-    (b"tiles A 9 1", 1, RulesWhy::Unknown),
-    (b"Bonus 50", 1, RulesWhy::Unknown),
-    (b" # a remark", 1, RulesWhy::Unknown),
-    (b"tile", 1, RulesWhy::Fields),
-    (b"tile A 9", 1, RulesWhy::Fields),
-    (b"tile A 9 1 1", 1, RulesWhy::Fields),
-    (b"row 1", 1, RulesWhy::Fields),
-    (b"row 1 ............... .", 1, RulesWhy::Fields),
-    (b"bonus", 1, RulesWhy::Fields),
-    (b"bonus 5 0", 1, RulesWhy::Fields),
-    (b"tile a 9 1", 1, RulesWhy::Name),
-    (b"tile AB 9 1", 1, RulesWhy::Name),
-    (b"tile @ 1000 1", 1, RulesWhy::Name),
-    (b"row 0 ...............", 1, RulesWhy::Name),
-    (b"row 16 ...............", 1, RulesWhy::Name),
-    (b"row 001 ...............", 1, RulesWhy::Name),
-    (b"row 1 ..............", 1, RulesWhy::Name),
-    (b"row 1 ................", 1, RulesWhy::Name),
-    (b"row 1 ..............W", 1, RulesWhy::Name),
-    (b"tile ? 2 1", 1, RulesWhy::Number),
-    (b"tile A 1000 1", 1, RulesWhy::Number),
-    (b"tile A 9 +1", 1, RulesWhy::Number),
-    (b"bonus 0050", 1, RulesWhy::Number),
-    (b"bonus 5O", 1, RulesWhy::Number),
-    (b"bonus 50\nbonus 50", 2, RulesWhy::Twice),
-    (b"bonus 50\nbonus x", 2, RulesWhy::Number),
+/// Faults, and the texts that have each of them first, with its line.
+const FAULTS: [(RulesWhy, &[(&[u8], u32)]); 6] = [
     (
-        b"row 7 ...............\nrow 07 TTTTTTTTTTTTTTT",
-        2,
-        RulesWhy::Twice,
+        RulesWhy::Unknown,
+        &[(b"tiles A 9 1", 1), (b"Bonus 50", 1), (b" # a remark", 1)],
     ),
-    (b"tile ? 2 0\ntile ? 2 1\ntile", 2, RulesWhy::Number),
     (
-        b"\xef\xbb\xbf# a\r\n\t \r\n\ntime_step 5\r\ntime_step 6",
-        5,
-        RulesWhy::Twice,
+        RulesWhy::Fields,
+        &[
+            (b"tile", 1),
+            (b"tile A 9", 1),
+            (b"tile A 9 1 1", 1),
+            (b"row 1", 1),
+            (b"row 1 ............... .", 1),
+            (b"bonus", 1),
+            (b"bonus 5 0", 1),
+            (b"bonus 50\n\nzero_limit 6 6\nbonus 50", 3),
+        ],
     ),
-    (b"bonus 50\n\nzero_limit 6 6\nbonus 50", 3, RulesWhy::Fields),
-    (b"", 0, RulesWhy::Missing),
-    (b"#", 0, RulesWhy::Missing),
-    (b"bonus 999\nzero_limit 0\n", 0, RulesWhy::Missing),
+    (
+        RulesWhy::Name,
+        &[
+            (b"tile a 9 1", 1),
+            (b"tile AB 9 1", 1),
+            (b"tile @ 1000 1", 1),
+            (b"row 0 ...............", 1),
+            (b"row 16 ...............", 1),
+            (b"row 001 ...............", 1),
+            (b"row 1 ..............", 1),
+            (b"row 1 ................", 1),
+            (b"row 1 ..............W", 1),
+        ],
+    ),
+    (
+        RulesWhy::Number,
+        &[
+            (b"tile ? 2 1", 1),
+            (b"tile A 1000 1", 1),
+            (b"tile A 9 +1", 1),
+            (b"bonus 0050", 1),
+            (b"bonus 5O", 1),
+            (b"bonus 50\nbonus x", 2),
+            (b"tile ? 2 0\ntile ? 2 1\ntile", 2),
+        ],
+    ),
+    (
+        RulesWhy::Twice,
+        &[
+            (b"bonus 50\nbonus 50", 2),
+            (b"row 7 ...............\nrow 07 TTTTTTTTTTTTTTT", 2),
+            (b"\xef\xbb\xbf# a\r\n\t \r\n\ntime_step 5\r\ntime_step 6", 5),
+        ],
+    ),
+    (
+        RulesWhy::Missing,
+        &[(b"", 0), (b"#", 0), (b"bonus 999\nzero_limit 0\n", 0)],
+    ),
 ];
 
 /// What is answered of a text with this fault.
@@ -56,11 +70,18 @@ fn fault(line: u32, why: RulesWhy) -> Option<RulesFault> {
     Some(RulesFault { line, why })
 }
 
+/// Asserts that texts have a fault first, each on its line.
+fn assert_faults(rt: &impl Abort, why: RulesWhy, rows: &[(&[u8], u32)]) {
+    for (text, line) in rows {
+        let expected = fault(*line, why);
+        assert_eq!(rt; Rules::read(text).err(), expected, "{:?}", text);
+    }
+}
+
 #[test]
 fn faults_of_lines(rt: HostRuntime) {
-    for (text, line, why) in &FAULTS {
-        let expected = fault(*line, *why);
-        assert_eq!(rt; Rules::read(text).err(), expected, "{:?}", text);
+    for (why, rows) in &FAULTS {
+        assert_faults(&rt, *why, rows);
     }
 }
 
