@@ -4,16 +4,17 @@ use ref_board::{Board, Dir, Square};
 use ref_tiles::{Letter, Tile};
 use std::alloc::Global;
 use std::process::Abort;
+use test_samples::{PlayText, play_text};
 
-/// Tiles on a board: the row and the column of the first square, both from 0, the direction, and the letters of the tiles on
-/// successive squares, small ones for blanks.
-pub type Laid = (usize, usize, Dir, &'static [u8]);
+/// Tiles on successive squares of a board, as the text of a play: the first square, `8E` across and `E8` down, and the letters, small
+/// ones for blanks.
+pub type Laid = &'static str;
 
 /// 8E WORD, which leaves R over 9G and D over 9H, and 9G AT.
-pub const WORD_AT: [Laid; 2] = [(7, 4, Dir::Across, b"WORD"), (8, 6, Dir::Across, b"AT")];
+pub const WORD_AT: [Laid; 2] = ["8E WORD", "9G AT"];
 
 /// A on 8G and on 8I.
-pub const TWO: [Laid; 2] = [(7, 6, Dir::Across, b"A"), (7, 8, Dir::Across, b"A")];
+pub const TWO: [Laid; 2] = ["8G A", "8I A"];
 
 /// Whether a letter, as a number from 0, is one of these.
 pub fn has_letter(letters: &[u8], letter: usize) -> bool {
@@ -25,18 +26,29 @@ pub fn has_letter(letters: &[u8], letter: usize) -> bool {
 /// The board with these tiles.
 pub fn laid(rt: &impl Abort, tiles: &[Laid]) -> Board {
     let mut board = Board::empty();
-    for (row, column, dir, letters) in tiles {
-        for (place, byte) in letters.iter().enumerate() {
-            let square = match dir {
-                Dir::Across => at(rt, *row, column.saturating_add(place)),
-                Dir::Down => at(rt, row.saturating_add(place), *column),
-            };
+    for text in tiles {
+        let PlayText { at, dir, symbols } = text_of(rt, text);
+        for (place, byte) in symbols.iter().enumerate() {
+            let square = along(rt, at, dir, place);
             let tile = tile_of(rt, *byte);
-            assert!(rt; board.at(square).is_none(), "{:?}", letters);
+            assert!(rt; board.at(square).is_none(), "{text}");
             board.put(square, tile);
         }
     }
     board
+}
+
+/// A play by its text.
+pub fn text_of<'a>(rt: &impl Abort, text: &'a str) -> PlayText<'a> {
+    play_text(text).expect(rt, "a play")
+}
+
+/// The square so many squares behind another one.
+pub fn along(rt: &impl Abort, start: Square, dir: Dir, steps: usize) -> Square {
+    match dir {
+        Dir::Across => at(rt, start.row(), start.column().saturating_add(steps)),
+        Dir::Down => at(rt, start.row().saturating_add(steps), start.column()),
+    }
 }
 
 /// The square in a row and a column.

@@ -1,5 +1,5 @@
 //! The cross-sets of boards: the rows, and all 450 values by the definition, word by word.
-use super::boards::{Laid, TWO, WORD_AT, at, has_letter, laid, list_of};
+use super::boards::{Laid, TWO, WORD_AT, along, at, has_letter, laid, list_of};
 use gen_cross::Cross;
 use lex_build::build;
 use lex_check::SortedPaths;
@@ -34,10 +34,10 @@ const ROWS: [Row; 9] = [
     // a square with a tile has neither letters nor points
     (FEW, &TWO, (7, 6, Down), b"", 0),
     // three tiles in a row, the premium of the middle one counts no more
-    (FEW, &[(7, 6, Across, b"ABA")], (7, 5, Down), b"T", 5),
-    (FEW, &[(7, 6, Across, b"ABA")], (7, 9, Down), b"S", 5),
+    (FEW, &["8G ABA"], (7, 5, Down), b"T", 5),
+    (FEW, &["8G ABA"], (7, 9, Down), b"S", 5),
     // a blank on the board counts no points
-    (FEW, &[(7, 6, Across, b"aBA")], (7, 9, Down), b"S", 4),
+    (FEW, &["8G aBA"], (7, 9, Down), b"S", 4),
     // the R of WORD and the A of AT stand over 10G
     (b"AT\nRA\nRAT\nWORD\n", &WORD_AT, (9, 6, Across), b"T", 2),
 ];
@@ -76,10 +76,7 @@ fn run_through(
     let mut word = Vec::new(alloc);
     let mut points: u16 = 0;
     for place in 0..len {
-        let there = match dir {
-            Dir::Across => at(rt, start.row(), start.column().saturating_add(place)),
-            Dir::Down => at(rt, start.row().saturating_add(place), start.column()),
-        };
+        let there = along(rt, start, dir, place);
         let tile = board.at(there).expect(rt, "a tile of the run");
         word.push(tile.shown.capital()).expect(rt, "memory");
         points = points.saturating_add(u16::from(rules.points_of(tile.kind)));

@@ -3,7 +3,7 @@ ghost use Rattle.std.specs.Prelude.{◌≡◌, ℕ, List};
 ghost use Rattle.lex_list.specs.RotatedPaths.{StandsFor};
 ghost use Rattle.gen_moves.specs.Laws.{AreLong};
 
-use super::boards::{Laid, at, laid, list_of};
+use super::boards::{Laid, laid, list_of, text_of};
 use super::cases::{CASES, Case, GAME, LIST, NO_GAME, PLAYED, POSITIONS};
 use super::searching::{Told, searched};
 use game_notes::{annotate, cross_sets, top};
@@ -14,12 +14,11 @@ use lex_check::{Checked, SortedPaths, pair};
 use lex_file::{LexFile, PathLex};
 use lex_list::WordList;
 use ref_board::Board;
-use ref_board::Dir::{self, Across, Down};
 use ref_play::{Notation, Play, judge, notation};
 use ref_tiles::{Counts, Rules, english_rules};
 use std::alloc::Global;
 use std::process::Abort;
-use test_samples::tiles_of;
+use test_samples::{PlayText, tiles_of};
 
 /// All plays by a list of words and a lexicon that stands for it.
 fn all_of<L: PathLex>(
@@ -108,31 +107,26 @@ fn by_file(
     told(rt, alloc, board, all.items())
 }
 
-/// A play as it is written, from its first square (row and column, from 0) on, and its score.
-type Written = (usize, usize, Dir, &'static [u8], i32);
+/// A play as records write it, and its score.
+type Written = (&'static str, i32);
 
 /// The first plays of AT without a blank, on an empty board.
-const AT_FIRST: [Written; 4] = [
-    (7, 6, Across, b"AT", 4),
-    (7, 7, Across, b"AT", 4),
-    (6, 7, Down, b"AT", 4),
-    (7, 7, Down, b"AT", 4),
-];
+const AT_FIRST: [Written; 4] = [("8G AT", 4), ("8H AT", 4), ("H7 AT", 4), ("H8 AT", 4)];
 
 /// The same with a blank for either letter.
 const AT_BY_BLANK: [Written; 8] = [
-    (7, 6, Across, b"At", 2),
-    (7, 6, Across, b"aT", 2),
-    (7, 7, Across, b"At", 2),
-    (7, 7, Across, b"aT", 2),
-    (6, 7, Down, b"At", 2),
-    (6, 7, Down, b"aT", 2),
-    (7, 7, Down, b"At", 2),
-    (7, 7, Down, b"aT", 2),
+    ("8G At", 2),
+    ("8G aT", 2),
+    ("8H At", 2),
+    ("8H aT", 2),
+    ("H7 At", 2),
+    ("H7 aT", 2),
+    ("H8 At", 2),
+    ("H8 aT", 2),
 ];
 
 /// One tile, once in each direction in which it makes a word.
-const ONE_TILE: [Written; 2] = [(14, 13, Across, b"A.", 2), (13, 14, Down, b"A.", 2)];
+const ONE_TILE: [Written; 2] = [("15N A.", 2), ("O14 A.", 2)];
 
 /// The words of a list, the tiles on a board, a rack, and all plays, in two parts.
 type Row = (
@@ -145,20 +139,21 @@ type Row = (
 const ROWS: [Row; 3] = [
     (b"AT", &[], b"AT", [&AT_FIRST, &[]]),
     (b"AT", &[], b"AT?", [&AT_FIRST, &AT_BY_BLANK]),
-    (b"AT", &[(14, 14, Across, b"T")], b"A", [&ONE_TILE, &[]]),
+    (b"AT", &["15O T"], b"A", [&ONE_TILE, &[]]),
 ];
 
 fn is_written(rt: &impl Abort, told: &Told, play: &Written) -> bool {
-    told.0.at == at(rt, play.0, play.1)
-        && told.0.dir == play.2
-        && told.0.word.len() == play.3.len()
+    let PlayText { at, dir, symbols } = text_of(rt, play.0);
+    told.0.at == at
+        && told.0.dir == dir
+        && told.0.word.len() == symbols.len()
         && told
             .0
             .word
             .iter()
-            .zip(play.3)
+            .zip(symbols)
             .all(|(symbol, byte)| symbol.byte() == *byte)
-        && told.1 == play.4
+        && told.1 == play.1
 }
 
 /// Asserts that what is given are the plays of both parts, each once, and no other.

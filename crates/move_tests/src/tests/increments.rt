@@ -1,14 +1,14 @@
 //! Cross-sets that are kept up by puts and lifts: a tile between two others, and boards whose tiles, or whose plays, are put and
 //! lifted in several orders, all values beside those that are made afresh.
-use super::boards::{Laid, TWO, at, has_letter, laid, list_of};
+use super::boards::{Laid, TWO, at, has_letter, laid, list_of, text_of};
 use gcg_read::Text;
 use gen_cross::Cross;
 use lex_check::SortedPaths;
-use ref_board::Dir::{Across, Down};
 use ref_board::{Board, Dir, SIDE, Square};
 use ref_play::{Play, from_text};
 use ref_tiles::{Letter, Rules, Tile, english_rules};
 use std::process::Abort;
+use test_samples::PlayText;
 
 /// What squares of row 8 have for a play down: the column, the letters and the points beside.
 type Beside = (usize, &'static [u8], u16);
@@ -130,14 +130,14 @@ fn orders_of_tiles(rt: HostRuntime) {
 /// Plays: 8E WORD, 9G AT, G8 RAES through both and 10E TOES through its E; at the edges 1A ABAS, A1 AA, 15I RETAINS, which has
 /// seven tiles, and O14 AS.
 const PLAYS: [Laid; 8] = [
-    (7, 4, Across, b"WORD"),
-    (8, 6, Across, b"AT"),
-    (7, 6, Down, b"RAES"),
-    (9, 4, Across, b"TOES"),
-    (0, 0, Across, b"ABAS"),
-    (14, 8, Across, b"RETAINS"),
-    (13, 14, Down, b"AS"),
-    (0, 0, Down, b"AA"),
+    "8E WORD",
+    "9G AT",
+    "G8 RAES",
+    "10E TOES",
+    "1A ABAS",
+    "15I RETAINS",
+    "O14 AS",
+    "A1 AA",
 ];
 
 /// Orders of these plays.
@@ -150,8 +150,9 @@ const GAMES: [&[usize]; 4] = [
 
 /// The play that lies so, by the letters of all its squares.
 fn play_of(rt: &impl Abort, board: &Board, laid: Laid) -> Play {
-    let text = Text::of_bytes(laid.3).expect(rt, "a text");
-    from_text(board, at(rt, laid.0, laid.1), laid.2, text.as_slice()).expect(rt, "a play")
+    let PlayText { at, dir, symbols } = text_of(rt, laid);
+    let text = Text::of_bytes(symbols).expect(rt, "a text");
+    from_text(board, at, dir, text.as_slice()).expect(rt, "a play")
 }
 
 /// Puts the tiles of a play where none lie, or lifts those that lie there, and brings the cross-sets up once.

@@ -106,11 +106,7 @@ fn assert_first(rt: &impl Abort, tops: &[(Play, i32)], many: usize, play: &Play,
 const GAMES: [(&[u8], Option<Best>, Option<Best>); 2] = [
     (b"WORD\nAT\nRA", Some((b"DORWAAE", WORD, 16, 10)), None),
     // The one play that an E allows beside both.
-    (
-        b"WORD\nAT\nRA\nEAT\nOE",
-        None,
-        Some((b"E", (8, 5, Dir::Across, b"E.."), 5, 1)),
-    ),
+    (b"WORD\nAT\nRA\nEAT\nOE", None, Some((b"E", "9F E..", 5, 1))),
 ];
 
 /// Follows a game of 8E WORD and 9G AT, which is taken back and made again by the other player.

@@ -1,32 +1,28 @@
 //! How plays are written, and their order.
-use super::plays::{AT, Text, WORD, after, judged};
-use ref_board::Dir::{Across, Down};
-use ref_board::{Board, Square};
+use super::plays::{AT, Text, WORD, after, judged, text_of};
+use ref_board::Board;
 use ref_play::{Notation, PlayFault, before, law_of_before, notation};
 use std::alloc::Global;
 use std::process::Abort;
+use test_samples::PlayText;
 
 /// Legal plays and their notation: the plays before each, its text as it is given, and its text as it is written.
 const ROWS: [(&[Text], Text, Text); 6] = [
-    (&[], (7, 4, Across, b"WOrD"), (7, 4, Across, b"WOrD")),
-    (
-        &[WORD],
-        (7, 3, Across, b"SWORDS"),
-        (7, 3, Across, b"S....S"),
-    ),
-    (&[WORD, AT], (8, 5, Across, b"E.."), (8, 5, Across, b"E..")),
-    (&[WORD, AT], (7, 5, Down, b".E"), (8, 5, Across, b"E..")),
-    (&[WORD], (7, 4, Down, b".E"), (7, 4, Down, b".E")),
-    (&[WORD], (8, 4, Across, b"E"), (7, 4, Down, b".E")),
+    (&[], "8E WOrD", "8E WOrD"),
+    (&[WORD], "8D SWORDS", "8D S....S"),
+    (&[WORD, AT], "9F E..", "9F E.."),
+    (&[WORD, AT], "F8 .E", "9F E.."),
+    (&[WORD], "E8 .E", "E8 .E"),
+    (&[WORD], "9E E", "E8 .E"),
 ];
 
 pub fn assert_written(rt: &impl Abort, notation: &Notation, written: Text) {
-    let at = Square::new(written.0, written.1).expect(rt, "a square");
-    assert_eq!(rt; notation.at, at, "{:?}", written);
-    assert!(rt; notation.dir == written.2, "{:?}", written);
-    assert_eq!(rt; notation.word.len(), written.3.len(), "{:?}", written);
-    for (symbol, byte) in notation.word.iter().zip(written.3) {
-        assert_eq!(rt; symbol.byte(), *byte, "{:?}", written);
+    let PlayText { at, dir, symbols } = text_of(rt, written);
+    assert_eq!(rt; notation.at, at, "{written}");
+    assert!(rt; notation.dir == dir, "{written}");
+    assert_eq!(rt; notation.word.len(), symbols.len(), "{written}");
+    for (symbol, byte) in notation.word.iter().zip(symbols) {
+        assert_eq!(rt; symbol.byte(), *byte, "{written}");
     }
 }
 
@@ -43,13 +39,7 @@ fn written_plays(rt: HostRuntime) {
 
 /// First plays of a game, each before those behind it: across before down, then row by row, then capitals before small
 /// letters.
-const ORDERED: [Text; 5] = [
-    (7, 6, Across, b"AT"),
-    (7, 6, Across, b"At"),
-    (7, 7, Across, b"AT"),
-    (6, 7, Down, b"AT"),
-    (7, 7, Down, b"AT"),
-];
+const ORDERED: [Text; 5] = ["8G AT", "8G At", "8H AT", "H7 AT", "H8 AT"];
 
 /// Whether the first play comes before the second, where both are legal.
 fn comes_first(

@@ -7,7 +7,6 @@ use lex_build::build;
 use lex_check::pair;
 use lex_file::LexFile;
 use lex_list::WordList;
-use ref_board::Dir::{Across, Down};
 use ref_play::notation;
 use ref_tiles::{Counts, Rules, english_rules};
 use std::alloc::Global;
@@ -26,35 +25,20 @@ type Row = (
 const NO_AT: &[u8] = b"DT\nRA\nWORD";
 
 const ROWS: [Row; 10] = [
-    (b"AT", &[], b"ABCDEF?", Some(((7, 6, Across, b"At"), 2))),
-    (
-        b"RETAINS",
-        &[],
-        b"AEINRST",
-        Some(((7, 1, Across, b"RETAINS"), 66)),
-    ),
-    (
-        b"WORD",
-        &[],
-        b"DORWAAE",
-        Some(((7, 4, Across, b"WORD"), 16)),
-    ),
+    (b"AT", &[], b"ABCDEF?", Some(("8G At", 2))),
+    (b"RETAINS", &[], b"AEINRST", Some(("8B RETAINS", 66))),
+    (b"WORD", &[], b"DORWAAE", Some(("8E WORD", 16))),
     (b"QI", &[], b"AEOUUTT", None),
     (b"", &[], b"AEOUUTT", None),
     (b"AT\nDT\nRA\nWORD", &[WORD], b"AT", Some((AT, 9))),
-    (NO_AT, &[WORD], b"AT", Some(((7, 6, Down, b".A"), 3))),
-    (NO_AT, &[WORD], b"T", Some(((7, 7, Down, b".T"), 3))),
-    (
-        b"SWORDS\nWORD",
-        &[WORD],
-        b"?S",
-        Some(((7, 3, Across, b"S....s"), 10)),
-    ),
+    (NO_AT, &[WORD], b"AT", Some(("G8 .A", 3))),
+    (NO_AT, &[WORD], b"T", Some(("H8 .T", 3))),
+    (b"SWORDS\nWORD", &[WORD], b"?S", Some(("8D S....s", 10))),
     (
         b"SWORD\nSWORDS\nWORD",
         &[WORD],
         b"?S",
-        Some(((7, 3, Across, b"S...."), 10)),
+        Some(("8D S....", 10)),
     ),
 ];
 

@@ -2,8 +2,7 @@
 ghost use Rattle.std.specs.Prelude.{IfOk};
 ghost use Rattle.ref_play.specs.Legality.{IsLegal};
 
-use ref_board::Dir::{Across, Down};
-use ref_board::{Board, Dir, Square};
+use ref_board::{Board, Square};
 use ref_play::PlayFault::{
     Apart, Mismatch, MissesCentre, NoNewTile, NotWhole, OffBoard, TooManyTiles, TooShort,
 };
@@ -13,62 +12,71 @@ use ref_play::{
 use ref_tiles::{Letter, Rules, Symbol, Tile, english_rules};
 use std::alloc::Global;
 use std::process::Abort;
+use test_samples::{PlayText, play_text};
 
-/// The text of a play: the row and the column of its first square, both from 0, its direction and its symbols.
-pub type Text = (usize, usize, Dir, &'static [u8]);
+/// The text of a play: its first square, `8E` across and `E8` down, and its symbols.
+pub type Text = &'static str;
 
 /// 8E WORD, which leaves R over 9G and D over 9H.
-pub const WORD: Text = (7, 4, Across, b"WORD");
+pub const WORD: Text = "8E WORD";
 
 /// 9G AT.
-pub const AT: Text = (8, 6, Across, b"AT");
+pub const AT: Text = "9G AT";
 
 /// A legal play: the plays before it, its text, its score in the English game, and its words.
 type Scored = (&'static [Text], Text, i32, &'static [&'static [u8]]);
 
 const SCORED: [Scored; 14] = [
     (&[], WORD, 16, &[b"WORD"]),
-    (&[], (7, 4, Across, b"WOrD"), 14, &[b"WORD"]),
-    (&[], (7, 1, Across, b"RETAINS"), 66, &[b"RETAINS"]),
-    (&[], (7, 3, Across, b"RETAINS"), 66, &[b"RETAINS"]),
-    (&[], (7, 3, Across, b"RETAIN"), 14, &[b"RETAIN"]),
-    (&[], (6, 7, Down, b"At"), 2, &[b"AT"]),
-    (&[], (7, 7, Down, b"AT"), 4, &[b"AT"]),
+    (&[], "8E WOrD", 14, &[b"WORD"]),
+    (&[], "8B RETAINS", 66, &[b"RETAINS"]),
+    (&[], "8D RETAINS", 66, &[b"RETAINS"]),
+    (&[], "8D RETAIN", 14, &[b"RETAIN"]),
+    (&[], "H7 At", 2, &[b"AT"]),
+    (&[], "H8 AT", 4, &[b"AT"]),
     (&[WORD], AT, 9, &[b"AT", b"RA", b"DT"]),
-    (&[WORD], (7, 4, Across, b"WorDs"), 8, &[b"WORDS"]),
-    (&[WORD], (7, 3, Across, b"S....S"), 11, &[b"SWORDS"]),
-    (&[WORD], (6, 4, Across, b"A"), 5, &[b"AW"]),
-    (&[WORD, AT], (8, 5, Across, b"E.."), 5, &[b"EAT", b"OE"]),
-    (&[WORD, AT], (8, 5, Across, b"EAT"), 5, &[b"EAT", b"OE"]),
-    (&[WORD, AT], (7, 5, Down, b".E"), 5, &[b"OE", b"EAT"]),
+    (&[WORD], "8E WorDs", 8, &[b"WORDS"]),
+    (&[WORD], "8D S....S", 11, &[b"SWORDS"]),
+    (&[WORD], "7E A", 5, &[b"AW"]),
+    (&[WORD, AT], "9F E..", 5, &[b"EAT", b"OE"]),
+    (&[WORD, AT], "9F EAT", 5, &[b"EAT", b"OE"]),
+    (&[WORD, AT], "F8 .E", 5, &[b"OE", b"EAT"]),
 ];
 
 /// Texts that are refused: the plays before each, the text, and its fault.
 const REFUSED: [(&[Text], Text, PlayFault); 13] = [
-    (&[], (7, 3, Across, b"WORD"), MissesCentre),
-    (&[], (7, 13, Across, b"ABC"), OffBoard),
-    (&[], (14, 14, Across, b"A"), MissesCentre),
-    (&[], (7, 7, Across, b"A"), TooShort),
-    (&[WORD], (7, 3, Across, b"QUA"), Mismatch),
-    (&[WORD], (7, 4, Across, b"WORD."), Mismatch),
-    (&[WORD], (7, 4, Across, b"...."), NoNewTile),
-    (&[WORD], (0, 0, Across, b"ABCDEFGH"), TooManyTiles),
-    (&[WORD], (7, 3, Across, b"S"), NotWhole),
-    (&[WORD], (7, 8, Across, b"S"), NotWhole),
-    (&[WORD], (0, 0, Across, b"AT"), Apart),
-    (&[WORD], (6, 8, Across, b"AT"), Apart),
-    (&[WORD], (14, 14, Down, b"S"), TooShort),
+    (&[], "8D WORD", MissesCentre),
+    (&[], "8N ABC", OffBoard),
+    (&[], "15O A", MissesCentre),
+    (&[], "8H A", TooShort),
+    (&[WORD], "8D QUA", Mismatch),
+    (&[WORD], "8E WORD.", Mismatch),
+    (&[WORD], "8E ....", NoNewTile),
+    (&[WORD], "1A ABCDEFGH", TooManyTiles),
+    (&[WORD], "8D S", NotWhole),
+    (&[WORD], "8I S", NotWhole),
+    (&[WORD], "1A AT", Apart),
+    (&[WORD], "7I AT", Apart),
+    (&[WORD], "O15 S", TooShort),
 ];
+
+/// A play by its text.
+pub fn text_of<'a>(rt: &impl Abort, text: &'a str) -> PlayText<'a> {
+    match play_text(text) {
+        Some(play) => play,
+        None => panic!(rt; "{text} is no play"),
+    }
+}
 
 /// The play that a text names on a board.
 fn named(rt: &impl Abort, alloc: Global, board: &Board, text: Text) -> Result<Play, PlayFault> {
+    let PlayText { at, dir, symbols } = text_of(rt, text);
     let mut word = Vec::new(alloc);
-    for byte in text.3 {
+    for byte in symbols {
         let symbol = Symbol::of_byte(*byte).expect(rt, "a symbol");
         word.push(symbol).expect(rt, "memory");
     }
-    let at = Square::new(text.0, text.1).expect(rt, "a square");
-    from_text(board, at, text.2, &word)
+    from_text(board, at, dir, &word)
 }
 
 /// The play that a text names, where it is legal.
@@ -104,7 +112,7 @@ fn assert_scored(rt: &impl Abort, alloc: Global, rules: &Rules, row: Scored) {
     let board = after(rt, alloc, before);
     match judged(rt, alloc, &board, text) {
         Ok(play) => {
-            assert_eq!(rt; score(rules, &board, &play), points, "{:?}", text);
+            assert_eq!(rt; score(rules, &board, &play), points, "{text}");
             let words = words(&board, &play);
             assert_words(rt, &words, expected);
         }
@@ -125,7 +133,7 @@ fn refused_plays(rt: HostRuntime) {
     for (before, text, fault) in &REFUSED {
         let board = after(&rt, rt.alloc(), before);
         let refused = judged(&rt, rt.alloc(), &board, *text).err();
-        assert_eq!(rt; refused, Some(*fault), "{:?}", text);
+        assert_eq!(rt; refused, Some(*fault), "{text}");
     }
 }
 
@@ -147,7 +155,7 @@ fn fault_there(
 fn plays_on_another_board(rt: HostRuntime) {
     let overlap = fault_there(&rt, rt.alloc(), &[], WORD, &[WORD]);
     assert_eq!(rt; overlap, Some(Mismatch));
-    let both_ends: Text = (7, 3, Across, b"S....S");
+    let both_ends: Text = "8D S....S";
     let gap = fault_there(&rt, rt.alloc(), &[WORD], both_ends, &[]);
     assert_eq!(rt; gap, Some(NotWhole));
 }
@@ -164,7 +172,7 @@ fn letter(rt: &impl Abort, byte: u8) -> Letter {
 
 #[test]
 fn tiles_put_down(rt: HostRuntime) {
-    let board = after(&rt, rt.alloc(), &[(7, 4, Across, b"WOrD")]);
+    let board = after(&rt, rt.alloc(), &["8E WOrD"]);
     let mut expected = Board::empty();
     put(&rt, &mut expected, 4, Tile::of_letter(letter(&rt, b'W')));
     put(&rt, &mut expected, 5, Tile::of_letter(letter(&rt, b'O')));

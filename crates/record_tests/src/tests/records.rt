@@ -1,11 +1,11 @@
 //! The reader of records: faults, plays, codes and names.
+use super::plays::text_of;
 use Code::{Challenge, Exchange, LastRack, Pass, Time, Unknown, Withdraw};
 use gcg_read::Seat::{First, Second};
 use gcg_read::{
     Event, EventKind, Events, MAX_BYTES, MAX_EVENTS, Name, Player, Players, Points, ReadFault,
     Record, Seat, Text, Why, law_of_faults, law_of_lines, read,
 };
-use ref_board::Dir::{self, Across, Down};
 use ref_tiles::{Counts, Kind, Letter, Symbol};
 use std::alloc::Global;
 use std::process::Abort;
@@ -135,85 +135,75 @@ fn faults(rt: HostRuntime) {
     }
 }
 
-/// A record, and its last event: the line and the player, the square, the direction and the symbols, the score and the total.
-type Row = (
-    &'static [u8],
-    (u32, Seat),
-    (usize, Dir, &'static [u8]),
-    (i32, i32),
-);
+/// A record, and its last event: the line and the player, the play as records write it, the score and the total.
+type Row = (&'static [u8], (u32, Seat), &'static str, (i32, i32));
 
 const PLAYS: [Row; 12] = [
     (
         b"\xef\xbb\xbf#player1 A  Ann Lee\r\n#note x\n>A:\tDORWAAE  8e WORD 16 16\r\n",
         (3, First),
-        (109, Across, b"WORD"),
+        "8E WORD",
         (16, 16),
     ),
-    (
-        b">A: E 9F E(AT) +5 21",
-        (1, First),
-        (125, Across, b"EAT"),
-        (5, 21),
-    ),
+    (b">A: E 9F E(AT) +5 21", (1, First), "9F EAT", (5, 21)),
     (
         b">A: DORWAAE 8E WORD +16 16",
         (1, First),
-        (109, Across, b"WORD"),
+        "8E WORD",
         (16, 16),
     ),
     (
         b"\xef\xbb\xbf> A :\t8e WOrD  16 16 \t\r\n",
         (1, First),
-        (109, Across, b"WOrD"),
+        "8E WOrD",
         (16, 16),
     ),
     (
         b"#player1 X\r\n\n >C: x\n>A: E8 W(O).(rd) -000007 -0\r",
         (4, Second),
-        (109, Down, b"WO.rd"),
+        "E8 WO.rd",
         (-7, 0),
     ),
     (
         b">A: 8E WORD +16 16\n>B: AT 9G AT +9 9",
         (2, Second),
-        (126, Across, b"AT"),
+        "9G AT",
         (9, 9),
     ),
     (
         b">A: 8E WORD +16 16\n>B: AT 9G AT +9 9\n>A: 01A A -999999 +999999\n",
         (3, First),
-        (0, Across, b"A"),
+        "1A A",
         (-999_999, 999_999),
     ),
     (
         b">A: 8E WORD +16 16\n>B: AT 9G AT +9 9\n>B: ? o15 ............... 0 0",
         (3, Second),
-        (224, Down, b"..............."),
+        "O15 ...............",
         (0, 0),
     ),
     (
         b">A\r: 8E WORD +16 16\n>A: 15a z +1 1\n",
         (2, Second),
-        (210, Across, b"z"),
+        "15A z",
         (1, 1),
     ),
     (
         b">A\t: 08A (A)BCDEFGHIJKLMN +0 -0\r",
         (1, First),
-        (105, Across, b"ABCDEFGHIJKLMN"),
+        "8A ABCDEFGHIJKLMN",
         (0, 0),
     ),
     (
         b"#player2 A\n>B: - +0 0\n>A: AEI h08 AT +4 4",
         (3, Second),
-        (112, Down, b"AT"),
+        "H8 AT",
         (4, 4),
     ),
     (
         b"#player1 A\n\n>A: 1O .......(........)) -0 +7\r\n",
         (3, First),
-        (14, Across, b"..............."),
+        "1O ...............",
         (0, 7),
     ),
 ];
@@ -240,14 +230,15 @@ fn plays(rt: HostRuntime) {
 }
 
 fn assert_event(rt: &impl Abort, row: Row, event: &Event) {
-    let (text, (line, player), (square, direction, symbols), numbers) = row;
+    let (text, (line, player), play, numbers) = row;
+    let play = text_of(rt, play);
     assert_eq!(rt; event.line, line, "{:?}", text);
     assert!(rt; event.player == player, "{:?}", text);
     match &event.kind {
         EventKind::Play { at, dir, word } => {
-            assert_eq!(rt; at.number(), square, "{:?}", text);
-            assert!(rt; *dir == direction, "{:?}", text);
-            assert!(rt; writes(word, symbols), "{:?}", text);
+            assert_eq!(rt; *at, play.at, "{:?}", text);
+            assert!(rt; *dir == play.dir, "{:?}", text);
+            assert!(rt; writes(word, play.symbols), "{:?}", text);
         }
         _ => assert!(rt; false, "no play"),
     }
@@ -376,47 +367,32 @@ fn codes(rt: HostRuntime) {
     }
 }
 
-/// A nickname and a full name.
-type Named = (&'static [u8], &'static [u8]);
+/// What a player is called of whom no line says a name.
+const NOBODY: &str = "";
 
-/// A player of whom no line says a name.
-const NOBODY: Named = (b"", b"");
-
-/// Records, and what the first player is called, and then the second.
-const NAMES: [(&[u8], Named, Named); 13] = [
+/// Records, and what the first player is called, and then the second: the nickname, and the full name behind it.
+const NAMES: [(&[u8], &str, &str); 13] = [
     (
         b"\xef\xbb\xbf#player1 A  Ann Lee\r\n#note x\n>A:\tDORWAAE  8e WORD 16 16\r\n",
-        (b"A", b"Ann Lee"),
+        "A Ann Lee",
         NOBODY,
     ),
-    (
-        b"#player1 A  Ann Lee\r\n#player2 B",
-        (b"A", b"Ann Lee"),
-        (b"B", b""),
-    ),
-    (b"#player2 \tB\t Bo:  Ng \t\n", NOBODY, (b"B", b"Bo:  Ng")),
-    (b"#player1 A:B Ann\n>C: - +0 0", (b"C", b""), NOBODY),
-    (b"#player1 :\n#player1 A Ann", (b"A", b"Ann"), NOBODY),
+    (b"#player1 A  Ann Lee\r\n#player2 B", "A Ann Lee", "B"),
+    (b"#player2 \tB\t Bo:  Ng \t\n", NOBODY, "B Bo:  Ng"),
+    (b"#player1 A:B Ann\n>C: - +0 0", "C", NOBODY),
+    (b"#player1 :\n#player1 A Ann", "A Ann", NOBODY),
     (
         b"#player1 A Ann\n#player1 B Bo\n#player2 B Cy",
-        (b"A", b"Ann"),
-        (b"B", b"Cy"),
+        "A Ann",
+        "B Cy",
     ),
     (
         b"#player1 A Ann\n#player2 B Bo\n#player1 B Bo",
-        (b"A", b"Ann"),
-        (b"B", b"Bo"),
+        "A Ann",
+        "B Bo",
     ),
-    (
-        b">A: - +0 0\n#player1 B Bo\n#player2 A Ann",
-        (b"A", b""),
-        NOBODY,
-    ),
-    (
-        b"#player2 B Bo\n>A: - +0 0\n>B: - +0 0",
-        (b"A", b""),
-        (b"B", b"Bo"),
-    ),
+    (b">A: - +0 0\n#player1 B Bo\n#player2 A Ann", "A", NOBODY),
+    (b"#player2 B Bo\n>A: - +0 0\n>B: - +0 0", "A", "B Bo"),
     (
         b"#player1X A\n#player1\n#player1 \t \n#player11 A\n#player3 A\n#player A",
         NOBODY,
@@ -429,27 +405,28 @@ const NAMES: [(&[u8], Named, Named); 13] = [
     ),
     (
         b"#rack1 A\n#note player1 A\n#lexicon X\n#player1 A\x00 \x00",
-        (b"A\x00", b"\x00"),
+        "A\x00 \x00",
         NOBODY,
     ),
     (
         b"\xef\xbb\xbf#player1 A Ann\r\r\n#player2 B\r",
-        (b"A", b"Ann\r"),
-        (b"B", b""),
+        "A Ann\r",
+        "B",
     ),
 ];
 
-fn assert_player(rt: &impl Abort, player: &Player, nick: &[u8], full: &[u8]) {
-    assert_eq!(rt; player.nick.as_bytes(), nick);
-    assert_eq!(rt; player.full.as_bytes(), full);
+fn assert_player(rt: &impl Abort, player: &Player, names: &str) {
+    let (nick, full) = names.split_once(' ').unwrap_or((names, ""));
+    assert_eq!(rt; player.nick.as_bytes(), nick.as_bytes());
+    assert_eq!(rt; player.full.as_bytes(), full.as_bytes());
 }
 
 #[test]
 fn pragmas(rt: HostRuntime) {
     for (text, first, second) in &NAMES {
         let players = read(rt.alloc(), text).expect(&rt, "a record").players;
-        assert_player(&rt, &players.first, first.0, first.1);
-        assert_player(&rt, &players.second, second.0, second.1);
+        assert_player(&rt, &players.first, first);
+        assert_player(&rt, &players.second, second);
     }
 }
 
@@ -476,8 +453,8 @@ fn names_and_racks(rt: HostRuntime) {
     let text = b">Ann Lee\n#x\n>Bo:?QQ A1 Q +0 0\n> Al :A1 Q +0 0\n";
     assert_eq!(rt; events_in(rt.alloc(), text), Err(fault(1, Why::NoColon)));
     let record = read(rt.alloc(), &text[9..]).expect(&rt, "a record");
-    assert_player(&rt, record.players.of(First), b"Bo", b"");
-    assert_player(&rt, record.players.of(Second), b"Al", b"");
+    assert_player(&rt, record.players.of(First), "Bo");
+    assert_player(&rt, record.players.of(Second), "Al");
     assert_racks(&rt, record.events.as_slice());
 }
 
@@ -533,8 +510,8 @@ fn own_records(rt: HostRuntime) {
 
 #[test]
 fn unnamed_players(rt: HostRuntime) {
-    assert_player(&rt, &Players::unnamed(rt.alloc()).second, b"", b"");
-    assert_player(&rt, &Player::unnamed(rt.alloc()), b"", b"");
+    assert_player(&rt, &Players::unnamed(rt.alloc()).second, NOBODY);
+    assert_player(&rt, &Player::unnamed(rt.alloc()), NOBODY);
     assert!(rt; Events::new(rt.alloc()).is_empty());
 }
 
