@@ -1,10 +1,10 @@
 //! Boards and lists of words that several tables use.
 use lex_list::WordList;
 use ref_board::{Board, Dir, Square};
-use ref_tiles::{Letter, Tile};
+use ref_tiles::{Counts, Letter, Rules, Tile, english_rules};
 use std::alloc::Global;
 use std::process::Abort;
-use test_samples::{PlayText, play_text};
+use test_samples::{PlayText, play_text, tiles_of};
 
 /// Tiles on successive squares of a board, as the text of a play: the first square, `8E` across and `E8` down, and the letters, small
 /// ones for blanks.
@@ -21,6 +21,25 @@ pub fn has_letter(letters: &[u8], letter: usize) -> bool {
     letters
         .iter()
         .any(|byte| usize::from(*byte) == letter.saturating_add(65))
+}
+
+/// A board and a rack, and the rules by which plays score.
+#[derive(Drop)]
+pub struct Position {
+    pub rules: Rules,
+    pub board: Board,
+    pub rack: Counts,
+}
+
+impl Position {
+    /// The board with these tiles and the rack of these, by the English rules.
+    pub fn of(rt: &impl Abort, tiles: &[Laid], rack: &[u8]) -> Position {
+        Position {
+            rules: english_rules(),
+            board: laid(rt, tiles),
+            rack: tiles_of(rack).expect(rt, "a rack"),
+        }
+    }
 }
 
 /// The board with these tiles.

@@ -1,61 +1,21 @@
 //! The plays that the generator gives to each sink: the rows, and beside those of a plain search.
-ghost use Rattle.std.specs.Prelude.{◌≡◌, ℕ, List};
 ghost use Rattle.lex_list.specs.RotatedPaths.{StandsFor};
-ghost use Rattle.gen_moves.specs.Laws.{AreLong};
 
-use super::boards::{Laid, laid, list_of, text_of};
+use super::boards::{Laid, Position, list_of, text_of};
 use super::cases::{CASES, Case, GAME, LIST, NO_GAME, PLAYED, POSITIONS};
 use super::searching::{Told, searched};
 use game_notes::{annotate, cross_sets, top};
 use gen_cross::Cross;
-use gen_moves::{All, NoMemory, generate};
+use gen_moves::{All, generate};
 use lex_build::build;
 use lex_check::{Checked, SortedPaths, pair};
 use lex_file::{LexFile, PathLex};
 use lex_list::WordList;
 use ref_board::Board;
 use ref_play::{Notation, Play, judge, notation};
-use ref_tiles::{Counts, Rules, english_rules};
 use std::alloc::Global;
 use std::process::Abort;
-use test_samples::{PlayText, tiles_of};
-
-/// All plays by a list of words and a lexicon that stands for it.
-fn all_of<L: PathLex>(
-    alloc: Global,
-    rules: &Rules,
-    list: &WordList,
-    lex: &L,
-    board: &mut Board,
-    rack: &Counts,
-) -> Result<All, NoMemory>
-    ghost words: { List (List ℕ) }
-    requires list { list.now ≡ words }
-    requires long { AreLong words }
-    requires lexicon { StandsFor (L.language lex.now) words }
-{
-    let cross = Cross::scratch(rules, board, lex);
-    let mut all = All::new(alloc);
-    generate(rules, board, &cross, rack, lex, &mut all)?;
-    Ok(all)
-}
-
-/// The same; the words of a list have two letters or more.
-#[tactic(auto, using(game_notes::proofs::FirstPlays::long_words))]
-fn all_by<L: PathLex>(
-    alloc: Global,
-    rules: &Rules,
-    list: &WordList,
-    lex: &L,
-    board: &mut Board,
-    rack: &Counts,
-) -> Result<All, NoMemory>
-    requires { StandsFor (L.language lex.now) list.now }
-{
-    // What reads the length of a list knows what a word list is.
-    let _words = list.len();
-    all_of(alloc, rules, list, lex, board, rack)
-}
+use test_samples::PlayText;
 
 /// A play as it is written. It has to be legal, and to be given in the direction in which it is written.
 fn written(rt: &impl Abort, board: &Board, play: &Play) -> Notation {
@@ -75,36 +35,37 @@ fn told(rt: &impl Abort, alloc: Global, board: &Board, items: &[(Play, i32)]) ->
     told
 }
 
-/// All plays over the paths of a list.
-fn by_paths(
+/// All plays by a list of words and a lexicon that stands for it. The board has to be left as it was.
+fn plays_by<L: PathLex>(
     rt: &impl Abort,
     alloc: Global,
-    rules: &Rules,
     list: &WordList,
-    board: &Board,
-    rack: &Counts,
-) -> Vec<Told> {
-    let paths = SortedPaths::new(alloc, list).expect(rt, "the paths");
+    lex: &L,
+    position: &Position,
+) -> Vec<Told>
+    requires { StandsFor (L.language lex.now) list.now }
+{
+    // What reads the length of a list knows what a word list is: its words have two letters or more.
+    let _words = list.len();
+    let Position { rules, board, rack } = position;
+    let cross = Cross::scratch(rules, board, lex);
     let mut held = *board;
-    let all = all_by(alloc, rules, list, &paths, &mut held, rack).expect(rt, "memory");
+    let mut all = All::new(alloc);
+    generate(rules, &mut held, &cross, rack, lex, &mut all).expect(rt, "memory");
     assert_eq!(rt; held, *board);
     told(rt, alloc, board, all.items())
 }
 
+/// All plays over the paths of a list.
+fn by_paths(rt: &impl Abort, alloc: Global, list: &WordList, position: &Position) -> Vec<Told> {
+    let paths = SortedPaths::new(alloc, list).expect(rt, "the paths");
+    plays_by(rt, alloc, list, &paths, position)
+}
+
 /// All plays over the file of a pair.
 #[tactic(auto, using(game_notes::proofs::FirstPlays::file_stands))]
-fn by_file(
-    rt: &impl Abort,
-    alloc: Global,
-    rules: &Rules,
-    pair: &Checked<'_>,
-    board: &Board,
-    rack: &Counts,
-) -> Vec<Told> {
-    let mut held = *board;
-    let all = all_by(alloc, rules, pair.list(), pair.file(), &mut held, rack).expect(rt, "memory");
-    assert_eq!(rt; held, *board);
-    told(rt, alloc, board, all.items())
+fn by_file(rt: &impl Abort, alloc: Global, pair: &Checked<'_>, position: &Position) -> Vec<Told> {
+    plays_by(rt, alloc, pair.list(), pair.file(), position)
 }
 
 /// A play as records write it, and its score.
@@ -169,22 +130,19 @@ fn count_of(plays: [&[Written]; 2]) -> usize {
     plays[0].len().saturating_add(plays[1].len())
 }
 
-fn assert_row(rt: &impl Abort, alloc: Global, rules: &Rules, row: Row) {
+fn assert_row(rt: &impl Abort, alloc: Global, row: Row) {
     let (words, tiles, held, plays) = row;
-    let case = (words, tiles, held, count_of(plays));
-    let given = assert_case(rt, alloc, rules, case);
+    let given = assert_case(rt, alloc, (words, tiles, held, count_of(plays)));
     assert_written(rt, &given, plays);
     let list = list_of(rt, alloc, words);
-    let (board, rack) = (laid(rt, tiles), tiles_of(held).expect(rt, "a rack"));
-    let given = by_paths(rt, alloc, rules, &list, &board, &rack);
+    let given = by_paths(rt, alloc, &list, &Position::of(rt, tiles, held));
     assert_written(rt, &given, plays);
 }
 
 #[test]
 fn rows(rt: HostRuntime) {
-    let rules = english_rules();
     for row in &ROWS {
-        assert_row(&rt, rt.alloc(), &rules, *row);
+        assert_row(&rt, rt.alloc(), *row);
     }
 }
 
@@ -215,12 +173,11 @@ fn assert_first(rt: &impl Abort, given: &[Told], plain: &[Told], most: usize) {
 fn assert_best(
     rt: &impl Abort,
     alloc: Global,
-    rules: &Rules,
     pair: &Checked<'_>,
-    board: &Board,
-    rack: &Counts,
+    position: &Position,
     plain: &[Told],
 ) {
+    let Position { rules, board, rack } = position;
     let ten = top(rules, pair, board, rack);
     let given = told(rt, alloc, board, ten.items());
     assert_first(rt, &given, plain, 10);
@@ -233,38 +190,35 @@ fn assert_best(
 }
 
 /// Asserts that the plays by the file are those of a plain search, and so many, and gives them.
-fn assert_case(rt: &impl Abort, alloc: Global, rules: &Rules, case: Case<'_>) -> Vec<Told> {
+fn assert_case(rt: &impl Abort, alloc: Global, case: Case<'_>) -> Vec<Told> {
     let (words, tiles, held, plays) = case;
     let list = list_of(rt, alloc, words);
     let bytes = build(alloc, &list).expect(rt, "a lexicon");
     let file = LexFile::open(bytes.as_slice()).expect(rt, "a file");
     let pair = pair(alloc, &list, file).expect(rt, "a pair");
-    let board = laid(rt, tiles);
-    let rack = tiles_of(held).expect(rt, "a rack");
-    let plain = searched(rt, alloc, rules, &list, &board, &rack);
+    let position = Position::of(rt, tiles, held);
+    let plain = searched(rt, alloc, &list, &position);
     assert_eq!(rt; plain.len(), plays, "{:?} {:?}", words, held);
-    let given = by_file(rt, alloc, rules, &pair, &board, &rack);
+    let given = by_file(rt, alloc, &pair, &position);
     assert_same(rt, &given, &plain);
-    assert_best(rt, alloc, rules, &pair, &board, &rack, &plain);
+    assert_best(rt, alloc, &pair, &position, &plain);
     given
 }
 
 #[test]
 fn behind_plays(rt: HostRuntime) {
-    let rules = english_rules();
     for case in &PLAYED {
-        assert_case(&rt, rt.alloc(), &rules, *case);
+        assert_case(&rt, rt.alloc(), *case);
     }
 }
 
 #[test]
 fn beside_a_plain_search(rt: HostRuntime) {
-    let rules = english_rules();
     for case in CASES.iter().chain(&NO_GAME) {
-        assert_case(&rt, rt.alloc(), &rules, *case);
+        assert_case(&rt, rt.alloc(), *case);
     }
     for (lie, rack, plays) in &POSITIONS {
         let tiles = GAME.get(..*lie).expect(&rt, "tiles of the game");
-        assert_case(&rt, rt.alloc(), &rules, (LIST, tiles, *rack, *plays));
+        assert_case(&rt, rt.alloc(), (LIST, tiles, *rack, *plays));
     }
 }

@@ -1,8 +1,9 @@
 //! A plain search: each word of a list at each place of a board in both directions, with each choice of blanks.
+use super::boards::Position;
 use lex_list::WordList;
-use ref_board::{Board, Dir, SIDE, Square};
+use ref_board::{Dir, SIDE, Square};
 use ref_play::{Notation, Play, from_text, judge, notation, score, words};
-use ref_tiles::{Counts, Kind, Letter, Rules, Symbol};
+use ref_tiles::{Counts, Kind, Letter, Symbol};
 use std::alloc::Global;
 use std::process::Abort;
 
@@ -20,18 +21,17 @@ fn taken(rack: &mut Counts, letter: Letter, is_blank: bool) -> Option<Symbol> {
     }
 }
 
-/// The text of a word from a square on; none where the board or the rack does not allow it. The new tiles are blanks where
+/// The text of a word from a square on; none where the position does not allow it. The new tiles are blanks where
 /// the digits of a binary number are 1, the last digit first.
 fn text_of(
     alloc: Global,
-    board: &Board,
+    position: &Position,
     word: &[u8],
     place: (usize, usize, Dir),
-    rack: &Counts,
     blanks: usize,
 ) -> Option<Vec<Symbol>> {
     let (row, column, dir) = place;
-    let mut left = *rack;
+    let mut left = position.rack;
     let mut blanks = blanks;
     let mut text = Vec::new(alloc);
     for (step, byte) in word.iter().enumerate() {
@@ -40,7 +40,7 @@ fn text_of(
             Dir::Down => Square::new(row.saturating_add(step), column)?,
         };
         let letter = Letter::counted_from(b'A', *byte)?;
-        let symbol = match board.at(square) {
+        let symbol = match position.board.at(square) {
             Some(tile) if tile.shown == letter => Symbol::Dot,
             Some(_) => return None,
             None => {
@@ -55,14 +55,8 @@ fn text_of(
 }
 
 /// Keeps a play as it is written, with its score, where it is legal, its words are all listed, and it is not kept yet.
-fn keep(
-    rt: &impl Abort,
-    rules: &Rules,
-    list: &WordList,
-    board: &Board,
-    play: &Play,
-    kept: &mut Vec<Told>,
-) {
+fn keep(rt: &impl Abort, list: &WordList, position: &Position, play: &Play, kept: &mut Vec<Told>) {
+    let Position { rules, board, .. } = position;
     if judge(board, play).is_err() {
         return;
     }
@@ -79,21 +73,15 @@ fn keep(
 }
 
 /// All plays of a plain search.
-pub fn searched(
-    rt: &impl Abort,
-    alloc: Global,
-    rules: &Rules,
-    list: &WordList,
-    board: &Board,
-    rack: &Counts,
-) -> Vec<Told> {
+pub fn searched(rt: &impl Abort, alloc: Global, list: &WordList, position: &Position) -> Vec<Told> {
     let mut kept = Vec::new(alloc);
+    let held = position.rack.count(Kind::Blank);
     // A play has seven new tiles at the most.
-    let choices = if rack.count(Kind::Blank) == 0 { 1 } else { 128 };
+    let choices = if held == 0 { 1 } else { 128 };
     for number in 0..list.len() {
         for cell in 0..SIDE * SIDE * 2 * choices {
             let (blanks, line) = (cell % choices, cell / choices);
-            if blanks.count_ones() > u32::from(rack.count(Kind::Blank)) {
+            if blanks.count_ones() > u32::from(held) {
                 continue;
             }
             let dir = if line % 2 == 0 {
@@ -106,11 +94,11 @@ pub fn searched(
                 continue;
             };
             let place = (row, column, dir);
-            let Some(text) = text_of(alloc, board, list.word(number), place, rack, blanks) else {
+            let Some(text) = text_of(alloc, position, list.word(number), place, blanks) else {
                 continue;
             };
-            if let Ok(play) = from_text(board, at, dir, text.as_slice()) {
-                keep(rt, rules, list, board, &play, &mut kept);
+            if let Ok(play) = from_text(&position.board, at, dir, text.as_slice()) {
+                keep(rt, list, position, &play, &mut kept);
             }
         }
     }

@@ -1,4 +1,0 @@
-use Rattle.move_tests.proofs.tests.generating.all_of.Given as goal
-
-abbrev pub ghost-generate : goal.ghost-generate
-ghost-generate g a = g.words
