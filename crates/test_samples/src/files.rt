@@ -1,5 +1,7 @@
 //! Compiled lexicon files.
 
+use std::alloc::{AllocError, Global};
+
 /// The file of the empty list.
 pub const EMPTY: [u8; 16] = [
     0x47, 0x41, 0x44, 0x31, 0x00, 0x00, 0x00, 0x00, 0x00, 0x00, 0x00, 0x00, 0x00, 0x00, 0x00, 0x00,
@@ -42,3 +44,31 @@ pub const AT_IT_BY_NODES: [u8; 76] = [
     0x00, 0x00, 0x00, 0x00, 0x00, 0x00, 0x00, 0x00, 0x02, 0x02, 0x10, 0x80, 0x00, 0x00, 0x00, 0x00,
     0x04, 0x00, 0x00, 0x00, 0x04, 0x00, 0x00, 0x00, 0x07, 0x00, 0x00, 0x00,
 ];
+
+/// The bytes of a file of these words, each with its lowest byte first.
+pub fn file_of(alloc: Global, words: &[u32]) -> Result<Vec<u8>, AllocError> {
+    let mut bytes = Vec::new(alloc);
+    for word in words {
+        bytes.extend_from_slice(&word.to_le_bytes())?;
+    }
+    Ok(bytes)
+}
+
+/// A file of 25 nodes of the arcs A and B. Those of the first accept and have no target; those of each further one do
+/// not accept, and have the node before as target. So very many strings are spelt, and none of them has a mark.
+pub fn many_walks(alloc: Global) -> Result<Vec<u8>, AllocError> {
+    let mut words: [u32; 54] = [0; 54];
+    words[0] = u32::from_le_bytes(*b"GAD1");
+    words[1] = 50;
+    words[2] = 49;
+    words[3] = 1;
+    words[4] = 1 + 32;
+    words[5] = 2 + 32 + 64;
+    for node in 2..=25_u32 {
+        let target = 2 * node - 3;
+        let place = 2 * node as usize + 2;
+        words[place] = 1 + 128 * target;
+        words[place + 1] = 2 + 64 + 128 * target;
+    }
+    file_of(alloc, &words)
+}

@@ -6,7 +6,7 @@ use lex_file::{LexFile, PathLex};
 use lex_list::WordList;
 use std::alloc::Global;
 use std::process::Abort;
-use test_samples::{AT, AT_IT, EMPTY};
+use test_samples::{AT, AT_IT, EMPTY, file_of, many_walks};
 
 /// The file of AT with an arc that accepts A too.
 const AT_AND_A: [u8; 36] = [
@@ -78,40 +78,27 @@ fn answers(rt: HostRuntime) {
 /// The file of the least path of a word of 15 letters A, and of this path with one more A behind it: 17 labels.
 #[test]
 fn an_extra_of_seventeen_labels(rt: HostRuntime) {
-    let mut bytes = [0; 84];
-    bytes[..16].copy_from_slice(b"GAD1\x11\0\0\0\x11\0\0\0\x01\0\0\0");
+    let mut words = [0; 21];
+    words[..4].copy_from_slice(&[u32::from_le_bytes(*b"GAD1"), 17, 17, 1]);
     for arc in 1..18u32 {
-        let place = 12 + 4 * arc as usize;
         let label = if arc == 16 { 0 } else { 1 };
         let accepts = if arc <= 2 { 0x20 } else { 0 };
-        let word = label + accepts + 0x40 + 128 * (arc - 1);
-        bytes[place..place + 4].copy_from_slice(&word.to_le_bytes());
+        words[arc as usize + 3] = label + accepts + 0x40 + 128 * (arc - 1);
     }
+    let file = file_of(rt.alloc(), &words).expect(&rt, "memory");
     assert_answer(
         &rt,
         rt.alloc(),
         b"AAAAAAAAAAAAAAA",
-        &bytes,
+        &file,
         &Extra(b"A+AAAAAAAAAAAAAAA"),
     );
 }
 
 #[test]
 fn a_file_of_very_many_walks(rt: HostRuntime) {
-    let mut bytes = [0; 216];
-    bytes[..16].copy_from_slice(b"GAD1\x32\0\0\0\x31\0\0\0\x01\0\0\0");
-    for node in 0..25u8 {
-        let place = 16 + 8 * node as usize;
-        let (target, accepts) = if node == 0 {
-            (0, 0x20)
-        } else {
-            (2 * node as u32 - 1, 0)
-        };
-        let first = target * 128 + accepts + 1;
-        bytes[place..place + 4].copy_from_slice(&first.to_le_bytes());
-        bytes[place + 4..place + 8].copy_from_slice(&(first + 0x41).to_le_bytes());
-    }
-    assert_answer(&rt, rt.alloc(), b"AT", &bytes, &Missing(b"A+T"));
+    let file = many_walks(rt.alloc()).expect(&rt, "memory");
+    assert_answer(&rt, rt.alloc(), b"AT", &file, &Missing(b"A+T"));
 }
 
 #[test]

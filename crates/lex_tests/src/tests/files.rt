@@ -1,45 +1,10 @@
-//! Files of the first format: their faults, and what walks find in them.
+//! Files of the first format: what walks find in them, and fronts of files.
 ghost use Rattle.std.specs.Prelude.{◌≡◌};
 
-use lex_file::FileFault::{DeadArc, Label, Length, Magic, OpenRun, Order, Root, Short, Target};
-use lex_file::{Branch, FileFault, LexFile, Node, PathLex, Step, law_of_language, law_of_nodes};
+use lex_file::FileFault::{DeadArc, Length, Short};
+use lex_file::{Branch, LexFile, Node, PathLex, Step, law_of_language, law_of_nodes};
 use std::process::Abort;
 use test_samples::{AT, AT_BY_NODES, AT_IT, EMPTY};
-
-/// Changes of one word of the file of AT, and the fault that each makes.
-const CHANGES: [(usize, [u8; 4], Option<FileFault>); 20] = [
-    (0, [0x48, 0x41, 0x44, 0x31], Some(Magic)),
-    (0, [0x47, 0x41, 0x44, 0x30], Some(Magic)),
-    (1, [0x04, 0x00, 0x00, 0x00], Some(Length)),
-    (1, [0x06, 0x00, 0x00, 0x00], Some(Length)),
-    (1, [0x05, 0x00, 0x00, 0x40], Some(Length)),
-    (2, [0x05, 0x00, 0x00, 0x00], Some(Root)),
-    (2, [0x00, 0x00, 0x00, 0x00], Some(Root)),
-    (2, [0x06, 0x00, 0x00, 0x00], Some(Root)),
-    (2, [0xff, 0xff, 0xff, 0xff], Some(Root)),
-    (4, [0x7b, 0x00, 0x00, 0x00], Some(Label)),
-    (8, [0xc1, 0x01, 0x00, 0x00], Some(Order)),
-    (5, [0x40, 0x01, 0x00, 0x00], Some(Target)),
-    (8, [0x54, 0x02, 0x00, 0x00], Some(Target)),
-    (8, [0xd4, 0x02, 0x00, 0x00], Some(Target)),
-    (4, [0x54, 0x00, 0x00, 0x00], Some(DeadArc)),
-    (8, [0x94, 0x01, 0x00, 0x00], Some(OpenRun)),
-    (7, [0x21, 0x01, 0x00, 0x00], None),
-    (3, [0x02, 0x00, 0x00, 0x00], None),
-    (2, [0x01, 0x00, 0x00, 0x00], None),
-    (4, [0x7a, 0x00, 0x00, 0x00], None),
-];
-
-#[test]
-fn changes(rt: HostRuntime) {
-    for (place, word, fault) in &CHANGES {
-        let mut bytes = AT;
-        let start = 4 * *place;
-        bytes[start..start + 4].copy_from_slice(word);
-        let opened = LexFile::open(&bytes).err();
-        assert_eq!(rt; opened, *fault, "word {place}: {word:?}");
-    }
-}
 
 /// Each front of a file is refused, by its length.
 fn assert_cut(rt: &impl Abort, file: &[u8]) {

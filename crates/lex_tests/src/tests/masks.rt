@@ -1,34 +1,10 @@
-//! Files of the second format: their faults, and what walks find in them.
+//! Files of the second format: whether they are those of a list, and their nodes.
 use lex_check::{Mismatch, check, text_of};
-use lex_file::FileFault::{Accept, DeadArc, Length, Magic, Mask, NoMark, OpenRun, Root, Target};
-use lex_file::{FileFault, Format, LexFile};
+use lex_file::{Format, LexFile};
 use lex_list::WordList;
 use std::alloc::Global;
 use std::process::Abort;
 use test_samples::{AT, AT_BY_NODES};
-
-/// Changes of one word of the GAD2 file of AT, and the fault that each makes. Word 2 of the header is the root.
-const CHANGES: [(usize, [u8; 4], FileFault); 9] = [
-    (0, [0x47, 0x41, 0x44, 0x30], Magic),
-    (1, [0x0c, 0x00, 0x00, 0x00], Length),
-    (2, [0x0b, 0x00, 0x00, 0x00], Root),
-    (4, [0x00, 0x00, 0x10, 0x88], Mask),
-    (7, [0x01, 0x00, 0x00, 0x00], NoMark),
-    (8, [0x02, 0x00, 0x00, 0x00], Accept),
-    (9, [0x04, 0x00, 0x00, 0x00], Target),
-    (5, [0x00, 0x00, 0x00, 0x00], DeadArc),
-    (13, [0x06, 0x00, 0x10, 0x80], OpenRun),
-];
-
-#[test]
-fn changes(rt: HostRuntime) {
-    for (place, word, fault) in CHANGES {
-        let mut bytes = AT_BY_NODES;
-        bytes[4 * place..4 * place + 4].copy_from_slice(&word);
-        let opened = LexFile::open(&bytes).err();
-        assert_eq!(rt; opened, Some(fault), "word {place}");
-    }
-}
 
 /// What the check of a file with the list of AT gives; none where the file is refused before it.
 fn outcome(alloc: Global, file: &[u8]) -> Option<Result<(), Mismatch>> {

@@ -9,7 +9,7 @@ use engine::{Verdict, run_build, run_check};
 use ref_tiles::english_rules;
 use std::alloc::Global;
 use std::process::Abort;
-use test_samples::{AT, AT_IT, EMPTY};
+use test_samples::{AT, AT_IT, EMPTY, many_walks};
 
 /// Checks a file by words, and gives the verdict and what was written. The words come with at most so many bytes a read.
 fn checked<L: Input>(
@@ -178,34 +178,9 @@ fn cut_files(rt: HostRuntime) {
     }
 }
 
-/// A file of 25 nodes of the arcs A and B. Those of the first accept and have no target; those of each further one do
-/// not accept, and have the node before as target. So very many strings are spelt, and none of them has a mark.
-fn many_walks(rt: &impl Abort, alloc: Global) -> Vec<u8> {
-    let mut words: [u32; 54] = [0; 54];
-    words[0] = u32::from_le_bytes(*b"GAD1");
-    words[1] = 50;
-    words[2] = 49;
-    words[3] = 1;
-    words[4] = 1 + 32;
-    words[5] = 2 + 32 + 64;
-    for node in 2..=25_u32 {
-        let target = 2 * node - 3;
-        let place = 2 * node as usize + 2;
-        words[place] = 1 + 128 * target;
-        words[place + 1] = 2 + 64 + 128 * target;
-    }
-    let mut bytes = Vec::new(alloc);
-    for word in words {
-        bytes
-            .extend_from_slice(&word.to_le_bytes())
-            .expect(rt, "memory");
-    }
-    bytes
-}
-
 #[test]
 fn many_strings(rt: HostRuntime) {
-    let file = many_walks(&rt, rt.alloc());
+    let file = many_walks(rt.alloc()).expect(&rt, "memory");
     let told = checked_bytes(&rt, rt.alloc(), b"AT", &file);
     expect(&rt, &told, Verdict::BadFile, b"bad lexicon: Missing A+T\n");
 }
