@@ -82,16 +82,39 @@ fn file_named<R: Runtime + AllocGlobal>(rt: &R, argument: usize) -> Option<Vec<u
     read_within(rt.alloc(), &mut input, LIMIT).ok()
 }
 
+/// A board on which plays are measured, the lexicon, the rules, and the cross-sets of the board, made afresh.
+#[derive(Drop)]
+struct Site<'a> {
+    rules: Rules,
+    file: &'a LexFile<'a>,
+    board: Board,
+    made: Cross,
+}
+
+impl<'a> Site<'a> {
+    /// The board by the English rules.
+    fn new(file: &'a LexFile<'a>, board: &Board) -> Site<'a> {
+        let rules = english_rules();
+        let made = Cross::scratch(&rules, board, file);
+        Site {
+            rules,
+            file,
+            board: *board,
+            made,
+        }
+    }
+}
+
 /// Measures plays of some sizes on the board in the middle of a game.
 fn measure_middle<R: Runtime + CpuClock>(rt: &R, file: &LexFile<'_>) -> Option<()> {
-    let board = middle();
+    let site = Site::new(file, &middle());
     let at = Square::new(START.0, START.1)?;
-    measure_copy(rt, file, &board)?;
+    measure_copy(rt, &site)?;
     for size in SIZES {
         let text = Text::of_bytes(RETAINS.get(..size)?)?;
-        let play = from_text(&board, at, Dir::Across, text.as_slice()).ok()?;
-        measure_play(rt, file, &board, &play)?;
-        measure_puts(rt, file, &board, &play)?;
+        let play = from_text(&site.board, at, Dir::Across, text.as_slice()).ok()?;
+        measure_play(rt, &site, &play)?;
+        measure_puts(rt, &site, &play)?;
     }
     Some(())
 }
@@ -108,7 +131,7 @@ fn measure_record<R: Runtime + CpuClock>(
         match &event.kind {
             EventKind::Play { at, dir, word } => {
                 let play = from_text(&board, *at, *dir, word.as_slice()).ok()?;
-                measure_play(rt, file, &board, &play)?;
+                measure_play(rt, &Site::new(&*file, &board), &play)?;
                 before = board;
                 board = with_play(&board, &play);
             }
@@ -120,46 +143,31 @@ fn measure_record<R: Runtime + CpuClock>(
 }
 
 /// Measures the copies that each round below makes.
-fn measure_copy<R: Runtime + CpuClock>(rt: &R, file: &LexFile<'_>, board: &Board) -> Option<()> {
-    let made = Cross::scratch(&english_rules(), board, file);
+fn measure_copy<R: Runtime + CpuClock>(rt: &R, site: &Site<'_>) -> Option<()> {
     let start = rt.process_cpu_time().ok()?;
     let mut points: u16 = 0;
     for _ in 0..KEPT {
-        let cross = made;
+        let cross = site.made;
         points = points.wrapping_add(beside(&cross));
     }
     tell(rt, "copy alone", start, KEPT, points)
 }
 
 /// Measures cross-sets that are brought up once for a play, and those made afresh of the board with it.
-fn measure_play<R: Runtime + CpuClock>(
-    rt: &R,
-    file: &LexFile<'_>,
-    board: &Board,
-    play: &Play,
-) -> Option<()> {
-    let rules = english_rules();
+fn measure_play<R: Runtime + CpuClock>(rt: &R, site: &Site<'_>, play: &Play) -> Option<()> {
     println!(rt; "tiles: {}", play.tiles.len()).ok()?;
     let start = rt.process_cpu_time().ok()?;
-    let points = made_points(&rules, &with_play(board, play), file);
+    let points = made_points(site, play);
     tell(rt, "scratch", start, MADE, points)?;
-    let made = Cross::scratch(&rules, board, file);
     let start = rt.process_cpu_time().ok()?;
-    let points = kept_points(&rules, board, &made, file, play);
+    let points = kept_points(site, play);
     tell(rt, "after_play", start, KEPT, points)
 }
 
 /// Measures cross-sets that are brought up tile by tile.
-fn measure_puts<R: Runtime + CpuClock>(
-    rt: &R,
-    file: &LexFile<'_>,
-    board: &Board,
-    play: &Play,
-) -> Option<()> {
-    let rules = english_rules();
-    let made = Cross::scratch(&rules, board, file);
+fn measure_puts<R: Runtime + CpuClock>(rt: &R, site: &Site<'_>, play: &Play) -> Option<()> {
     let start = rt.process_cpu_time().ok()?;
-    let points = put_points(&rules, board, &made, file, play);
+    let points = put_points(site, play);
     tell(rt, "after_put of each", start, KEPT, points)
 }
 
@@ -176,43 +184,44 @@ fn tell<R: Runtime + CpuClock>(
     println!(rt; "{what}: {round} ns ({points})").ok()
 }
 
-/// The points beside row 13, of cross-sets made afresh.
-fn made_points(rules: &Rules, board: &Board, file: &LexFile<'_>) -> u16 {
+/// The points beside row 13, of cross-sets made afresh of the board with a play.
+fn made_points(site: &Site<'_>, play: &Play) -> u16 {
+    let after = with_play(&site.board, play);
     let mut points: u16 = 0;
     for _ in 0..MADE {
-        let cross = Cross::scratch(rules, board, file);
+        let cross = Cross::scratch(&site.rules, &after, site.file);
         points = points.wrapping_add(beside(&cross));
     }
     points
 }
 
 /// The points beside row 13, of cross-sets brought up once for a play.
-fn kept_points(rules: &Rules, board: &Board, made: &Cross, file: &LexFile<'_>, play: &Play) -> u16 {
+fn kept_points(site: &Site<'_>, play: &Play) -> u16 {
     let mut points: u16 = 0;
     for _ in 0..KEPT {
-        let mut cross = *made;
-        cross.after_play(rules, &with_play(board, play), file, play);
+        let mut cross = site.made;
+        cross.after_play(&site.rules, &with_play(&site.board, play), site.file, play);
         points = points.wrapping_add(beside(&cross));
     }
     points
 }
 
 /// The points beside row 13, of cross-sets brought up tile by tile.
-fn put_points(rules: &Rules, board: &Board, made: &Cross, file: &LexFile<'_>, play: &Play) -> u16 {
+fn put_points(site: &Site<'_>, play: &Play) -> u16 {
     let mut points: u16 = 0;
     for _ in 0..KEPT {
-        points = points.wrapping_add(beside(&after_puts(rules, board, made, file, play)));
+        points = points.wrapping_add(beside(&after_puts(site, play)));
     }
     points
 }
 
 /// The cross-sets after the tiles of a play were put one by one.
-fn after_puts(rules: &Rules, from: &Board, made: &Cross, file: &LexFile<'_>, play: &Play) -> Cross {
-    let mut board = *from;
-    let mut cross = *made;
+fn after_puts(site: &Site<'_>, play: &Play) -> Cross {
+    let mut board = site.board;
+    let mut cross = site.made;
     for placed in &play.tiles {
         put(&mut board, placed.square, placed.tile);
-        cross.after_put(rules, &board, file, placed.square);
+        cross.after_put(&site.rules, &board, site.file, placed.square);
     }
     cross
 }
