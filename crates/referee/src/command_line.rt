@@ -218,21 +218,35 @@ fn game_command<'a>(alloc: Global, text: &CommandText) -> Result<Command<'a>, Al
         .arg(name(alloc, "GAME", "the GCG record; - is standard input"))
 }
 
-/// `judge [--first-field] [--settle] [--rules FILE] WORDS LEXICON GAME`.
-fn judge_command<'a>(alloc: Global) -> Result<Command<'a>, AllocError> {
-    game_command(alloc, &JUDGE)?
-        .arg(flag(
-            alloc,
-            "settle",
-            "search for a deal, or a proof that there is none, where the game would be unsettled",
-        ))?
+/// A command about one game with one more argument, and the options by which its words and its rules are read.
+fn judging_command<'a>(
+    alloc: Global,
+    text: &CommandText,
+    more: Arg<'a>,
+) -> Result<Command<'a>, AllocError> {
+    with_input_options(alloc, game_command(alloc, text)?.arg(more)?)
+}
+
+/// A command with the options by which its words and its rules are read.
+fn with_input_options<'a>(alloc: Global, command: Command<'a>) -> Result<Command<'a>, AllocError> {
+    command
         .arg(first_field_option(alloc))?
         .arg(rules_option(alloc))
 }
 
+/// `judge [--first-field] [--settle] [--rules FILE] WORDS LEXICON GAME`.
+fn judge_command<'a>(alloc: Global) -> Result<Command<'a>, AllocError> {
+    let settle = flag(
+        alloc,
+        "settle",
+        "search for a deal, or a proof that there is none, where the game would be unsettled",
+    );
+    judging_command(alloc, &JUDGE, settle)
+}
+
 /// `archive [--first-field] [--rules FILE] [--names FILE] [--json] [--pages FOLDER] [--progress|--quiet] WORDS LEXICON [GAME...]`.
 fn archive_command<'a>(alloc: Global) -> Result<Command<'a>, AllocError> {
-    words_command(alloc, &ARCHIVE)?
+    let command = words_command(alloc, &ARCHIVE)?
         .arg(name(alloc, "LEXICON", "the lexicon file of the words"))?
         .arg(
             Arg::new(alloc, "GAME")
@@ -242,63 +256,54 @@ fn archive_command<'a>(alloc: Global) -> Result<Command<'a>, AllocError> {
                 .conflicts_with("names")?
                 .help("the GCG records; - is standard input"),
         )?
-        .arg(
-            Arg::new(alloc, "names")
-                .long("names")
-                .value_name("FILE")
-                .help("the names of the records, one a line; - is standard input"),
-        )?
+        .arg(option(
+            alloc,
+            "names",
+            "FILE",
+            "the names of the records, one a line; - is standard input",
+        ))?
         .arg(flag(alloc, "json", "write each line as a JSON object"))?
-        .arg(
-            Arg::new(alloc, "pages")
-                .long("pages")
-                .value_name("FOLDER")
-                .help("write a page of each game, and their index, to this folder"),
-        )?
+        .arg(option(
+            alloc,
+            "pages",
+            "FOLDER",
+            "write a page of each game, and their index, to this folder",
+        ))?
         .arg(flag(
             alloc,
             "progress",
             "show on standard error how many games are done",
         )
         .conflicts_with("quiet")?)?
-        .arg(flag(alloc, "quiet", "do not show how many games are done"))?
-        .arg(first_field_option(alloc))?
-        .arg(rules_option(alloc))
+        .arg(flag(alloc, "quiet", "do not show how many games are done"))?;
+    with_input_options(alloc, command)
 }
 
 /// `audit [--first-field] [--rules FILE] [--corrected OUT] WORDS LEXICON GAME`.
 fn audit_command<'a>(alloc: Global) -> Result<Command<'a>, AllocError> {
-    game_command(alloc, &AUDIT)?
-        .arg(
-            Arg::new(alloc, "corrected")
-                .long("corrected")
-                .value_name("OUT")
-                .help("write the corrected record to this file, where nothing else is wrong"),
-        )?
-        .arg(first_field_option(alloc))?
-        .arg(rules_option(alloc))
+    let corrected = option(
+        alloc,
+        "corrected",
+        "OUT",
+        "write the corrected record to this file, where nothing else is wrong",
+    );
+    judging_command(alloc, &AUDIT, corrected)
 }
 
 /// `explain [--first-field] [--rules FILE] WORDS LEXICON GAME [LINE]`.
 fn explain_command<'a>(alloc: Global) -> Result<Command<'a>, AllocError> {
-    game_command(alloc, &EXPLAIN)?
-        .arg(
-            Arg::new(alloc, "LINE")
-                .value_parser(value_parser!(u32))
-                .help(
-                    "the line of the record to be explained, counted from 1; without it the one that the verdict names",
-                ),
-        )?
-        .arg(first_field_option(alloc))?
-        .arg(rules_option(alloc))
+    let line = Arg::new(alloc, "LINE")
+        .value_parser(value_parser!(u32))
+        .help(
+            "the line of the record to be explained, counted from 1; without it the one that the verdict names",
+        );
+    judging_command(alloc, &EXPLAIN, line)
 }
 
 /// `page [--first-field] [--rules FILE] WORDS LEXICON GAME OUT`.
 fn page_command<'a>(alloc: Global) -> Result<Command<'a>, AllocError> {
-    game_command(alloc, &PAGE)?
-        .arg(name(alloc, "OUT", "the page to be written, or emptied first"))?
-        .arg(first_field_option(alloc))?
-        .arg(rules_option(alloc))
+    let out = name(alloc, "OUT", "the page to be written, or emptied first");
+    judging_command(alloc, &PAGE, out)
 }
 
 /// The name of the lexicon file that a command writes.
@@ -335,22 +340,21 @@ fn convert_command<'a>(alloc: Global) -> Result<Command<'a>, AllocError> {
 
 /// `top [--first-field] [--rules FILE] [--number N] [--before LINE] WORDS LEXICON GAME [RACK]`.
 fn top_command<'a>(alloc: Global) -> Result<Command<'a>, AllocError> {
-    game_command(alloc, &TOP)?
+    let command = game_command(alloc, &TOP)?
         .arg(
             Arg::new(alloc, "RACK")
                 .required_unless_present("before")?
                 .help("1 to 7 tiles: A to Z, and ? for a blank; without it, the rack of LINE"),
         )?
-        .arg(
-            Arg::new(alloc, "number")
-                .long("number")
-                .value_name("N")
-                .value_parser(ValueParser::Unsigned(1, 100))
-                .help("how many plays are printed at the most, 1 to 100; 10 without it"),
-        )?
-        .arg(before_option(alloc))?
-        .arg(first_field_option(alloc))?
-        .arg(rules_option(alloc))
+        .arg(option(
+            alloc,
+            "number",
+            "N",
+            "how many plays are printed at the most, 1 to 100; 10 without it",
+        )
+        .value_parser(ValueParser::Unsigned(1, 100)))?
+        .arg(before_option(alloc))?;
+    with_input_options(alloc, command)
 }
 
 /// `tidy GAME`.
@@ -370,11 +374,13 @@ fn board_command<'a>(alloc: Global) -> Result<Command<'a>, AllocError> {
 
 /// The option that names a line of the record.
 fn before_option<'a>(alloc: Global) -> Arg<'a> {
-    Arg::new(alloc, "before")
-        .long("before")
-        .value_name("LINE")
-        .value_parser(value_parser!(u32))
-        .help("the line of the record before which the board is taken, counted from 1")
+    option(
+        alloc,
+        "before",
+        "LINE",
+        "the line of the record before which the board is taken, counted from 1",
+    )
+    .value_parser(value_parser!(u32))
 }
 
 /// An argument that the command needs.
@@ -390,12 +396,22 @@ fn flag<'a>(alloc: Global, name: &'a str, help: &'a str) -> Arg<'a> {
         .help(help)
 }
 
+/// An option with a value, which help calls by the name `value`.
+fn option<'a>(alloc: Global, name: &'a str, value: &'a str, help: &'a str) -> Arg<'a> {
+    Arg::new(alloc, name)
+        .long(name)
+        .value_name(value)
+        .help(help)
+}
+
 /// The option that names a rules text.
 fn rules_option<'a>(alloc: Global) -> Arg<'a> {
-    Arg::new(alloc, "rules")
-        .long("rules")
-        .value_name("FILE")
-        .help("the rules text; without it the rules are the English ones")
+    option(
+        alloc,
+        "rules",
+        "FILE",
+        "the rules text; without it the rules are the English ones",
+    )
 }
 
 /// Whether more than one of the names in a command line is that of standard input.
