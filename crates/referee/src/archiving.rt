@@ -28,7 +28,7 @@ pub fn archive<'a, R: Runtime + AllocGlobal>(
     request: &Archive<'a>,
     watched: bool,
 ) -> Result<Exit, Trouble<'a>> {
-    let inputs = open_inputs(rt, request.rules, request.words.name, request.lexicon)?;
+    let inputs = open_inputs(rt, request.rules, request.pair)?;
     let progress = Progress::new(match request.progress {
         Progressing::Shown => true,
         Progressing::Quiet => false,
@@ -71,8 +71,7 @@ fn archive_by<'a, R: Runtime + AllocGlobal, N: Names + Drop>(
     run: Run,
     names: N,
 ) -> Result<Exit, Trouble<'a>> {
-    let (rules, words, lexicon) = (request.rules, request.words, request.lexicon);
-    let given = match read_digested(rt.alloc(), rules, words, lexicon, inputs)? {
+    let given = match read_digested(rt.alloc(), request.rules, request.pair, inputs)? {
         Ok(given) => given,
         Err(decision) => return refuse(rt, &decision),
     };

@@ -26,15 +26,22 @@ pub struct WordsFile<'a> {
     pub first_field: bool,
 }
 
+/// The names of the files of a word list and of its lexicon.
+#[derive(Clone, Copy)]
+pub struct PairFiles<'a> {
+    /// The word list.
+    pub words: WordsFile<'a>,
+    /// The lexicon of the words.
+    pub lexicon: &'a str,
+}
+
 /// The names of the files of a game.
 #[derive(Clone, Copy)]
 pub struct GameFiles<'a> {
     /// The rules text; without one the rules are the English ones.
     pub rules: Option<&'a str>,
-    /// The word list.
-    pub words: WordsFile<'a>,
-    /// The lexicon of the words.
-    pub lexicon: &'a str,
+    /// The word list and its lexicon.
+    pub pair: PairFiles<'a>,
     /// The record.
     pub game: &'a str,
 }
@@ -85,10 +92,8 @@ pub enum Progressing {
 pub struct Archive<'a> {
     /// The rules text; without one the rules are the English ones.
     pub rules: Option<&'a str>,
-    /// The word list.
-    pub words: WordsFile<'a>,
-    /// The lexicon of the words.
-    pub lexicon: &'a str,
+    /// The word list and its lexicon.
+    pub pair: PairFiles<'a>,
     /// The names of the records.
     pub names: ArchiveNames<'a>,
     /// Whether the lines are JSON objects.
@@ -130,10 +135,7 @@ pub enum Request<'a> {
         out: &'a str,
     },
     /// To compare a lexicon with a word list.
-    Check {
-        words: WordsFile<'a>,
-        lexicon: &'a str,
-    },
+    Check(PairFiles<'a>),
     /// To write a lexicon in a format to the file `out`.
     Convert {
         format: Format,
@@ -455,7 +457,7 @@ fn archive_of<'a>(
     alloc: Global,
     names: &ArgMatches<'a>,
 ) -> Result<Option<Request<'a>>, AllocError> {
-    let (Some(words), Some(lexicon)) = (words_file(names), names.get_str("LEXICON")) else {
+    let Some(pair) = pair_files(names) else {
         return Ok(None);
     };
     let games = match names.get_str("names") {
@@ -464,8 +466,7 @@ fn archive_of<'a>(
     };
     Ok(Some(Request::Archive(Archive {
         rules: names.get_str("rules"),
-        words,
-        lexicon,
+        pair,
         names: games,
         json: names.get_flag("json"),
         pages: names.get_str("pages"),
@@ -507,10 +508,7 @@ fn small_request_of<'a>(command: &str, names: &ArgMatches<'a>) -> Option<Request
             words: words_file(names)?,
             out: names.get_str("OUT")?,
         }),
-        "check" => Some(Request::Check {
-            words: words_file(names)?,
-            lexicon: names.get_str("LEXICON")?,
-        }),
+        "check" => Some(Request::Check(pair_files(names)?)),
         "convert" => Some(Request::Convert {
             format: format_of(names.get_str("FORMAT")?)?,
             lexicon: names.get_str("LEXICON")?,
@@ -544,12 +542,19 @@ fn words_file<'a>(names: &ArgMatches<'a>) -> Option<WordsFile<'a>> {
     })
 }
 
+/// The word list and its lexicon that a command names.
+fn pair_files<'a>(names: &ArgMatches<'a>) -> Option<PairFiles<'a>> {
+    Some(PairFiles {
+        words: words_file(names)?,
+        lexicon: names.get_str("LEXICON")?,
+    })
+}
+
 /// The files of a game that a command names.
 fn game_files<'a>(names: &ArgMatches<'a>) -> Option<GameFiles<'a>> {
     Some(GameFiles {
         rules: names.get_str("rules"),
-        words: words_file(names)?,
-        lexicon: names.get_str("LEXICON")?,
+        pair: pair_files(names)?,
         game: names.get_str("GAME")?,
     })
 }

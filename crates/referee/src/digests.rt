@@ -1,6 +1,6 @@
 //! Inputs with the SHA-256 of their bytes, which pages tell.
 
-use crate::command_line::WordsFile;
+use crate::command_line::{PairFiles, WordsFile};
 use crate::commands::PROGRAM;
 use crate::inputs::{Inputs, lexicon_of};
 use crate::sources::shown;
@@ -60,8 +60,7 @@ impl DigestedInputs {
 pub fn read_digested<'a, W: Read + Drop, F: Read + Drop>(
     alloc: Global,
     rules: Option<&'a str>,
-    words: WordsFile<'a>,
-    lexicon: &'a str,
+    pair: PairFiles<'a>,
     inputs: Inputs<W, F>,
 ) -> Result<Result<DigestedInputs, Decision>, Trouble<'a>> {
     let Inputs {
@@ -73,11 +72,11 @@ pub fn read_digested<'a, W: Read + Drop, F: Read + Drop>(
         Ok(rules) => rules,
         Err(decision) => return Ok(Err(decision)),
     };
-    let list = match digested_list(alloc, words, list)? {
+    let list = match digested_list(alloc, pair.words, list)? {
         Ok(list) => list,
         Err(decision) => return Ok(Err(decision)),
     };
-    let lexicon = lexicon_of(alloc, lexicon, file)?;
+    let lexicon = lexicon_of(alloc, pair.lexicon, file)?;
     Ok(Ok(DigestedInputs {
         rules,
         list,

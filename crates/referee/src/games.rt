@@ -30,8 +30,8 @@ fn open_game<'a, R: Runtime>(
     files: GameFiles<'a>,
 ) -> Result<OpenGame<Words<R>, R::File, Source<R>>, Trouble<'a>> {
     Ok(OpenGame {
-        words: open_words(rt, files.words)?,
-        lexicon: open(rt, files.lexicon)?,
+        words: open_words(rt, files.pair.words)?,
+        lexicon: open(rt, files.pair.lexicon)?,
         game: open_source(rt, files.game)?,
     })
 }
@@ -97,8 +97,8 @@ fn judge_english<'a, R: Runtime + AllocGlobal>(
         run(alloc, &mut words, &mut lexicon, &mut game, &mut out, &rules)
     };
     let inputs = [
-        used_source(files.words.name, &words),
-        used(files.lexicon, &lexicon),
+        used_source(files.pair.words.name, &words),
+        used(files.pair.lexicon, &lexicon),
         used_source(files.game, &game),
     ];
     let verdict = told(outcome, &inputs)?;
@@ -145,8 +145,8 @@ fn judge_ruled<'a, R: Runtime + AllocGlobal>(
     };
     let inputs = [
         used(rules, &text),
-        used_source(files.words.name, &words),
-        used(files.lexicon, &lexicon),
+        used_source(files.pair.words.name, &words),
+        used(files.pair.lexicon, &lexicon),
         used_source(files.game, &game),
     ];
     let verdict = told(outcome, &inputs)?;
@@ -238,8 +238,8 @@ fn top_english<'a, R: Runtime + AllocGlobal>(
         ),
     };
     let inputs = [
-        used_source(files.words.name, &words),
-        used(files.lexicon, &lexicon),
+        used_source(files.pair.words.name, &words),
+        used(files.pair.lexicon, &lexicon),
         used_source(files.game, &game),
     ];
     told(outcome, &inputs)
@@ -287,8 +287,8 @@ fn top_ruled<'a, R: Runtime + AllocGlobal>(
     };
     let inputs = [
         used(rules, &text),
-        used_source(files.words.name, &words),
-        used(files.lexicon, &lexicon),
+        used_source(files.pair.words.name, &words),
+        used(files.pair.lexicon, &lexicon),
         used_source(files.game, &game),
     ];
     told(outcome, &inputs)

@@ -1,5 +1,6 @@
 //! The inputs that games are judged by: rules, a word list and its lexicon, which are opened and read once.
 
+use crate::command_line::PairFiles;
 use crate::files::open;
 use crate::sources::{Source, open_source, shown};
 use devices::{FromRead, FromWrite, write_whole};
@@ -26,8 +27,7 @@ pub struct Inputs<W, F> {
 pub fn open_inputs<'a, R: Runtime>(
     rt: &R,
     rules: Option<&'a str>,
-    words: &'a str,
-    lexicon: &'a str,
+    pair: PairFiles<'a>,
 ) -> Result<Inputs<Source<R>, R::File>, Trouble<'a>> {
     let rules = match rules {
         None => None,
@@ -35,8 +35,8 @@ pub fn open_inputs<'a, R: Runtime>(
     };
     Ok(Inputs {
         rules,
-        words: open_source(rt, words)?,
-        lexicon: open(rt, lexicon)?,
+        words: open_source(rt, pair.words.name)?,
+        lexicon: open(rt, pair.lexicon)?,
     })
 }
 

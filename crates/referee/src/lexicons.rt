@@ -1,6 +1,6 @@
 //! The commands that keep the lexicon of a word list.
 
-use crate::command_line::WordsFile;
+use crate::command_line::{PairFiles, WordsFile};
 use crate::files::{create, open, told, used, used_source};
 use crate::sources::open_words;
 use devices::{FromRead, FromWrite};
@@ -25,9 +25,9 @@ pub fn build<'a, R: Runtime + AllocGlobal>(
 /// Compares a lexicon with a word list. What was found goes to standard output.
 pub fn check<'a, R: Runtime + AllocGlobal>(
     rt: &R,
-    words: WordsFile<'a>,
-    lexicon: &'a str,
+    pair: PairFiles<'a>,
 ) -> Result<Verdict, Trouble<'a>> {
+    let PairFiles { words, lexicon } = pair;
     let mut list = FromRead::new(open_words(rt, words)?);
     let mut file = FromRead::new(open(rt, lexicon)?);
     let mut out = FromWrite::new(io::writer(rt));

@@ -20,9 +20,9 @@ pub fn page<'a, R: Runtime + AllocGlobal>(
     files: GameFiles<'a>,
     out: &'a str,
 ) -> Result<Exit, Trouble<'a>> {
-    let inputs = open_inputs(rt, files.rules, files.words.name, files.lexicon)?;
+    let inputs = open_inputs(rt, files.rules, files.pair)?;
     let game = open_source(rt, files.game)?;
-    let given = match read_digested(rt.alloc(), files.rules, files.words, files.lexicon, inputs)? {
+    let given = match read_digested(rt.alloc(), files.rules, files.pair, inputs)? {
         Ok(given) => given,
         Err(decision) => return refuse(rt, &decision),
     };

@@ -66,7 +66,7 @@ fn answer<R: Runtime + AllocGlobal>(rt: &R, request: Request<'_>, watched: bool)
         Request::Explain { files, line } => answer_sheet(rt, files, SheetTask::Explain(line)),
         Request::Page { files, out } => page(rt, files, out),
         Request::Build { words, out } => ended(build(rt, words, out)),
-        Request::Check { words, lexicon } => ended(check(rt, words, lexicon)),
+        Request::Check(pair) => ended(check(rt, pair)),
         Request::Convert {
             format,
             lexicon,

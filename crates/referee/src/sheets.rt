@@ -26,7 +26,7 @@ pub fn answer_sheet<'a, R: Runtime + AllocGlobal>(
     files: GameFiles<'a>,
     task: SheetTask<'a>,
 ) -> Result<Exit, Trouble<'a>> {
-    let inputs = open_inputs(rt, files.rules, files.words.name, files.lexicon)?;
+    let inputs = open_inputs(rt, files.rules, files.pair)?;
     let game = open_source(rt, files.game)?;
     let Inputs {
         rules,
@@ -37,12 +37,12 @@ pub fn answer_sheet<'a, R: Runtime + AllocGlobal>(
         Ok(rules) => rules,
         Err(decision) => return refuse(rt, &decision),
     };
-    let words = fields_of(words, files.words.first_field);
-    let list = match list_of(rt.alloc(), files.words.name, words)? {
+    let words = fields_of(words, files.pair.words.first_field);
+    let list = match list_of(rt.alloc(), files.pair.words.name, words)? {
         Ok(list) => list,
         Err(decision) => return refuse(rt, &decision),
     };
-    let bytes = lexicon_of(rt.alloc(), files.lexicon, lexicon)?;
+    let bytes = lexicon_of(rt.alloc(), files.pair.lexicon, lexicon)?;
     match pair_file(rt.alloc(), &list, &bytes) {
         Ok(Ok(pair)) => answer_by(rt, files, &rules, &pair, game, task),
         Ok(Err(decision)) => refuse(rt, &decision),
