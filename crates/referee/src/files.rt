@@ -34,6 +34,20 @@ pub struct InputFile<'a> {
     failures: u64,
 }
 
+/// The rules text of this name, where there is one.
+pub fn used_rules<'a, F: Read + Drop>(
+    name: Option<&'a str>,
+    input: &Option<FromRead<F>>,
+) -> InputFile<'a> {
+    match (name, input) {
+        (Some(name), Some(input)) => used(name, input),
+        _ => InputFile {
+            name: "",
+            failures: 0,
+        },
+    }
+}
+
 /// The word list or record of this name on the command line.
 pub fn used_source<'a, F: Read + Drop>(name: &'a str, input: &FromRead<F>) -> InputFile<'a> {
     used(shown(name), input)

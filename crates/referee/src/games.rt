@@ -1,46 +1,169 @@
 //! The commands that are about one game.
+ghost use Rattle.std.specs.Prelude.{IfOk, IfSome};
+ghost use Rattle.devices.specs.Devices.{HasRoom};
 
 use crate::command_line::{GameFiles, PlaysAsked};
 use crate::counted::Counted;
-use crate::files::{open, told, used, used_source};
+use crate::files::{InputFile, open, told, used, used_rules, used_source};
 use crate::sources::{Source, Words, open_source, open_words, shown};
-use devices::{FromRead, FromWrite};
+use devices::{FromRead, FromWrite, Input, Output};
 use endings::Trouble;
 use engine::{
-    Verdict, run, run_board, run_board_ruled, run_ruled, run_settled, run_settled_ruled, run_tidy,
-    run_top, run_top_before, run_top_before_ruled, run_top_ruled,
+    RunFault, Verdict, run, run_board, run_board_ruled, run_ruled, run_settled, run_settled_ruled,
+    run_tidy, run_top, run_top_before, run_top_before_ruled, run_top_ruled,
 };
 use ref_tiles::english_rules;
-use std::io;
+use std::alloc::Global;
+use std::io::{self, Read};
 use std::rt::{Files, Runtime};
 
 /// How long the report of a legal game without events is.
 const WITHOUT_EVENTS: u64 = b"legal unfinished\n".len() as u64;
 
-/// The open files of a game.
-struct OpenGame<W, F, S> {
-    words: W,
-    lexicon: F,
-    game: S,
+/// How many plays are printed at the most.
+const MOST_PLAYS: usize = 100;
+
+/// How many plays are printed where no number is asked for.
+const USUAL_PLAYS: u32 = 10;
+
+/// What is asked of a game.
+#[derive(Clone, Copy)]
+enum GameTask<'a> {
+    /// Its verdict.
+    Judge,
+    /// Its verdict, with a search for a deal where it would be unsettled.
+    Settle,
+    /// The ten best plays with a rack after the last event.
+    TopAtTheEnd(&'a [u8]),
+    /// So many of the best plays before a line.
+    TopBefore {
+        rack: Option<&'a [u8]>,
+        number: usize,
+        line: Option<u32>,
+    },
 }
 
-/// Opens the word list, the lexicon and the record of a game, in this order.
+/// The inputs of a call about a game.
+#[derive(Drop)]
+struct GameInputs<F, W, S> {
+    /// The rules text; without one the rules are the English ones.
+    rules: Option<FromRead<F>>,
+    /// The word list.
+    words: FromRead<W>,
+    /// The lexicon of the words.
+    lexicon: FromRead<F>,
+    /// The record.
+    game: FromRead<S>,
+}
+
+impl<F: Read + Drop, W: Read + Drop, S: Read + Drop> GameInputs<F, W, S> {
+    /// Has the engine do what is asked of the game. The report goes to `out`.
+    fn ask<O: Output>(
+        &mut self,
+        alloc: Global,
+        task: GameTask<'_>,
+        out: &mut O,
+    ) -> Result<Verdict, RunFault>
+        requires rules { IfSome self.old.rules (λ text. HasRoom (⟦<FromRead<F> as Input>⟧.device text)) }
+        requires words { HasRoom (⟦<FromRead<W> as Input>⟧.device self.old.words) }
+        requires lexicon { HasRoom (⟦<FromRead<F> as Input>⟧.device self.old.lexicon) }
+        requires game { HasRoom (⟦<FromRead<S> as Input>⟧.device self.old.game) }
+        requires out { HasRoom (O.device out.old) }
+    {
+        let GameInputs {
+            rules,
+            words,
+            lexicon,
+            game,
+        } = self;
+        let Some(text) = rules else {
+            let english = english_rules();
+            return match task {
+                GameTask::Judge => run(alloc, words, lexicon, game, out, &english),
+                GameTask::Settle => run_settled(alloc, words, lexicon, game, out, &english),
+                GameTask::TopAtTheEnd(rack) => {
+                    run_top(alloc, words, lexicon, game, rack, out, &english)
+                }
+                GameTask::TopBefore { rack, number, line } => {
+                    let most = number.min(MOST_PLAYS);
+                    run_top_before(alloc, words, lexicon, game, rack, most, line, out, &english)
+                }
+            };
+        };
+        match task {
+            GameTask::Judge => run_ruled(alloc, text, words, lexicon, game, out),
+            GameTask::Settle => run_settled_ruled(alloc, text, words, lexicon, game, out),
+            GameTask::TopAtTheEnd(rack) => {
+                run_top_ruled(alloc, text, words, lexicon, game, rack, out)
+            }
+            GameTask::TopBefore { rack, number, line } => {
+                let most = number.min(MOST_PLAYS);
+                run_top_before_ruled(alloc, text, words, lexicon, game, rack, most, line, out)
+            }
+        }
+    }
+
+    /// These inputs after a call, in the order in which they were read.
+    fn used<'a>(&self, files: GameFiles<'a>) -> [InputFile<'a>; 4] {
+        [
+            used_rules(files.rules, &self.rules),
+            used_source(files.pair.words.name, &self.words),
+            used(files.pair.lexicon, &self.lexicon),
+            used_source(files.game, &self.game),
+        ]
+    }
+}
+
+/// Opens a rules text, where one is named.
+fn open_rules<'a, R: Files>(
+    rt: &R,
+    name: Option<&'a str>,
+) -> Result<Option<FromRead<R::File>>, Trouble<'a>>
+    ensures { IfOk result (λ rules. IfSome rules (λ text. HasRoom (⟦<FromRead<R::File> as Input>⟧.device text))) }
+{
+    match name {
+        None => Ok(None),
+        Some(name) => Ok(Some(FromRead::new(open(rt, name)?))),
+    }
+}
+
+/// Opens the rules text of a game, where there is one, its word list, its lexicon and its record, in this order.
 fn open_game<'a, R: Runtime>(
     rt: &R,
     files: GameFiles<'a>,
-) -> Result<OpenGame<Words<R>, R::File, Source<R>>, Trouble<'a>> {
-    Ok(OpenGame {
-        words: open_words(rt, files.pair.words)?,
-        lexicon: open(rt, files.pair.lexicon)?,
-        game: open_source(rt, files.game)?,
+) -> Result<GameInputs<R::File, Words<R>, Source<R>>, Trouble<'a>>
+    ensures rules { IfOk result (λ inputs. IfSome inputs.rules (λ text. HasRoom (⟦<FromRead<R::File> as Input>⟧.device text))) }
+    ensures words { IfOk result (λ inputs. HasRoom (⟦<FromRead<Words<R>> as Input>⟧.device inputs.words)) }
+    ensures lexicon { IfOk result (λ inputs. HasRoom (⟦<FromRead<R::File> as Input>⟧.device inputs.lexicon)) }
+    ensures game { IfOk result (λ inputs. HasRoom (⟦<FromRead<Source<R>> as Input>⟧.device inputs.game)) }
+{
+    Ok(GameInputs {
+        rules: open_rules(rt, files.rules)?,
+        words: FromRead::new(open_words(rt, files.pair.words)?),
+        lexicon: FromRead::new(open(rt, files.pair.lexicon)?),
+        game: FromRead::new(open_source(rt, files.game)?),
     })
 }
 
-/// What `judge` found, and how long its report is.
+/// The answer to what is asked of a game, and how long its report is.
 #[derive(Clone, Copy)]
-struct Judged {
+struct Answered {
     verdict: Verdict,
     bytes: u64,
+}
+
+/// Opens the files of a game, and does what is asked of it. The report goes to standard output.
+fn answer_game<'a, R: Runtime + AllocGlobal>(
+    rt: &R,
+    files: GameFiles<'a>,
+    task: GameTask<'a>,
+) -> Result<Answered, Trouble<'a>> {
+    let mut inputs = open_game(rt, files)?;
+    let mut out = FromWrite::new(Counted::new(io::writer(rt)));
+    let outcome = inputs.ask(rt.alloc(), task, &mut out);
+    let verdict = told(outcome, &inputs.used(files))?;
+    let bytes = out.into_inner().taken();
+    Ok(Answered { verdict, bytes })
 }
 
 /// Judges the game of a record, by the English rules or those of a text; a search for a deal settles it where that is asked
@@ -50,16 +173,18 @@ pub fn judge<'a, R: Runtime + AllocGlobal>(
     settle: bool,
     files: GameFiles<'a>,
 ) -> Result<Verdict, Trouble<'a>> {
-    let judged = match files.rules {
-        None => judge_english(rt, settle, files)?,
-        Some(rules) => judge_ruled(rt, settle, rules, files)?,
+    let task = if settle {
+        GameTask::Settle
+    } else {
+        GameTask::Judge
     };
+    let judged = answer_game(rt, files, task)?;
     advise(rt, settle, files.game, judged);
     Ok(judged.verdict)
 }
 
 /// Says beside a report what may be done about it: where a search may settle the game, and where the record has no event.
-fn advise<R: Runtime>(rt: &R, settle: bool, game: &str, judged: Judged) {
+fn advise<R: Runtime>(rt: &R, settle: bool, game: &str, judged: Answered) {
     match judged.verdict {
         Verdict::Unsettled if !settle => {
             let _ = rt.eprintln(
@@ -74,117 +199,6 @@ fn advise<R: Runtime>(rt: &R, settle: bool, game: &str, judged: Judged) {
     }
 }
 
-/// Judges the game of a record by the English rules.
-fn judge_english<'a, R: Runtime + AllocGlobal>(
-    rt: &R,
-    settle: bool,
-    files: GameFiles<'a>,
-) -> Result<Judged, Trouble<'a>> {
-    let OpenGame {
-        words,
-        lexicon,
-        game,
-    } = open_game(rt, files)?;
-    let mut words = FromRead::new(words);
-    let mut lexicon = FromRead::new(lexicon);
-    let mut game = FromRead::new(game);
-    let mut out = FromWrite::new(Counted::new(io::writer(rt)));
-    let alloc = rt.alloc();
-    let rules = english_rules();
-    let outcome = if settle {
-        run_settled(alloc, &mut words, &mut lexicon, &mut game, &mut out, &rules)
-    } else {
-        run(alloc, &mut words, &mut lexicon, &mut game, &mut out, &rules)
-    };
-    let inputs = [
-        used_source(files.pair.words.name, &words),
-        used(files.pair.lexicon, &lexicon),
-        used_source(files.game, &game),
-    ];
-    let verdict = told(outcome, &inputs)?;
-    let bytes = out.into_inner().taken();
-    Ok(Judged { verdict, bytes })
-}
-
-/// The same by the rules of a text, whose file is opened first.
-fn judge_ruled<'a, R: Runtime + AllocGlobal>(
-    rt: &R,
-    settle: bool,
-    rules: &'a str,
-    files: GameFiles<'a>,
-) -> Result<Judged, Trouble<'a>> {
-    let mut text = FromRead::new(open(rt, rules)?);
-    let OpenGame {
-        words,
-        lexicon,
-        game,
-    } = open_game(rt, files)?;
-    let mut words = FromRead::new(words);
-    let mut lexicon = FromRead::new(lexicon);
-    let mut game = FromRead::new(game);
-    let mut out = FromWrite::new(Counted::new(io::writer(rt)));
-    let alloc = rt.alloc();
-    let outcome = if settle {
-        run_settled_ruled(
-            alloc,
-            &mut text,
-            &mut words,
-            &mut lexicon,
-            &mut game,
-            &mut out,
-        )
-    } else {
-        run_ruled(
-            alloc,
-            &mut text,
-            &mut words,
-            &mut lexicon,
-            &mut game,
-            &mut out,
-        )
-    };
-    let inputs = [
-        used(rules, &text),
-        used_source(files.pair.words.name, &words),
-        used(files.pair.lexicon, &lexicon),
-        used_source(files.game, &game),
-    ];
-    let verdict = told(outcome, &inputs)?;
-    let bytes = out.into_inner().taken();
-    Ok(Judged { verdict, bytes })
-}
-
-/// How many plays are printed at the most.
-const MOST_PLAYS: usize = 100;
-
-/// How many plays are printed where no number is asked for.
-const USUAL_PLAYS: u32 = 10;
-
-/// What `top` asks of the engine.
-#[derive(Clone, Copy)]
-enum TopAsked<'a> {
-    /// The ten best plays after the last event.
-    AtTheEnd(&'a [u8]),
-    /// So many of the best plays before a line.
-    Before {
-        rack: Option<&'a [u8]>,
-        number: usize,
-        line: Option<u32>,
-    },
-}
-
-/// The same of what the command line asks for.
-fn top_asked<'a>(plays: PlaysAsked<'a>) -> TopAsked<'a> {
-    match (plays.rack, plays.number, plays.before) {
-        (Some(rack), None, None) => TopAsked::AtTheEnd(rack.as_bytes()),
-        (rack, number, line) => TopAsked::Before {
-            rack: rack.map(|rack| rack.as_bytes()),
-            number: number.unwrap_or(USUAL_PLAYS) as usize,
-            line,
-        },
-    }
-}
-
 /// Writes the best plays by a rack on a board of a record, by the English rules or those of a text, to standard output.
 /// The files are opened before the rack is looked at.
 pub fn top<'a, R: Runtime + AllocGlobal>(
@@ -192,106 +206,20 @@ pub fn top<'a, R: Runtime + AllocGlobal>(
     files: GameFiles<'a>,
     plays: PlaysAsked<'a>,
 ) -> Result<Verdict, Trouble<'a>> {
-    match files.rules {
-        None => top_english(rt, files, top_asked(plays)),
-        Some(rules) => top_ruled(rt, rules, files, top_asked(plays)),
+    let listed = answer_game(rt, files, top_task(plays))?;
+    Ok(listed.verdict)
+}
+
+/// What the command line asks of a game whose best plays it asks for.
+fn top_task<'a>(plays: PlaysAsked<'a>) -> GameTask<'a> {
+    match (plays.rack, plays.number, plays.before) {
+        (Some(rack), None, None) => GameTask::TopAtTheEnd(rack.as_bytes()),
+        (rack, number, line) => GameTask::TopBefore {
+            rack: rack.map(|rack| rack.as_bytes()),
+            number: number.unwrap_or(USUAL_PLAYS) as usize,
+            line,
+        },
     }
-}
-
-/// Writes the best plays by the English rules.
-fn top_english<'a, R: Runtime + AllocGlobal>(
-    rt: &R,
-    files: GameFiles<'a>,
-    asked: TopAsked<'a>,
-) -> Result<Verdict, Trouble<'a>> {
-    let OpenGame {
-        words,
-        lexicon,
-        game,
-    } = open_game(rt, files)?;
-    let mut words = FromRead::new(words);
-    let mut lexicon = FromRead::new(lexicon);
-    let mut game = FromRead::new(game);
-    let mut out = FromWrite::new(io::writer(rt));
-    let alloc = rt.alloc();
-    let rules = english_rules();
-    let outcome = match asked {
-        TopAsked::AtTheEnd(rack) => run_top(
-            alloc,
-            &mut words,
-            &mut lexicon,
-            &mut game,
-            rack,
-            &mut out,
-            &rules,
-        ),
-        TopAsked::Before { rack, number, line } => run_top_before(
-            alloc,
-            &mut words,
-            &mut lexicon,
-            &mut game,
-            rack,
-            number.min(MOST_PLAYS),
-            line,
-            &mut out,
-            &rules,
-        ),
-    };
-    let inputs = [
-        used_source(files.pair.words.name, &words),
-        used(files.pair.lexicon, &lexicon),
-        used_source(files.game, &game),
-    ];
-    told(outcome, &inputs)
-}
-
-/// The same by the rules of a text, whose file is opened first.
-fn top_ruled<'a, R: Runtime + AllocGlobal>(
-    rt: &R,
-    rules: &'a str,
-    files: GameFiles<'a>,
-    asked: TopAsked<'a>,
-) -> Result<Verdict, Trouble<'a>> {
-    let mut text = FromRead::new(open(rt, rules)?);
-    let OpenGame {
-        words,
-        lexicon,
-        game,
-    } = open_game(rt, files)?;
-    let mut words = FromRead::new(words);
-    let mut lexicon = FromRead::new(lexicon);
-    let mut game = FromRead::new(game);
-    let mut out = FromWrite::new(io::writer(rt));
-    let alloc = rt.alloc();
-    let outcome = match asked {
-        TopAsked::AtTheEnd(rack) => run_top_ruled(
-            alloc,
-            &mut text,
-            &mut words,
-            &mut lexicon,
-            &mut game,
-            rack,
-            &mut out,
-        ),
-        TopAsked::Before { rack, number, line } => run_top_before_ruled(
-            alloc,
-            &mut text,
-            &mut words,
-            &mut lexicon,
-            &mut game,
-            rack,
-            number.min(MOST_PLAYS),
-            line,
-            &mut out,
-        ),
-    };
-    let inputs = [
-        used(rules, &text),
-        used_source(files.pair.words.name, &words),
-        used(files.pair.lexicon, &lexicon),
-        used_source(files.game, &game),
-    ];
-    told(outcome, &inputs)
 }
 
 /// Writes the normal form of the record of a file to standard output.
@@ -302,41 +230,22 @@ pub fn tidy<'a, R: Runtime + AllocGlobal>(rt: &R, game: &'a str) -> Result<Verdi
     told(outcome, &[used_source(game, &record)])
 }
 
-/// Writes the board of a record to standard output, before a line where one is named, by the English rules or those of a text.
+/// Writes the board of a record to standard output, before a line where one is named, by the English rules or those of a text, which is
+/// opened first.
 pub fn board<'a, R: Runtime + AllocGlobal>(
     rt: &R,
     rules: Option<&'a str>,
     before: Option<u32>,
     game: &'a str,
 ) -> Result<Verdict, Trouble<'a>> {
-    match rules {
-        None => board_english(rt, before, game),
-        Some(rules) => board_ruled(rt, rules, before, game),
-    }
-}
-
-/// Writes the board by the English rules.
-fn board_english<'a, R: Runtime + AllocGlobal>(
-    rt: &R,
-    before: Option<u32>,
-    game: &'a str,
-) -> Result<Verdict, Trouble<'a>> {
+    let mut text = open_rules(rt, rules)?;
     let mut record = FromRead::new(open_source(rt, game)?);
     let mut out = FromWrite::new(io::writer(rt));
-    let outcome = run_board(rt.alloc(), &mut record, before, &mut out, &english_rules());
-    told(outcome, &[used_source(game, &record)])
-}
-
-/// The same by the rules of a text, whose file is opened first.
-fn board_ruled<'a, R: Runtime + AllocGlobal>(
-    rt: &R,
-    rules: &'a str,
-    before: Option<u32>,
-    game: &'a str,
-) -> Result<Verdict, Trouble<'a>> {
-    let mut text = FromRead::new(open(rt, rules)?);
-    let mut record = FromRead::new(open_source(rt, game)?);
-    let mut out = FromWrite::new(io::writer(rt));
-    let outcome = run_board_ruled(rt.alloc(), &mut text, &mut record, before, &mut out);
-    told(outcome, &[used(rules, &text), used_source(game, &record)])
+    let alloc = rt.alloc();
+    let outcome = match &mut text {
+        None => run_board(alloc, &mut record, before, &mut out, &english_rules()),
+        Some(text) => run_board_ruled(alloc, text, &mut record, before, &mut out),
+    };
+    let inputs = [used_rules(rules, &text), used_source(game, &record)];
+    told(outcome, &inputs)
 }
