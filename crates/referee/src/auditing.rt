@@ -1,45 +1,31 @@
 //! `audit`: the wrong numbers of one sheet, and its correction.
 
-use crate::command_line::GameFiles;
 use crate::files::create;
-use crate::inputs::{refuse, write};
-use crate::sources::shown;
+use crate::inputs::write;
 use audit_lines::{exit_of, is_corrected, push_audit};
-use devices::{FromRead, FromWrite, write_whole};
+use devices::{FromWrite, write_whole};
 use endings::{Exit, Trouble};
-use engine::{Audit, audit_sheet};
+use engine::Audit;
 use gcg_read::Record;
-use lex_check::Checked;
-use ref_tiles::Rules;
 use std::alloc::{AllocError, Global};
-use std::io::Read;
 use std::rt::{Files, Runtime};
 
-/// Audits the sheet of an open record by rules and a pair that were read: writes each wrong number and the verdict of the corrected
-/// record to standard output, and that record in its normal form to the file `out`, where one is named and the record stands.
-pub fn audit_by<'a, R: Runtime + AllocGlobal, F: Read + Drop>(
+/// Tells the audit of a sheet: writes each wrong number and the verdict of the corrected record to standard output, and that record in
+/// its normal form to the file `out`, where one is named and the record stands.
+pub fn tell_audit<'a, R: Runtime + AllocGlobal>(
     rt: &R,
-    files: GameFiles<'a>,
-    rules: &Rules,
-    pair: &Checked<'_>,
-    game: F,
+    audit: &Audit,
     out: Option<&'a str>,
 ) -> Result<Exit, Trouble<'a>> {
-    let mut game = FromRead::new(game);
-    let audit = match audit_sheet(rt.alloc(), rules, pair, &mut game) {
-        Ok(Ok(audit)) => audit,
-        Ok(Err(decision)) => return refuse(rt, &decision),
-        Err(fault) => return Err(Trouble::of(fault, shown(files.game))),
-    };
-    let Ok(told) = lines_of(rt.alloc(), &audit) else {
+    let Ok(told) = lines_of(rt.alloc(), audit) else {
         return Err(Trouble::NoMemory);
     };
     match out {
-        Some(out) if is_corrected(&audit) => keep(rt, out, &audit.entry.record)?,
+        Some(out) if is_corrected(audit) => keep(rt, out, &audit.entry.record)?,
         _ => {}
     }
     write(rt, told.as_slice())?;
-    Ok(exit_of(&audit))
+    Ok(exit_of(audit))
 }
 
 /// The lines of an audit.

@@ -1,38 +1,27 @@
 //! `explain`: what is wrong with a record, or how one of its lines is judged, in plain words.
 
-use crate::command_line::GameFiles;
 use crate::inputs::write;
-use crate::sources::shown;
-use devices::FromRead;
 use endings::{Exit, Trouble};
-use engine::{Case, open_case};
+use engine::Case;
 use explain_lines::{exit_of, push_explanation};
-use lex_check::Checked;
 use lex_list::WordList;
 use ref_tiles::Rules;
 use std::alloc::{AllocError, Global};
-use std::io::Read;
 use std::rt::Runtime;
 
-/// Explains the verdict on an open record, or one of its lines, by rules and a pair that were read: writes it to standard output.
-pub fn explain_by<'a, R: Runtime + AllocGlobal, F: Read + Drop>(
+/// Explains the verdict on a record, or one of its lines, by the rules and the word list: writes it to standard output.
+pub fn tell_case<'a, R: Runtime + AllocGlobal>(
     rt: &R,
-    files: GameFiles<'a>,
     rules: &Rules,
-    pair: &Checked<'_>,
-    game: F,
+    list: &WordList,
+    case: &Case,
     line: Option<u32>,
 ) -> Result<Exit, Trouble<'a>> {
-    let mut game = FromRead::new(game);
-    let case = match open_case(rt.alloc(), rules, pair, &mut game) {
-        Ok(case) => case,
-        Err(fault) => return Err(Trouble::of(fault, shown(files.game))),
-    };
-    let Ok(told) = text_of(rt.alloc(), rules, pair.list(), &case, line) else {
+    let Ok(told) = text_of(rt.alloc(), rules, list, case, line) else {
         return Err(Trouble::NoMemory);
     };
     write(rt, told.as_slice())?;
-    Ok(exit_of(&case, line))
+    Ok(exit_of(case, line))
 }
 
 /// What explains a case, or one of its lines.

@@ -1,12 +1,13 @@
 //! The commands that are about one sheet, by rules, a word list and its lexicon that are read before its record.
 
-use crate::auditing::audit_by;
+use crate::auditing::tell_audit;
 use crate::command_line::GameFiles;
-use crate::explaining::explain_by;
+use crate::explaining::tell_case;
 use crate::inputs::{Inputs, lexicon_of, list_of, open_inputs, refuse, rules_of};
-use crate::sources::{Source, fields_of, open_source};
+use crate::sources::{Source, fields_of, open_source, shown};
+use devices::FromRead;
 use endings::{Exit, Trouble};
-use engine::pair_file;
+use engine::{audit_sheet, open_case, pair_file};
 use lex_check::Checked;
 use ref_tiles::Rules;
 use std::rt::Runtime;
@@ -44,23 +45,31 @@ pub fn answer_sheet<'a, R: Runtime + AllocGlobal>(
     };
     let bytes = lexicon_of(rt.alloc(), files.pair.lexicon, lexicon)?;
     match pair_file(rt.alloc(), &list, &bytes) {
-        Ok(Ok(pair)) => answer_by(rt, files, &rules, &pair, game, task),
+        Ok(Ok(pair)) => answer_by(rt, shown(files.game), &rules, &pair, game, task),
         Ok(Err(decision)) => refuse(rt, &decision),
         Err(_) => Err(Trouble::NoMemory),
     }
 }
 
-/// Does what is asked of an open sheet.
+/// Reads an open sheet, and does what is asked of it.
 fn answer_by<'a, R: Runtime + AllocGlobal>(
     rt: &R,
-    files: GameFiles<'a>,
+    name: &'a str,
     rules: &Rules,
     pair: &Checked<'_>,
     game: Source<R>,
     task: SheetTask<'a>,
 ) -> Result<Exit, Trouble<'a>> {
+    let mut game = FromRead::new(game);
     match task {
-        SheetTask::Audit(out) => audit_by(rt, files, rules, pair, game, out),
-        SheetTask::Explain(line) => explain_by(rt, files, rules, pair, game, line),
+        SheetTask::Audit(out) => match audit_sheet(rt.alloc(), rules, pair, &mut game) {
+            Ok(Ok(audit)) => tell_audit(rt, &audit, out),
+            Ok(Err(decision)) => refuse(rt, &decision),
+            Err(fault) => Err(Trouble::of(fault, name)),
+        },
+        SheetTask::Explain(line) => match open_case(rt.alloc(), rules, pair, &mut game) {
+            Ok(case) => tell_case(rt, rules, pair.list(), &case, line),
+            Err(fault) => Err(Trouble::of(fault, name)),
+        },
     }
 }
