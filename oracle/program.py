@@ -300,12 +300,22 @@ class Runner:
             print(f"{what}: not so")
 
 
+# Records by the list WORD, and the status and the output of `judge`, which `judge --settle` has too.
+BY_WORD = [
+    ("line", 0, "legal unfinished\n1 A 8E WORD +16 16 best 8E WORD 16\n"),
+    ("line-18", 1, "illegal line 1: WrongScore 16\n"),
+    ("blanks", 1, "illegal line 2: TilesShort ?\n"),
+    ("number", 3, "bad record line 1: Number\n"),
+]
+
+
 def judged(run):
     """`judge`, by its verdicts."""
     run.row(["build", "word", "word.gad"], 0)
     run.row(["build", "word-at-ra", "word-at-ra.gad"], 0)
     by_word = lambda game, status, out: run.row(["judge", "word", "word.gad", game], status, out)
-    by_word("line", 0, "legal unfinished\n1 A 8E WORD +16 16 best 8E WORD 16\n")
+    for row in BY_WORD:
+        by_word(*row)
     for game in ("nothing", "page", "full-game"):
         for more in ([], ["--settle"], ["--rules", "english.rules"], ["--settle", "--rules", "english.rules"]):
             run.row(["judge", *more, "word", "word.gad", game], 0, "legal unfinished\n", error=NO_EVENT.format(game))
@@ -313,11 +323,9 @@ def judged(run):
     by_word("ends", 0, f"legal complete\n{lines}7 A (AEINRST) -7 -7\n8 B (AEINRST) -7 -7\n")
     by_word("too-soon", 1, "illegal line 6: NotOver\n")
     by_word("line-17", 1, "illegal line 1: WrongTotal 16\n")
-    by_word("line-18", 1, "illegal line 1: WrongScore 16\n")
     by_word("line-8d", 1, "illegal line 1: MissesCentre\n")
     by_word("turn", 1, "illegal line 2: NotYourTurn\n")
     by_word("third", 3, "bad record line 3: ThirdPlayer\n")
-    by_word("number", 3, "bad record line 1: Number\n")
     by_word("long-game", 3, "bad record: TooLong\n")
     listed = lambda game, out: run.row(["judge", "word-at-ra", "word-at-ra.gad", game], 0, out)
     laid = "legal unfinished\n1 A 8E WORD +16 16 best 8E WORD 16\n2 B 9G AT +9 9 best -"
@@ -325,7 +333,6 @@ def judged(run):
     listed("unlisted", f"{laid} unlisted DT\n")
     listed("withdrawn", f"{laid}\n{back}")
     listed("not-judged", f"{laid}\n{back}")
-    by_word("blanks", 1, "illegal line 2: TilesShort ?\n")
     run.row(["judge", "word", "word.gad", "one-q"], 2, "unsettled\n", error=SETTLE)
     run.row(["judge", "at", "at.gad", "big-rack"], 1, "illegal line 3: RackTooBig\n")
     lines = "1 A -5 +0 0 best -\n2 B - +0 0 best -\n3 A - +0 0 best -\n"
@@ -345,12 +352,10 @@ def judged(run):
 def settled(run):
     """`judge --settle`: as `judge`, but where that says `unsettled`."""
     by_word = lambda game, status, out: run.row(["judge", "--settle", "word", "word.gad", game], status, out)
-    by_word("line", 0, "legal unfinished\n1 A 8E WORD +16 16 best 8E WORD 16\n")
-    by_word("line-18", 1, "illegal line 1: WrongScore 16\n")
-    by_word("blanks", 1, "illegal line 2: TilesShort ?\n")
+    for row in BY_WORD:
+        by_word(*row)
     by_word("one-q", 1, "illegal line 3: NoDeal\n")
     by_word("one-of-seven", 1, "illegal line 3: NoDeal\n")
-    by_word("number", 3, "bad record line 1: Number\n")
     lines = "1 A -2 +0 0 best -\n2 B - +0 0 best -\n3 A - +0 0 best -\n"
     by_word("two-of-seven", 0, f"legal unfinished\n{lines}")
     run.row(["judge", "word", "word.gad", "one-of-seven"], 2, "unsettled\n", error=SETTLE)
