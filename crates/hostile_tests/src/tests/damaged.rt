@@ -1,6 +1,7 @@
 //! Damaged inputs.
-use super::jobs::{Call, Job, WITHDRAWN, attempt, working};
+use super::jobs::{Job, WITHDRAWN, attempt, working};
 use engine::Verdict;
+use test_calls::Call;
 use test_samples::AT;
 
 /// Each change of one bit in the file of AT makes it another lexicon than that of AT.

@@ -1,12 +1,12 @@
 //! Devices that fail, or move few bytes at once.
 ghost use Rattle.std.specs.Prelude.{◌<◌};
 
-use super::feeds::{Mishap, NEVER};
-use super::jobs::{Call, JOBS, Job, attempt, working};
+use super::jobs::{JOBS, Job, attempt, working};
 use engine::{RunFault, Verdict};
 use gcg_read::{EventKind, read};
 use std::alloc::Global;
 use std::process::Abort;
+use test_calls::{Call, Mishap, NEVER};
 
 /// Whether tiles are exchanged in the record of a job.
 fn has_exchange(rt: &impl Abort, alloc: Global, job: &Job<'_>) -> bool {
@@ -65,7 +65,7 @@ fn each_read_fails(rt: &impl Abort, alloc: Global, job: &Job<'_>, input: usize) 
 {
     for read in 0..1000 {
         let mut manner = working(7);
-        manner.reads[input] = read;
+        manner.reads.failing[input] = read;
         let outcome = attempt(alloc, job, &manner);
         if !outcome.failed {
             assert_eq!(rt; outcome.answer, Ok(job.verdict));

@@ -1,13 +1,9 @@
 //! Worked rows, asked of the calls of the engine.
-use super::feeds::{Feed, Mishap, NEVER, Sheet};
-use engine::{
-    GameFault, RunFault, Verdict, run, run_board, run_board_ruled, run_build, run_check,
-    run_convert, run_ruled, run_settled, run_settled_ruled, run_tidy, run_top, run_top_before,
-    run_top_before_ruled, run_top_ruled,
-};
+use engine::{GameFault, RunFault, Verdict};
 use lex_file::Format;
-use ref_tiles::{ENGLISH_TEXT, english_rules};
+use ref_tiles::ENGLISH_TEXT;
 use std::alloc::Global;
+use test_calls::{Before, Call, GameRules, Inputs, Mishap, NEVER, Reads, Sheet, ask};
 use test_samples::{AT, AT_BY_NODES, GAD1, file_bytes};
 
 /// The file of the word WORD.
@@ -44,29 +40,10 @@ row 10 .t...t...t...t.\nrow 11 ....D.....D....\nrow 12 d..D...d...D..d\n\
 row 13 ..D...d.d...D..\nrow 14 .D...t...t...D.\nrow 15 T..d...T...d..T\n\
 bonus 50\nexchange_min 7\nzero_limit 6\nchallenge_unit 5\ntime_step 5\n";
 
-/// A call of the engine.
-#[derive(Clone, Copy, Debug, PartialEq, Eq)]
-pub enum Call {
-    Judge,
-    /// To judge, and to search for a deal.
-    Settle,
-    /// With a rack.
-    Top(&'static str),
-    /// With the rack of a line.
-    TopBefore(u32),
-    Build,
-    Check,
-    /// Into a format.
-    Convert(Format),
-    Tidy,
-    /// Before a line, or behind the last event.
-    Board(Option<u32>),
-}
-
 /// A call, what its inputs hold, and what is answered and written. An input that it has not is empty.
 #[derive(Drop)]
 pub struct Job<'a> {
-    pub call: Call,
+    pub call: Call<'a>,
     /// The rules text that a game is judged by; by the English rules where there is none.
     pub rules: Option<&'a [u8]>,
     pub words: &'a [u8],
@@ -142,7 +119,7 @@ pub const SETTLED: Job<'static> = Job {
 
 /// The best plays with a blank on the empty board.
 pub const BEST_PLAYS: Job<'static> = Job {
-    call: Call::Top("?A"),
+    call: Call::Top(b"?A"),
     rules: None,
     words: b"AT",
     lexicon: &AT,
@@ -170,7 +147,11 @@ pub const RULED_PLAYS: Job<'static> = Job {
 
 /// The best plays before a line with the rack that it shows.
 pub const PLAYS_BEFORE: Job<'static> = Job {
-    call: Call::TopBefore(1),
+    call: Call::TopBefore(Before {
+        rack: None,
+        number: 10,
+        line: Some(1),
+    }),
     game: b">A: ?A 8H At +2 2\n",
     ..BEST_PLAYS
 };
@@ -306,12 +287,11 @@ pub const JOBS: [Job<'static>; 19] = [
     RULED_BOARD,
 ];
 
-/// How the devices of a job behave: how many bytes a read or a write moves at most, and the numbers of the read of each input
-/// (words, lexicon, record, rules text) that fails, and of the write that meets with a mishap.
+/// How the devices of a job behave: how its inputs are read, and the number of the write that meets with a mishap. A write moves as
+/// many bytes at most as a read.
 #[derive(Clone, Copy, Debug)]
 pub struct Manner {
-    pub piece: usize,
-    pub reads: [usize; 4],
+    pub reads: Reads,
     pub writes: usize,
     pub mishap: Mishap,
 }
@@ -319,8 +299,7 @@ pub struct Manner {
 /// Devices that work, and move at most so many bytes.
 pub fn working(piece: usize) -> Manner {
     Manner {
-        piece,
-        reads: [NEVER; 4],
+        reads: Reads::working(piece),
         writes: NEVER,
         mishap: Mishap::Fails,
     }
@@ -330,112 +309,28 @@ pub fn working(piece: usize) -> Manner {
 #[derive(Drop)]
 pub struct Outcome {
     pub answer: Result<Verdict, RunFault>,
-    pub out: Sheet,
+    pub out: Sheet<1024>,
     /// Whether an input failed.
     pub failed: bool,
 }
 
 /// Does a job.
 pub fn attempt(alloc: Global, job: &Job<'_>, manner: &Manner) -> Outcome {
-    match job.rules {
-        Some(text) => attempt_ruled(alloc, job, text, manner),
-        None => attempt_english(alloc, job, manner),
-    }
-}
-
-/// Does a job by the English rules.
-fn attempt_english(alloc: Global, job: &Job<'_>, manner: &Manner) -> Outcome {
-    let mut words = Feed::new(job.words, manner.piece, manner.reads[0]);
-    let mut lexicon = Feed::new(job.lexicon, manner.piece, manner.reads[1]);
-    let mut game = Feed::new(job.game, manner.piece, manner.reads[2]);
-    let mut out = Sheet::new(manner.piece, manner.writes, manner.mishap);
-    let rules = english_rules();
-    let answer = match job.call {
-        Call::Judge => run(alloc, &mut words, &mut lexicon, &mut game, &mut out, &rules),
-        Call::Settle => run_settled(alloc, &mut words, &mut lexicon, &mut game, &mut out, &rules),
-        Call::Top(rack) => run_top(
-            alloc,
-            &mut words,
-            &mut lexicon,
-            &mut game,
-            rack.as_bytes(),
-            &mut out,
-            &rules,
-        ),
-        Call::TopBefore(line) => run_top_before(
-            alloc,
-            &mut words,
-            &mut lexicon,
-            &mut game,
-            None,
-            10,
-            Some(line),
-            &mut out,
-            &rules,
-        ),
-        Call::Build => run_build(alloc, &mut words, &mut out),
-        Call::Check => run_check(alloc, &mut words, &mut lexicon, &mut out),
-        Call::Convert(format) => run_convert(alloc, &mut lexicon, format, &mut out),
-        Call::Tidy => run_tidy(alloc, &mut game, &mut out),
-        Call::Board(before) => run_board(alloc, &mut game, before, &mut out, &rules),
+    let inputs = Inputs {
+        rules: match job.rules {
+            Some(text) => GameRules::Text(text),
+            None => GameRules::English,
+        },
+        words: job.words,
+        lexicon: job.lexicon,
+        game: job.game,
     };
+    let mut out = Sheet::<1024>::new(manner.reads.piece, manner.writes, manner.mishap);
+    let asked = ask(alloc, job.call, &inputs, &manner.reads, &mut out);
+    let failed = asked.has_failed();
     Outcome {
-        answer,
+        answer: asked.answer,
         out,
-        failed: words.has_failed() || lexicon.has_failed() || game.has_failed(),
-    }
-}
-
-/// Does a job that judges a game, names the best plays of a rack or shows a board, by a rules text.
-fn attempt_ruled(alloc: Global, job: &Job<'_>, text: &[u8], manner: &Manner) -> Outcome {
-    let mut words = Feed::new(job.words, manner.piece, manner.reads[0]);
-    let mut lexicon = Feed::new(job.lexicon, manner.piece, manner.reads[1]);
-    let mut game = Feed::new(job.game, manner.piece, manner.reads[2]);
-    let mut rules = Feed::new(text, manner.piece, manner.reads[3]);
-    let mut out = Sheet::new(manner.piece, manner.writes, manner.mishap);
-    let answer = match job.call {
-        Call::Top(rack) => run_top_ruled(
-            alloc,
-            &mut rules,
-            &mut words,
-            &mut lexicon,
-            &mut game,
-            rack.as_bytes(),
-            &mut out,
-        ),
-        Call::TopBefore(line) => run_top_before_ruled(
-            alloc,
-            &mut rules,
-            &mut words,
-            &mut lexicon,
-            &mut game,
-            None,
-            10,
-            Some(line),
-            &mut out,
-        ),
-        Call::Settle => run_settled_ruled(
-            alloc,
-            &mut rules,
-            &mut words,
-            &mut lexicon,
-            &mut game,
-            &mut out,
-        ),
-        Call::Board(before) => { run_board_ruled(alloc, &mut rules, &mut game, before, &mut out) }
-        _ => run_ruled(
-            alloc,
-            &mut rules,
-            &mut words,
-            &mut lexicon,
-            &mut game,
-            &mut out,
-        ),
-    };
-    let failed = words.has_failed() || lexicon.has_failed() || game.has_failed();
-    Outcome {
-        answer,
-        out,
-        failed: failed || rules.has_failed(),
+        failed,
     }
 }

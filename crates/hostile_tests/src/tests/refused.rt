@@ -1,6 +1,5 @@
 //! Memory that is refused: each request in turn, by `bench/refuse_memory.py`, until a run meets no refusal. Each test is for one
 //! call, and takes little memory besides. Without a refusal the answer is the row's.
-use super::feeds::{Feed, NEVER};
 use super::jobs::{
     BEST_PLAYS, BUILT, CHECKED, CONVERTED, CONVERTED_BACK, Job, NO_DEAL, ONE_PLAY, PLAYS_BEFORE,
     RULED, RULED_BOARD, RULED_NO_DEAL, RULED_PLAYS, RULED_PLAYS_BEFORE, SETTLED, SHOWN, STALE,
@@ -19,6 +18,7 @@ use lex_list::WordList;
 use ref_tiles::{Kind, english_rules};
 use std::alloc::Global;
 use std::process::Abort;
+use test_calls::{Feed, NEVER};
 use test_samples::{AT, AT_BY_NODES, ROWS_1_TO_7, ROWS_9_TO_11, ROWS_12_TO_15, has_parts};
 
 /// A job is done, or refused with nothing written.
