@@ -1,7 +1,7 @@
 //! The best play of each turn: which play it is, and which lines tell it. The rows of the other tables tell more of them:
 //! ties, plays that are taken back, and lines that tell of none.
 use super::games::{Row, report_all};
-use ref_tiles::english_rules;
+use test_calls::GameRules;
 
 /// By a full rack the play with the highest score, or that there is none; nothing of a rack that is not full.
 const RACKS: [Row; 3] = [
@@ -25,5 +25,5 @@ const RACKS: [Row; 3] = [
 
 #[test]
 fn racks(rt: HostRuntime) {
-    report_all(&rt, rt.alloc(), &english_rules(), &[&RACKS]);
+    report_all(&rt, rt.alloc(), GameRules::English, &[&RACKS]);
 }

@@ -1,44 +1,15 @@
 //! Boards of records, as texts.
-use super::pieces::{Pieces, assert_same};
-use devices::FromWrite;
-use engine::{Verdict, run_board, run_board_ruled};
-use ref_tiles::{ENGLISH_TEXT, english_rules};
+use super::pieces::told_of;
+use engine::Verdict;
 use std::alloc::Global;
 use std::process::Abort;
+use test_calls::{Call, Inputs, NO_INPUTS};
 use test_samples::{ROWS_1_TO_7, ROWS_9_TO_11, ROWS_12_TO_15, has_parts};
 
-/// The board of a record: the verdict and what was written. Read one by one or seven at once, the bytes come to the same, and so
-/// they do by the English rules as a text.
+/// The board of a record: the verdict and what was written.
 fn shown(rt: &impl Abort, alloc: Global, game: &[u8], before: Option<u32>) -> (Verdict, Vec<u8>) {
-    let told = shown_in_pieces(rt, alloc, None, game, before, usize::MAX);
-    for piece in [1, 7] {
-        let again = shown_in_pieces(rt, alloc, None, game, before, piece);
-        assert_same(rt, &told, &again);
-        let ruled = shown_in_pieces(rt, alloc, Some(ENGLISH_TEXT), game, before, piece);
-        assert_same(rt, &told, &ruled);
-    }
-    told
-}
-
-/// The same by a rules text, or by the English rules where there is none, by inputs that give at most so many bytes a read.
-fn shown_in_pieces(
-    rt: &impl Abort,
-    alloc: Global,
-    rules: Option<&[u8]>,
-    game: &[u8],
-    before: Option<u32>,
-    piece: usize,
-) -> (Verdict, Vec<u8>) {
-    let mut game = Pieces::new(game, piece);
-    let mut out = FromWrite::new(Vec::new(alloc));
-    let verdict = match rules {
-        Some(text) => {
-            let mut rules = Pieces::new(text, piece);
-            run_board_ruled(alloc, &mut rules, &mut game, before, &mut out)
-        }
-        None => run_board(alloc, &mut game, before, &mut out, &english_rules()),
-    };
-    (verdict.expect(rt, "a verdict"), out.into_inner())
+    let inputs = Inputs { game, ..NO_INPUTS };
+    told_of(rt, alloc, Call::Board(before), &inputs)
 }
 
 /// The whole text of a small record.

@@ -1,13 +1,12 @@
 //! Lexicon files that are converted into a format, over memory.
 use super::games::{judged_by, lexicon_of};
 use super::lexicons::{checked_bytes, expect, expect_bad};
-use super::pieces::{Pieces, assert_same};
-use devices::FromWrite;
-use engine::{Verdict, run_convert};
+use super::pieces::told_of;
+use engine::Verdict;
 use lex_file::Format;
-use ref_tiles::english_rules;
 use std::alloc::Global;
 use std::process::Abort;
+use test_calls::{Call, Inputs, NO_INPUTS};
 use test_samples::{AT, AT_BY_NODES, AT_IT, AT_IT_BY_NODES, EMPTY, EMPTY_BY_NODES};
 
 /// A GAD1 file of two nodes, the root T and a node A that no walk reaches. It states seven words.
@@ -23,28 +22,13 @@ const UNREACHED_BY_NODES: [u8; 40] = [
     0x00, 0x00, 0x10, 0x00, 0x00, 0x00, 0x00, 0x00,
 ];
 
-/// Converts a file, and gives the verdict and what was written. Read one by one or seven at once, the bytes come to the same.
+/// Converts a file, and gives the verdict and what was written.
 fn converted(rt: &impl Abort, alloc: Global, lexicon: &[u8], format: Format) -> (Verdict, Vec<u8>) {
-    let told = converted_in_pieces(rt, alloc, lexicon, format, usize::MAX);
-    for piece in [1, 7] {
-        let again = converted_in_pieces(rt, alloc, lexicon, format, piece);
-        assert_same(rt, &told, &again);
-    }
-    told
-}
-
-/// The same, by an input that gives at most so many bytes a read.
-fn converted_in_pieces(
-    rt: &impl Abort,
-    alloc: Global,
-    lexicon: &[u8],
-    format: Format,
-    piece: usize,
-) -> (Verdict, Vec<u8>) {
-    let mut lexicon = Pieces::new(lexicon, piece);
-    let mut out = FromWrite::new(Vec::new(alloc));
-    let verdict = run_convert(alloc, &mut lexicon, format, &mut out);
-    (verdict.expect(rt, "a verdict"), out.into_inner())
+    let inputs = Inputs {
+        lexicon,
+        ..NO_INPUTS
+    };
+    told_of(rt, alloc, Call::Convert(format), &inputs)
 }
 
 /// One lexicon in both formats.
@@ -263,14 +247,13 @@ fn checked_and_judged(rt: HostRuntime) {
         assert_eq!(rt; verdict, Verdict::Done);
         let told = checked_bytes(&rt, rt.alloc(), b"WORD", &file);
         expect(&rt, &told, Verdict::Done, b"ok 1\n");
-        let told = judged_by(
-            &rt,
-            rt.alloc(),
-            &english_rules(),
-            b"WORD",
-            &file,
-            b">A: DORWAAE 8E WORD +16 16\n",
-        );
+        let inputs = Inputs {
+            words: b"WORD",
+            lexicon: &file,
+            game: b">A: DORWAAE 8E WORD +16 16\n",
+            ..NO_INPUTS
+        };
+        let told = judged_by(&rt, rt.alloc(), &inputs);
         expect(
             &rt,
             &told,

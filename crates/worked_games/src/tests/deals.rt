@@ -1,9 +1,10 @@
 //! Deals: records that are right line by line, and whether some deal of the tile set yields their racks. That a record without an
 //! exchange is never unsettled is asserted of each record that is judged (`games`).
-use super::games::{Row, judged, report_all, rules_with};
+use super::games::{Row, report_all, report_with};
 use super::turns::SHORT;
 use engine::{GameFault, Verdict};
-use ref_tiles::{Kind, english_rules};
+use ref_tiles::Kind;
+use test_calls::GameRules;
 
 /// No player has shown more tiles than came to the rack, and both together no more of a kind than the game has.
 const BOUNDS: [Row; 3] = [
@@ -33,11 +34,11 @@ const UNSETTLED: [Row; 1] = [Row {
 
 #[test]
 fn deals(rt: HostRuntime) {
-    report_all(&rt, rt.alloc(), &english_rules(), &[&BOUNDS, &UNSETTLED]);
+    report_all(&rt, rt.alloc(), GameRules::English, &[&BOUNDS, &UNSETTLED]);
 }
 
 /// With 14 tiles both racks are all of them.
-const WHOLE_SETS: [Row; 3] = [
+pub const WHOLE_SETS: [Row; 3] = [
     Row {
         words: "RETAINS",
         game: ">A: AEINRST 8D RETAINS +66 66\n>A: (ADEORTT) +16 82\n",
@@ -57,12 +58,11 @@ const WHOLE_SETS: [Row; 3] = [
 
 #[test]
 fn whole_sets(rt: HostRuntime) {
-    report_all(&rt, rt.alloc(), &rules_with(&rt, SHORT, 7), &[&WHOLE_SETS]);
+    report_with(&rt, rt.alloc(), SHORT, 7, &[&WHOLE_SETS]);
 }
 
 #[test]
 fn verdicts(rt: HostRuntime) {
-    let rules = english_rules();
     let wants = [
         Verdict::Illegal {
             line: 2,
@@ -74,13 +74,7 @@ fn verdicts(rt: HostRuntime) {
         },
     ];
     for (row, want) in BOUNDS.iter().zip(wants) {
-        let (verdict, _report) = judged(
-            &rt,
-            rt.alloc(),
-            &rules,
-            row.words.as_bytes(),
-            row.game.as_bytes(),
-        );
+        let (verdict, _report) = row.judged(&rt, rt.alloc(), GameRules::English);
         assert_eq!(rt; verdict, want);
     }
 }

@@ -1,61 +1,13 @@
 //! Whole reads and writes over memory, and over devices that fail or are interrupted.
-ghost use Rattle.std.specs.Prelude.{◌≡◌, ◌++◌, ◌+◌, ◌≤◌, take, None, IfOk};
-ghost use Rattle.devices.specs.Devices.{Device, HasRoom};
+ghost use Rattle.std.specs.Prelude.{◌≡◌, ◌++◌, ◌+◌, take, IfOk};
 
-use super::pieces::Pieces;
 use devices::{
     DeviceFailed, FromRead, FromWrite, Input, Output, ReadGaveUp, WriteGaveUp, read_within,
     write_whole,
 };
 use std::alloc::Global;
 use std::io::{self, ErrorKind, Read, Write};
-
-/// An output that takes at most so many bytes a write and eight in all, and fails from some write on.
-#[derive(Drop)]
-struct Drips {
-    took: [u8; 8],
-    len: usize,
-    piece: usize,
-    writes: usize,
-    failures: u64,
-    stalls: u64,
-    ghost within: { len ≤ 8 },
-}
-
-impl Drips {
-    fn new(piece: usize, writes: usize) -> Drips
-        ensures { result.failures ≡ 0 }
-    {
-        Drips {
-            took: [0; 8],
-            len: 0,
-            piece,
-            writes,
-            failures: 0,
-            stalls: 0,
-        }
-    }
-}
-
-impl Output for Drips {
-    ghost device = { λ s. record { bytes = None; failures = s.failures; stalls = s.stalls } };
-
-    fn write(&mut self, buf: &[u8]) -> Result<usize, DeviceFailed> {
-        if self.writes == 0 {
-            self.failures += 1;
-            return Err(DeviceFailed);
-        }
-        self.writes -= 1;
-        let n = self.piece.min(buf.len()).min(8 - self.len);
-        let end = self.len + n;
-        self.took[self.len..end].copy_from_slice(&buf[..n]);
-        self.len = end;
-        if n == 0 && !buf.is_empty() {
-            self.stalls = self.stalls.wrapping_add(1);
-        }
-        Ok(n)
-    }
-}
+use test_calls::{Feed, Mishap, Sheet};
 
 /// A reader and writer of std that is interrupted some times before each call comes about, and then fails if it is
 /// to.
@@ -124,12 +76,7 @@ fn an_input_is_read_to_its_end_or_past_its_limit(rt: HostRuntime) {
             (18, 18),
             (usize::MAX, 18),
         ] {
-            let mut input = Pieces {
-                rest: text,
-                piece,
-                reads: 100,
-                failures: 0,
-            };
+            let mut input = Feed::new(text, piece, 100);
             let bytes = read_within(rt.alloc(), &mut input, limit).expect(&rt, "bytes");
             assert_eq!(rt; bytes.as_slice(), &text[..want], "{limit} by {piece}");
             assert_eq!(rt; input.rest, &text[want..], "{limit} by {piece}");
@@ -139,43 +86,35 @@ fn an_input_is_read_to_its_end_or_past_its_limit(rt: HostRuntime) {
 
 #[test]
 fn a_read_that_fails_is_no_end_of_input(rt: HostRuntime) {
-    let mut input = Pieces {
-        rest: b"some bytes",
-        piece: 1,
-        reads: 4,
-        failures: 0,
-    };
+    let mut input = Feed::new(b"some bytes", 1, 4);
     let outcome = read_within(rt.alloc(), &mut input, 100).map(|bytes| bytes.len());
     assert_eq!(rt; outcome, Err(ReadGaveUp::Failed));
-    assert_eq!(rt; input.failures, 1);
+    assert_eq!(rt; input.failures(), 1);
     assert_eq!(rt; input.rest.len(), 6);
 }
 
 #[test]
 fn bytes_are_written_in_order(rt: HostRuntime) {
     for piece in [1, 3, 8] {
-        let mut output = Drips::new(piece, 100);
+        let mut output = Sheet::<8>::new(piece, 100, Mishap::Fails);
         let outcome = write_whole(&mut output, b"12345678");
         assert_eq!(rt; outcome, Ok(()));
-        assert_eq!(rt; &output.took, b"12345678");
+        assert_eq!(rt; output.as_slice(), b"12345678".as_slice());
     }
 }
 
 #[test]
 fn a_write_that_fails_or_takes_none_is_told(rt: HostRuntime) {
-    let mut output = Drips::new(1, 3);
-    assert_eq!(rt;
-        write_whole(&mut output, b"12345"),
-        Err(WriteGaveUp::Failed)
-    );
-    assert_eq!(rt; (output.failures, output.stalls, output.len), (1, 0, 3));
-
-    let mut output = Drips::new(5, 100);
-    assert_eq!(rt;
-        write_whole(&mut output, b"123456789"),
-        Err(WriteGaveUp::TookNone)
-    );
-    assert_eq!(rt; (output.failures, output.stalls, output.len), (0, 1, 8));
+    let rows: [(usize, usize, &[u8], WriteGaveUp, (u64, u64, usize)); 2] = [
+        (1, 3, b"12345", WriteGaveUp::Failed, (1, 0, 3)),
+        (5, 100, b"123456789", WriteGaveUp::TookNone, (0, 1, 8)),
+    ];
+    for (piece, writes, bytes, want, left) in rows {
+        let mut output = Sheet::<8>::new(piece, writes, Mishap::Fails);
+        assert_eq!(rt; write_whole(&mut output, bytes), Err(want));
+        let len = output.as_slice().len();
+        assert_eq!(rt; (output.failures, output.stalls, len), left);
+    }
 }
 
 #[test]

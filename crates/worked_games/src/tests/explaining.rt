@@ -1,8 +1,5 @@
 //! What explains a verdict, or a line of a record.
-ghost use Rattle.std.specs.Prelude.{◌≡◌};
-
 use super::games::{assert_settled, lexicon_of, rules_with};
-use super::pieces::Pieces;
 use endings::Exit;
 use engine::{open_case, pair_file};
 use explain_lines::{exit_of, push_explanation};
@@ -10,6 +7,7 @@ use lex_list::WordList;
 use ref_tiles::{Rules, english_rules};
 use std::alloc::Global;
 use std::process::Abort;
+use test_calls::{Feed, NEVER};
 use test_samples::{ROWS_1_TO_7, ROWS_12_TO_15, has_parts};
 
 /// A word list, a record, the line that is asked for, and the front of what is written: all of it but the board.
@@ -25,9 +23,9 @@ struct Row {
 /// come to the same, and a record without an exchange is settled.
 fn explained(rt: &impl Abort, alloc: Global, rules: &Rules, row: &Row) -> (Exit, Vec<u8>) {
     let game = row.game.as_bytes();
-    let told = explained_by(rt, alloc, rules, row, Pieces::new(game, usize::MAX));
+    let told = explained_by(rt, alloc, rules, row, Feed::new(game, usize::MAX, NEVER));
     for piece in [1, 7] {
-        let again = explained_by(rt, alloc, rules, row, Pieces::new(game, piece));
+        let again = explained_by(rt, alloc, rules, row, Feed::new(game, piece, NEVER));
         assert_eq!(rt; again.0, told.0);
         assert_eq!(rt; again.1.as_slice(), told.1.as_slice());
     }
@@ -41,10 +39,8 @@ fn explained_by(
     alloc: Global,
     rules: &Rules,
     row: &Row,
-    game: Pieces<'_>,
-) -> (Exit, Vec<u8>)
-    requires { game.failures ≡ 0 }
-{
+    game: Feed<'_>,
+) -> (Exit, Vec<u8>) {
     let words = row.words.as_bytes();
     let list = WordList::read(alloc, words).expect(rt, "a list");
     let file = lexicon_of(rt, alloc, words);
@@ -793,7 +789,7 @@ fn too_long(rt: HostRuntime) {
     };
     for (line, times, want) in TOO_LONG {
         let game = repeated(&rt, rt.alloc(), line.as_bytes(), times);
-        let input = Pieces::new(&game, usize::MAX);
+        let input = Feed::new(&game, usize::MAX, NEVER);
         let (exit, text) = explained_by(&rt, rt.alloc(), &english_rules(), &row, input);
         assert_eq!(rt; text.as_slice(), want.as_bytes(), "{want}");
         assert_eq!(rt; exit, Exit::BadInput);

@@ -1,13 +1,13 @@
 //! Records that are judged over memory.
-use super::pieces::{assert_same, in_pieces};
-use devices::FromWrite;
-use engine::{Verdict, run};
+use super::pieces::told_of;
+use engine::Verdict;
 use gcg_read::{EventKind, read};
 use lex_build::build;
 use lex_list::WordList;
 use ref_tiles::{Rules, english_rules};
 use std::alloc::Global;
 use std::process::Abort;
+use test_calls::{Call, GameRules, Inputs};
 use test_samples::tiles_of;
 
 /// A word list, a record, and what is written of them. The lexicon is that of the list.
@@ -20,34 +20,62 @@ pub struct Row {
     pub report: &'static str,
 }
 
-/// Judges a record by words, their lexicon and rules, and gives the verdict and what was written.
-pub fn judged(
+impl Row {
+    /// Judges the record by rules, and gives the verdict and what was written.
+    pub fn judged(
+        &self,
+        rt: &impl Abort,
+        alloc: Global,
+        rules: GameRules<'_>,
+    ) -> (Verdict, Vec<u8>) {
+        judged(
+            rt,
+            alloc,
+            rules,
+            self.words.as_bytes(),
+            self.game.as_bytes(),
+        )
+    }
+}
+
+/// What a call tells of a record by words and their lexicon: the verdict and what was written.
+pub fn told_by(
     rt: &impl Abort,
     alloc: Global,
-    rules: &Rules,
+    call: Call<'_>,
+    rules: GameRules<'_>,
     words: &[u8],
     game: &[u8],
 ) -> (Verdict, Vec<u8>) {
     let file = lexicon_of(rt, alloc, words);
-    judged_by(rt, alloc, rules, words, &file, game)
+    let inputs = Inputs {
+        rules,
+        words,
+        lexicon: &file,
+        game,
+    };
+    told_of(rt, alloc, call, &inputs)
 }
 
-/// Judges a record by words, the bytes of a lexicon and rules, and gives the verdict and what was written. Read one by one or
-/// seven at once, the bytes come to the same, and a record without an exchange is settled.
-pub fn judged_by(
+/// Judges a record by rules, and by words and their lexicon, and gives the verdict and what was written. A record without an exchange
+/// is settled.
+pub fn judged(
     rt: &impl Abort,
     alloc: Global,
-    rules: &Rules,
+    rules: GameRules<'_>,
     words: &[u8],
-    lexicon: &[u8],
     game: &[u8],
 ) -> (Verdict, Vec<u8>) {
-    let told = judged_in_pieces(rt, alloc, rules, [words, lexicon, game], usize::MAX);
-    for piece in [1, 7] {
-        let again = judged_in_pieces(rt, alloc, rules, [words, lexicon, game], piece);
-        assert_same(rt, &told, &again);
-    }
+    let told = told_by(rt, alloc, Call::Judge, rules, words, game);
     assert_settled(rt, alloc, told.0 == Verdict::Unsettled, game);
+    told
+}
+
+/// Judges a record, and gives the verdict and what was written. Read one by one or seven at once, the bytes come to the same, and a
+/// record without an exchange is settled.
+pub fn judged_by(rt: &impl Abort, alloc: Global, inputs: &Inputs<'_>) -> (Verdict, Vec<u8>) {
+    let told = told_of(rt, alloc, Call::Judge, inputs);
+    assert_settled(rt, alloc, told.0 == Verdict::Unsettled, inputs.game);
     told
 }
 
@@ -65,20 +93,6 @@ fn is_exchange(kind: &EventKind) -> bool {
     matches!(kind, EventKind::Exchange(_) | EventKind::ExchangeUnknown(_))
 }
 
-/// The same, by inputs of words, a lexicon and a record that give at most so many bytes a read.
-fn judged_in_pieces(
-    rt: &impl Abort,
-    alloc: Global,
-    rules: &Rules,
-    inputs: [&[u8]; 3],
-    piece: usize,
-) -> (Verdict, Vec<u8>) {
-    let (mut words, mut lexicon, mut game) = in_pieces(inputs, piece);
-    let mut out = FromWrite::new(Vec::new(alloc));
-    let verdict = run(alloc, &mut words, &mut lexicon, &mut game, &mut out, rules);
-    (verdict.expect(rt, "a verdict"), out.into_inner())
-}
-
 /// The lexicon that is built for a word list; no bytes where the text is none.
 pub fn lexicon_of(rt: &impl Abort, alloc: Global, words: &[u8]) -> Vec<u8> {
     match WordList::read(alloc, words) {
@@ -88,24 +102,30 @@ pub fn lexicon_of(rt: &impl Abort, alloc: Global, words: &[u8]) -> Vec<u8> {
 }
 
 /// Asserts what is written of each record of some tables.
-pub fn report_all(rt: &impl Abort, alloc: Global, rules: &Rules, tables: &[&[Row]]) {
+pub fn report_all(rt: &impl Abort, alloc: Global, rules: GameRules<'_>, tables: &[&[Row]]) {
     for rows in tables {
         report_rows(rt, alloc, rules, rows);
     }
 }
 
 /// Asserts what is written of each row's record.
-fn report_rows(rt: &impl Abort, alloc: Global, rules: &Rules, rows: &[Row]) {
+fn report_rows(rt: &impl Abort, alloc: Global, rules: GameRules<'_>, rows: &[Row]) {
     for row in rows {
-        let (_verdict, report) = judged(
-            rt,
-            alloc,
-            rules,
-            row.words.as_bytes(),
-            row.game.as_bytes(),
-        );
+        let (_verdict, report) = row.judged(rt, alloc, rules);
         assert_eq!(rt; report.as_slice(), row.report.as_bytes(), "{}", row.report);
     }
+}
+
+/// Asserts what is written of each record of some tables, by the English rules but for the tiles and the least bag of an exchange.
+pub fn report_with(
+    rt: &impl Abort,
+    alloc: Global,
+    tiles: &[u8],
+    exchange_min: u8,
+    tables: &[&[Row]],
+) {
+    let rules = rules_with(rt, tiles, exchange_min);
+    report_all(rt, alloc, GameRules::Known(&rules), tables);
 }
 
 /// Rules with the English numbers and premiums, and these tiles alone.

@@ -3,10 +3,10 @@ use super::games::{Row, judged, report_all};
 use engine::{GameFault, Verdict};
 use game_turns::RuleFault;
 use ref_play::PlayFault;
-use ref_tiles::english_rules;
+use test_calls::GameRules;
 
 /// The first line that is no word is told, and no other input is read.
-const BAD_LISTS: [Row; 3] = [
+pub const BAD_LISTS: [Row; 3] = [
     Row {
         words: "AT\nA1",
         game: ">A B: 8E WORD +16 16\n",
@@ -25,7 +25,7 @@ const BAD_LISTS: [Row; 3] = [
 ];
 
 /// The first faulty line of a record is told.
-const BAD_RECORDS: [Row; 6] = [
+pub const BAD_RECORDS: [Row; 6] = [
     Row {
         words: "WORD",
         game: ">A: 8E WORD +x 16\n",
@@ -63,7 +63,7 @@ fn bad_inputs(rt: HostRuntime) {
     report_all(
         &rt,
         rt.alloc(),
-        &english_rules(),
+        GameRules::English,
         &[&BAD_LISTS, &BAD_RECORDS],
     );
 }
@@ -84,9 +84,8 @@ fn verdicts(rt: HostRuntime) {
         (b"WORD", b">A\n", Verdict::BadRecord),
         (b"W", b">A\n", Verdict::BadList),
     ];
-    let rules = english_rules();
     for (words, game, want) in rows {
-        let (verdict, _report) = judged(&rt, rt.alloc(), &rules, words, game);
+        let (verdict, _report) = judged(&rt, rt.alloc(), GameRules::English, words, game);
         assert_eq!(rt; verdict, want);
     }
 }

@@ -1,31 +1,15 @@
 //! The calls that read or write a lexicon file, over memory.
-ghost use Rattle.devices.specs.Devices.{Device, HasRoom};
+ghost use Rattle.devices.specs.Devices.{Device};
 ghost use Rattle.std.specs.Prelude.{None};
 
 use super::games::judged_by;
-use super::pieces::{Pieces, assert_same};
+use super::pieces::told_of;
 use devices::{DeviceFailed, FromRead, FromWrite, Input};
-use engine::{Verdict, run_build, run_check};
-use ref_tiles::english_rules;
+use engine::{Verdict, run_check};
 use std::alloc::Global;
 use std::process::Abort;
+use test_calls::{Call, Inputs, NO_INPUTS};
 use test_samples::{AT, AT_IT, EMPTY, many_walks};
-
-/// Checks a file by words, and gives the verdict and what was written. The words come with at most so many bytes a read.
-fn checked<L: Input>(
-    rt: &impl Abort,
-    alloc: Global,
-    words: &[u8],
-    lexicon: &mut L,
-    piece: usize,
-) -> (Verdict, Vec<u8>)
-    requires { HasRoom (L.device lexicon.old) }
-{
-    let mut words = Pieces::new(words, piece);
-    let mut out = FromWrite::new(Vec::new(alloc));
-    let verdict = run_check(alloc, &mut words, lexicon, &mut out);
-    (verdict.expect(rt, "a verdict"), out.into_inner())
-}
 
 /// Asserts a verdict and what was written.
 pub fn expect(rt: &impl Abort, told: &(Verdict, Vec<u8>), verdict: Verdict, written: &[u8]) {
@@ -33,21 +17,19 @@ pub fn expect(rt: &impl Abort, told: &(Verdict, Vec<u8>), verdict: Verdict, writ
     assert_eq!(rt; told.1.as_slice(), written);
 }
 
-/// Checks the bytes of a file by words, and gives the verdict and what was written. Read one by one or seven at once, the bytes
-/// come to the same.
-pub fn checked_bytes(
+/// Checks the bytes of a file by words, and gives the verdict and what was written.
+pub fn checked_bytes<'a>(
     rt: &impl Abort,
     alloc: Global,
-    words: &[u8],
-    lexicon: &[u8],
+    words: &'a [u8],
+    lexicon: &'a [u8],
 ) -> (Verdict, Vec<u8>) {
-    let told = checked(rt, alloc, words, &mut FromRead::new(lexicon), usize::MAX);
-    for piece in [1, 7] {
-        let mut lexicon = Pieces::new(lexicon, piece);
-        let again = checked(rt, alloc, words, &mut lexicon, piece);
-        assert_same(rt, &told, &again);
-    }
-    told
+    let inputs = Inputs {
+        words,
+        lexicon,
+        ..NO_INPUTS
+    };
+    told_of(rt, alloc, Call::Check, &inputs)
 }
 
 /// A word list, a file, and what is written of their check.
@@ -147,14 +129,13 @@ fn changed(rt: &impl Abort, at: usize, bytes: &[u8]) -> [u8; 36] {
 pub fn expect_bad(rt: &impl Abort, alloc: Global, file: &[u8], report: &str) {
     let told = checked_bytes(rt, alloc, b"AT", file);
     expect(rt, &told, Verdict::BadFile, report.as_bytes());
-    let told = judged_by(
-        rt,
-        alloc,
-        &english_rules(),
-        b"AT",
-        file,
-        b">A: AEI -5 +0 0\n",
-    );
+    let inputs = Inputs {
+        words: b"AT",
+        lexicon: file,
+        game: b">A: AEI -5 +0 0\n",
+        ..NO_INPUTS
+    };
+    let told = judged_by(rt, alloc, &inputs);
     expect(rt, &told, Verdict::BadFile, report.as_bytes());
 }
 
@@ -204,7 +185,10 @@ impl Input for Zeros {
 #[test]
 fn too_long(rt: HostRuntime) {
     let mut zeros = Zeros { given: 0 };
-    let told = checked(&rt, rt.alloc(), b"AT", &mut zeros, usize::MAX);
+    let mut words = FromRead::new(b"AT".as_slice());
+    let mut out = FromWrite::new(Vec::new(rt.alloc()));
+    let verdict = run_check(rt.alloc(), &mut words, &mut zeros, &mut out);
+    let told = (verdict.expect(&rt, "a verdict"), out.into_inner());
     expect(&rt, &told, Verdict::BadFile, b"bad lexicon: Length\n");
     assert_eq!(rt; zeros.given, 268_435_469);
 }
@@ -265,16 +249,14 @@ const GAMES: [Game; 6] = [
 
 #[test]
 fn games(rt: HostRuntime) {
-    let rules = english_rules();
     for row in &GAMES {
-        let told = judged_by(
-            &rt,
-            rt.alloc(),
-            &rules,
-            row.words.as_bytes(),
-            row.lexicon,
-            row.game.as_bytes(),
-        );
+        let inputs = Inputs {
+            words: row.words.as_bytes(),
+            lexicon: row.lexicon,
+            game: row.game.as_bytes(),
+            ..NO_INPUTS
+        };
+        let told = judged_by(&rt, rt.alloc(), &inputs);
         expect(&rt, &told, row.verdict, row.report.as_bytes());
     }
 }
@@ -309,33 +291,14 @@ const BUILDS: [Build; 4] = [
     },
 ];
 
-/// Builds the lexicon of words, and gives the verdict and what was written. Read one by one or seven at once, the bytes come to
-/// the same.
-fn built(rt: &impl Abort, alloc: Global, words: &[u8]) -> (Verdict, Vec<u8>) {
-    let told = built_in_pieces(rt, alloc, words, usize::MAX);
-    for piece in [1, 7] {
-        assert_same(rt, &told, &built_in_pieces(rt, alloc, words, piece));
-    }
-    told
-}
-
-/// The same, by an input that gives at most so many bytes a read.
-fn built_in_pieces(
-    rt: &impl Abort,
-    alloc: Global,
-    words: &[u8],
-    piece: usize,
-) -> (Verdict, Vec<u8>) {
-    let mut words = Pieces::new(words, piece);
-    let mut out = FromWrite::new(Vec::new(alloc));
-    let verdict = run_build(alloc, &mut words, &mut out);
-    (verdict.expect(rt, "a verdict"), out.into_inner())
-}
-
 #[test]
 fn builds(rt: HostRuntime) {
     for row in &BUILDS {
-        let told = built(&rt, rt.alloc(), row.words.as_bytes());
+        let inputs = Inputs {
+            words: row.words.as_bytes(),
+            ..NO_INPUTS
+        };
+        let told = told_of(&rt, rt.alloc(), Call::Build, &inputs);
         expect(&rt, &told, row.verdict, row.bytes);
     }
 }

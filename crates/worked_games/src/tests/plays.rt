@@ -1,9 +1,9 @@
 //! Plays: where they may lie, what they score, and which of their words are not in the list.
 use super::games::{Row, report_all};
-use ref_tiles::english_rules;
+use test_calls::GameRules;
 
 /// Where a play may lie: on the board, on empty squares, whole, through the centre first, and beside a tile then.
-const PLACES: [Row; 9] = [
+pub const PLACES: [Row; 9] = [
     Row {
         words: "WORD",
         game: ">A: DORWAAE 8D WORD +16 16\n",
@@ -153,7 +153,7 @@ fn plays(rt: HostRuntime) {
     report_all(
         &rt,
         rt.alloc(),
-        &english_rules(),
+        GameRules::English,
         &[&PLACES, &SCORES, &TOTALS, &UNLISTED],
     );
 }

@@ -1,31 +1,7 @@
 //! Records that are tidied.
-use super::pieces::{Pieces, assert_same};
-use devices::FromWrite;
-use engine::{Verdict, run_tidy};
-use std::alloc::Global;
-use std::process::Abort;
-
-/// Tidies a record, and gives the verdict and what was written. Read one by one or seven at once, the bytes come to the same.
-fn tidied(rt: &impl Abort, alloc: Global, game: &[u8]) -> (Verdict, Vec<u8>) {
-    let told = tidied_in_pieces(rt, alloc, game, usize::MAX);
-    for piece in [1, 7] {
-        assert_same(rt, &told, &tidied_in_pieces(rt, alloc, game, piece));
-    }
-    told
-}
-
-/// The same, by an input that gives at most so many bytes a read.
-fn tidied_in_pieces(
-    rt: &impl Abort,
-    alloc: Global,
-    game: &[u8],
-    piece: usize,
-) -> (Verdict, Vec<u8>) {
-    let mut game = Pieces::new(game, piece);
-    let mut out = FromWrite::new(Vec::new(alloc));
-    let verdict = run_tidy(alloc, &mut game, &mut out);
-    (verdict.expect(rt, "a verdict"), out.into_inner())
-}
+use super::pieces::told_of;
+use engine::Verdict;
+use test_calls::{Call, Inputs, NO_INPUTS};
 
 /// Records, and what is answered and written of them: their normal form, or their first fault.
 const ROWS: [(&str, Verdict, &str); 7] = [
@@ -65,7 +41,11 @@ const ROWS: [(&str, Verdict, &str); 7] = [
 #[test]
 fn tidied_records(rt: HostRuntime) {
     for (game, wanted, want) in ROWS {
-        let (verdict, text) = tidied(&rt, rt.alloc(), game.as_bytes());
+        let inputs = Inputs {
+            game: game.as_bytes(),
+            ..NO_INPUTS
+        };
+        let (verdict, text) = told_of(&rt, rt.alloc(), Call::Tidy, &inputs);
         assert_eq!(rt; verdict, wanted, "{want}");
         assert_eq!(rt; text.as_slice(), want.as_bytes(), "{want}");
     }

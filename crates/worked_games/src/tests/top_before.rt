@@ -1,24 +1,18 @@
 //! The best plays before a line of a record.
-ghost use Rattle.std.specs.Prelude.{◌≤◌};
-
-use super::games::lexicon_of;
-use super::pieces::{Pieces, assert_same};
-use devices::FromWrite;
-use engine::{GameFault, Verdict, run_top_before, run_top_before_ruled};
+use super::games::told_by;
+use engine::{GameFault, Verdict};
 use game_turns::RuleFault;
-use ref_tiles::{ENGLISH_TEXT, english_rules};
 use std::alloc::Global;
 use std::process::Abort;
+use test_calls::{Before, Call, GameRules};
 
-/// What is asked of a record by the words of a list.
+/// What is asked of a record.
 #[derive(Clone, Copy)]
 struct Asked {
-    words: &'static str,
     game: &'static str,
     rack: Option<&'static str>,
     number: usize,
     before: Option<u32>,
-    ghost few: { number ≤ 100 },
 }
 
 /// A play of A, and a pass of B without a rack.
@@ -43,11 +37,8 @@ fn by_at(
     rack: Option<&'static str>,
     number: usize,
     before: Option<u32>,
-) -> Asked
-    requires { number ≤ 100 }
-{
+) -> Asked {
     Asked {
-        words: "AT",
         game,
         rack,
         number,
@@ -55,62 +46,21 @@ fn by_at(
     }
 }
 
-/// The verdict and what was written. Read one by one or seven at once, the bytes come to the same, and so they do by the English
-/// rules as a text.
+/// The verdict and what was written by the list AT.
 fn topped(rt: &impl Abort, alloc: Global, asked: Asked) -> (Verdict, Vec<u8>) {
-    let lexicon = lexicon_of(rt, alloc, asked.words.as_bytes());
-    let told = topped_in_pieces(rt, alloc, None, asked, &lexicon, usize::MAX);
-    for piece in [1, 7] {
-        let again = topped_in_pieces(rt, alloc, None, asked, &lexicon, piece);
-        assert_same(rt, &told, &again);
-        let ruled = topped_in_pieces(rt, alloc, Some(ENGLISH_TEXT), asked, &lexicon, piece);
-        assert_same(rt, &told, &ruled);
-    }
-    told
-}
-
-/// The same by a rules text, or by the English rules where there is none, by inputs that give at most so many bytes a read.
-fn topped_in_pieces(
-    rt: &impl Abort,
-    alloc: Global,
-    rules: Option<&[u8]>,
-    asked: Asked,
-    lexicon: &[u8],
-    piece: usize,
-) -> (Verdict, Vec<u8>) {
-    let mut words = Pieces::new(asked.words.as_bytes(), piece);
-    let mut lexicon = Pieces::new(lexicon, piece);
-    let mut game = Pieces::new(asked.game.as_bytes(), piece);
-    let mut out = FromWrite::new(Vec::new(alloc));
-    let rack = asked.rack.map(|rack| rack.as_bytes());
-    let verdict = match rules {
-        Some(text) => {
-            let mut rules = Pieces::new(text, piece);
-            run_top_before_ruled(
-                alloc,
-                &mut rules,
-                &mut words,
-                &mut lexicon,
-                &mut game,
-                rack,
-                asked.number,
-                asked.before,
-                &mut out,
-            )
-        }
-        None => run_top_before(
-            alloc,
-            &mut words,
-            &mut lexicon,
-            &mut game,
-            rack,
-            asked.number,
-            asked.before,
-            &mut out,
-            &english_rules(),
-        ),
+    let plays = Before {
+        rack: asked.rack.map(|rack| rack.as_bytes()),
+        number: asked.number,
+        line: asked.before,
     };
-    (verdict.expect(rt, "a verdict"), out.into_inner())
+    told_by(
+        rt,
+        alloc,
+        Call::TopBefore(plays),
+        GameRules::English,
+        b"AT",
+        asked.game.as_bytes(),
+    )
 }
 
 /// The rack is the one that is given, or that of the line; there are as many plays as asked for, or as there are.

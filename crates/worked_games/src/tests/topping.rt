@@ -1,52 +1,12 @@
 //! The best plays on the board after a record.
-use super::games::lexicon_of;
-use super::pieces::{assert_same, in_pieces};
-use devices::{FromRead, FromWrite, Input};
-use engine::{GameFault, Verdict, run_top};
+use super::games::told_by;
+use super::pieces::told_of;
+use devices::FromWrite;
+use engine::{GameFault, Verdict};
 use game_turns::RuleFault;
-use ref_tiles::english_rules;
 use std::alloc::Global;
 use std::process::Abort;
-
-/// Asks for the best plays by a rack after a record, and gives the verdict and what was written. Read one by one or seven at
-/// once, the bytes come to the same.
-fn topped(
-    rt: &impl Abort,
-    alloc: Global,
-    words: &[u8],
-    lexicon: &[u8],
-    game: &[u8],
-    rack: &[u8],
-) -> (Verdict, Vec<u8>) {
-    let told = topped_in_pieces(rt, alloc, [words, lexicon, game], rack, usize::MAX);
-    for piece in [1, 7] {
-        let again = topped_in_pieces(rt, alloc, [words, lexicon, game], rack, piece);
-        assert_same(rt, &told, &again);
-    }
-    told
-}
-
-/// The same, by inputs of words, a lexicon and a record that give at most so many bytes a read.
-fn topped_in_pieces(
-    rt: &impl Abort,
-    alloc: Global,
-    inputs: [&[u8]; 3],
-    rack: &[u8],
-    piece: usize,
-) -> (Verdict, Vec<u8>) {
-    let (mut words, mut lexicon, mut game) = in_pieces(inputs, piece);
-    let mut out = FromWrite::new(Vec::new(alloc));
-    let verdict = run_top(
-        alloc,
-        &mut words,
-        &mut lexicon,
-        &mut game,
-        rack,
-        &mut out,
-        &english_rules(),
-    );
-    (verdict.expect(rt, "a verdict"), out.into_inner())
-}
+use test_calls::{Call, GameRules, Inputs, NO_INPUTS, Reads, ask};
 
 /// The greatest score comes first, and of equal ones the first by its notation: ten at most, or `none`.
 #[test]
@@ -122,14 +82,13 @@ fn expect_topped(
     want: Verdict,
     told: &str,
 ) {
-    let file = lexicon_of(rt, alloc, words.as_bytes());
-    let (verdict, text) = topped(
+    let (verdict, text) = told_by(
         rt,
         alloc,
+        Call::Top(rack.as_bytes()),
+        GameRules::English,
         words.as_bytes(),
-        &file,
         game.as_bytes(),
-        rack.as_bytes(),
     );
     assert_eq!(rt; verdict, want);
     assert_eq!(rt; text.as_slice(), told.as_bytes(), "{told}");
@@ -141,33 +100,37 @@ fn bad_inputs(rt: HostRuntime) {
     for (words, game, want, told) in INPUTS {
         expect_topped(&rt, rt.alloc(), words, game, "AT", want, told);
     }
-    let (verdict, text) = topped(&rt, rt.alloc(), b"AT", b"", b"", b"AT");
+    let inputs = Inputs {
+        words: b"AT",
+        ..NO_INPUTS
+    };
+    let (verdict, text) = told_of(&rt, rt.alloc(), Call::Top(b"AT"), &inputs);
     assert_eq!(rt; verdict, Verdict::BadFile);
     assert_eq!(rt; text.as_slice(), b"bad lexicon: Short\n".as_slice());
 }
 
-/// Behind a rack that is none no input is read: what the inputs hold is still there.
+/// Asserts that behind a rack that is none no input is read: what the inputs hold is still there.
+pub fn assert_bad_rack(rt: &impl Abort, alloc: Global, rules: GameRules<'_>, rack: &str) {
+    let inputs = Inputs {
+        rules,
+        words: b"AT",
+        lexicon: b"no lexicon",
+        game: b"> no record",
+    };
+    let mut out = FromWrite::new(Vec::new(alloc));
+    let reads = Reads::working(usize::MAX);
+    let asked = ask(alloc, Call::Top(rack.as_bytes()), &inputs, &reads, &mut out);
+    assert_eq!(rt; asked.answer, Ok(Verdict::BadRack), "{rack}");
+    assert_eq!(rt; out.into_inner().as_slice(), b"bad rack\n".as_slice());
+    assert_eq!(rt; asked.text.rest, rules.text());
+    assert_eq!(rt; asked.words.rest, inputs.words);
+    assert_eq!(rt; asked.lexicon.rest, inputs.lexicon);
+    assert_eq!(rt; asked.game.rest, inputs.game);
+}
+
 #[test]
 fn bad_racks(rt: HostRuntime) {
     for rack in ["", "A1", "a", "AAAAAAAA"] {
-        let mut words = FromRead::new(b"AT".as_slice());
-        let mut lexicon = FromRead::new(b"no lexicon".as_slice());
-        let mut game = FromRead::new(b"> no record".as_slice());
-        let mut out = FromWrite::new(Vec::new(rt.alloc()));
-        let verdict = run_top(
-            rt.alloc(),
-            &mut words,
-            &mut lexicon,
-            &mut game,
-            rack.as_bytes(),
-            &mut out,
-            &english_rules(),
-        );
-        assert_eq!(rt; verdict, Ok(Verdict::BadRack), "{rack}");
-        assert_eq!(rt; out.into_inner().as_slice(), b"bad rack\n".as_slice());
-        let mut left = [0; 12];
-        assert_eq!(rt; words.read(&mut left), Ok(2));
-        assert_eq!(rt; lexicon.read(&mut left), Ok(10));
-        assert_eq!(rt; game.read(&mut left), Ok(11));
+        assert_bad_rack(&rt, rt.alloc(), GameRules::English, rack);
     }
 }

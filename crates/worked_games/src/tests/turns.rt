@@ -1,6 +1,6 @@
 //! Turns: whose it is, exchanges, withdrawals, challenges, and how a game ends.
-use super::games::{Row, report_all, rules_with};
-use ref_tiles::english_rules;
+use super::games::{Row, report_all, report_with};
+use test_calls::GameRules;
 
 /// The tiles of the rules with 14 tiles.
 pub const SHORT: &[u8] = b"AADEEINORRSTTW";
@@ -142,7 +142,7 @@ const SMALL_BAGS: [Row; 2] = [
 
 #[test]
 fn small_bags(rt: HostRuntime) {
-    report_all(&rt, rt.alloc(), &rules_with(&rt, SPARE, 1), &[&SMALL_BAGS]);
+    report_with(&rt, rt.alloc(), SPARE, 1, &[&SMALL_BAGS]);
 }
 
 /// After six turns in a row without a standing play each player may lose the points of the own rack.
@@ -174,13 +174,13 @@ fn turns(rt: HostRuntime) {
     report_all(
         &rt,
         rt.alloc(),
-        &english_rules(),
+        GameRules::English,
         &[&MOVERS, &WITHDRAWALS, &CHALLENGES, &EXCHANGES, &STALE_GAMES],
     );
 }
 
 /// A player who is out gains twice the points of the other rack, after one idle pass at most.
-const OUT: [Row; 4] = [
+pub const OUT: [Row; 4] = [
     Row {
         words: "RETAINS",
         game: ">A: AEINRST 8D RETAINS +66 66\n>A: (ADEORTW) +22 88\n",
@@ -224,10 +224,5 @@ const TIME: [Row; 3] = [
 
 #[test]
 fn games_of_14_tiles(rt: HostRuntime) {
-    report_all(
-        &rt,
-        rt.alloc(),
-        &rules_with(&rt, SHORT, 7),
-        &[&LEAST_BAGS, &OUT, &TIME],
-    );
+    report_with(&rt, rt.alloc(), SHORT, 7, &[&LEAST_BAGS, &OUT, &TIME]);
 }
