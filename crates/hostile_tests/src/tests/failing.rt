@@ -1,7 +1,7 @@
 //! Devices that fail, or move few bytes at once.
 ghost use Rattle.std.specs.Prelude.{◌<◌};
 
-use super::jobs::{JOBS, Job, attempt, working};
+use super::jobs::{JUDGED, Job, OTHERS, attempt, working};
 use engine::{RunFault, Verdict};
 use gcg_read::{EventKind, read};
 use std::alloc::Global;
@@ -22,7 +22,7 @@ fn has_exchange(rt: &impl Abort, alloc: Global, job: &Job<'_>) -> bool {
 /// A record without an exchange is settled.
 #[test]
 fn unsettled_jobs(rt: HostRuntime) {
-    for job in &JOBS {
+    for job in JUDGED.iter().chain(&OTHERS) {
         if job.verdict == Verdict::Unsettled {
             assert!(rt; has_exchange(&rt, rt.alloc(), job), "{:?}", job.game);
         }
@@ -40,7 +40,7 @@ fn assert_done(rt: &impl Abort, alloc: Global, job: &Job<'_>) {
 
 #[test]
 fn few_bytes_at_once(rt: HostRuntime) {
-    for job in &JOBS {
+    for job in JUDGED.iter().chain(&OTHERS) {
         assert_done(&rt, rt.alloc(), job);
     }
 }
@@ -89,7 +89,7 @@ fn assert_reads(rt: &impl Abort, alloc: Global, job: &Job<'_>) {
 
 #[test]
 fn failing_reads(rt: HostRuntime) {
-    for job in &JOBS {
+    for job in JUDGED.iter().chain(&OTHERS) {
         assert_reads(&rt, rt.alloc(), job);
     }
 }
@@ -124,7 +124,7 @@ fn assert_writes(rt: &impl Abort, alloc: Global, job: &Job<'_>) {
 
 #[test]
 fn failing_writes(rt: HostRuntime) {
-    for job in &JOBS {
+    for job in JUDGED.iter().chain(&OTHERS) {
         assert_writes(&rt, rt.alloc(), job);
     }
 }

@@ -53,6 +53,17 @@ pub struct Job<'a> {
     pub wrote: &'a [u8],
 }
 
+/// A job of empty inputs, by the English rules.
+const NO_JOB: Job<'static> = Job {
+    call: Call::Tidy,
+    rules: None,
+    words: b"",
+    lexicon: b"",
+    game: b"",
+    verdict: Verdict::Done,
+    wrote: b"",
+};
+
 /// A play that is the best one.
 pub const ONE_PLAY: Job<'static> = Job {
     call: Call::Judge,
@@ -130,13 +141,10 @@ pub const BEST_PLAYS: Job<'static> = Job {
 
 /// With 14 tiles the player who laid seven is out, and the other rack is what is left.
 pub const RULED: Job<'static> = Job {
-    call: Call::Judge,
     rules: Some(SHORT_RULES),
-    words: b"RETAINS",
-    lexicon: &RETAINS,
     game: b">A: AEINRST 8D RETAINS +66 66\n>A: (ADEORTW) +22 88\n",
-    verdict: Verdict::Legal { complete: true },
     wrote: b"legal complete\n1 A 8D RETAINS +66 66 best 8B RETAINS 66\n2 A (ADEORTW) +22 88\n",
+    ..STALE
 };
 
 /// The best plays with a blank on the empty board, by the text of the English rules.
@@ -165,56 +173,42 @@ pub const RULED_PLAYS_BEFORE: Job<'static> = Job {
 /// A lexicon of one word.
 pub const BUILT: Job<'static> = Job {
     call: Call::Build,
-    rules: None,
     words: b"AT",
-    lexicon: b"",
-    game: b"",
-    verdict: Verdict::Done,
     wrote: &AT,
+    ..NO_JOB
 };
 
 /// The same, checked.
 pub const CHECKED: Job<'static> = Job {
     call: Call::Check,
-    rules: None,
     words: b"AT",
     lexicon: &AT,
-    game: b"",
-    verdict: Verdict::Done,
     wrote: b"ok 1\n",
+    ..NO_JOB
 };
 
 /// The same lexicon, converted.
 pub const CONVERTED: Job<'static> = Job {
     call: Call::Convert(Format::Gad2),
-    rules: None,
-    words: b"",
     lexicon: &AT,
-    game: b"",
-    verdict: Verdict::Done,
     wrote: &AT_BY_NODES,
+    ..NO_JOB
 };
 
 /// And back.
 pub const CONVERTED_BACK: Job<'static> = Job {
     call: Call::Convert(Format::Gad1),
-    rules: None,
-    words: b"",
     lexicon: &AT_BY_NODES,
-    game: b"",
-    verdict: Verdict::Done,
     wrote: &AT,
+    ..NO_JOB
 };
 
 /// A record with a mark at its front, a note, small letters and blanks.
 pub const TIDIED: Job<'static> = Job {
     call: Call::Tidy,
-    rules: None,
-    words: b"",
-    lexicon: b"",
     game: b"\xef\xbb\xbf#player1 A  Ann Lee\r\n#note x\n>A:\tDORWAAE  8e WORD 16 16\r\n",
-    verdict: Verdict::Done,
     wrote: b"#player1 A Ann Lee\n>A: AADEORW 8E WORD +16 16\n",
+    ..NO_JOB
 };
 
 /// The board of a small record.
@@ -250,12 +244,9 @@ tiles not on the board: 96\n\
 /// A record whose board is shown.
 pub const SHOWN: Job<'static> = Job {
     call: Call::Board(Some(2)),
-    rules: None,
-    words: b"",
-    lexicon: b"",
     game: b">A: DOW? 8E WOrD +14 14\n>B: NRSTAEI - +0 0\n",
-    verdict: Verdict::Done,
     wrote: SMALL_BOARD,
+    ..NO_JOB
 };
 
 /// The same by the text of the English rules.
@@ -264,8 +255,8 @@ pub const RULED_BOARD: Job<'static> = Job {
     ..SHOWN
 };
 
-/// All of them.
-pub const JOBS: [Job<'static>; 19] = [
+/// Those that judge a game.
+pub const JUDGED: [Job<'static>; 8] = [
     ONE_PLAY,
     WITHDRAWN,
     STALE,
@@ -273,8 +264,12 @@ pub const JOBS: [Job<'static>; 19] = [
     NO_DEAL,
     RULED_NO_DEAL,
     SETTLED,
-    BEST_PLAYS,
     RULED,
+];
+
+/// All others.
+pub const OTHERS: [Job<'static>; 11] = [
+    BEST_PLAYS,
     RULED_PLAYS,
     PLAYS_BEFORE,
     RULED_PLAYS_BEFORE,
