@@ -59,7 +59,10 @@ pub fn laid(rt: &impl Abort, tiles: &[Laid]) -> Board {
 
 /// A play by its text.
 pub fn text_of<'a>(rt: &impl Abort, text: &'a str) -> PlayText<'a> {
-    play_text(text).expect(rt, "a play")
+    match play_text(text) {
+        Some(play) => play,
+        None => panic!(rt; "{text} is no play"),
+    }
 }
 
 /// The square so many squares behind another one.

@@ -1,5 +1,7 @@
 //! The plays that the generator gives to each sink: the rows, and beside those of a plain search.
+ghost use Rattle.std.specs.Prelude.{◌≡◌, ℕ, List};
 ghost use Rattle.lex_list.specs.RotatedPaths.{StandsFor};
+ghost use Rattle.gen_moves.specs.Laws.{AreLong};
 
 use super::boards::{Laid, Position, list_of, text_of};
 use super::cases::{CASES, Case, GAME, LIST, NO_GAME, PLAYED, POSITIONS};
@@ -36,6 +38,29 @@ fn told(rt: &impl Abort, alloc: Global, board: &Board, items: &[(Play, i32)]) ->
 }
 
 /// All plays by a list of words and a lexicon that stands for it. The board has to be left as it was.
+fn plays_of<L: PathLex>(
+    rt: &impl Abort,
+    alloc: Global,
+    list: &WordList,
+    lex: &L,
+    position: &Position,
+) -> Vec<Told>
+    ghost words: { List (List ℕ) }
+    requires list { list.now ≡ words }
+    requires long { AreLong words }
+    requires lexicon { StandsFor (L.language lex.now) words }
+{
+    let Position { rules, board, rack } = position;
+    let cross = Cross::scratch(rules, board, lex);
+    let mut held = *board;
+    let mut all = All::new(alloc);
+    generate(rules, &mut held, &cross, rack, lex, &mut all).expect(rt, "memory");
+    assert_eq!(rt; held, *board);
+    told(rt, alloc, board, all.items())
+}
+
+/// The same; the words of a list have two letters or more.
+#[tactic(auto, using(game_notes::proofs::FirstPlays::long_words))]
 fn plays_by<L: PathLex>(
     rt: &impl Abort,
     alloc: Global,
@@ -45,15 +70,9 @@ fn plays_by<L: PathLex>(
 ) -> Vec<Told>
     requires { StandsFor (L.language lex.now) list.now }
 {
-    // What reads the length of a list knows what a word list is: its words have two letters or more.
+    // What reads the length of a list knows what a word list is.
     let _words = list.len();
-    let Position { rules, board, rack } = position;
-    let cross = Cross::scratch(rules, board, lex);
-    let mut held = *board;
-    let mut all = All::new(alloc);
-    generate(rules, &mut held, &cross, rack, lex, &mut all).expect(rt, "memory");
-    assert_eq!(rt; held, *board);
-    told(rt, alloc, board, all.items())
+    plays_of(rt, alloc, list, lex, position)
 }
 
 /// All plays over the paths of a list.

@@ -1,0 +1,4 @@
+use Rattle.move_tests.proofs.tests.generating.plays_of.Given as goal
+
+abbrev pub ghost-generate : goal.ghost-generate
+ghost-generate g a = g.words
