@@ -17,8 +17,8 @@ fn push_heading(page: &mut Vec<u8>) -> Result<(), AllocError> {
     )
 }
 
-/// Appends what an event line says: line, player, rack, what happened, score and total.
-fn push_written(page: &mut Vec<u8>, line: &Line<'_>) -> Result<(), AllocError> {
+/// Appends the start of the row of an event: its line, which is marked where it is the faulty one, and its player.
+fn push_start(page: &mut Vec<u8>, line: &Line<'_>) -> Result<(), AllocError> {
     let (sheet, event) = (&line.sheet, line.event);
     let is_faulty = sheet.faulty_line() == Some(event.line);
     write(
@@ -39,9 +39,15 @@ fn push_written(page: &mut Vec<u8>, line: &Line<'_>) -> Result<(), AllocError> {
             }),
             Piece::Markup("</td><td data-name=\"Player\">"),
             Piece::Text(sheet.record.players.of(event.player).nick.as_bytes()),
-            Piece::Markup("</td><td data-name=\"Rack\">"),
+            Piece::Markup("</td>"),
         ],
-    )?;
+    )
+}
+
+/// Appends what an event line says behind its player: the rack, what happened, the score and the total.
+fn push_written(page: &mut Vec<u8>, line: &Line<'_>) -> Result<(), AllocError> {
+    let (sheet, event) = (&line.sheet, line.event);
+    page.extend_from_slice(b"<td data-name=\"Rack\">")?;
     if let Some(rack) = &event.rack {
         write(sheet.alloc, page, &[Piece::Tiles(rack)])?;
     }
@@ -138,6 +144,7 @@ fn push_row(
     let Some(line) = Line::at(sheet, place) else {
         return Ok(false);
     };
+    push_start(page, &line)?;
     push_written(page, &line)?;
     let mut taken = false;
     if stands {

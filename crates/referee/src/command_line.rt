@@ -446,10 +446,11 @@ fn request_of<'a>(
     let Some((command, names)) = matches.subcommand() else {
         return Ok(None);
     };
-    if command == "archive" {
-        return archive_of(alloc, names);
+    match command {
+        "archive" => archive_of(alloc, names),
+        "build" | "check" | "convert" => Ok(lexicon_request_of(command, names)),
+        _ => Ok(game_request_of(command, names)),
     }
-    Ok(small_request_of(command, names))
 }
 
 /// What the matches of `archive` ask for.
@@ -485,8 +486,8 @@ fn wanted_progress(names: &ArgMatches<'_>) -> Progressing {
     }
 }
 
-/// What the matches of a command ask for that is about a few files.
-fn small_request_of<'a>(command: &str, names: &ArgMatches<'a>) -> Option<Request<'a>> {
+/// What the matches of a command ask for that is about one game.
+fn game_request_of<'a>(command: &str, names: &ArgMatches<'a>) -> Option<Request<'a>> {
     match command {
         "judge" => Some(Request::Judge {
             settle: names.get_flag("settle"),
@@ -504,16 +505,6 @@ fn small_request_of<'a>(command: &str, names: &ArgMatches<'a>) -> Option<Request
             files: game_files(names)?,
             out: names.get_str("OUT")?,
         }),
-        "build" => Some(Request::Build {
-            words: words_file(names)?,
-            out: names.get_str("OUT")?,
-        }),
-        "check" => Some(Request::Check(pair_files(names)?)),
-        "convert" => Some(Request::Convert {
-            format: format_of(names.get_str("FORMAT")?)?,
-            lexicon: names.get_str("LEXICON")?,
-            out: names.get_str("OUT")?,
-        }),
         "top" => Some(Request::Top {
             files: game_files(names)?,
             plays: PlaysAsked {
@@ -529,6 +520,23 @@ fn small_request_of<'a>(command: &str, names: &ArgMatches<'a>) -> Option<Request
             rules: names.get_str("rules"),
             before: names.get_one::<u32>("before"),
             game: names.get_str("GAME")?,
+        }),
+        _ => None,
+    }
+}
+
+/// What the matches of a command ask for that keeps the lexicon of a word list.
+fn lexicon_request_of<'a>(command: &str, names: &ArgMatches<'a>) -> Option<Request<'a>> {
+    match command {
+        "build" => Some(Request::Build {
+            words: words_file(names)?,
+            out: names.get_str("OUT")?,
+        }),
+        "check" => Some(Request::Check(pair_files(names)?)),
+        "convert" => Some(Request::Convert {
+            format: format_of(names.get_str("FORMAT")?)?,
+            lexicon: names.get_str("LEXICON")?,
+            out: names.get_str("OUT")?,
         }),
         _ => None,
     }

@@ -68,6 +68,15 @@ impl<'a> GameRules<'a> {
             GameRules::English | GameRules::Known(_) => b"",
         }
     }
+
+    /// The rules, where they are no text.
+    fn known(self) -> Option<Rules> {
+        match self {
+            GameRules::English => Some(english_rules()),
+            GameRules::Known(rules) => Some(*rules),
+            GameRules::Text(_) => None,
+        }
+    }
 }
 
 /// What the inputs of a call hold. An input that it has not is empty.
@@ -150,39 +159,17 @@ pub fn ask<'a, O: Output>(
     let mut lexicon = Feed::new(inputs.lexicon, reads.piece, reads.failing[1]);
     let mut game = Feed::new(inputs.game, reads.piece, reads.failing[2]);
     let mut text = Feed::new(inputs.rules.text(), reads.piece, reads.failing[3]);
-    let english = english_rules();
-    let answer = match inputs.rules {
-        GameRules::English => answer(
-            alloc,
-            call,
-            Some(&english),
-            &mut text,
-            &mut words,
-            &mut lexicon,
-            &mut game,
-            out,
-        ),
-        GameRules::Known(rules) => answer(
-            alloc,
-            call,
-            Some(rules),
-            &mut text,
-            &mut words,
-            &mut lexicon,
-            &mut game,
-            out,
-        ),
-        GameRules::Text(_) => answer(
-            alloc,
-            call,
-            None,
-            &mut text,
-            &mut words,
-            &mut lexicon,
-            &mut game,
-            out,
-        ),
-    };
+    let known = inputs.rules.known();
+    let answer = answer(
+        alloc,
+        call,
+        known.as_ref(),
+        &mut text,
+        &mut words,
+        &mut lexicon,
+        &mut game,
+        out,
+    );
     Asked {
         answer,
         words,
