@@ -1,7 +1,7 @@
 -- The words of a line, and how the program ends after it.
 use Rattle.std.specs.Prelude.{ℕ, List, codes}
-use Rattle.endings.specs.declared.exits.Exit.{Exit}
-use Rattle.endings.specs.declared.exits.Exit.TheVariants as exit
+use Rattle.exit_statuses.specs.declared.exits.Exit.{Exit}
+use Rattle.exit_statuses.specs.declared.exits.Exit.TheVariants as exit
 use Rattle.archive_lines.specs.declared.answers.Answer.{Answer}
 use Rattle.archive_lines.specs.declared.answers.Answer.TheVariants.{Legal, Illegal, Unsettled, BadRecord, NoGame, Unread}
 use Rattle.archive_lines.specs.declared.answers.Ending.{Ending}

@@ -1,7 +1,7 @@
 //! What a line answers of a game, and how the program ends after it.
 ghost use Rattle.std.specs.Prelude.{◌≡◌};
 
-use endings::Exit;
+use exit_statuses::Exit;
 use serde::{Described, Serialize, Serializer};
 
 /// What a line answers of a game.

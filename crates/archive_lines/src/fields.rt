@@ -2,8 +2,8 @@
 
 use crate::answers::{Answer, Ending, Unread};
 use crate::pages::PageField;
-use endings::Exit;
 use engine::{Entry, Finding, fault_text, last_total};
+use exit_statuses::Exit;
 use gcg_read::{Player, ReadFault, Record, Seat};
 use serde::Serialize;
 use std::alloc::{AllocError, Global};

@@ -1,6 +1,6 @@
 //! What a line says of the page of a game.
 
-use endings::Exit;
+use exit_statuses::Exit;
 use serde::{Described, Serialize, Serializer};
 
 /// What a line says of the page of a game, where pages are made.

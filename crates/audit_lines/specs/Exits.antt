@@ -1,8 +1,8 @@
 -- How the program ends after an audit.
 use Rattle.std.specs.Prelude.{ℕ, Bool, true, false, max, List, [], ◌∷◌}
-use Rattle.endings.specs.Exits.{status_of}
-use Rattle.endings.specs.declared.exits.Exit.{Exit}
-use Rattle.endings.specs.declared.exits.Exit.TheVariants as exit
+use Rattle.exit_statuses.specs.Exits.{status_of}
+use Rattle.exit_statuses.specs.declared.exits.Exit.{Exit}
+use Rattle.exit_statuses.specs.declared.exits.Exit.TheVariants as exit
 use Rattle.engine.specs.declared.findings.Finding.{Finding}
 use Rattle.engine.specs.declared.findings.Finding.TheVariants as finding
 

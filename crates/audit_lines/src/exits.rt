@@ -1,10 +1,10 @@
 //! How the program ends after an audit.
 ghost use Rattle.std.specs.Prelude.{◌≡◌};
 ghost use Rattle.audit_lines.specs.Exits.{stands, exit_of_finding, exit_of_numbers, audit_status};
-ghost use Rattle.endings.specs.Exits.{status_of};
+ghost use Rattle.exit_statuses.specs.Exits.{status_of};
 
-use endings::Exit;
 use engine::{Audit, Finding};
+use exit_statuses::Exit;
 use game_sheets::WrongNumber;
 
 /// The exit after a finding alone.

@@ -1,6 +1,6 @@
 //! The stage that takes a word list and the bytes of a lexicon file for a pair.
 ghost use Rattle.std.specs.Prelude.{◌≡◌, IfOk};
-ghost use Rattle.check_lists.specs.Checks.{Refuses};
+ghost use Rattle.first_faults.specs.Checks.{Refuses};
 ghost use Rattle.lex_file.specs.Files.{bytes_of};
 ghost use Rattle.engine.specs.Lexicons.{file_fault, IsRefusedFile, IsRefusedPair};
 ghost use Rattle.devices.specs.Devices.{HasRoom};

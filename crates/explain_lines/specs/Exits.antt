@@ -3,9 +3,9 @@ use Rattle.std.specs.Prelude.{ℕ, List, Result, Ok, Err, Option, Some, None}
 use Rattle.gcg_read.specs.declared.events.Event.{Event}
 use Rattle.gcg_read.specs.declared.faults.ReadFault.{ReadFault}
 use Rattle.game_board.specs.Places.{place_of_line}
-use Rattle.endings.specs.declared.exits.Exit.{Exit}
-use Rattle.endings.specs.declared.exits.Exit.TheVariants as exit
-use Rattle.endings.specs.Exits.{exit_of}
+use Rattle.exit_statuses.specs.declared.exits.Exit.{Exit}
+use Rattle.exit_statuses.specs.declared.exits.Exit.TheVariants as exit
+use Rattle.exit_statuses.specs.Exits.{exit_of}
 use Rattle.engine.specs.declared.entries.Entry.{Entry}
 use Rattle.engine.specs.Explaining.{case_verdict}
 

@@ -2,8 +2,8 @@
 ghost use Rattle.std.specs.Prelude.{◌≡◌};
 ghost use Rattle.explain_lines.specs.Exits.{exit_on, explain_exit};
 
-use endings::Exit;
 use engine::{Case, case_verdict};
+use exit_statuses::Exit;
 use game_board::place_of_line;
 use gcg_read::Event;
 

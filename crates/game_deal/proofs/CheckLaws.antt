@@ -2,8 +2,8 @@
 use Rattle.std.proofs.Common.{◌≡◌, ℕ, ◌*◌, ◌≤◌, ◌==◌, Bool, true, false, not, ◌||◌, nat_lt, List, [], ◌∷◌, length, Option, Some, None, sum}
 use Rattle.std.specs.Prelude.{option_map, pos, neg_ℤ}
 use Rattle.std.proofs.lemmas.Bool.{ltb-false, eqb-true, or_parts, not-false}
-use Rattle.check_lists.specs.Checks.{fails}
-use Rattle.check_lists.proofs.CheckLaws.{some_fault, none_first, test_fails}
+use Rattle.first_faults.specs.Checks.{fails}
+use Rattle.first_faults.proofs.CheckLaws.{some_fault, none_first, test_fails}
 use Rattle.ref_tiles.specs.declared.symbols.Symbol.{Symbol}
 use Rattle.ref_tiles.specs.declared.rulebook.Rules.{Rules}
 use Rattle.ref_board.specs.declared.directions.Dir.{Dir}

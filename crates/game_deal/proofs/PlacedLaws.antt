@@ -5,7 +5,7 @@ use Rattle.std.specs.List.{list_all, list_any, range_with_len}
 use Rattle.std.proofs.lemmas.List.{length-set, get_or-set_other}
 use Rattle.std.proofs.lemmas.List.Sums.{sum_by-cons}
 use Rattle.std.proofs.lemmas.Bool.{cases_eq, and_parts, or_parts, ltb-true, ltb-false, le-leb, leb-true, eq-eqb, ne_eqb}
-use Rattle.check_lists.proofs.CheckLaws.{check-none, or_none}
+use Rattle.first_faults.proofs.CheckLaws.{check-none, or_none}
 use Rattle.ref_tiles.specs.declared.tiles.Tile.{Tile}
 use Rattle.ref_tiles.specs.declared.symbols.Symbol.{Symbol}
 use Rattle.ref_tiles.specs.declared.kinds.Kind.{Kind}

@@ -3,8 +3,8 @@ use Rattle.std.proofs.Common.{◌≡◌, ℕ, ◌+◌, ◌<◌, ◌≤◌, ◌==
 use Rattle.std.specs.Prelude.{option_map}
 use Rattle.std.specs.List.{list_all, flat_map}
 use Rattle.std.proofs.lemmas.Bool.{and_parts, eq-eqb, eqb-true, ltb-false}
-use Rattle.check_lists.specs.Checks.{fails}
-use Rattle.check_lists.proofs.CheckLaws.{none_first, check-none, or_none}
+use Rattle.first_faults.specs.Checks.{fails}
+use Rattle.first_faults.proofs.CheckLaws.{none_first, check-none, or_none}
 use Rattle.ref_tiles.specs.declared.symbols.Symbol.{Symbol}
 use Rattle.ref_tiles.specs.declared.tiles.Tile.{Tile}
 use Rattle.ref_tiles.specs.declared.rulebook.Rules.{Rules}

@@ -5,8 +5,8 @@ use Rattle.std.specs.Option.{option_or}
 use Rattle.std.specs.Ordering.{int_eq}
 use Rattle.std.proofs.lemmas.Option.{same_Some}
 use Rattle.std.proofs.lemmas.Bool.Decides.{Decides-int_eq}
-use Rattle.check_lists.specs.Checks.{fails}
-use Rattle.check_lists.proofs.CheckLaws.{some_fault, test_fails, or_none}
+use Rattle.first_faults.specs.Checks.{fails}
+use Rattle.first_faults.proofs.CheckLaws.{some_fault, test_fails, or_none}
 use Rattle.ref_tiles.specs.declared.rulebook.Rules.{Rules}
 use Rattle.gcg_read.specs.Numerals.{IsPoints}
 use Rattle.gcg_read.specs.declared.events.Event.{Event}

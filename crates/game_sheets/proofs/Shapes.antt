@@ -6,8 +6,8 @@ use Rattle.std.proofs.lemmas.Option.{same_Some}
 use Rattle.std.specs.List.{list_all, list_any}
 use Rattle.std.specs.Option.{option_or}
 use Rattle.std.specs.Ordering.{int_eq}
-use Rattle.check_lists.specs.Checks.{fails, first_fault}
-use Rattle.check_lists.proofs.CheckLaws.{some_fault}
+use Rattle.first_faults.specs.Checks.{fails, first_fault}
+use Rattle.first_faults.proofs.CheckLaws.{some_fault}
 use Rattle.ref_tiles.specs.declared.rulebook.Rules.{Rules}
 use Rattle.ref_play.specs.declared.faults.PlayFault.{PlayFault}
 use Rattle.ref_play.specs.Texts.{placement_of}

@@ -4,8 +4,8 @@ use Rattle.std.specs.Prelude.{option_map, neg_ℤ}
 use Rattle.std.specs.List.{list_all}
 use Rattle.lex_list.specs.Words.{is_listed}
 use Rattle.std.proofs.lemmas.Bool.{ltb-false}
-use Rattle.check_lists.specs.Checks.{fails}
-use Rattle.check_lists.proofs.CheckLaws.{some_fault, none_first, test_fails, check-none, or_none}
+use Rattle.first_faults.specs.Checks.{fails}
+use Rattle.first_faults.proofs.CheckLaws.{some_fault, none_first, test_fails, check-none, or_none}
 use Rattle.ref_tiles.specs.declared.symbols.Symbol.{Symbol}
 use Rattle.ref_tiles.specs.declared.tiles.Tile.{Tile}
 use Rattle.ref_tiles.specs.declared.rulebook.Rules.{Rules}

@@ -2,7 +2,7 @@
 use Rattle.std.proofs.Common.{◌≡◌, ℕ, ℤ, pos, negsuc, List, [], ◌∷◌, ◌++◌, map, Option, Some, None, Result, Ok, Err, refl, replicate}
 use Rattle.std.specs.Prelude.{codes}
 use Rattle.std.specs.List.{filter_map}
-use Rattle.check_lists.proofs.Rows.{Agree}
+use Rattle.first_faults.proofs.Rows.{Agree}
 use Rattle.ref_tiles.specs.declared.kinds.Kind.{Kind}
 use Rattle.ref_tiles.specs.Counting.{counted}
 use Rattle.ref_tiles.specs.Letters.{letter_at}

@@ -3,7 +3,7 @@
 use Rattle.std.proofs.Common.{◌≡◌, ℕ, Bool, true, false, List, [], ◌∷◌, map, Option, Some, refl, lit<}
 use Rattle.std.specs.Prelude.{codes}
 use Rattle.std.specs.List.{list_all}
-use Rattle.check_lists.proofs.Rows.{Agree}
+use Rattle.first_faults.proofs.Rows.{Agree}
 use Rattle.ref_tiles.specs.declared.tiles.Tile.{Tile}
 use Rattle.ref_tiles.specs.declared.letters.Letter.{Letter}
 use Rattle.ref_tiles.specs.English.{english}

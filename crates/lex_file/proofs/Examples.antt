@@ -1,7 +1,7 @@
 -- Files, their languages and their faults as the definitions give them, computed.
 use Rattle.std.proofs.Common.{◌≡◌, ℕ, Bool, true, false, List, [], ◌∷◌, ◌++◌, Some, None, map, take, drop, refl}
 use Rattle.std.specs.Prelude.{codes, ◌-◌, ◌==◌, if◌then◌else◌}
-use Rattle.check_lists.proofs.Rows.{Agree}
+use Rattle.first_faults.proofs.Rows.{Agree}
 use Rattle.lex_file.specs.declared.faults.FileFault.TheVariants as why
 use Rattle.lex_file.specs.FileWords.{words_in}
 use Rattle.lex_file.specs.Nodes.{run_of, start_at}

@@ -1,7 +1,7 @@
 -- The checks of the form of a GAD2 file behind its header.
 use Rattle.std.specs.Prelude.{ℕ, zero, suc, ◌+◌, ◌/◌, ◌%◌, ◌^◌, Bool, ◌&&◌, ◌||◌, ◌==◌, nat_lt, nat_le, bit_and, List, [], ◌∷◌, length, slice_index, Option, None, if◌then◌else◌}
 use Rattle.std.specs.Option.{option_or}
-use Rattle.check_lists.specs.Checks.{passes, first_fault}
+use Rattle.first_faults.specs.Checks.{passes, first_fault}
 use Rattle.lex_file.specs.declared.faults.FileFault.{FileFault}
 use Rattle.lex_file.specs.declared.faults.FileFault.TheVariants as why
 use Rattle.lex_file.specs.Masks.{has_bit, is_marked, label_count, node_size, mask_arc, is_mask_node}

@@ -2,7 +2,7 @@
 use Rattle.std.specs.Prelude.{◌≡◌, ℕ, zero, suc, ◌+◌, ◌*◌, Bool, ◌&&◌, ◌||◌, ◌==◌, nat_lt, nat_le, eqb, List, [], ◌∷◌, length, slice_index, Option, Some, None, if◌then◌else◌}
 use Rattle.std.specs.List.{starts_with}
 use Rattle.std.specs.Option.{option_or}
-use Rattle.check_lists.specs.Checks.{passes, first_fault}
+use Rattle.first_faults.specs.Checks.{passes, first_fault}
 use Rattle.lex_file.specs.declared.faults.FileFault.{FileFault}
 use Rattle.lex_file.specs.declared.faults.FileFault.TheVariants as why
 use Rattle.lex_file.specs.declared.arcs.Arc.{Arc}

@@ -3,8 +3,8 @@ use Rattle.std.proofs.Common.{◌≡◌, ℕ, zero, suc, ◌+◌, ◌*◌, ◌<�
 use Rattle.std.specs.Prelude.{IsTrue, is_none}
 use Rattle.std.specs.List.{list_all}
 use Rattle.std.proofs.lemmas.Bool.{ltb-false, leb-true, eqb-true, false≢true, and_parts}
-use Rattle.check_lists.specs.Checks.{passes}
-use Rattle.check_lists.proofs.CheckLaws.{checked, or_none}
+use Rattle.first_faults.specs.Checks.{passes}
+use Rattle.first_faults.proofs.CheckLaws.{checked, or_none}
 use Rattle.lex_file.specs.declared.arcs.Arc.{Arc}
 use Rattle.lex_file.specs.declared.faults.FileFault.{FileFault}
 use Rattle.lex_file.specs.declared.faults.FileFault.TheVariants as why

@@ -5,8 +5,8 @@ use Rattle.std.specs.List.{Contains}
 use Rattle.std.specs.Option.{option_or}
 use Rattle.std.proofs.lemmas.Bool.{ltb-true, leb-true, eqb-true, eq-eqb, lt-ltb, false≢true, cases_lt, and_parts}
 use Rattle.std.proofs.lemmas.Nat.{mod-pow-add, ones_cat, pow_pos, mod_below, and_le_r}
-use Rattle.check_lists.specs.Checks.{first_fault}
-use Rattle.check_lists.proofs.CheckLaws.{checked, or_none}
+use Rattle.first_faults.specs.Checks.{first_fault}
+use Rattle.first_faults.proofs.CheckLaws.{checked, or_none}
 use Rattle.lex_file.specs.declared.arcs.Arc.{Arc}
 use Rattle.lex_file.specs.declared.faults.FileFault.{FileFault}
 use Rattle.lex_file.specs.declared.faults.FileFault.TheVariants as why

@@ -3,7 +3,7 @@ use Rattle.std.proofs.Common.{◌≡◌, ℕ, zero, suc, ◌+◌, ◌-◌, ◌<�
 use Rattle.std.proofs.Math.ListN.{drop_of_length-le}
 use Rattle.std.proofs.lemmas.Bool.{ltb-true, leb-true, eqb-true, false≢true, cases_lt, and_parts}
 use Rattle.std.specs.List.{Contains}
-use Rattle.check_lists.proofs.CheckLaws.{checked, or_none}
+use Rattle.first_faults.proofs.CheckLaws.{checked, or_none}
 use Rattle.lex_file.specs.declared.arcs.Arc.{Arc}
 use Rattle.lex_file.specs.declared.faults.FileFault.TheVariants as why
 use Rattle.lex_file.specs.Arcs.{arc_of, is_last}

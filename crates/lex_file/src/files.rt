@@ -28,7 +28,7 @@ pub struct LexFile<'a> {
 impl<'a> LexFile<'a> {
     ghost use Rattle.std.specs.Prelude.{◌≡◌, ℕ, List, [], ◌∷◌, ◌+◌, ◌<◌, false, Some, None, IfOk, IfSome, IfNone, IsSome, IsTrue, drop};
     ghost use Rattle.lex_file.specs.Arcs.{arc_with, arc_from};
-    ghost use Rattle.check_lists.specs.Checks.{Refuses};
+    ghost use Rattle.first_faults.specs.Checks.{Refuses};
     ghost use Rattle.lex_file.specs.Languages.{file_tail};
     ghost use Rattle.lex_file.specs.Lexicons.{NextGives};
     ghost use Rattle.lex_file.specs.Shapes.{format_of, word_count_of, arc_count_of, file_node, is_file_node};

@@ -2,7 +2,7 @@
 ghost use Rattle.std.specs.Prelude.{◌≡◌, ◌≤◌, ◌<◌, true, length, slice_index};
 ghost use Rattle.lex_file.specs.FileWords.{words_in};
 ghost use Rattle.lex_file.specs.Formats.{header_bytes};
-ghost use Rattle.check_lists.specs.Checks.{Refuses};
+ghost use Rattle.first_faults.specs.Checks.{Refuses};
 ghost use Rattle.lex_file.specs.Masks.{has_bit, IsInside};
 ghost use Rattle.lex_file.specs.MaskShapes.{is_mask, accepts_labels, points_back, label_fault, labels_fault, node_fault, nodes_fault};
 ghost use Rattle.lex_file.specs.Shapes.{mask_header_fault};

@@ -2,7 +2,7 @@
 ghost use Rattle.std.specs.Prelude.{◌≡◌, ◌-◌, ◌≤◌, ◌<◌, Some, None, true, IfOk, length, slice_index};
 ghost use Rattle.lex_file.specs.FileWords.{words_in};
 ghost use Rattle.lex_file.specs.Formats.{header_bytes};
-ghost use Rattle.check_lists.specs.Checks.{Refuses};
+ghost use Rattle.first_faults.specs.Checks.{Refuses};
 ghost use Rattle.lex_file.specs.Nodes.{start_at};
 ghost use Rattle.lex_file.specs.Shapes.{leads_back, IsLeast, arc_fault, body_fault, header_fault, form_fault, format_of, fault_of};
 

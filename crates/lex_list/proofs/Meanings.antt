@@ -12,9 +12,9 @@ use Rattle.std.proofs.lemmas.Bool.Decides.{nat_tests}
 use Rattle.std.proofs.lemmas.List.{length-map}
 use Rattle.std.proofs.lemmas.List.Folds.{Any-from_list_any, list_any-from_Any}
 use Rattle.std.proofs.lemmas.Slice.Eq.{bytes_eq-Decides}
-use Rattle.check_lists.specs.Checks.{passes, or_fault}
-use Rattle.check_lists.proofs.CheckLaws.{checked, none_first, or_fault_some}
-use Rattle.check_lists.proofs.FirstBadLaws.{no_earlier, first_bad-is}
+use Rattle.first_faults.specs.Checks.{passes, or_fault}
+use Rattle.first_faults.proofs.CheckLaws.{checked, none_first, or_fault_some}
+use Rattle.first_faults.proofs.FirstBadLaws.{no_earlier, first_bad-is}
 use Rattle.lex_list.specs.declared.faults.ListWhy.TheVariants as why
 use Rattle.lex_list.specs.declared.faults.ListFault.{ListFault}
 use Rattle.lex_list.specs.Faults.{no_memory}

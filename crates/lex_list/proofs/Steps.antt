@@ -4,8 +4,8 @@ use Rattle.std.proofs.Common.{◌≡◌, ℕ, ◌+◌, ◌<◌, ◌≤◌, arith
 use Rattle.std.proofs.lemmas.Bool.{lt-leb, le-leb}
 use Rattle.std.proofs.lemmas.List.{length-append, length_push}
 use Rattle.std.proofs.lemmas.List.Sums.{fold-append}
-use Rattle.check_lists.proofs.CheckLaws.{or_fault_none, or_fault_some}
-use Rattle.check_lists.proofs.FirstBadLaws.{none_left}
+use Rattle.first_faults.proofs.CheckLaws.{or_fault_none, or_fault_some}
+use Rattle.first_faults.proofs.FirstBadLaws.{none_left}
 use Rattle.lex_list.specs.declared.faults.ListWhy.{ListWhy}
 use Rattle.lex_list.specs.declared.faults.ListFault.{ListFault}
 use Rattle.lex_list.specs.Faults.{no_memory}

@@ -4,8 +4,8 @@ use Rattle.std.specs.BTreeSet.{insert_key}
 use Rattle.std.specs.Char.{is_ascii_alphabetic, to_ascii_uppercase}
 use Rattle.std.specs.List.{fold, list_all, Any, Contains}
 use Rattle.std.specs.Prelude.{option_map}
-use Rattle.check_lists.specs.Checks.{passes, first_fault, or_fault}
-use Rattle.check_lists.specs.FirstBad.{first_bad, IsFirstBad}
+use Rattle.first_faults.specs.Checks.{passes, first_fault, or_fault}
+use Rattle.first_faults.specs.FirstBad.{first_bad, IsFirstBad}
 use Rattle.lex_list.specs.declared.faults.ListWhy.{ListWhy}
 use Rattle.lex_list.specs.declared.faults.ListWhy.TheVariants as why
 use Rattle.lex_list.specs.declared.faults.ListFault.{ListFault}

@@ -5,8 +5,8 @@ use Rattle.std.specs.List.{list_any, list_all, range_with_len}
 use Rattle.std.proofs.lemmas.List.Elements.{All-weaker}
 use Rattle.std.proofs.lemmas.List.Folds.{list_any_none}
 use Rattle.std.proofs.lemmas.Bool.{false≢true, cases_eq, cases_Bool, and_parts, and_from, and_left, and_right, and_cases, both_ways, not-false, not_from_true, false_from_ne_true}
-use Rattle.check_lists.specs.Checks.{Refuses}
-use Rattle.check_lists.proofs.CheckLaws.{check-none, check-from}
+use Rattle.first_faults.specs.Checks.{Refuses}
+use Rattle.first_faults.proofs.CheckLaws.{check-none, check-from}
 use Rattle.ref_tiles.specs.declared.tiles.Tile.{Tile}
 use Rattle.ref_board.specs.declared.directions.Dir.{Dir}
 use Rattle.ref_board.specs.declared.directions.Dir.TheVariants.{Across, Down}

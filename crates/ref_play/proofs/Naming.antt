@@ -5,7 +5,7 @@ use Rattle.std.specs.List.{list_all, range_with_len}
 use Rattle.std.proofs.lemmas.List.Elements.{All-contains}
 use Rattle.std.proofs.lemmas.List.Folds.{list_all-map}
 use Rattle.std.proofs.lemmas.Bool.{cases_lt, and_left, and_right, or_from, both_ways, le-ltb, ne_eqb, not_from_true, false_from_ne_true}
-use Rattle.check_lists.proofs.CheckLaws.{check-from}
+use Rattle.first_faults.proofs.CheckLaws.{check-from}
 use Rattle.ref_tiles.specs.declared.tiles.Tile.{Tile}
 use Rattle.ref_tiles.specs.declared.kinds.Kind.{Kind}
 use Rattle.ref_tiles.specs.declared.kinds.Kind.TheVariants as kind

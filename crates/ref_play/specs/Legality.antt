@@ -1,7 +1,7 @@
 -- What makes a placement legal, and the first fault of one that is not.
 use Rattle.std.specs.Prelude.{◌≡◌, ℕ, ◌-◌, ◌<◌, ◌==◌, ◌&&◌, Bool, true, false, List, [], ◌∷◌, Option, None, All, length, is_none, ◌⊎◌, Contains, not}
 use Rattle.std.specs.List.{list_any, list_all, range_with_len}
-use Rattle.check_lists.specs.Checks.{fails, first_fault}
+use Rattle.first_faults.specs.Checks.{fails, first_fault}
 use Rattle.ref_tiles.specs.declared.tiles.Tile.{Tile}
 use Rattle.ref_board.specs.declared.directions.Dir.{Dir}
 use Rattle.ref_board.specs.declared.directions.Dir.TheVariants.{Across, Down}

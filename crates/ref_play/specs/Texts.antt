@@ -1,7 +1,7 @@
 -- The text of a play: symbols on successive squares of a line, the tiles that it puts down, and its first fault.
 use Rattle.std.specs.Prelude.{ℕ, ◌+◌, ◌==◌, ◌||◌, not, Bool, true, false, List, [], ◌∷◌, length, map, Option, Some, None, nat_lt}
 use Rattle.std.specs.List.{list_all, flat_map, zip, range_with_len}
-use Rattle.check_lists.specs.Checks.{fails, first_fault}
+use Rattle.first_faults.specs.Checks.{fails, first_fault}
 use Rattle.ref_tiles.specs.declared.tiles.Tile.{Tile}
 use Rattle.ref_tiles.specs.declared.symbols.Symbol.{Symbol}
 use Rattle.ref_tiles.specs.declared.symbols.Symbol.TheVariants as symbol

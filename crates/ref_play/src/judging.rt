@@ -3,7 +3,7 @@ ghost use Rattle.std.specs.Prelude.{◌≡◌, ◌↔◌, true, false, IsOk, All
 ghost use Rattle.ref_play.specs.Placements.{with_tiles, without_tiles, are_rising, HasTiles, EmptiesSquares};
 ghost use Rattle.ref_play.specs.Formed.{runs_formed};
 ghost use Rattle.ref_play.specs.Words.{IsWithin};
-ghost use Rattle.check_lists.specs.Checks.{Refuses};
+ghost use Rattle.first_faults.specs.Checks.{Refuses};
 ghost use Rattle.ref_play.specs.Legality.{IsLegal, IsLaid, fault_of, is_too_short, overlaps};
 
 use crate::faults::PlayFault;

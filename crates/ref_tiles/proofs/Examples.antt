@@ -1,7 +1,7 @@
 -- Rules texts as the definitions give them, computed: the English game, and the first fault of others.
 use Rattle.std.proofs.Common.{◌≡◌, ℕ, List, [], ◌∷◌, ◌++◌, drop, refl}
 use Rattle.std.specs.Prelude.{Ok, Err, codes}
-use Rattle.check_lists.proofs.Rows.{Agree}
+use Rattle.first_faults.proofs.Rows.{Agree}
 use Rattle.text_lines.specs.Lines.{lines_in}
 use Rattle.text_lines.specs.Fields.{fields_of}
 use Rattle.ref_tiles.specs.declared.rules_faults.RulesWhy.TheVariants as why

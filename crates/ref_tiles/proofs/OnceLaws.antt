@@ -5,8 +5,8 @@ use Rattle.std.specs.List.{list_all}
 use Rattle.std.specs.Option.{option_or, IsSomeAnd}
 use Rattle.std.proofs.lemmas.Bool.Decides.{eqb_tells}
 use Rattle.std.proofs.lemmas.List.Folds.{list_all_at}
-use Rattle.check_lists.specs.Checks.{passes, first_fault, or_fault}
-use Rattle.check_lists.proofs.FirstBadLaws.{no_earlier}
+use Rattle.first_faults.specs.Checks.{passes, first_fault, or_fault}
+use Rattle.first_faults.proofs.FirstBadLaws.{no_earlier}
 use Rattle.text_lines.specs.Lines.{lines_of}
 use Rattle.ref_tiles.specs.declared.rules_faults.RulesWhy.{RulesWhy}
 use Rattle.ref_tiles.specs.declared.rules_faults.RulesWhy.TheVariants as why

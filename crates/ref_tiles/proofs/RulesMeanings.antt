@@ -4,8 +4,8 @@ use Rattle.std.proofs.Common.{◌≡◌, ℕ, ◌<◌, ◌≤◌, Bool, true, fa
 use Rattle.std.specs.Option.{option_or}
 use Rattle.std.proofs.lemmas.Bool.Decides.{nat_tests}
 use Rattle.text_lines.specs.Lines.{lines_of}
-use Rattle.check_lists.specs.Checks.{or_fault}
-use Rattle.check_lists.proofs.FirstBadLaws.{first_bad-is}
+use Rattle.first_faults.specs.Checks.{or_fault}
+use Rattle.first_faults.proofs.FirstBadLaws.{first_bad-is}
 use Rattle.ref_tiles.specs.declared.rules_faults.RulesWhy.{RulesWhy}
 use Rattle.ref_tiles.specs.declared.rules_faults.RulesWhy.TheVariants as why
 use Rattle.ref_tiles.specs.declared.rules_faults.RulesFault.{RulesFault}

@@ -5,9 +5,9 @@ use Rattle.std.specs.Option.{option_or}
 use Rattle.std.proofs.lemmas.List.{length-append, length_push, get_or-set_same, get_or-set_other, length-set}
 use Rattle.std.proofs.lemmas.List.FromFn.{length-map-range_with_len, get_or-map-range_with_len, fill_by_all}
 use Rattle.std.proofs.lemmas.Bool.Decides.{eqb_tells, nat_tests}
-use Rattle.check_lists.specs.Checks.{or_fault}
-use Rattle.check_lists.proofs.CheckLaws.{or_fault_none, or_fault_some}
-use Rattle.check_lists.proofs.FirstBadLaws.{none_left}
+use Rattle.first_faults.specs.Checks.{or_fault}
+use Rattle.first_faults.proofs.CheckLaws.{or_fault_none, or_fault_some}
+use Rattle.first_faults.proofs.FirstBadLaws.{none_left}
 use Rattle.ref_tiles.specs.declared.rules_faults.RulesWhy.{RulesWhy}
 use Rattle.ref_tiles.specs.declared.rules_faults.RulesWhy.TheVariants as why
 use Rattle.ref_tiles.specs.declared.rules_faults.RulesFault.{RulesFault}

@@ -2,8 +2,8 @@
 use Rattle.std.specs.Prelude.{◌≡◌, ◌⊎◌, ℕ, ◌/◌, ◌%◌, ◌<◌, ◌≤◌, ◌==◌, nat_lt, List, [], ◌∷◌, ◌++◌, length, map, slice_index_or, slice_set, Option, Some, None, is_some, Result, Ok, Err, if◌then◌else◌}
 use Rattle.std.specs.List.{list_all, range_with_len}
 use Rattle.std.specs.Option.{option_or, option_map, IsSomeAnd}
-use Rattle.check_lists.specs.Checks.{passes, first_fault, or_fault}
-use Rattle.check_lists.specs.FirstBad.{first_bad, IsFirstBad}
+use Rattle.first_faults.specs.Checks.{passes, first_fault, or_fault}
+use Rattle.first_faults.specs.FirstBad.{first_bad, IsFirstBad}
 use Rattle.text_lines.specs.Lines.{lines_of}
 use Rattle.ref_tiles.specs.declared.rules_faults.RulesWhy.{RulesWhy}
 use Rattle.ref_tiles.specs.declared.rules_faults.RulesWhy.TheVariants as why

@@ -1,8 +1,8 @@
 //! `explain`: what is wrong with a record, or how one of its lines is judged, in plain words.
 
 use crate::inputs::write;
-use endings::{Exit, Trouble};
 use engine::Case;
+use exit_statuses::{Exit, Trouble};
 use explain_lines::{exit_of, push_explanation};
 use lex_list::WordList;
 use ref_tiles::Rules;

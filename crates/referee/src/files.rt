@@ -2,8 +2,8 @@
 
 use crate::sources::shown;
 use devices::FromRead;
-use endings::Trouble;
 use engine::{RunFault, Verdict};
+use exit_statuses::Trouble;
 use std::io::Read;
 use std::rt::Files;
 use std::{fs, io};

@@ -7,11 +7,11 @@ use crate::counted::Counted;
 use crate::files::{InputFile, open, told, used, used_rules, used_source};
 use crate::sources::{Source, Words, open_source, open_words, shown};
 use devices::{FromRead, FromWrite, Input, Output};
-use endings::Trouble;
 use engine::{
     RunFault, Verdict, run, run_board, run_board_ruled, run_ruled, run_settled, run_settled_ruled,
     run_tidy, run_top, run_top_before, run_top_before_ruled, run_top_ruled,
 };
+use exit_statuses::Trouble;
 use ref_tiles::english_rules;
 use std::alloc::Global;
 use std::io::{self, Read};

@@ -3,8 +3,8 @@
 use crate::paging::push_case;
 use archive_lines::{Fields, PageField, Unread};
 use devices::{FromRead, FromWrite, write_whole};
-use endings::Trouble;
 use engine::{Case, RunFault, open_case};
+use exit_statuses::Trouble;
 use game_page::{
     Contents, IndexPlayer, IndexRow, Maker, PageNames, push_index_end, push_index_head,
     push_index_row,

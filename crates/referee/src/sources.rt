@@ -3,7 +3,7 @@
 use crate::command_line::WordsFile;
 use crate::files::open;
 use either::Either;
-use endings::Trouble;
+use exit_statuses::Trouble;
 use first_fields::FirstFields;
 use std::io::{Input, Read};
 use std::rt::{Files, Runtime};

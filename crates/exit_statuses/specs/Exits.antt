@@ -1,0 +1,39 @@
+-- The exit statuses of the program.
+use Rattle.std.specs.Prelude.{ℕ, List}
+use Rattle.std.specs.Borrow.{Bor}
+use Rattle.exit_statuses.specs.declared.exits.Exit.{Exit}
+use Rattle.exit_statuses.specs.declared.exits.Exit.TheVariants.{Fine, Illegal, Unsettled, BadInput, Broken, Usage}
+use Rattle.exit_statuses.specs.declared.exits.Trouble.{Trouble}
+use Rattle.exit_statuses.specs.declared.exits.Trouble.TheVariants as trouble
+use Rattle.engine.specs.declared.faults.RunFault.{RunFault}
+use Rattle.engine.specs.declared.faults.RunFault.TheVariants as run
+use Rattle.engine.specs.declared.verdicts.Verdict.{Verdict}
+use Rattle.engine.specs.declared.verdicts.Verdict.TheVariants as verdict
+
+-- the status by which the program ends
+abbrev pub status_of : Exit → ℕ
+status_of Fine = 0
+status_of Illegal = 1
+status_of Unsettled = 2
+status_of BadInput = 3
+status_of Broken = 4
+status_of Usage = 64
+
+-- how the program ends after a verdict
+abbrev pub exit_of : Verdict → Exit
+exit_of (verdict.Legal complete) = Fine
+exit_of (verdict.Illegal line fault) = Illegal
+exit_of verdict.Unsettled = Unsettled
+exit_of verdict.BadList = BadInput
+exit_of verdict.BadFile = BadInput
+exit_of verdict.BadRecord = BadInput
+exit_of verdict.Done = Fine
+exit_of verdict.BadRack = BadInput
+exit_of verdict.BadRules = BadInput
+exit_of verdict.BadLine = BadInput
+
+-- what kept the program from its end, where a call gave up and this file is the one that failed, if one did
+abbrev pub trouble_of : RunFault → Bor (List ℕ) → Trouble
+trouble_of run.ReadFailed input = trouble.CannotRead input
+trouble_of run.WriteFailed input = trouble.WriteFailed
+trouble_of run.NoMemory input = trouble.NoMemory

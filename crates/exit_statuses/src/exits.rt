@@ -1,0 +1,111 @@
+//! The exit status of each verdict, and what keeps the program from its end.
+ghost use Rattle.std.specs.Prelude.{◌≡◌, max};
+
+use engine::{RunFault, Verdict};
+use std::fmt;
+
+/// How the program ends.
+#[derive(Clone, Copy, Debug, PartialEq, Eq)]
+pub enum Exit {
+    /// The game is legal, or what was asked for is done, help too.
+    Fine,
+    /// The game is illegal.
+    Illegal,
+    /// Whether the game is legal was not settled.
+    Unsettled,
+    /// An input is no word list, no lexicon, no record, no rack, no line of a record or no rules text.
+    BadInput,
+    /// A device failed, or memory was refused.
+    Broken,
+    /// The command line is wrong.
+    Usage,
+}
+
+impl Exit {
+    ghost use Rattle.exit_statuses.specs.Exits.{status_of};
+
+    /// The exit status.
+    pub fn status(self) -> u8
+        ensures { result ≡ status_of self }
+    {
+        match self {
+            Exit::Fine => 0,
+            Exit::Illegal => 1,
+            Exit::Unsettled => 2,
+            Exit::BadInput => 3,
+            Exit::Broken => 4,
+            Exit::Usage => 64,
+        }
+    }
+
+    /// The one with the greater status.
+    pub fn worse(self, other: Exit) -> Exit
+        ensures { status_of result ≡ max (status_of self) (status_of other) }
+    {
+        if self.status() < other.status() {
+            other
+        } else {
+            self
+        }
+    }
+}
+
+/// What kept the program from its end. Its text is what standard error gets.
+#[derive(Clone, Copy, Debug, PartialEq, Eq)]
+pub enum Trouble<'a> {
+    /// The file of this name could not be read.
+    CannotRead(&'a str),
+    /// The output failed, or took no byte of a write.
+    WriteFailed,
+    /// Memory was refused.
+    NoMemory,
+    /// The file of this name could not be opened.
+    CannotOpen(&'a str),
+}
+
+impl fmt::Display for Trouble<'_> {
+    fn fmt<W: fmt::Write>(&self, f: &mut fmt::Formatter<W>) -> fmt::Result {
+        match self {
+            Trouble::CannotRead(name) => write!(f, "cannot read {name}"),
+            Trouble::WriteFailed => write!(f, "write failed"),
+            Trouble::NoMemory => write!(f, "no memory"),
+            Trouble::CannotOpen(name) => write!(f, "cannot open {name}"),
+        }
+    }
+}
+
+impl<'a> Trouble<'a> {
+    ghost use Rattle.exit_statuses.specs.Exits.{trouble_of};
+
+    /// What kept the program from its end, where a call gave up. `input` is the file that failed, where one did.
+    pub fn of(fault: RunFault, input: &'a str) -> Trouble<'a>
+        ensures { result ≡ trouble_of fault input.entry }
+    {
+        match fault {
+            RunFault::ReadFailed => Trouble::CannotRead(input),
+            RunFault::WriteFailed => Trouble::WriteFailed,
+            RunFault::NoMemory => Trouble::NoMemory,
+        }
+    }
+}
+
+impl From<Verdict> for Exit {
+    ghost use Rattle.std.specs.Prelude.{◌≡◌};
+    ghost use Rattle.exit_statuses.specs.Exits.{exit_of};
+
+    ghost from_gives = { λ verdict exit. exit ≡ exit_of verdict };
+
+    fn from(verdict: Verdict) -> Exit {
+        match verdict {
+            Verdict::Legal { .. } | Verdict::Done => Exit::Fine,
+            Verdict::Illegal { .. } => Exit::Illegal,
+            Verdict::Unsettled => Exit::Unsettled,
+            Verdict::BadList
+            | Verdict::BadFile
+            | Verdict::BadRecord
+            | Verdict::BadRack
+            | Verdict::BadRules
+            | Verdict::BadLine => Exit::BadInput,
+        }
+    }
+}
