@@ -223,7 +223,11 @@ fn deal_of(alloc: Global, rules: &Rules, steps: &[Step]) -> Result<Option<Deal>,
 ///
 /// Where no step is an exchange and no bound is exceeded, there is a deal, and it fits.
 #[tactic(auto, using(crate::proofs::PlainDeals::plain_answer))]
-pub fn complete(alloc: Global, rules: &Rules, steps: &[Step]) -> Result<Option<Deal>, AllocError>
+pub fn complete_steps(
+    alloc: Global,
+    rules: &Rules,
+    steps: &[Step],
+) -> Result<Option<Deal>, AllocError>
     requires { IsRun rules.now steps.now }
     ensures dealt { IfOk result (λ deal. deal ≡ dealt rules.now steps.now) }
     ensures plain { IfOk result (λ deal. IsPlain steps.now → first_bound rules.now steps.now ≡ None

@@ -11,4 +11,4 @@ mod hands;
 mod picking;
 mod wanting;
 
-pub use dealing::complete;
+pub use dealing::complete_steps;

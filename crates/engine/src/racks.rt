@@ -7,7 +7,7 @@ ghost use Rattle.engine.specs.Racks.{AreTried, AreFound, AreFoundBy};
 ghost use Rattle.engine.specs.Verdicts.{IsDealt};
 
 use crate::judging::Judging;
-use game_deal::{DealFault, Settled, Steps, bounds, complete, fits, settle};
+use game_deal::{DealFault, Settled, Steps, bounds, complete_deal, fits, settle};
 use game_turns::Passed;
 use std::alloc::{AllocError, Global};
 
@@ -34,7 +34,7 @@ fn is_dealt(alloc: Global, steps: &Steps<'_>) -> Result<bool, AllocError>
     ensures plain { IfOk result (λ b. first_bound (rules_in (passed_in steps.now)) (steps_of (rules_in (passed_in steps.now)) (record_in (passed_in steps.now)).events) ≡ None
         → HaveNoExchange (record_in (passed_in steps.now)).events → IsTrue b) }
 {
-    match complete(alloc, steps)? {
+    match complete_deal(alloc, steps)? {
         Some(deal) => Ok(fits(steps, &deal)),
         None => Ok(false),
     }

@@ -8,7 +8,7 @@ ghost use Rattle.game_deal.specs.Stepping.{passed_in};
 
 use crate::laws::law_of_runs;
 use crate::steps::Steps;
-use deal_completion::complete as complete_steps;
+use deal_completion::complete_steps;
 use deal_steps::Deal;
 use std::alloc::Global;
 
@@ -19,7 +19,7 @@ pub use std::alloc::AllocError as NoMemory;
 /// for, and then tiles that the other player's lines do not ask for. None where a rack then lacks what a line asks for.
 ///
 /// Where no event is an exchange of either kind and no bound is exceeded there is a deal, and it fits.
-pub fn complete(alloc: Global, steps: &Steps<'_>) -> Result<Option<Deal>, NoMemory>
+pub fn complete_deal(alloc: Global, steps: &Steps<'_>) -> Result<Option<Deal>, NoMemory>
     ensures dealt { IfOk result (λ deal. deal ≡ dealt (rules_in (passed_in steps.now)) (steps_in (passed_in steps.now))) }
     ensures plain { IfOk result (λ deal. IsBounded (passed_in steps.now) → HaveNoExchange (record_in (passed_in steps.now)).events
         → IsSomeAnd deal (FitsRecord (passed_in steps.now))) }

@@ -12,7 +12,7 @@ mod steps;
 mod walking;
 
 pub use bounding::bounds;
-pub use completing::{NoMemory, complete};
+pub use completing::{NoMemory, complete_deal};
 pub use deal_steps::{Deal, DealFault, Held, Racks};
 pub use fitting::fits;
 pub use laws::{law_of_bounds, law_of_runs, law_of_tiles};

@@ -4,7 +4,7 @@ use Answer::{Exceeds, Fits, NoDeal};
 use Game::{English, Short};
 use game_deal::DealFault::{RackTooBig, TilesShort};
 use game_deal::{
-    DealFault, Steps, bounds, complete, fits, law_of_bounds, law_of_runs, law_of_tiles,
+    DealFault, Steps, bounds, complete_deal, fits, law_of_bounds, law_of_runs, law_of_tiles,
 };
 use game_turns::{Passed, play_through};
 use gcg_read::read;
@@ -111,7 +111,7 @@ fn answer_of(rt: &impl Abort, alloc: Global, passed: &Passed<'_>) -> Answer {
     if let Some(fault) = bounds(&steps) {
         return Exceeds(fault);
     }
-    match complete(alloc, &steps).expect(rt, "memory") {
+    match complete_deal(alloc, &steps).expect(rt, "memory") {
         Some(deal) => {
             assert!(rt; fits(&steps, &deal));
             assert_eq!(rt; deal.as_slice().len(), passed.record().events.len());

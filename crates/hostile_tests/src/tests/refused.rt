@@ -7,7 +7,7 @@ use super::jobs::{
 };
 use engine::{RunFault, open_case, pair_file};
 use explain_lines::push_explanation;
-use game_deal::{DealFault, Steps, bounds, complete};
+use game_deal::{DealFault, Steps, bounds, complete_deal};
 use game_turns::play_through;
 use gcg_read::{Record, read};
 use gcg_write::{NoMemory, event_text, write};
@@ -237,7 +237,7 @@ fn bounds_exceeded(rt: HostRuntime) {
 /// Asserts that a deal of three steps is found, or memory refused.
 fn assert_complete(rt: &impl Abort, alloc: Global, steps: &Steps<'_>) {
     assert_eq!(rt; bounds(steps), None);
-    if let Ok(deal) = complete(alloc, steps) {
+    if let Ok(deal) = complete_deal(alloc, steps) {
         assert_eq!(rt; deal.expect(rt, "a deal").as_slice().len(), 3);
     }
 }

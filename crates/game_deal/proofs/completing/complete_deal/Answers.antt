@@ -1,9 +1,9 @@
 use Rattle.std.proofs.Common.{rules}
 use Rattle.game_deal.proofs.PlainRecords.{run_given, plain_given}
-use Rattle.game_deal.proofs.completing.complete.Goals as goal
+use Rattle.game_deal.proofs.completing.complete_deal.Goals as goal
 
-pub complete-requires : goal.complete-requires
-complete-requires c =
+pub complete_steps-requires : goal.complete_steps-requires
+complete_steps-requires c =
     let passed = c.args.steps.now.passed.now in
     run_given c.law_of_runs.ensures passed.rules.now c.rules.result.now passed.list.now passed.record.now.events c.as_slice.result.now
     (search rules) c.as_slice.ensures passed.allowed
@@ -11,8 +11,8 @@ complete-requires c =
 pub returns-clause-plain : goal.returns-clause-plain
 returns-clause-plain c =
     let passed = c.args.steps.now.passed.now in
-    plain_given c.complete.result passed.rules.now c.rules.result.now passed.record.now.events c.as_slice.result.now
-    (search rules) c.as_slice.ensures c.complete.ensures.plain
+    plain_given c.complete_steps.result passed.rules.now c.rules.result.now passed.record.now.events c.as_slice.result.now
+    (search rules) c.as_slice.ensures c.complete_steps.ensures.plain
 
 pub returns-clause-dealt : goal.returns-clause-dealt
 returns-clause-dealt c = search rules
