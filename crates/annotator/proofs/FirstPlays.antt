@@ -19,7 +19,7 @@ use Rattle.lex_check.specs.Checks.{IsAgreed}
 use Rattle.gen_cross.specs.declared.crosses.Cross.{Cross}
 use Rattle.gen_cross.specs.Values.{IsRight}
 use Rattle.gen_moves.specs.Laws.{AreLong}
-use Rattle.annotator.specs.Keeping.{given_by, AreFirstPlays}
+use Rattle.annotator.specs.Keeping.{AreFirstPlays}
 
 -- adding one after another is a fold
 added : {A : Type 0} (add : List A → A → List A) (kept xs : List A) → add_all add kept xs ≡ fold add kept xs
@@ -45,19 +45,19 @@ first_taken n rules words board rack all own old new r size are_all made none ok
 
 -- the first one is the best play
 pub best_is_first : (rules : Rules) (words : List (List ℕ)) (board : List (Option Tile)) (rack : List ℕ) (kept : List (Play × ℤ)) (found : Option (Play × ℤ))
-    → AreFirstPlays 1 rules words board rack (map seen_pair kept) → found ≡ slice_get kept 0 → IsAnnotation rules words board rack (option_map given_by found)
+    → AreFirstPlays 1 rules words board rack (map seen_pair kept) → found ≡ slice_get kept 0 → IsAnnotation rules words board rack (option_map seen_pair found)
 best_is_first rules words board rack [] found first is =
-    subst (λ o. IsAnnotation rules words board rack (option_map given_by o)) (sym is) (first_is_best rules words board rack first.all [] first.are_all first.first)
+    subst (λ o. IsAnnotation rules words board rack (option_map seen_pair o)) (sym is) (first_is_best rules words board rack first.all [] first.are_all first.first)
 best_is_first rules words board rack (scored ∷ more) found first is =
-    subst (λ o. IsAnnotation rules words board rack (option_map given_by o)) (sym is)
+    subst (λ o. IsAnnotation rules words board rack (option_map seen_pair o)) (sym is)
     (first_is_best rules words board rack first.all (map seen_pair (scored ∷ more)) first.are_all first.first)
 
 pub best_is_shown : (rules : Rules) (words : List (List ℕ)) (board : List (Option Tile)) (rack : List ℕ) (kept : List (Play × ℤ)) (scored : Play × ℤ) (play : Play) (score : ℤ)
     → AreFirstPlays 1 rules words board rack (map seen_pair kept) → Some scored ≡ slice_get kept 0 → play ≡ scored.0 → score ≡ scored.1
-    → IsAnnotation rules words board rack (Some (given_by (play, score)))
+    → IsAnnotation rules words board rack (Some (seen_pair (play, score)))
 best_is_shown rules words board rack kept scored play score first is same points =
-    subst (λ (p : Play). IsAnnotation rules words board rack (Some (given_by (p, score)))) (sym same)
-    (subst (λ (s : ℤ). IsAnnotation rules words board rack (Some (given_by (scored.0, s)))) (sym points) (best_is_first rules words board rack kept (Some scored) first is))
+    subst (λ (p : Play). IsAnnotation rules words board rack (Some (seen_pair (p, score)))) (sym same)
+    (subst (λ (s : ℤ). IsAnnotation rules words board rack (Some (seen_pair (scored.0, s)))) (sym points) (best_is_first rules words board rack kept (Some scored) first is))
 
 -- the words of a list have two letters or more
 pub long_words : (words : List (List ℕ)) → IsWordList words → AreLong words

@@ -1,14 +1,9 @@
 -- The best plays of a board.
-use Rattle.std.specs.Prelude.{ℕ, ℤ, List, Option}
+use Rattle.std.specs.Prelude.{ℕ, List, Option}
 use Rattle.ref_tiles.specs.declared.tiles.Tile.{Tile}
 use Rattle.ref_tiles.specs.declared.rulebook.Rules.{Rules}
-use Rattle.ref_play.specs.declared.plays.Play.{Play}
 use Rattle.ref_play.specs.Best.{Given, AreAll}
 use Rattle.gen_sinks.specs.Ranks.{ranks_before, AreFirst}
-
--- a play with its score
-abbrev pub given_by : Play × ℤ → Given
-given_by scored = record { dir = scored.0.dir; tiles = scored.0.tiles.items; score = scored.1 }
 
 -- The first so many of all candidates by a rack on a board, in the order of greater score and then of notation: all of
 -- them where they are fewer.

@@ -3,7 +3,7 @@ ghost use Rattle.std.specs.Prelude.{◌≡◌, option_map};
 ghost use Rattle.lex_check.specs.Pairs.{list_in};
 ghost use Rattle.ref_play.specs.Best.{IsAnnotation};
 ghost use Rattle.gen_cross.specs.Values.{IsRight};
-ghost use Rattle.annotator.specs.Keeping.{given_by};
+ghost use Rattle.gen_sinks.specs.Sinks.{seen_pair};
 
 use crate::searching::best_plays;
 use gen_cross::Cross;
@@ -27,7 +27,7 @@ pub fn annotate(
     cross: &Cross,
 ) -> Option<(Play, i32)>
     requires { IsRight rules.now (list_in pair.now) board.old cross.now }
-    ensures annotation { IsAnnotation rules.now (list_in pair.now) board.old rack.now (option_map given_by result) }
+    ensures annotation { IsAnnotation rules.now (list_in pair.now) board.old rack.now (option_map seen_pair result) }
     ensures board { board.new ≡ board.old }
 {
     let best: Best = best_plays(rules, pair, board, rack, cross);

@@ -4,7 +4,8 @@ ghost use Rattle.ref_board.specs.Cells.{empty_board};
 ghost use Rattle.ref_play.specs.{Placements.{with_tiles, without_tiles, HasTiles, EmptiesSquares}, Legality.{IsLegal}, Best.{IsAnnotation}};
 ghost use Rattle.lex_check.specs.Pairs.{list_in};
 ghost use Rattle.gen_cross.specs.Values.{value_at};
-ghost use Rattle.annotator.specs.{Keeping.{given_by}, Tops.{AreTop}};
+ghost use Rattle.gen_sinks.specs.Sinks.{seen_pair};
+ghost use Rattle.annotator.specs.Tops.{AreTop};
 
 use crate::annotating::annotate;
 use crate::crossing::cross_sets;
@@ -93,7 +94,7 @@ impl Follow {
     /// plays that score as much it is the first by its notation.
     pub fn annotate(&self, rules: &Rules, pair: &Checked<'_>, rack: &Counts) -> Option<(Play, i32)>
         requires { Follows rules.now (list_in pair.now) self.now }
-        ensures { IsAnnotation rules.now (list_in pair.now) (board_of self.now) rack.now (option_map given_by result) }
+        ensures { IsAnnotation rules.now (list_in pair.now) (board_of self.now) rack.now (option_map seen_pair result) }
     {
         let mut board = self.board;
         annotate(rules, pair, &mut board, rack, &self.cross)
