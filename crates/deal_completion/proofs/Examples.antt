@@ -1,6 +1,6 @@
 -- Bounds and deals of small games as the definitions give them, computed. A game is given by its steps, worked by hand
 -- from its record; the deals were worked by hand from the rule.
-use Rattle.std.proofs.Common.{◌≡◌, ℕ, true, false, List, [], ◌∷◌, replicate, Some, None, refl, lit<}
+use Rattle.std.proofs.Common.{◌≡◌, ℕ, false, List, [], ◌∷◌, replicate, Some, None, refl, lit<}
 use Rattle.std.specs.Prelude.{codes}
 use Rattle.std.specs.List.{filter_map}
 use Rattle.ref_tiles.specs.Counting.{no_tiles, counted as counts_of}

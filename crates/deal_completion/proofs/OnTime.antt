@@ -8,7 +8,6 @@ use Rattle.gcg_read.specs.declared.events.Seat.{Seat}
 use Rattle.deal_steps.specs.declared.steps.Motion.{Motion}
 use Rattle.deal_steps.specs.declared.steps.Motion.TheVariants as motion
 use Rattle.deal_steps.specs.declared.steps.Act.{Act}
-use Rattle.deal_steps.specs.declared.steps.Act.TheVariants as act
 use Rattle.deal_steps.specs.declared.steps.Step.{Step}
 use Rattle.deal_steps.specs.Piles.{kinds, joined, without}
 use Rattle.deal_steps.specs.Steps.{of_turn, is_by, left_in, needed}

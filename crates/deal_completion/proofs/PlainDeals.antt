@@ -1,9 +1,8 @@
 -- A game without exchanges that exceeds no bound is dealt, and the deal fits.
-use Rattle.std.proofs.Common.{◌≡◌, ◌<◌, ◌≤◌, ℕ, ◌+◌, ◌-◌, Bool, true, false, leb, List, [], ◌∷◌, ◌++◌, get_or, sum, length, Option, Some, None, refl, sym, ap, ◌∙◌, subst, inl, inr, arith}
+use Rattle.std.proofs.Common.{◌≡◌, ◌<◌, ◌≤◌, ℕ, ◌+◌, ◌-◌, Bool, true, false, leb, List, [], ◌∷◌, ◌++◌, get_or, sum, length, Option, Some, None, refl, sym, ap, ◌∙◌, subst, arith}
 use Rattle.std.specs.Prelude.{if◌then◌else◌, IsSomeAnd}
 use Rattle.std.specs.Option.{option_map}
-use Rattle.std.proofs.lemmas.Bool.{cases_lt, and_parts, and_from, leb-true}
-use Rattle.std.proofs.lemmas.List.{get_or_past}
+use Rattle.std.proofs.lemmas.Bool.{and_parts, and_from, leb-true}
 use Rattle.ref_tiles.specs.Counting.{no_tiles, IsContainedIn}
 use Rattle.ref_tiles.specs.Limits.{most_tiles}
 use Rattle.ref_tiles.specs.declared.rulebook.Rules.{Rules}
@@ -33,7 +32,7 @@ use Rattle.deal_completion.proofs.DealStates.{IsWhole, IsDealtFitting}
 use Rattle.deal_completion.proofs.DealLaws.{within_test, rack_with, rack_beside, rack_long, draw_keeps, acted_whole, start_whole}
 use Rattle.deal_completion.proofs.OnTime.{drawn_at, drawn_in, to_come, IsOnTime, is_met_on_time, IsCovered}
 use Rattle.deal_completion.proofs.Starting.{past_with, IsSized, on_time_at_start, known_if_plain, covered_at_start}
-use Rattle.deal_completion.proofs.ReadySteps.{all_there, within_is, shown_there, on_time_same, covered_same, covered_swapped, with_none, needed_is, drawn_split, bag_lasts, draws_well, IsReady, either_same, ready_by}
+use Rattle.deal_completion.proofs.ReadySteps.{all_there, contained, within_is, shown_there, on_time_same, covered_same, covered_swapped, with_none, needed_is, drawn_split, bag_lasts, draws_well, IsReady, either_same, ready_by}
 
 -- ---- moments are met
 
@@ -86,12 +85,6 @@ met_by player (act.Ends holder tiles) rules c s rest h by is ready whole may are
 met_by player act.Rests rules c s rest h by is ready whole may are = refl
 
 -- ---- the racks fit
-
-contained : (tiles rack : List ℕ) → length tiles ≡ 27 → ((k : ℕ) → k < 27 → get_or tiles k 0 ≤ get_or rack k 0) → IsContainedIn tiles rack
-contained tiles rack long le k = elim (cases_lt k 27) [
-  | inl below ↦ le k below
-  | inr past ↦ let e = get_or_past tiles k 0 (omega arith) in omega arith
-]
 
 none_contained : (rack : List ℕ) → IsContainedIn no_tiles rack
 none_contained rack = contained no_tiles rack length-no_tiles (λ k h. omega (arith, get-no_tiles k h))

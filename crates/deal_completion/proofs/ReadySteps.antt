@@ -1,9 +1,10 @@
 -- Every step of a game without exchanges leaves the bag and the racks ready for the steps to come.
-use Rattle.std.proofs.Common.{◌≡◌, ◌<◌, ◌≤◌, ℕ, ◌+◌, ◌-◌, Bool, true, false, leb, List, [], ◌∷◌, ◌++◌, replicate, get_or, sum, length, refl, sym, ap, ◌∙◌, subst, arith, zero, suc}
+use Rattle.std.proofs.Common.{◌≡◌, ◌<◌, ◌≤◌, ℕ, ◌+◌, ◌-◌, Bool, true, false, IsTrue, ◌↔◌, leb, List, [], ◌∷◌, ◌++◌, replicate, get_or, sum, length, refl, sym, ap, ◌∙◌, subst, inl, inr, arith, zero, suc}
 use Rattle.std.specs.Prelude.{if◌then◌else◌}
 use Rattle.std.specs.List.{list_all, range_with_len}
-use Rattle.std.proofs.lemmas.Bool.{and_from, le-leb}
-use Rattle.ref_tiles.specs.Counting.{no_tiles}
+use Rattle.std.proofs.lemmas.Bool.{cases_lt, and_from, le-leb}
+use Rattle.std.proofs.lemmas.List.{get_or_past}
+use Rattle.ref_tiles.specs.Counting.{no_tiles, IsContainedIn}
 use Rattle.ref_tiles.specs.declared.rulebook.Rules.{Rules}
 use Rattle.gcg_read.specs.declared.events.Seat.{Seat}
 use Rattle.gcg_read.specs.declared.events.Seat.TheVariants.{First, Second}
@@ -86,6 +87,21 @@ pub within_is : (tiles others : List ℕ) → ((k : ℕ) → k < 27 → get_or t
 unfolding kinds
 within_is tiles others le =
     all_range (λ k. leb (get_or tiles k 0) (get_or others k 0)) 0 27 (λ k h. le-leb (get_or tiles k 0) (get_or others k 0) (le k (omega arith)))
+
+pub contained : (tiles rack : List ℕ) → length tiles ≡ 27 → ((k : ℕ) → k < 27 → get_or tiles k 0 ≤ get_or rack k 0) → IsContainedIn tiles rack
+contained tiles rack long le k = elim (cases_lt k 27) [
+  | inl below ↦ le k below
+  | inr past ↦ let e = get_or_past tiles k 0 (omega arith) in omega arith
+]
+
+-- what tells whether tiles are contained in others is the test
+pub fits_within : (b : Bool) (tiles others : List ℕ) → length tiles ≡ 27 → IsTrue b ↔ IsContainedIn tiles others → b ≡ is_within tiles others
+fits_within b tiles others long fits = by b refl (is_within tiles others) refl
+  where
+    by : (x : Bool) → b ≡ x → (y : Bool) → is_within tiles others ≡ y → b ≡ is_within tiles others
+    by true e y f = e ∙ sym (within_is tiles others (λ k h. fits.0 e k))
+    by false e true f = fits.1 (contained tiles others long (within_test tiles others f)) ∙ sym f
+    by false e false f = e ∙ sym f
 
 -- what a turn shows and what it uses is on the rack, where the moment is met
 pub shown_there : (shown used rack : List ℕ) → is_within (greater shown used) rack ≡ true → (k : ℕ) → k < 27

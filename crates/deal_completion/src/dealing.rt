@@ -11,7 +11,7 @@ use crate::drawing::{chosen, draw, exchange};
 use crate::hands::Hands;
 use deal_steps::{Act, Deal, Held, Motion, Racks, Step, are_small, greater, used_by};
 use gcg_read::Seat;
-use ref_tiles::{Counts, KINDS, Rules};
+use ref_tiles::{Counts, Rules};
 use std::alloc::{AllocError, Global};
 
 /// The tiles that a turn throws.
@@ -84,18 +84,13 @@ fn acted(
 }
 
 /// Whether the first tiles are among the second.
-#[tactic(auto, unfolding(deal_steps::specs::Piles::kinds))]
+#[tactic(auto, using(crate::proofs::ReadySteps::fits_within))]
 fn is_within(tiles: &Counts, others: &Counts) -> bool
     ensures { result ≡ is_within tiles.now others.now }
 {
-    let few = tiles.numbers();
-    let many = others.numbers();
-    for kind in 0..KINDS {
-        if many[kind] < few[kind] {
-            return false;
-        }
-    }
-    true
+    // What reads the numbers of tiles knows how many kinds there are.
+    let _numbers = tiles.numbers();
+    tiles.fits(others)
 }
 
 /// Whether a rack has what a moment shows, and no more where it is a last rack.
