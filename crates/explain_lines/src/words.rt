@@ -2,11 +2,12 @@
 
 use crate::parts::{Part, say};
 use crate::sheets::Sheet;
+use game_board::tile_mark;
 use game_facts::{ScoredWord, WordSquare, scored_words};
 use game_turns::legal_play;
 use ref_board::{Board, Dir, Square};
 use ref_play::{RACK, Word, bonus_score, score, words};
-use ref_tiles::{Kind, Premium, Symbol, Tile};
+use ref_tiles::{Premium, Symbol};
 use std::alloc::AllocError;
 
 /// Appends the words of the play that a text names on a board, where it is legal: of each word its squares and its sum, the bonus,
@@ -74,14 +75,6 @@ fn push_letters(text: &mut Vec<u8>, sheet: &Sheet<'_>, letters: &Word) -> Result
     }
 }
 
-/// The letter that a tile shows: a capital for a letter tile, a small one for a blank.
-fn letter_of(tile: &Tile) -> u8 {
-    match tile.kind {
-        Kind::Letter(_) => Symbol::Letter(tile.shown).byte(),
-        Kind::Blank => Symbol::Blank(tile.shown).byte(),
-    }
-}
-
 /// What is said of the premium that counts on a square.
 fn premium_words(premium: Premium) -> &'static str {
     match premium {
@@ -104,7 +97,7 @@ fn push_square(text: &mut Vec<u8>, square: &WordSquare) -> Result<(), AllocError
             Part::Say("  "),
             Part::At(square.square),
             Part::Say(" "),
-            Part::Letter(letter_of(&tile)),
+            Part::Letter(tile_mark(&tile)),
             Part::Say(" "),
             Part::Many(square.points as usize),
         ],

@@ -11,7 +11,7 @@ mod texts;
 mod tiles;
 
 pub use laying::{Laying, lay_plays};
-pub use marks::square_mark;
+pub use marks::{square_mark, tile_mark};
 pub use places::place_of_line;
 pub use texts::board_text;
 pub use tiles::tiles_off;

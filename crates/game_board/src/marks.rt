@@ -5,7 +5,8 @@ ghost use Rattle.ref_play.specs.Notations.{symbol_by};
 ghost use Rattle.game_board.specs.Marks.{premium_mark, square_mark};
 
 use ref_board::{Board, Square};
-use ref_tiles::{Kind, Premium, Rules, Symbol, Tile};
+use ref_play::symbol_by;
+use ref_tiles::{Premium, Rules, Tile};
 
 /// The mark of a premium.
 fn premium_mark(premium: Premium) -> u8
@@ -21,13 +22,10 @@ fn premium_mark(premium: Premium) -> u8
 }
 
 /// The letter that a tile shows: a capital for a letter tile, a small one for a blank.
-fn tile_mark(tile: &Tile) -> u8
+pub fn tile_mark(tile: &Tile) -> u8
     ensures { result ≡ byte_of (symbol_by tile.now.kind tile.now.shown) }
 {
-    match tile.kind {
-        Kind::Letter(_) => Symbol::Letter(tile.shown).byte(),
-        Kind::Blank => Symbol::Blank(tile.shown).byte(),
-    }
+    symbol_by(tile).byte()
 }
 
 /// The mark of a square: its tile by the letter that it shows, a capital for a letter tile and a small one for a blank; where

@@ -4,8 +4,9 @@ ghost use Rattle.std.specs.Prelude.{◌<◌};
 use crate::pieces::{Piece, write};
 use crate::sheets::Sheet;
 use explain_lines::Stretch;
+use game_board::tile_mark;
 use ref_board::{Board, Dir, SIDE, Square};
-use ref_tiles::{Kind, Premium, Symbol, Tile};
+use ref_tiles::{Kind, Premium};
 use std::alloc::AllocError;
 
 /// A board, and which of its squares are marked.
@@ -47,14 +48,6 @@ fn tile_begin(kind: Kind, is_marked: bool) -> &'static str {
     }
 }
 
-/// The letter that a tile shows: a capital for a letter tile and a small one for a blank.
-fn letter_of(tile: &Tile) -> u8 {
-    match tile.kind {
-        Kind::Letter(_) => Symbol::Letter(tile.shown).byte(),
-        Kind::Blank => Symbol::Blank(tile.shown).byte(),
-    }
-}
-
 /// Whether a square has a new tile, or is one of a play that cannot be laid.
 fn is_marked(picture: &Picture<'_>, square: Square) -> bool {
     match picture.marked {
@@ -75,7 +68,7 @@ fn push_square(
         let premium = rules.premium(square.number());
         return page.extend_from_slice(empty_square(premium, is_marked).as_bytes());
     };
-    let letter = [letter_of(&tile)];
+    let letter = [tile_mark(&tile)];
     write(
         picture.sheet.alloc,
         page,

@@ -28,4 +28,4 @@ pub use runs::Run;
 pub use scoring::{bonus_score, points_on, run_score, score, words_factor};
 pub use spelling::{Word, Words, words};
 pub use texts::{along, from_text, placement_of, shortened, symbol_fits};
-pub use writing::{before, notation};
+pub use writing::{before, notation, symbol_by};

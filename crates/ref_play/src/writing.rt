@@ -13,8 +13,8 @@ use arrayvec::ArrayVec;
 use ref_board::{Board, Dir, SIDE, Square};
 use ref_tiles::{Kind, Symbol, Tile};
 
-/// The symbol of a new tile: a capital for a letter, and a small letter for a blank.
-fn symbol_by(tile: &Tile) -> Symbol
+/// The symbol of a tile: a capital for a letter tile, and for a blank the small letter that it shows.
+pub fn symbol_by(tile: &Tile) -> Symbol
     ensures { result ≡ symbol_by tile.now.kind tile.now.shown }
 {
     match tile.kind {
