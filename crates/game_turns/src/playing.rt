@@ -101,20 +101,20 @@ pub fn board_before(
 /// they do not allow, and the first check that fails there.
 pub fn play_through<'a>(
     rules: &'a Rules,
-    record: &'a Record,
+    game: &'a Record,
     list: &'a WordList,
 ) -> Result<Passed<'a>, Refusal>
-    ensures passed { IsOk result ↔ AreAllowed rules.now list.now record.now.events }
+    ensures passed { IsOk result ↔ AreAllowed rules.now list.now game.now.events }
     ensures rules { IfOk result (λ passed. rules_in passed ≡ rules.now) }
-    ensures record { IfOk result (λ passed. record_in passed ≡ record.now) }
+    ensures record { IfOk result (λ passed. record_in passed ≡ game.now) }
     ensures list { IfOk result (λ passed. list_in passed ≡ list.now) }
-    ensures refused { IfErr result (λ r. IsFirstRefusal rules.now list.now record.now.events r.line r.fault) }
+    ensures refused { IfErr result (λ r. IsFirstRefusal rules.now list.now game.now.events r.line r.fault) }
 {
-    let events = record.events.as_slice();
+    let events = game.events.as_slice();
     let machine = play_events(rules, events, list, events.len())?;
     Ok(Passed {
         rules,
-        record,
+        record: game,
         list,
         complete: machine.finished(),
     })
