@@ -1,14 +1,15 @@
 -- Words of a file as the code reads them.
-use Rattle.std.proofs.Common.{◌≡◌, ℕ, zero, suc, ◌+◌, ◌*◌, ◌-◌, ◌/◌, ◌<◌, ◌≤◌, arith, List, [], ◌∷◌, length, get_or, drop, drop-cons, eq-eqb, ◌%◌, ◌≢◌, add-one, refl, sym, ap, ◌∙◌, true, false, eqb, Some, None}
-use Rattle.std.proofs.Common.{inl, inr, eqb, ltb, leb, le-leb}
+use Rattle.std.proofs.Common.{◌≡◌, ℕ, zero, suc, ◌+◌, ◌*◌, ◌-◌, ◌/◌, ◌<◌, ◌≤◌, arith, Bool, List, [], ◌∷◌, length, get_or, drop, drop-cons, ◌≢◌, add-one, refl, sym, ap, ◌∙◌, true, false, eqb, Some, None}
+use Rattle.std.proofs.Common.{inl, inr}
+use Rattle.std.specs.List.{find}
 use Rattle.std.proofs.Math.ListN.{drop_of_length-le}
-use Rattle.std.proofs.lemmas.Bool.{ltb-true, lt-leb, and_parts}
 use Rattle.std.proofs.lemmas.Bool.Decides.{eqb_tells}
 use Rattle.byteorder.specs.Endian.{little_number}
+use Rattle.lex_file.specs.declared.arcs.Arc.{Arc}
 use Rattle.lex_file.specs.FileWords.{words_in}
 pub use Rattle.lex_file.specs.SoundFiles.{sizes}
-use Rattle.lex_file.specs.Arcs.{arc_of, is_last, arc_with, arc_from}
-use Rattle.lex_file.specs.Nodes.{run_of, node_at, is_node, begins}
+use Rattle.lex_file.specs.Arcs.{arc_of, is_last}
+use Rattle.lex_file.specs.Nodes.{run_of, node_at}
 
 pub count : (bytes : List ℕ) → length bytes / 4 ≡ length (words_in bytes)
 count bytes = let s = sizes bytes in omega arith
@@ -35,79 +36,38 @@ word (a ∷ b ∷ c ∷ d ∷ rest) (suc place) lt = ap (little_number 4) (drop_
 
 -- ---- going over the arcs of a node
 
-pub node_starts : (words : List ℕ) (node label : ℕ) → 0 < node → arc_with label (node_at words node) ≡ arc_with label (run_of (drop (node - 1) words))
-node_starts words zero label lt = absurd (omega arith)
-node_starts words (suc place) label lt = let e : suc place - 1 ≡ place = omega arith in rw e refl
-
 pub not_equal : (a b : ℕ) → a ≢ b → eqb a b ≡ false
 not_equal a b apart = elim (eqb_tells a b) [ inl same ↦ absurd (apart same.1) | inr other ↦ other.0 ]
 
-pub here : (words : List ℕ) (place label : ℕ) → place < length words → (arc_of (get_or words place 0)).label ≡ label
-    → arc_with label (run_of (drop place words)) ≡ Some (arc_of (get_or words place 0))
+pub starts_at : (words : List ℕ) (number : ℕ) (wanted : Arc → Bool) → 0 < number → find wanted (node_at words number) ≡ find wanted (run_of (drop (number - 1) words))
+starts_at words zero wanted lt = absurd (omega arith)
+starts_at words (suc place) wanted lt = let e : suc place - 1 ≡ place = omega arith in rw e refl
+
+pub found_here : (words : List ℕ) (place : ℕ) (wanted : Arc → Bool) → place < length words → wanted (arc_of (get_or words place 0)) ≡ true
+    → find wanted (run_of (drop place words)) ≡ Some (arc_of (get_or words place 0))
 unfolding run_of
-here words place label lt e =
-    let t : eqb (get_or words place 0 % 32) label ≡ true = eq-eqb (get_or words place 0 % 32) label e in
-    rw (drop-cons words place 0) (rw t refl)
+found_here words place wanted lt is = rw (drop-cons words place 0) (rw is refl)
 
-pub further : (words : List ℕ) (place label : ℕ) → place < length words → (arc_of (get_or words place 0)).label ≢ label
-    → is_last (get_or words place 0) ≡ false → arc_with label (run_of (drop place words)) ≡ arc_with label (run_of (drop (place + 1) words))
+pub goes_on : (words : List ℕ) (place : ℕ) (wanted : Arc → Bool) → place < length words → wanted (arc_of (get_or words place 0)) ≡ false
+    → is_last (get_or words place 0) ≡ false → find wanted (run_of (drop place words)) ≡ find wanted (run_of (drop (place + 1) words))
 unfolding run_of
-further words place label lt e last =
-    let t : eqb (get_or words place 0 % 32) label ≡ false = not_equal (get_or words place 0 % 32) label e in
-    rw (drop-cons words place 0) (rw (t, last, add-one) refl)
+goes_on words place wanted lt apart last = rw (drop-cons words place 0) (rw (apart, last, add-one) refl)
 
-pub ends : (words : List ℕ) (place label : ℕ) → place < length words → (arc_of (get_or words place 0)).label ≢ label
-    → is_last (get_or words place 0) ≡ true → arc_with label (run_of (drop place words)) ≡ None
+pub ends_here : (words : List ℕ) (place : ℕ) (wanted : Arc → Bool) → place < length words → wanted (arc_of (get_or words place 0)) ≡ false
+    → is_last (get_or words place 0) ≡ true → find wanted (run_of (drop place words)) ≡ None
 unfolding run_of
-ends words place label lt e last =
-    let t : eqb (get_or words place 0 % 32) label ≡ false = not_equal (get_or words place 0 % 32) label e in
-    rw (drop-cons words place 0) (rw (t, last) refl)
+ends_here words place wanted lt apart last = rw (drop-cons words place 0) (rw (apart, last) refl)
 
-pub past : (words : List ℕ) (place label : ℕ) → length words ≤ place → arc_with label (run_of (drop place words)) ≡ None
+pub past_all : (words : List ℕ) (place : ℕ) (wanted : Arc → Bool) → length words ≤ place → find wanted (run_of (drop place words)) ≡ None
 unfolding run_of
-past words place label le = rw (drop_of_length-le words le) refl
-
--- ---- going over them up to a label
-
-pub node_starts_from : (words : List ℕ) (node label : ℕ) → 0 < node → arc_from label (node_at words node) ≡ arc_from label (run_of (drop (node - 1) words))
-node_starts_from words zero label lt = absurd (omega arith)
-node_starts_from words (suc place) label lt = let e : suc place - 1 ≡ place = omega arith in rw e refl
-
-pub here_from : (words : List ℕ) (place label : ℕ) → place < length words → label ≤ (arc_of (get_or words place 0)).label
-    → arc_from label (run_of (drop place words)) ≡ Some (arc_of (get_or words place 0))
-unfolding run_of
-here_from words place label lt le =
-    let t : leb label (get_or words place 0 % 32) ≡ true = le-leb label (get_or words place 0 % 32) le in
-    rw (drop-cons words place 0) (rw t refl)
-
-pub further_from : (words : List ℕ) (place label : ℕ) → place < length words → (arc_of (get_or words place 0)).label < label
-    → is_last (get_or words place 0) ≡ false → arc_from label (run_of (drop place words)) ≡ arc_from label (run_of (drop (place + 1) words))
-unfolding run_of
-further_from words place label lt less last =
-    let t : leb label (get_or words place 0 % 32) ≡ false = lt-leb label (get_or words place 0 % 32) less in
-    rw (drop-cons words place 0) (rw (t, last, add-one) refl)
-
-pub ends_from : (words : List ℕ) (place label : ℕ) → place < length words → (arc_of (get_or words place 0)).label < label
-    → is_last (get_or words place 0) ≡ true → arc_from label (run_of (drop place words)) ≡ None
-unfolding run_of
-ends_from words place label lt less last =
-    let t : leb label (get_or words place 0 % 32) ≡ false = lt-leb label (get_or words place 0 % 32) less in
-    rw (drop-cons words place 0) (rw (t, last) refl)
-
-pub past_from : (words : List ℕ) (place label : ℕ) → length words ≤ place → arc_from label (run_of (drop place words)) ≡ None
-unfolding run_of
-past_from words place label le = rw (drop_of_length-le words le) refl
+past_all words place wanted le = rw (drop_of_length-le words le) refl
 
 -- what is left of a node behind an arc
-pub left_more : (words : List ℕ) (place label : ℕ) → place < length words → (arc_of (get_or words place 0)).label < label
-    → is_last (get_or words place 0) ≡ false → arc_from label (run_of (drop place words)) ≡ arc_from label (node_at words (place + 2))
-left_more words place label lt less last =
+pub left_more : (words : List ℕ) (place : ℕ) (wanted : Arc → Bool) → place < length words → wanted (arc_of (get_or words place 0)) ≡ false
+    → is_last (get_or words place 0) ≡ false → find wanted (run_of (drop place words)) ≡ find wanted (node_at words (place + 2))
+left_more words place wanted lt apart last =
     let e : place + 2 ≡ suc (place + 1) = omega arith in
-    further_from words place label lt less last ∙ ap (λ (n : ℕ). arc_from label (node_at words n)) (sym e)
-
-pub inside_node : (words : List ℕ) (node : ℕ) → is_node words node ≡ true → 0 < node → node ≤ length words
-inside_node words zero is lt = absurd (omega arith)
-inside_node words (suc place) is lt = omega (arith, ltb-true place (length words) (and_parts (ltb place (length words)) (begins words place) is).0)
+    goes_on words place wanted lt apart last ∙ ap (λ (n : ℕ). find wanted (node_at words n)) (sym e)
 
 -- a header has four words
 pub header_words : (bytes : List ℕ) → 16 ≤ length bytes → 4 ≤ length (words_in bytes)

@@ -1,7 +1,9 @@
 -- Arcs of a compiled lexicon, whatever the format that stores them.
-use Rattle.std.specs.Prelude.{ℕ, ◌/◌, ◌%◌, Bool, false, ◌==◌, nat_le, List, Option, Some, None}
+use Rattle.std.specs.Prelude.{◌≡◌, ℕ, ◌/◌, ◌%◌, ◌<◌, Bool, false, ◌==◌, nat_le, List, Option, Some, None}
 use Rattle.std.specs.List.{find}
 use Rattle.lex_file.specs.declared.arcs.Arc.{Arc}
+use Rattle.lex_file.specs.declared.arcs.Sought.{Sought}
+use Rattle.lex_file.specs.declared.arcs.Sought.TheVariants.{Exactly, AtLeast}
 
 -- the arc that a word of a GAD1 file stores: bits 0 to 4 the label, bit 5 accepts, bits 7 to 31 the target
 abbrev pub arc_of : ℕ → Arc
@@ -24,6 +26,15 @@ reaches label arc = nat_le label arc.label
 -- the first of some arcs with this label or a higher one
 abbrev pub arc_from : ℕ → List Arc → Option Arc
 arc_from label arcs = find (reaches label) arcs
+
+-- whether an arc is one that is sought
+abbrev pub is_sought : Sought → Arc → Bool
+is_sought (Exactly label) = has_label label
+is_sought (AtLeast label) = reaches label
+
+-- each arc that is passed over has a label below this one
+abbrev pub PassesBelow : Sought → ℕ → Type 0
+PassesBelow sought above = (arc : Arc) → is_sought sought arc ≡ false → arc.label < above
 
 -- whether the string that ends with this arc is in the set
 abbrev pub accepts_of : Option Arc → Bool

@@ -12,6 +12,15 @@ pub struct Arc {
     pub target: u32,
 }
 
+/// Which arc of a node is sought, by its label.
+#[derive(Clone, Copy)]
+pub enum Sought {
+    /// The one with this label.
+    Exactly(u8),
+    /// The first one with this label or a higher one.
+    AtLeast(u8),
+}
+
 /// An arc of a node, and where its node goes on behind it.
 #[derive(Clone, Copy)]
 pub struct ArcOn {
@@ -19,6 +28,21 @@ pub struct ArcOn {
     pub arc: Arc,
     /// The number of the arc behind it, 0 where it is the last of its node.
     pub rest: usize,
+}
+
+impl Sought {
+    ghost use Rattle.lex_file.specs.Arcs.{is_sought};
+
+    /// Whether an arc is one that is sought.
+    #[inline(always)]
+    pub(crate) fn is_met_by(self, arc: Arc) -> bool
+        ensures { result ≡ is_sought self arc }
+    {
+        match self {
+            Sought::Exactly(label) => arc.label == label,
+            Sought::AtLeast(label) => label <= arc.label,
+        }
+    }
 }
 
 impl Arc {

@@ -2,13 +2,13 @@
 ghost use Rattle.std.specs.Prelude.{◌≡◌, Some, IsTrue, is_none};
 ghost use Rattle.lex_file.specs.Shapes.{fault_of, format_of};
 
-use crate::arcs::{Arc, ArcOn};
+use crate::arcs::{Arc, ArcOn, Sought};
 use crate::faults::FileFault;
 use crate::formats::{Format, HEADER_BYTES};
 use crate::lexicons::{Branch, Onward, PathLex, Step};
 use crate::masks::{arc_from_mask, arc_with_mask, count_labels, is_mask_node};
 use crate::opening::check_form;
-use crate::reading::{arc_from, arc_on, arc_with, is_node, word_at, word_count};
+use crate::reading::{find_arc, is_node, word_at, word_count};
 
 /// A node of a compiled lexicon, given by its file.
 #[derive(Clone, Copy, Debug, PartialEq, Eq)]
@@ -139,7 +139,10 @@ impl<'a> LexFile<'a> {
         ensures { result ≡ arc_with label (file_node (bytes_of self.now) node.first) }
     {
         match self.format {
-            Format::Gad1 => arc_with(self.body(), node.first, label),
+            Format::Gad1 => {
+                let on = find_arc(self.body(), node.first as usize, Sought::Exactly(label))?;
+                Some(on.arc)
+            }
             Format::Gad2 => arc_with_mask(self.body(), node.first, label),
         }
     }
@@ -149,10 +152,10 @@ impl<'a> LexFile<'a> {
         requires { IsTrue (is_file_node (bytes_of self.now) (number_of node)) }
         ensures { result ≡ arc_from label (file_node (bytes_of self.now) (number_of node)) }
     {
-        match self.format {
-            Format::Gad1 => arc_from(self.body(), node.first, label),
-            Format::Gad2 => arc_from_mask(self.body(), node.first, label),
-        }
+        let Some(on) = self.arc_on(node, label, node.first as usize) else {
+            return None;
+        };
+        Some(on.arc)
     }
 
     /// The first stored arc of one of the file's nodes whose label is this one or a higher one, and what is left of the node
@@ -166,7 +169,7 @@ impl<'a> LexFile<'a> {
         ensures rest { IfSome result (λ on. IsRest (bytes_of self.now) node.first (on.arc.label + 1) on.rest) }
     {
         match self.format {
-            Format::Gad1 => arc_on(self.body(), rest, label),
+            Format::Gad1 => find_arc(self.body(), rest, Sought::AtLeast(label)),
             Format::Gad2 => match arc_from_mask(self.body(), node.first, label) {
                 Some(arc) => Some(ArcOn {
                     arc,

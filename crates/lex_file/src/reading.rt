@@ -1,10 +1,11 @@
 //! The words of 32 bits of a file, and the arcs and masks that they hold.
-ghost use Rattle.std.specs.Prelude.{◌≡◌, ◌+◌, ◌*◌, ◌^◌, ◌<◌, ◌≤◌, ℕ, None, Some, IfNone, IfSome, IsTrue, length, slice_index};
+ghost use Rattle.std.specs.Prelude.{◌≡◌, ◌^◌, ◌<◌, ◌≤◌, ℕ, None, Some, IfNone, IfSome, length, slice_index};
+ghost use Rattle.std.specs.List.{find};
 ghost use Rattle.lex_file.specs.FileWords.{words_in};
-ghost use Rattle.lex_file.specs.Arcs.{arc_with, arc_from, is_last};
+ghost use Rattle.lex_file.specs.Arcs.{arc_from, is_last, is_sought, PassesBelow};
 ghost use Rattle.lex_file.specs.Nodes.{begins, is_first, is_node, node_at};
 
-use crate::arcs::{Arc, ArcOn};
+use crate::arcs::{Arc, ArcOn, Sought};
 use byteorder::{ByteOrder, LittleEndian};
 
 /// The number of words of 32 bits in some bytes.
@@ -64,57 +65,13 @@ pub fn is_node(arcs: &[u8], number: u32) -> bool
     is_first(arcs, number)
 }
 
-/// The arc of a node with a label.
-#[tactic(auto, using(crate::proofs::Runs::node_starts, crate::proofs::Runs::here, crate::proofs::Runs::further, crate::proofs::Runs::ends, crate::proofs::Runs::past, crate::proofs::Runs::inside_node))]
-pub fn arc_with(arcs: &[u8], node: u32, label: u8) -> Option<Arc>
-    requires { IsTrue (is_node (words_in arcs.now) node) }
-    ensures { result ≡ arc_with label (node_at (words_in arcs.now) node) }
-{
-    if node == 0 {
-        return None;
-    }
-    for place in node as usize - 1..word_count(arcs) {
-        let word = word_at(arcs, place);
-        let arc = Arc::of_word(word);
-        if arc.label == label {
-            return Some(arc);
-        }
-        if is_last(word) {
-            return None;
-        }
-    }
-    None
-}
-
-/// The first arc of a node whose label is this one or a higher one.
-#[tactic(auto, using(crate::proofs::Runs::node_starts_from, crate::proofs::Runs::here_from, crate::proofs::Runs::further_from, crate::proofs::Runs::ends_from, crate::proofs::Runs::past_from, crate::proofs::Runs::inside_node))]
-pub fn arc_from(arcs: &[u8], node: u32, label: u8) -> Option<Arc>
-    requires { IsTrue (is_node (words_in arcs.now) node) }
-    ensures { result ≡ arc_from label (node_at (words_in arcs.now) node) }
-{
-    if node == 0 {
-        return None;
-    }
-    for place in node as usize - 1..word_count(arcs) {
-        let word = word_at(arcs, place);
-        let arc = Arc::of_word(word);
-        if arc.label >= label {
-            return Some(arc);
-        }
-        if is_last(word) {
-            return None;
-        }
-    }
-    None
-}
-
-/// The first arc from an arc on, in its node, whose label is this one or a higher one.
-#[tactic(auto, using(crate::proofs::Runs::node_starts_from, crate::proofs::Runs::here_from, crate::proofs::Runs::past_from))]
+/// The first arc that is sought, from an arc on in its node, and where the node goes on behind it.
+#[tactic(auto, using(crate::proofs::Runs::starts_at, crate::proofs::Runs::found_here, crate::proofs::Runs::past_all))]
 #[inline(always)]
-pub fn arc_on(arcs: &[u8], number: usize, label: u8) -> Option<ArcOn>
-    ensures none { IfNone result (arc_from label (node_at (words_in arcs.now) number) ≡ None) }
-    ensures arc { IfSome result (λ on. arc_from label (node_at (words_in arcs.now) number) ≡ Some on.arc) }
-    ensures rest { IfSome result (λ on. (above : ℕ) → on.arc.label < above → arc_from above (node_at (words_in arcs.now) number) ≡ arc_from above (node_at (words_in arcs.now) on.rest)) }
+pub fn find_arc(arcs: &[u8], number: usize, sought: Sought) -> Option<ArcOn>
+    ensures none { IfNone result (find (is_sought sought) (node_at (words_in arcs.now) number) ≡ None) }
+    ensures arc { IfSome result (λ on. find (is_sought sought) (node_at (words_in arcs.now) number) ≡ Some on.arc) }
+    ensures rest { IfSome result (λ on. (above : ℕ) → PassesBelow sought above → on.arc.label < above → arc_from above (node_at (words_in arcs.now) number) ≡ arc_from above (node_at (words_in arcs.now) on.rest)) }
 {
     if number == 0 {
         return None;
@@ -123,7 +80,7 @@ pub fn arc_on(arcs: &[u8], number: usize, label: u8) -> Option<ArcOn>
         let word = word_at(arcs, place);
         let arc = Arc::of_word(word);
         let last = is_last(word);
-        if label <= arc.label {
+        if sought.is_met_by(arc) {
             let rest = if last { 0 } else { place + 2 };
             return Some(ArcOn { arc, rest });
         }

@@ -5,6 +5,7 @@ use Rattle.lex_file.specs.FileWords.{words_in}
 use Rattle.lex_file.specs.Arcs as arcs
 use Rattle.lex_file.specs.Nodes.{node_at}
 use Rattle.lex_file.proofs.Views.{nodes_are, mask_room, if_none, if_some, both_some, rest_has, rest_of_rest}
+use Rattle.std.proofs.lemmas.Bool.{leb-false}
 use Rattle.lex_file.proofs.Walks.{branch_reached}
 use Rattle.lex_file.proofs.files.LexFile.arc_on.Goals as goal
 
@@ -13,23 +14,24 @@ arc_from_mask-requires c = mask_room c.args.self.now c.args.node.first c.body-in
 
 pub returns-in-Gad1-clause-none : goal.returns-in-Gad1-clause-none
 returns-in-Gad1-clause-none c =
-    if_none c.arc_on.result _ _
+    if_none c.find_arc.result _ _
     (λ none. rest_has c.args.self.now c.args.node.first c.args.label c.args.rest c.body.result.now c.in-Gad1.is c.body.ensures c.requires.rest c.args.label (omega arith) ∙ none)
-    c.arc_on.ensures.none
+    c.find_arc.ensures.none
 
 pub returns-in-Gad1-clause-arc : goal.returns-in-Gad1-clause-arc
 returns-in-Gad1-clause-arc c =
-    if_some c.arc_on.result _ _
+    if_some c.find_arc.result _ _
     (λ on is. rest_has c.args.self.now c.args.node.first c.args.label c.args.rest c.body.result.now c.in-Gad1.is c.body.ensures c.requires.rest c.args.label (omega arith) ∙ is)
-    c.arc_on.ensures.arc
+    c.find_arc.ensures.arc
 
 pub returns-in-Gad1-clause-rest : goal.returns-in-Gad1-clause-rest
 returns-in-Gad1-clause-rest c =
-    both_some c.arc_on.result _ _ _
+    both_some c.find_arc.result _ _ _
     (λ on is behind.
+    let reached = branch_reached c.args.label (node_at (words_in c.body.result.now) c.args.rest) on.arc is in
     rest_of_rest c.args.self.now c.args.node.first c.args.label c.args.rest on.arc.label on.rest c.body.result.now c.in-Gad1.is c.body.ensures c.requires.rest
-    (branch_reached c.args.label (node_at (words_in c.body.result.now) c.args.rest) on.arc is) behind)
-    c.arc_on.ensures.arc c.arc_on.ensures.rest
+    reached (λ above less. behind above (λ arc passed. let below = leb-false c.args.label arc.label passed in omega (arith, below, reached, less)) less))
+    c.find_arc.ensures.arc c.find_arc.ensures.rest
 
 pub returns-in-Some-clause-arc : goal.returns-in-Some-clause-arc
 returns-in-Some-clause-arc c =
