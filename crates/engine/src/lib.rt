@@ -50,6 +50,7 @@ pub use entries::{Entry, archive_entry};
 pub use explains::{Case, case_line, case_verdict, finding_line, open_case};
 pub use faults::RunFault;
 pub use findings::Finding;
+pub use game_report::MOST_PLAYS;
 pub use games::{decide_by_pair, decide_by_rules, decide_game};
 pub use judging::Judging;
 pub use laws::{

@@ -79,7 +79,7 @@ pub fn top_report(
 }
 
 /// How many plays [`best_lines`] gives at the most.
-pub const MOST: usize = 100;
+pub const MOST_PLAYS: usize = 100;
 
 /// Up to so many plays are found with room for no more, since a search that keeps few plays leaves out more.
 const FEW: usize = 10;
@@ -127,6 +127,6 @@ pub fn best_lines(
         let few: Top<FEW> = top_many(rules, pair, board, rack);
         return front_lines(alloc, board, few.items(), number);
     }
-    let many: Top<MOST> = top_many(rules, pair, board, rack);
+    let many: Top<MOST_PLAYS> = top_many(rules, pair, board, rack);
     front_lines(alloc, board, many.items(), number)
 }

@@ -11,3 +11,4 @@ mod values;
 
 pub use crosses::Cross;
 pub use laws::{law_of_crosses, law_of_renewing};
+pub use masks::LETTERS;

@@ -6,10 +6,7 @@ ghost use Rattle.gen_line.specs.Model.{shows};
 
 use crate::cells::Open;
 use crate::tiles::Tiles;
-use lex_file::{LABELS, Onward, PathLex, Step};
-
-/// The label between the two parts of a rotated word: the lowest of all.
-const MARK: u8 = 0;
+use lex_file::{LABELS, MARK, Onward, PathLex, Step};
 
 /// What stands behind the mark, or None where no string goes on with it. It is the first label of a node that has it, so that
 /// no other one is looked at.

@@ -2,12 +2,10 @@
 ghost use Rattle.std.specs.Prelude.{◌≡◌, ◌<◌, ℕ, false};
 ghost use Rattle.gen_moves.specs.Closing.{lays, IsClosed, AreOpen, open_in};
 
+use gen_cross::LETTERS;
 use gen_line::{Cell, Open};
 use ref_board::SIDE;
 use ref_tiles::KINDS;
-
-/// How many letters there are.
-const LETTERS: usize = 26;
 
 /// Whether a square allows a letter that a tile of a rack can show.
 fn allows_some(free: &Open, rack: &[u8; KINDS]) -> bool

@@ -4,8 +4,8 @@ ghost use Rattle.lex_list.specs.Words.{is_word};
 ghost use Rattle.lex_file.specs.{Files.{bytes_of}, Languages.{language_of}, Walking.{IsOpen}};
 ghost use Rattle.lex_agree.specs.{Chains.{first_path}, Walks.{IsNodeOf, IsPast, AreSteps, AreAlike}};
 
-use crate::steps::{MARK, follow, label_of, start};
-use lex_file::{LexFile, Node, Step};
+use crate::steps::{follow, label_of, start};
+use lex_file::{LexFile, MARK, Node, Step};
 use lex_list::WordList;
 
 /// The most letters of a word, and one.

@@ -18,3 +18,4 @@ mod tables;
 mod turning;
 
 pub use agreeing::agree;
+pub use steps::label_of;

@@ -10,9 +10,6 @@ ghost use Rattle.lex_agree.specs.Walks.{node_tail, IsNodeOf, IsStepAt, Leads};
 
 use lex_file::{Branch, LexFile, Node, PathLex, Step, advance};
 
-/// The mark between the two parts of a rotated word.
-pub const MARK: u8 = 0;
-
 /// The label of a letter: A is 1, Z is 26.
 pub fn label_of(letter: u8) -> u8
     requires { IsTrue (is_ascii_uppercase letter) }

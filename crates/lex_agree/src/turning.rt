@@ -8,8 +8,8 @@ ghost use Rattle.lex_agree.specs.Chains.{TurnsOverFrom};
 ghost use Rattle.lex_agree.specs.Walks.{IsNodeOf, IsNodeAt, AreKept};
 
 use crate::kept::{Kept, MOST_LABELS, none_kept, walk_on};
-use crate::steps::{MARK, follow, is_same, law_of_labels, start};
-use lex_file::{LABELS, LexFile, Node, PathLex};
+use crate::steps::{follow, is_same, law_of_labels, start};
+use lex_file::{LABELS, LexFile, MARK, Node, PathLex};
 
 /// The number of labels.
 const EACH_LABEL: usize = LABELS as usize;

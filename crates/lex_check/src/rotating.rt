@@ -8,19 +8,10 @@ ghost use Rattle.lex_check.specs.Rotations.{paths_of, gathered};
 
 use crate::rotated::{MAX_LABELS, Rotated};
 use arrayvec::ArrayVec;
+use lex_agree::label_of;
+use lex_file::MARK;
 use lex_list::WordList;
 use std::alloc::{AllocError, Global};
-
-/// The mark between the two parts of a rotated word.
-const MARK: u8 = 0;
-
-/// The label of a letter: A is 1, Z is 26.
-fn label_of(letter: u8) -> u8
-    requires { IsTrue (is_ascii_uppercase letter) }
-    ensures { result ≡ label_of letter }
-{
-    letter - 64
-}
 
 /// The labels of the front of a word, from the last letter to the first.
 fn labels_back(front: &[u8]) -> ArrayVec<u8, MAX_LABELS>

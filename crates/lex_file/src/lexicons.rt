@@ -6,6 +6,9 @@ ghost use Rattle.lex_file.specs.Lexicons.{is_label, NoTail, NextGives};
 /// The number of labels: the mark and the letters A to Z.
 pub const LABELS: u8 = 27;
 
+/// The mark between the two parts of a rotated word: the lowest label.
+pub const MARK: u8 = 0;
+
 /// What a lexicon gives at a label.
 #[derive(Clone, Copy, Debug, PartialEq, Eq)]
 pub struct Step<N> {

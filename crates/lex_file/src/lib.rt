@@ -49,5 +49,5 @@ pub use formats::{
     Format, GAD1_MAGIC, GAD2_MAGIC, HEADER_BYTES, MAX_ARCS, MAX_BODY_WORDS, MAX_FILE_BYTES,
 };
 pub use laws::{law_of_language, law_of_nodes};
-pub use lexicons::{Branch, LABELS, Onward, PathLex, Step};
+pub use lexicons::{Branch, LABELS, MARK, Onward, PathLex, Step};
 pub use walking::advance;

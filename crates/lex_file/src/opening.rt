@@ -9,13 +9,15 @@ ghost use Rattle.lex_file.specs.Shapes.{leads_back, IsLeast, arc_fault, body_fau
 use crate::arcs::Arc;
 use crate::faults::FileFault;
 use crate::formats::{Format, HEADER_BYTES, MAX_ARCS};
+use crate::lexicons;
 use crate::mask_checks::{check_mask_header, check_nodes};
 use crate::reading::{begins, is_first, is_last, is_node, word_at, word_count};
 
+/// The number of labels, as the labels of arcs are counted here.
+const LABELS: u32 = lexicons::LABELS as u32;
+
 /// The greatest label, that of Z.
-const MAX_LABEL: u32 = 26;
-/// How many labels there are.
-const LABELS: u32 = MAX_LABEL + 1;
+const MAX_LABEL: u32 = LABELS - 1;
 
 /// The format of a file without a fault, or its first fault. The words are gone over once.
 #[tactic(auto, unfolding(crate::specs::Shapes::fault_of, crate::specs::Shapes::form_fault))]

@@ -8,8 +8,8 @@ use crate::files::{InputFile, open, told, used, used_rules, used_source};
 use crate::sources::{Source, Words, open_source, open_words, shown};
 use devices::{FromRead, FromWrite, Input, Output};
 use engine::{
-    RunFault, Verdict, run, run_board, run_board_ruled, run_ruled, run_settled, run_settled_ruled,
-    run_tidy, run_top, run_top_before, run_top_before_ruled, run_top_ruled,
+    MOST_PLAYS, RunFault, Verdict, run, run_board, run_board_ruled, run_ruled, run_settled,
+    run_settled_ruled, run_tidy, run_top, run_top_before, run_top_before_ruled, run_top_ruled,
 };
 use exit_statuses::Trouble;
 use ref_tiles::english_rules;
@@ -19,9 +19,6 @@ use std::rt::{Files, Runtime};
 
 /// How long the report of a legal game without events is.
 const WITHOUT_EVENTS: u64 = b"legal unfinished\n".len() as u64;
-
-/// How many plays are printed at the most.
-const MOST_PLAYS: usize = 100;
 
 /// How many plays are printed where no number is asked for.
 const USUAL_PLAYS: u32 = 10;

@@ -4,16 +4,13 @@ ghost use Rattle.devices.specs.Devices.{HasRoom};
 use crate::feeds::{Feed, NEVER};
 use devices::Output;
 use engine::{
-    RunFault, Verdict, run, run_board, run_board_ruled, run_build, run_check, run_convert,
-    run_ruled, run_settled, run_settled_ruled, run_tidy, run_top, run_top_before,
+    MOST_PLAYS, RunFault, Verdict, run, run_board, run_board_ruled, run_build, run_check,
+    run_convert, run_ruled, run_settled, run_settled_ruled, run_tidy, run_top, run_top_before,
     run_top_before_ruled, run_top_ruled,
 };
 use lex_file::Format;
 use ref_tiles::{Rules, english_rules};
 use std::alloc::Global;
-
-/// The most plays that are asked for before a line.
-const MOST_PLAYS: usize = 100;
 
 /// A call of the engine.
 #[derive(Clone, Copy, Debug)]
