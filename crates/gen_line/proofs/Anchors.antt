@@ -5,7 +5,7 @@ use Rattle.gen_line.specs.declared.cells.Cell.{Cell}
 use Rattle.gen_line.specs.declared.cells.Cell.TheVariants.{Old, Free}
 use Rattle.gen_line.specs.declared.cells.Open.{Open}
 use Rattle.gen_line.specs.declared.tiles.Tiles.{Tiles}
-use Rattle.gen_line.specs.Entries.{label_of}
+use Rattle.gen_line.specs.Entries.{label_of_entry}
 use Rattle.gen_line.specs.Cells.{cell_at}
 use Rattle.gen_line.specs.Model.{join_range, zeros, after, longer, may, less, one_try, tries, leaf, right, starts_free, turn, left, left_of, rest_of_anchor, cell_moves, unwalk, line_moves}
 use Rattle.gen_line.specs.Walk.{finish_left, gives_one_left, gives_tries_left, gives_cell, gives_anchor, gives_behind, none_put, Every}
@@ -53,10 +53,10 @@ unfolding right
 right-sized g [] rack = leaf-sized (g []) 0
 right-sized g (Old a ∷ cs) rack = longer-sized 0 (length cs) (right (after g a) cs rack) (right-sized (after g a) cs rack)
 right-sized g (Free m ∷ cs) rack =
-    let tried : ℕ → List (List ℕ) = λ e. right (after g (label_of e)) cs (less rack e) in
+    let tried : ℕ → List (List ℕ) = λ e. right (after g (label_of_entry e)) cs (less rack e) in
     every-append (λ os. length os ≡ suc (length cs)) (leaf (g []) (suc (length cs))) (tries m rack tried)
     (leaf-sized (g []) (suc (length cs)))
-    (tries-sized m rack tried (length cs) (λ e. right-sized (after g (label_of e)) cs (less rack e)))
+    (tries-sized m rack tried (length cs) (λ e. right-sized (after g (label_of_entry e)) cs (less rack e)))
 
 turn-sized : (g : List ℕ → Bool) (cs : List Cell) (rack : List ℕ) → Sized (length cs) (turn g cs rack)
 unfolding turn
@@ -74,13 +74,13 @@ left-sized g (Old a ∷ ls) cs rack =
 left-sized g (Free m ∷ ls) cs rack =
     let n : ℕ = suc (length ls) + length cs in
     let same : suc (length ls + length cs) ≡ suc (length ls) + length cs = omega arith in
-    let tried : ℕ → List (List ℕ) = λ e. left (after g (label_of e)) ls cs (less rack e) in
+    let tried : ℕ → List (List ℕ) = λ e. left (after g (label_of_entry e)) ls cs (less rack e) in
     let turned : Sized n (map (λ os. zeros (suc (length ls)) ++ os) (turn g cs rack)) =
     every-map (λ os. length os ≡ length cs) (λ os. length os ≡ n) (λ os. zeros (suc (length ls)) ++ os) (turn g cs rack)
     (λ os h. length-append (zeros (suc (length ls))) os ∙ ap (λ k. k + length os) (zeros-sized (suc (length ls))) ∙ ap (λ k. suc (length ls) + k) h)
     (turn-sized g cs rack) in
     let further : Sized n (tries m rack tried) = subst (λ k. Sized k (tries m rack tried)) same
-    (tries-sized m rack tried (length ls + length cs) (λ e. left-sized (after g (label_of e)) ls cs (less rack e))) in
+    (tries-sized m rack tried (length ls + length cs) (λ e. left-sized (after g (label_of_entry e)) ls cs (less rack e))) in
     every-append (λ os. length os ≡ n) (map (λ os. zeros (suc (length ls)) ++ os) (turn g cs rack)) (if m.anchor then [] else tries m rack tried)
     turned (elim m.anchor as (λ b. Sized n (if b then [] else tries m rack tried)) [ true ↦ tt | false ↦ further ])
 
@@ -98,7 +98,7 @@ anchor_given g line rack h m size inside =
     let ls : List Cell = left_of line h in
     let long : suc (length ls + length cs) ≡ 15 = omega (arith, length-left_of line h, length-drop (h + 1) line) in
     let sized : Sized 15 (tries m rack (rest_of_anchor g line h rack)) = subst (λ n. Sized n (tries m rack (rest_of_anchor g line h rack))) long
-    (tries-sized m rack (rest_of_anchor g line h rack) (length ls + length cs) (λ e. left-sized (after g (label_of e)) ls cs (less rack e))) in
+    (tries-sized m rack (rest_of_anchor g line h rack) (length ls + length cs) (λ e. left-sized (after g (label_of_entry e)) ls cs (less rack e))) in
     sym (map-join (finish_left h (suc h) (zeros 15)) (one_try m rack (rest_of_anchor g line h rack)) 1 52)
     ∙ map-alike (λ os. length os ≡ 15) (finish_left h (suc h) (zeros 15)) (unwalk h) (tries m rack (rest_of_anchor g line h rack)) sized
     (λ x long. walk_written h x inside long)

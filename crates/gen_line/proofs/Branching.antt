@@ -9,7 +9,7 @@ use Rattle.lex_file.specs.Walking.{next_strings, strings, IsOpen}
 use Rattle.gen_line.specs.declared.cells.Cell.{Cell}
 use Rattle.gen_line.specs.declared.cells.Open.{Open}
 use Rattle.gen_line.specs.declared.tiles.Tiles.{Tiles}
-use Rattle.gen_line.specs.Entries.{label_of}
+use Rattle.gen_line.specs.Entries.{label_of_entry}
 use Rattle.gen_line.specs.Model.{join_range, after, may, shows, less}
 use Rattle.gen_line.specs.Walk.{gives_right, gives_one_right, gives_try_right, gives_letter_right, gives_left, gives_one_left, gives_try_left, gives_letter_left, with_tile, Every, Front, add_all}
 use Rattle.gen_line.proofs.Sinks.{every-left, every-right, every-same, add_all-append, front-more, front-less, front-same}
@@ -70,31 +70,31 @@ or_second true b e = refl
 or_second false b e = e
 
 -- an entry that is allowed is one of its label
-shows-of : (m : Open) (rack : List ℕ) (e : ℕ) → 0 < e → may m rack e ≡ true → shows m rack (label_of e) ≡ true
+shows-of : (m : Open) (rack : List ℕ) (e : ℕ) → 0 < e → may m rack e ≡ true → shows m rack (label_of_entry e) ≡ true
 unfolding shows
 shows-of m rack e some allowed =
     ⊎_elim
-    (λ (same : e ≡ 2 * label_of e). or_second (may m rack (2 * label_of e - 1)) (may m rack (2 * label_of e)) (ap (may m rack) (sym same) ∙ allowed))
-    (λ (ne : e ≡ 2 * label_of e → ⊥).
-    let same : 2 * label_of e - 1 ≡ e = omega arith in
-    or_first (may m rack (2 * label_of e - 1)) (may m rack (2 * label_of e)) (ap (may m rack) same ∙ allowed))
-    (cases_eq e (2 * label_of e))
+    (λ (same : e ≡ 2 * label_of_entry e). or_second (may m rack (2 * label_of_entry e - 1)) (may m rack (2 * label_of_entry e)) (ap (may m rack) (sym same) ∙ allowed))
+    (λ (ne : e ≡ 2 * label_of_entry e → ⊥).
+    let same : 2 * label_of_entry e - 1 ≡ e = omega arith in
+    or_first (may m rack (2 * label_of_entry e - 1)) (may m rack (2 * label_of_entry e)) (ap (may m rack) same ∙ allowed))
+    (cases_eq e (2 * label_of_entry e))
 
 -- of a label that no string goes on with, or that nothing allows
 idle_right : (g : List ℕ → Bool) (line : List Cell) (place : ℕ) (m : Open) (tiles : Tiles) (e : ℕ) → 0 < e
-    → (shows m tiles.rack (label_of e) ≡ true → (t : List ℕ) → after g (label_of e) t ≡ false) → gives_one_right g line place m tiles e ≡ []
+    → (shows m tiles.rack (label_of_entry e) ≡ true → (t : List ℕ) → after g (label_of_entry e) t ≡ false) → gives_one_right g line place m tiles e ≡ []
 idle_right g line place m tiles e some none = by (may m tiles.rack e) refl
   where
     by : (b : Bool) → may m tiles.rack e ≡ b → gives_one_right g line place m tiles e ≡ []
-    by true allowed = one_right-dead g line place m tiles e (label_of e) refl (none (shows-of m tiles.rack e some allowed))
+    by true allowed = one_right-dead g line place m tiles e (label_of_entry e) refl (none (shows-of m tiles.rack e some allowed))
     by false refused = gives_one_right-no g line place m tiles e refused
 
 idle_left : (g : List ℕ → Bool) (line : List Cell) (h k : ℕ) (m : Open) (tiles : Tiles) (e : ℕ) → 0 < e
-    → (shows m tiles.rack (label_of e) ≡ true → (t : List ℕ) → after g (label_of e) t ≡ false) → gives_one_left g line h k m tiles e ≡ []
+    → (shows m tiles.rack (label_of_entry e) ≡ true → (t : List ℕ) → after g (label_of_entry e) t ≡ false) → gives_one_left g line h k m tiles e ≡ []
 idle_left g line h k m tiles e some none = by (may m tiles.rack e) refl
   where
     by : (b : Bool) → may m tiles.rack e ≡ b → gives_one_left g line h k m tiles e ≡ []
-    by true allowed = one_left-dead g line h k m tiles e (label_of e) refl (none (shows-of m tiles.rack e some allowed))
+    by true allowed = one_left-dead g line h k m tiles e (label_of_entry e) refl (none (shows-of m tiles.rack e some allowed))
     by false refused = gives_one_left-no g line h k m tiles e refused
 
 -- of labels between two
@@ -103,18 +103,18 @@ pub skip_right : (g : List ℕ → Bool) (line : List Cell) (place : ℕ) (m : O
     → join_range (gives_one_right g line place m tiles) 1 (2 * (to - 1)) ≡ join_range (gives_one_right g line place m tiles) 1 (2 * (from - 1))
 skip_right g line place m tiles from to low le none =
     join-skip (gives_one_right g line place m tiles) (2 * (from - 1)) (2 * (to - 1)) (omega arith)
-    (λ e above below. idle_right g line place m tiles e (omega arith) (none (label_of e) (omega arith) (omega arith)))
+    (λ e above below. idle_right g line place m tiles e (omega arith) (none (label_of_entry e) (omega arith) (omega arith)))
 
 pub skip_left : (g : List ℕ → Bool) (line : List Cell) (h k : ℕ) (m : Open) (tiles : Tiles) (from to : ℕ) → 1 ≤ from → from ≤ to
     → ((label : ℕ) → from ≤ label → label < to → shows m tiles.rack label ≡ true → (t : List ℕ) → after g label t ≡ false)
     → join_range (gives_one_left g line h k m tiles) 1 (2 * (to - 1)) ≡ join_range (gives_one_left g line h k m tiles) 1 (2 * (from - 1))
 skip_left g line h k m tiles from to low le none =
     join-skip (gives_one_left g line h k m tiles) (2 * (from - 1)) (2 * (to - 1)) (omega arith)
-    (λ e above below. idle_left g line h k m tiles e (omega arith) (none (label_of e) (omega arith) (omega arith)))
+    (λ e above below. idle_left g line h k m tiles e (omega arith) (none (label_of_entry e) (omega arith) (omega arith)))
 
 -- ---- the entries of a label
 
-one_right-is : (g next : List ℕ → Bool) (line : List Cell) (place : ℕ) (m : Open) (tiles : Tiles) (e label : ℕ) → 0 < e → label ≡ label_of e → ((t : List ℕ) → after g label t ≡ next t)
+one_right-is : (g next : List ℕ → Bool) (line : List Cell) (place : ℕ) (m : Open) (tiles : Tiles) (e label : ℕ) → 0 < e → label ≡ label_of_entry e → ((t : List ℕ) → after g label t ≡ next t)
     → gives_one_right g line place m tiles e ≡ gives_try_right next line place m tiles e
 unfolding gives_try_right
 one_right-is g next line place m tiles e label some is goes = by (may m tiles.rack e) refl
@@ -123,7 +123,7 @@ one_right-is g next line place m tiles e label some is goes = by (may m tiles.ra
     by true h = one_right-goes g next line place m tiles e label some h is goes ∙ sym (ap (λ (b : Bool). if b then gives_right next line (place + 1) (with_tile tiles place e) else []) h)
     by false h = gives_one_right-no g line place m tiles e h ∙ sym (ap (λ (b : Bool). if b then gives_right next line (place + 1) (with_tile tiles place e) else []) h)
 
-one_left-is : (g next : List ℕ → Bool) (line : List Cell) (h k : ℕ) (m : Open) (tiles : Tiles) (e label : ℕ) → 0 < e → label ≡ label_of e → ((t : List ℕ) → after g label t ≡ next t)
+one_left-is : (g next : List ℕ → Bool) (line : List Cell) (h k : ℕ) (m : Open) (tiles : Tiles) (e label : ℕ) → 0 < e → label ≡ label_of_entry e → ((t : List ℕ) → after g label t ≡ next t)
     → gives_one_left g line h k m tiles e ≡ gives_try_left next line h k m tiles e
 unfolding gives_try_left
 one_left-is g next line h k m tiles e label some is goes = by (may m tiles.rack e) refl

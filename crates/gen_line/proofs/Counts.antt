@@ -8,7 +8,7 @@ use Rattle.ref_tiles.proofs.Tallies.{tally, once, tally-append, tally-map, tally
 use Rattle.gen_line.specs.declared.cells.Cell.{Cell}
 use Rattle.gen_line.specs.declared.cells.Cell.TheVariants.{Old, Free}
 use Rattle.gen_line.specs.declared.cells.Open.{Open}
-use Rattle.gen_line.specs.Entries.{label_of}
+use Rattle.gen_line.specs.Entries.{label_of_entry}
 use Rattle.gen_line.specs.Model.{join_range, zeros, after, longer, may, less, one_try, tries, leaf, right, starts_free, turn, left}
 use Rattle.gen_line.proofs.Tests.{same, fits_right, fits_turn, behind_zeros, fits_left, Each}
 
@@ -157,15 +157,15 @@ each-right g (Old a ∷ cs) rack (e ∷ os) =
     tally-front e 0 os (right (after g a) cs rack)
     ∙ rw (each-right (after g a) cs rack os) (sym (once-and (e == 0) (fits_right (after g a) cs rack os)))
 each-right g (Free m ∷ cs) rack [] =
-    tally-append (same []) (leaf (g []) (suc (length cs))) (tries m rack (λ e. right (after g (label_of e)) cs (less rack e)))
+    tally-append (same []) (leaf (g []) (suc (length cs))) (tries m rack (λ e. right (after g (label_of_entry e)) cs (less rack e)))
     ∙ (let first = tally-leaf (g []) (suc (length cs)) [] ∙ ap once (and_right (g []) false refl) in
-    let rest = tries-nil m rack (λ e. right (after g (label_of e)) cs (less rack e)) in omega arith)
+    let rest = tries-nil m rack (λ e. right (after g (label_of_entry e)) cs (less rack e)) in omega arith)
 each-right g (Free m ∷ cs) rack (e ∷ os) =
-    either (same (e ∷ os)) (leaf (g []) (suc (length cs))) (tries m rack (λ d. right (after g (label_of d)) cs (less rack d)))
-    (e == 0) (g [] && same os (zeros (length cs))) ((nat_lt e 53 && may m rack e) && fits_right (after g (label_of e)) cs (less rack e) os)
+    either (same (e ∷ os)) (leaf (g []) (suc (length cs))) (tries m rack (λ d. right (after g (label_of_entry d)) cs (less rack d)))
+    (e == 0) (g [] && same os (zeros (length cs))) ((nat_lt e 53 && may m rack e) && fits_right (after g (label_of_entry e)) cs (less rack e) os)
     (tally-leaf (g []) (suc (length cs)) (e ∷ os) ∙ ap once (and_swap (g []) (e == 0) (same os (zeros (length cs)))))
-    (tries-each m rack (λ d. right (after g (label_of d)) cs (less rack d)) e os (fits_right (after g (label_of e)) cs (less rack e) os)
-    (each-right (after g (label_of e)) cs (less rack e) os))
+    (tries-each m rack (λ d. right (after g (label_of_entry d)) cs (less rack d)) e os (fits_right (after g (label_of_entry e)) cs (less rack e) os)
+    (each-right (after g (label_of_entry e)) cs (less rack e) os))
 
 -- ---- the turn
 
@@ -216,15 +216,15 @@ each-left g (Old a ∷ ls) cs rack (e ∷ os) =
     tally-front e 0 os (left (after g a) ls cs rack)
     ∙ rw (each-left (after g a) ls cs rack os) (sym (once-and (e == 0) (fits_left (after g a) ls cs rack os)))
 each-left g (Free m ∷ ls) cs rack [] =
-    tally-append (same []) (map (λ os. zeros (suc (length ls)) ++ os) (turn g cs rack)) (if m.anchor then [] else tries m rack (λ e. left (after g (label_of e)) ls cs (less rack e)))
+    tally-append (same []) (map (λ os. zeros (suc (length ls)) ++ os) (turn g cs rack)) (if m.anchor then [] else tries m rack (λ e. left (after g (label_of_entry e)) ls cs (less rack e)))
     ∙ (let ends = each-zeros (suc (length ls)) (fits_turn g cs rack) (turn g cs rack) (each-turn g cs rack) [] in
-    let rest = cond_both m.anchor [] (tries m rack (λ e. left (after g (label_of e)) ls cs (less rack e))) (λ l. tally (same []) l ≡ 0)
-    (λ y. refl) (λ n. tries-nil m rack (λ e. left (after g (label_of e)) ls cs (less rack e))) in
+    let rest = cond_both m.anchor [] (tries m rack (λ e. left (after g (label_of_entry e)) ls cs (less rack e))) (λ l. tally (same []) l ≡ 0)
+    (λ y. refl) (λ n. tries-nil m rack (λ e. left (after g (label_of_entry e)) ls cs (less rack e))) in
     omega arith)
 each-left g (Free m ∷ ls) cs rack (e ∷ os) =
-    either (same (e ∷ os)) (map (λ t. zeros (suc (length ls)) ++ t) (turn g cs rack)) (if m.anchor then [] else tries m rack (λ d. left (after g (label_of d)) ls cs (less rack d)))
-    (e == 0) (behind_zeros (length ls) (fits_turn g cs rack) os) ((not m.anchor && (nat_lt e 53 && may m rack e)) && fits_left (after g (label_of e)) ls cs (less rack e) os)
+    either (same (e ∷ os)) (map (λ t. zeros (suc (length ls)) ++ t) (turn g cs rack)) (if m.anchor then [] else tries m rack (λ d. left (after g (label_of_entry d)) ls cs (less rack d)))
+    (e == 0) (behind_zeros (length ls) (fits_turn g cs rack) os) ((not m.anchor && (nat_lt e 53 && may m rack e)) && fits_left (after g (label_of_entry e)) ls cs (less rack e) os)
     (each-zeros (suc (length ls)) (fits_turn g cs rack) (turn g cs rack) (each-turn g cs rack) (e ∷ os))
-    (unless m.anchor (same (e ∷ os)) (tries m rack (λ d. left (after g (label_of d)) ls cs (less rack d))) (not (e == 0)) (nat_lt e 53 && may m rack e) (fits_left (after g (label_of e)) ls cs (less rack e) os)
-    (tries-each m rack (λ d. left (after g (label_of d)) ls cs (less rack d)) e os (fits_left (after g (label_of e)) ls cs (less rack e) os)
-    (each-left (after g (label_of e)) ls cs (less rack e) os)))
+    (unless m.anchor (same (e ∷ os)) (tries m rack (λ d. left (after g (label_of_entry d)) ls cs (less rack d))) (not (e == 0)) (nat_lt e 53 && may m rack e) (fits_left (after g (label_of_entry e)) ls cs (less rack e) os)
+    (tries-each m rack (λ d. left (after g (label_of_entry d)) ls cs (less rack d)) e os (fits_left (after g (label_of_entry e)) ls cs (less rack e) os)
+    (each-left (after g (label_of_entry e)) ls cs (less rack e) os)))

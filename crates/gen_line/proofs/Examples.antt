@@ -5,7 +5,7 @@ use Rattle.std.proofs.lemmas.Bool.{agree_below_at, or_cases, eqb-true, le-ltb, n
 use Rattle.gen_line.specs.declared.cells.Cell.{Cell}
 use Rattle.gen_line.specs.declared.cells.Cell.TheVariants.{Old, Free}
 use Rattle.gen_line.specs.Cells.{cell_at, cell_ok, full_on}
-use Rattle.gen_line.specs.Moves.{IsMove, AreSplits, back, marked}
+use Rattle.gen_line.specs.Moves.{IsMove, AreSplits, back, behind_mark}
 use Rattle.gen_line.specs.Model.{right, turn, left, tries, may, less, left_of, line_moves}
 use Rattle.gen_line.specs.Walk.{behind_moves, gives_behind, gives_tries_left, gives_one_left, finish_left, finish_right}
 use Rattle.gen_line.proofs.Tests.{same}
@@ -159,6 +159,6 @@ paths_are_splits (a ∷ []) (b ∷ rest) some all = no_other ((a == 1) && ((b ==
 paths_are_splits (a ∷ b ∷ []) [] some all = no_mark a b [] (all 1 0 (omega arith))
 paths_are_splits (a ∷ b ∷ []) (c ∷ rest) some all = no_mark a b (0 ∷ c ∷ rest) (all 1 0 (omega arith))
 paths_are_splits (a ∷ b ∷ c ∷ ls) rest some all =
-    no_mark a b (c ∷ (ls ++ marked rest)) (all 1 0 (omega arith))
+    no_mark a b (c ∷ (ls ++ behind_mark rest)) (all 1 0 (omega arith))
     ∙ and_right (b == 1) ((a == 20) && false) (and_right (a == 20) false refl)
     ∙ sym (too_long (back ls (c ∷ b ∷ a ∷ rest)) (omega (arith, back-size ls (c ∷ b ∷ a ∷ rest))))

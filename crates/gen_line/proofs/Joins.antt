@@ -4,7 +4,7 @@ use Rattle.std.proofs.Common.{◌≡◌, ℕ, zero, suc, ◌+◌, ◌-◌, ◌<�
 use Rattle.std.proofs.lemmas.Bool.{cases_eq, cases_Bool, ne_eqb, eq-eqb, ltb-true, lt-ltb, cases_lt, and_parts, and_from, or_cases, or_left, or_right, false_from_ne_true, false≢true}
 use Rattle.std.proofs.lemmas.List.{get_or-set_same, get_or-set_other, get_or_past}
 use Rattle.ref_tiles.proofs.Tallies.{tally, once, tally-append, tally-map}
-use Rattle.gen_line.specs.Entries.{kind_of, uses}
+use Rattle.gen_line.specs.Entries.{kind_of_entry, uses}
 use Rattle.gen_line.specs.Model.{join_range, less}
 use Rattle.gen_line.proofs.Tests.{same, Each}
 use Rattle.gen_line.specs.Walk.{Every}
@@ -94,60 +94,60 @@ there rack k some =
     (λ (past : length rack ≤ k). let none = get_or_past rack k 0 past in absurd (omega arith))
     (cases_lt k (length rack))
 
-less-same : (rack : List ℕ) (e : ℕ) → 0 < get_or rack (kind_of e) 0 → get_or (less rack e) (kind_of e) 0 ≡ get_or rack (kind_of e) 0 - 1
+less-same : (rack : List ℕ) (e : ℕ) → 0 < get_or rack (kind_of_entry e) 0 → get_or (less rack e) (kind_of_entry e) 0 ≡ get_or rack (kind_of_entry e) 0 - 1
 unfolding less
-less-same rack e some = get_or-set_same rack (kind_of e) (get_or rack (kind_of e) 0 - 1) 0 (there rack (kind_of e) some)
+less-same rack e some = get_or-set_same rack (kind_of_entry e) (get_or rack (kind_of_entry e) 0 - 1) 0 (there rack (kind_of_entry e) some)
 
-less-other : (rack : List ℕ) (e k : ℕ) → (kind_of e ≡ k → ⊥) → get_or (less rack e) k 0 ≡ get_or rack k 0
+less-other : (rack : List ℕ) (e k : ℕ) → (kind_of_entry e ≡ k → ⊥) → get_or (less rack e) k 0 ≡ get_or rack k 0
 unfolding less
-less-other rack e k ne = get_or-set_other rack (kind_of e) k (get_or rack (kind_of e) 0 - 1) 0 (λ s. ne (sym s))
+less-other rack e k ne = get_or-set_other rack (kind_of_entry e) k (get_or rack (kind_of_entry e) 0 - 1) 0 (λ s. ne (sym s))
 
 pub rack_ok-uses : (rack os : List ℕ) → rack_ok rack os ≡ true → (k : ℕ) → uses k os ≤ get_or rack k 0
 rack_ok-uses rack [] ok k = omega arith
 rack_ok-uses rack (e ∷ os) ok k = by (e == 0) ok (rack_ok-uses rack os) (rack_ok-uses (less rack e) os)
   where
-    by : (b : Bool) → (if b then rack_ok rack os else nat_lt 0 (get_or rack (kind_of e) 0) && rack_ok (less rack e) os) ≡ true
+    by : (b : Bool) → (if b then rack_ok rack os else nat_lt 0 (get_or rack (kind_of_entry e) 0) && rack_ok (less rack e) os) ≡ true
         → (rack_ok rack os ≡ true → (k : ℕ) → uses k os ≤ get_or rack k 0)
         → (rack_ok (less rack e) os ≡ true → (k : ℕ) → uses k os ≤ get_or (less rack e) k 0)
-        → (if b then uses k os else (if kind_of e == k then 1 else 0) + uses k os) ≤ get_or rack k 0
+        → (if b then uses k os else (if kind_of_entry e == k then 1 else 0) + uses k os) ≤ get_or rack k 0
     by true h same_rack less_rack = same_rack h k
     by false h same_rack less_rack =
-        let parts = and_parts (nat_lt 0 (get_or rack (kind_of e) 0)) (rack_ok (less rack e) os) h in
-        let some = ltb-true 0 (get_or rack (kind_of e) 0) parts.0 in
+        let parts = and_parts (nat_lt 0 (get_or rack (kind_of_entry e) 0)) (rack_ok (less rack e) os) h in
+        let some = ltb-true 0 (get_or rack (kind_of_entry e) 0) parts.0 in
         let rest = less_rack parts.1 k in
         ⊎_elim
-        (λ (s : kind_of e ≡ k).
+        (λ (s : kind_of_entry e ≡ k).
         let taken = less-same rack e some in
         let at = ap (λ i. get_or rack i 0) s in
         let at_less = ap (λ i. get_or (less rack e) i 0) s in
-        rw (eq-eqb (kind_of e) k s) (omega arith))
-        (λ (ne : kind_of e ≡ k → ⊥).
+        rw (eq-eqb (kind_of_entry e) k s) (omega arith))
+        (λ (ne : kind_of_entry e ≡ k → ⊥).
         let kept = less-other rack e k ne in
-        rw (ne_eqb (kind_of e) k ne) (omega arith))
-        (cases_eq (kind_of e) k)
+        rw (ne_eqb (kind_of_entry e) k ne) (omega arith))
+        (cases_eq (kind_of_entry e) k)
 
 pub uses-rack_ok : (rack os : List ℕ) → ((k : ℕ) → uses k os ≤ get_or rack k 0) → rack_ok rack os ≡ true
 uses-rack_ok rack [] h = refl
 uses-rack_ok rack (e ∷ os) h = by (e == 0) h (uses-rack_ok rack os) (uses-rack_ok (less rack e) os)
   where
-    by : (b : Bool) → ((k : ℕ) → (if b then uses k os else (if kind_of e == k then 1 else 0) + uses k os) ≤ get_or rack k 0)
+    by : (b : Bool) → ((k : ℕ) → (if b then uses k os else (if kind_of_entry e == k then 1 else 0) + uses k os) ≤ get_or rack k 0)
         → (((k : ℕ) → uses k os ≤ get_or rack k 0) → rack_ok rack os ≡ true)
         → (((k : ℕ) → uses k os ≤ get_or (less rack e) k 0) → rack_ok (less rack e) os ≡ true)
-        → (if b then rack_ok rack os else nat_lt 0 (get_or rack (kind_of e) 0) && rack_ok (less rack e) os) ≡ true
+        → (if b then rack_ok rack os else nat_lt 0 (get_or rack (kind_of_entry e) 0) && rack_ok (less rack e) os) ≡ true
     by true u same_rack less_rack = same_rack u
     by false u same_rack less_rack =
-        let here = rw (eq-eqb (kind_of e) (kind_of e) refl) at (u (kind_of e)) in
-        let some : 0 < get_or rack (kind_of e) 0 = omega arith in
-        and_from (nat_lt 0 (get_or rack (kind_of e) 0)) (rack_ok (less rack e) os) (lt-ltb 0 (get_or rack (kind_of e) 0) some)
+        let here = rw (eq-eqb (kind_of_entry e) (kind_of_entry e) refl) at (u (kind_of_entry e)) in
+        let some : 0 < get_or rack (kind_of_entry e) 0 = omega arith in
+        and_from (nat_lt 0 (get_or rack (kind_of_entry e) 0)) (rack_ok (less rack e) os) (lt-ltb 0 (get_or rack (kind_of_entry e) 0) some)
         (less_rack (λ k. ⊎_elim
-        (λ (s : kind_of e ≡ k).
+        (λ (s : kind_of_entry e ≡ k).
         let taken = less-same rack e some in
-        let used = rw (eq-eqb (kind_of e) k s) at (u k) in
+        let used = rw (eq-eqb (kind_of_entry e) k s) at (u k) in
         let at = ap (λ i. get_or rack i 0) s in
         let at_less = ap (λ i. get_or (less rack e) i 0) s in
         omega arith)
-        (λ (ne : kind_of e ≡ k → ⊥).
+        (λ (ne : kind_of_entry e ≡ k → ⊥).
         let kept = less-other rack e k ne in
-        let used = rw (ne_eqb (kind_of e) k ne) at (u k) in
+        let used = rw (ne_eqb (kind_of_entry e) k ne) at (u k) in
         omega arith)
-        (cases_eq (kind_of e) k)))
+        (cases_eq (kind_of_entry e) k)))

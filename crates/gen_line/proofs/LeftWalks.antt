@@ -6,7 +6,7 @@ use Rattle.gen_line.specs.declared.cells.Cell.{Cell}
 use Rattle.gen_line.specs.declared.cells.Cell.TheVariants.{Old, Free}
 use Rattle.gen_line.specs.declared.cells.Open.{Open}
 use Rattle.gen_line.specs.declared.tiles.Tiles.{Tiles}
-use Rattle.gen_line.specs.Entries.{label_of}
+use Rattle.gen_line.specs.Entries.{label_of_entry}
 use Rattle.gen_line.specs.Cells.{cell_at}
 use Rattle.gen_line.specs.Model.{join_range, zeros, after, longer, may, less, one_try, tries, starts_free, leaf, right, turn, left, left_of}
 use Rattle.lex_file.specs.Walking.{next_strings, strings}
@@ -49,16 +49,16 @@ turn-parts g line h tiles ends e =
     ∙ ap (λ b. gives_leaf b tiles.fresh ++ gives_right (longer (after g 0)) line (h + 1) tiles) (sym e)
 
 -- behind the mark, without the empty string
-behind_mark : {N : Type 0} (tail : N → List ℕ → Bool) (g : List ℕ → Bool) (s on : Step N) → on.accepts ≡ false → on.next ≡ s.next → ((t : List ℕ) → after g 0 t ≡ strings tail s t) → (t : List ℕ) → longer (after g 0) t ≡ strings tail on t
-behind_mark tail g s on none next same [] = sym none
-behind_mark tail g s on none next same (b ∷ t) = same (b ∷ t) ∙ ap (λ n. next_strings tail n (b ∷ t)) (sym next)
+over_mark : {N : Type 0} (tail : N → List ℕ → Bool) (g : List ℕ → Bool) (s on : Step N) → on.accepts ≡ false → on.next ≡ s.next → ((t : List ℕ) → after g 0 t ≡ strings tail s t) → (t : List ℕ) → longer (after g 0) t ≡ strings tail on t
+over_mark tail g s on none next same [] = sym none
+over_mark tail g s on none next same (b ∷ t) = same (b ∷ t) ∙ ap (λ n. next_strings tail n (b ∷ t)) (sym next)
 
 pub turn-goes : {N : Type 0} (tail : N → List ℕ → Bool) (g : List ℕ → Bool) (s on : Step N) (line : List Cell) (h : ℕ) (tiles : Tiles) (ends : Bool) → on.accepts ≡ false → on.next ≡ s.next → ((t : List ℕ) → after g 0 t ≡ strings tail s t)
     → ends ≡ (starts_free (drop (h + 1) line) && g []) → gives_turn g line h tiles ≡ gives_leaf ends tiles.fresh ++ gives_right (strings tail on) line (h + 1) tiles
 turn-goes tail g s on line h tiles ends none next same e =
     turn-parts g line h tiles ends e
     ∙ ap (λ xs. gives_leaf ends tiles.fresh ++ xs)
-    (right-same (longer (after g 0)) (strings tail on) line (h + 1) tiles (behind_mark tail g s on none next same))
+    (right-same (longer (after g 0)) (strings tail on) line (h + 1) tiles (over_mark tail g s on none next same))
 
 append-none : {A : Type 0} (xs ys : List A) → ys ≡ [] → xs ++ ys ≡ xs
 append-none xs ys e = ap (λ zs. xs ++ zs) e ∙ append-nil xs
@@ -76,8 +76,8 @@ unfolding left
 left-never g [] cs rack none = turn-never g cs rack none
 left-never g (Old a ∷ ls) cs rack none = ap (map (λ os. 0 ∷ os)) (left-never (after g a) ls cs rack (λ t. none (a ∷ t)))
 left-never g (Free m ∷ ls) cs rack none =
-    let tried : List (List ℕ) = tries m rack (λ e. left (after g (label_of e)) ls cs (less rack e)) in
-    let untried : tried ≡ [] = tries-none m rack (λ e. left (after g (label_of e)) ls cs (less rack e)) (λ e. left-never (after g (label_of e)) ls cs (less rack e) (λ t. none (label_of e ∷ t))) in
+    let tried : List (List ℕ) = tries m rack (λ e. left (after g (label_of_entry e)) ls cs (less rack e)) in
+    let untried : tried ≡ [] = tries-none m rack (λ e. left (after g (label_of_entry e)) ls cs (less rack e)) (λ e. left-never (after g (label_of_entry e)) ls cs (less rack e) (λ t. none (label_of_entry e ∷ t))) in
     let stopped : (b : Bool) → (if b then [] else tried) ≡ [] = elim [ true ↦ refl | false ↦ untried ] in
     ap (λ xs. map (λ os. zeros (suc (length ls)) ++ os) xs ++ (if m.anchor then [] else tried)) (turn-never g cs rack none) ∙ stopped m.anchor
 
@@ -86,10 +86,10 @@ unfolding left
 left-alike g f [] cs rack same = turn-alike g f cs rack same
 left-alike g f (Old a ∷ ls) cs rack same = ap (map (λ os. 0 ∷ os)) (left-alike (after g a) (after f a) ls cs rack (λ t. same (a ∷ t)))
 left-alike g f (Free m ∷ ls) cs rack same =
-    ap (λ xs. map (λ os. zeros (suc (length ls)) ++ os) xs ++ (if m.anchor then [] else tries m rack (λ e. left (after g (label_of e)) ls cs (less rack e)))) (turn-alike g f cs rack same)
+    ap (λ xs. map (λ os. zeros (suc (length ls)) ++ os) xs ++ (if m.anchor then [] else tries m rack (λ e. left (after g (label_of_entry e)) ls cs (less rack e)))) (turn-alike g f cs rack same)
     ∙ ap (λ xs. map (λ os. zeros (suc (length ls)) ++ os) (turn f cs rack) ++ (if m.anchor then [] else xs))
-    (tries-same m rack (λ e. left (after g (label_of e)) ls cs (less rack e)) (λ e. left (after f (label_of e)) ls cs (less rack e))
-    (λ e. left-alike (after g (label_of e)) (after f (label_of e)) ls cs (less rack e) (λ t. same (label_of e ∷ t))))
+    (tries-same m rack (λ e. left (after g (label_of_entry e)) ls cs (less rack e)) (λ e. left (after f (label_of_entry e)) ls cs (less rack e))
+    (λ e. left-alike (after g (label_of_entry e)) (after f (label_of_entry e)) ls cs (less rack e) (λ t. same (label_of_entry e ∷ t))))
 
 left-same : (g f : List ℕ → Bool) (line : List Cell) (h k : ℕ) (tiles : Tiles) → ((t : List ℕ) → g t ≡ f t) → gives_left g line h k tiles ≡ gives_left f line h k tiles
 left-same g f line h k tiles same = ap (map (finish_left h k tiles.fresh)) (left-alike g f (left_of line k) (drop (h + 1) line) tiles.rack same)
@@ -167,21 +167,21 @@ unfolding gives_one_left
 gives_one_left-no g line h k m tiles e refused =
     ap (λ b. map (finish_left h (suc k) tiles.fresh) (if b then map (λ os. e ∷ os) (one_left_of g line h k tiles.rack e) else [])) refused
 
-pub one_left-dead : (g : List ℕ → Bool) (line : List Cell) (h k : ℕ) (m : Open) (tiles : Tiles) (e label : ℕ) → label ≡ label_of e → ((t : List ℕ) → after g label t ≡ false) → gives_one_left g line h k m tiles e ≡ []
+pub one_left-dead : (g : List ℕ → Bool) (line : List Cell) (h k : ℕ) (m : Open) (tiles : Tiles) (e label : ℕ) → label ≡ label_of_entry e → ((t : List ℕ) → after g label t ≡ false) → gives_one_left g line h k m tiles e ≡ []
 unfolding gives_one_left
 one_left-dead g line h k m tiles e label same none =
     ap (map (finish_left h (suc k) tiles.fresh))
     (one_try-none m tiles.rack (one_left_of g line h k tiles.rack) e
-    (left-never (after g (label_of e)) (left_of line k) (drop (h + 1) line) (less tiles.rack e) (subst (λ l. (t : List ℕ) → after g l t ≡ false) same none)))
+    (left-never (after g (label_of_entry e)) (left_of line k) (drop (h + 1) line) (less tiles.rack e) (subst (λ l. (t : List ℕ) → after g l t ≡ false) same none)))
 
-pub one_left-goes : (g f : List ℕ → Bool) (line : List Cell) (h k : ℕ) (m : Open) (tiles : Tiles) (e label : ℕ) → 0 < e → may m tiles.rack e ≡ true → label ≡ label_of e
+pub one_left-goes : (g f : List ℕ → Bool) (line : List Cell) (h k : ℕ) (m : Open) (tiles : Tiles) (e label : ℕ) → 0 < e → may m tiles.rack e ≡ true → label ≡ label_of_entry e
     → ((t : List ℕ) → after g label t ≡ f t) → gives_one_left g line h k m tiles e ≡ gives_left f line h k (with_tile tiles k e)
 unfolding gives_one_left finish_left
 one_left-goes g f line h k m tiles e label some allowed same goes =
     ap (λ b. map (finish_left h (suc k) tiles.fresh) (if b then map (λ os. e ∷ os) (one_left_of g line h k tiles.rack e) else [])) allowed
     ∙ map-same (finish_left h (suc k) tiles.fresh) (λ os. e ∷ os) (finish_left h k (slice_set tiles.fresh k e)) (one_left_of g line h k tiles.rack e)
     (λ os. ap (λ y. finish_left h k y os) (put-some tiles.fresh k e some))
-    ∙ left-same (after g (label_of e)) f line h k (with_tile tiles k e) (subst (λ l. (t : List ℕ) → after g l t ≡ f t) same goes)
+    ∙ left-same (after g (label_of_entry e)) f line h k (with_tile tiles k e) (subst (λ l. (t : List ℕ) → after g l t ≡ f t) same goes)
 
 -- the entries, one after the other
 pub tries_left-is : (g : List ℕ → Bool) (line : List Cell) (h k : ℕ) (m : Open) (tiles : Tiles) → gives_tries_left g line h k m tiles ≡ join_range (gives_one_left g line h k m tiles) 1 52
@@ -192,7 +192,7 @@ tries_left-is g line h k m tiles = refl
 pub tries_left-dead : (g : List ℕ → Bool) (line : List Cell) (h k : ℕ) (m : Open) (tiles : Tiles) → ((a : ℕ) (t : List ℕ) → after g a t ≡ false) → gives_tries_left g line h k m tiles ≡ []
 unfolding gives_tries_left
 tries_left-dead g line h k m tiles none =
-    join-none (gives_one_left g line h k m tiles) 1 52 (λ e. one_left-dead g line h k m tiles e (label_of e) refl (none (label_of e)))
+    join-none (gives_one_left g line h k m tiles) 1 52 (λ e. one_left-dead g line h k m tiles e (label_of_entry e) refl (none (label_of_entry e)))
 
 -- tests that agree on the strings that are not empty are tried alike
 pub tries_left-same : (g f : List ℕ → Bool) (line : List Cell) (h k : ℕ) (m : Open) (tiles : Tiles) → ((a : ℕ) (t : List ℕ) → after g a t ≡ after f a t) → gives_tries_left g line h k m tiles ≡ gives_tries_left f line h k m tiles
@@ -201,4 +201,4 @@ tries_left-same g f line h k m tiles same =
     join-same (gives_one_left g line h k m tiles) (gives_one_left f line h k m tiles) 1 52
     (λ e low high. ap (map (finish_left h (suc k) tiles.fresh))
     (one_try-same m tiles.rack (one_left_of g line h k tiles.rack) (one_left_of f line h k tiles.rack) e
-    (left-alike (after g (label_of e)) (after f (label_of e)) (left_of line k) (drop (h + 1) line) (less tiles.rack e) (same (label_of e)))))
+    (left-alike (after g (label_of_entry e)) (after f (label_of_entry e)) (left_of line k) (drop (h + 1) line) (less tiles.rack e) (same (label_of_entry e)))))

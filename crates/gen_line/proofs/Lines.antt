@@ -6,7 +6,7 @@ use Rattle.std.proofs.lemmas.Bool.Decides.{same_from_decides}
 use Rattle.ref_tiles.proofs.Tallies.{tally, once}
 use Rattle.gen_line.specs.declared.cells.Cell.{Cell}
 use Rattle.gen_line.specs.declared.cells.Cell.TheVariants.{Old, Free}
-use Rattle.gen_line.specs.Entries.{label_of}
+use Rattle.gen_line.specs.Entries.{label_of_entry}
 use Rattle.gen_line.specs.Cells.{cell_at}
 use Rattle.gen_line.specs.Moves.{back}
 use Rattle.gen_line.specs.Model.{after, may, less, tries, left_of, rest_of_anchor, cell_moves, unwalk, line_moves}
@@ -122,23 +122,23 @@ fits_left-size g (Old a ∷ ls) cs rack [] e = absurd (false≢true e)
 fits_left-size g (Old a ∷ ls) cs rack (d ∷ os) e =
     let rest = fits_left-size (after g a) ls cs rack os (and_parts (d == 0) (fits_left (after g a) ls cs rack os) e).1 in omega arith
 fits_left-size g (Free m ∷ ls) cs rack [] e = absurd (false≢true e)
-fits_left-size g (Free m ∷ ls) cs rack (d ∷ os) e = by (d == 0) e (fits_left-size (after g (label_of d)) ls cs (less rack d) os)
+fits_left-size g (Free m ∷ ls) cs rack (d ∷ os) e = by (d == 0) e (fits_left-size (after g (label_of_entry d)) ls cs (less rack d) os)
   where
     by : (b : Bool)
-        → (if b then behind_zeros (length ls) (fits_turn g cs rack) os else (not m.anchor && (nat_lt d 53 && may m rack d)) && fits_left (after g (label_of d)) ls cs (less rack d) os) ≡ true
-        → (fits_left (after g (label_of d)) ls cs (less rack d) os ≡ true → length os ≡ length ls + length cs)
+        → (if b then behind_zeros (length ls) (fits_turn g cs rack) os else (not m.anchor && (nat_lt d 53 && may m rack d)) && fits_left (after g (label_of_entry d)) ls cs (less rack d) os) ≡ true
+        → (fits_left (after g (label_of_entry d)) ls cs (less rack d) os ≡ true → length os ≡ length ls + length cs)
         → suc (length os) ≡ suc (length ls) + length cs
     by true t h = let rest = behind_zeros-size (length ls) (fits_turn g cs rack) (length cs) (fits_turn-size g cs rack) os t in omega arith
     by false t h =
-        let rest = h (and_parts (not m.anchor && (nat_lt d 53 && may m rack d)) (fits_left (after g (label_of d)) ls cs (less rack d) os) t).1 in omega arith
+        let rest = h (and_parts (not m.anchor && (nat_lt d 53 && may m rack d)) (fits_left (after g (label_of_entry d)) ls cs (less rack d) os) t).1 in omega arith
 
 cell_fits-size : (g : List ℕ → Bool) (line : List Cell) (h : ℕ) (rack : List ℕ) (c : Cell) (x : List ℕ) → h < length line → cell_fits g line h rack c x ≡ true → length x ≡ length line
 unfolding cell_fits
 cell_fits-size g line h rack (Old a) x below e = absurd (false≢true e)
 cell_fits-size g line h rack (Free m) [] below e = absurd (false≢true e)
 cell_fits-size g line h rack (Free m) (d ∷ os) below e =
-    let parts = and_parts (m.anchor && (not (d == 0) && (nat_lt d 53 && may m rack d))) (fits_left (after g (label_of d)) (left_of line h) (drop (h + 1) line) (less rack d) os) e in
-    let sides = fits_left-size (after g (label_of d)) (left_of line h) (drop (h + 1) line) (less rack d) os parts.1 in
+    let parts = and_parts (m.anchor && (not (d == 0) && (nat_lt d 53 && may m rack d))) (fits_left (after g (label_of_entry d)) (left_of line h) (drop (h + 1) line) (less rack d) os) e in
+    let sides = fits_left-size (after g (label_of_entry d)) (left_of line h) (drop (h + 1) line) (less rack d) os parts.1 in
     let left = left_of-size line h in
     let right = length-drop (h + 1) line in
     omega arith
@@ -157,13 +157,13 @@ each-cell g line h rack (Free m) [] =
     cond_both m.anchor (tries m rack (rest_of_anchor g line h rack)) [] (λ l. tally (same []) l ≡ 0) (λ y. tries-nil m rack (rest_of_anchor g line h rack)) (λ n. refl)
 each-cell g line h rack (Free m) (e ∷ os) =
     of_anchor m.anchor
-    ∙ one_anchor m.anchor (not (e == 0)) (nat_lt e 53 && may m rack e) (fits_left (after g (label_of e)) (left_of line h) (drop (h + 1) line) (less rack e) os)
+    ∙ one_anchor m.anchor (not (e == 0)) (nat_lt e 53 && may m rack e) (fits_left (after g (label_of_entry e)) (left_of line h) (drop (h + 1) line) (less rack e) os)
   where
     of_anchor : (b : Bool) → tally (same (e ∷ os)) (if b then tries m rack (rest_of_anchor g line h rack) else [])
-        ≡ (if b then once (not (e == 0) && ((nat_lt e 53 && may m rack e) && fits_left (after g (label_of e)) (left_of line h) (drop (h + 1) line) (less rack e) os)) else 0)
+        ≡ (if b then once (not (e == 0) && ((nat_lt e 53 && may m rack e) && fits_left (after g (label_of_entry e)) (left_of line h) (drop (h + 1) line) (less rack e) os)) else 0)
     of_anchor true =
-        tries-each m rack (rest_of_anchor g line h rack) e os (fits_left (after g (label_of e)) (left_of line h) (drop (h + 1) line) (less rack e) os)
-        (each-left (after g (label_of e)) (left_of line h) (drop (h + 1) line) (less rack e) os)
+        tries-each m rack (rest_of_anchor g line h rack) e os (fits_left (after g (label_of_entry e)) (left_of line h) (drop (h + 1) line) (less rack e) os)
+        (each-left (after g (label_of_entry e)) (left_of line h) (drop (h + 1) line) (less rack e) os)
     of_anchor false = refl
 
 -- ---- two anchors do not owe one line: the second finds the first to its left

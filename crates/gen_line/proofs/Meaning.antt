@@ -3,7 +3,7 @@ use Rattle.std.proofs.Common.{ℕ, ◌==◌, ◌&&◌, not, nat_lt, Bool, true, 
 use Rattle.gen_line.specs.declared.cells.Cell.{Cell}
 use Rattle.gen_line.specs.declared.cells.Cell.TheVariants.{Old, Free}
 use Rattle.gen_line.specs.declared.cells.Open.{Open}
-use Rattle.gen_line.specs.Entries.{letter_of, label_of, kind_of}
+use Rattle.gen_line.specs.Entries.{letter_of_entry, label_of_entry, kind_of_entry}
 use Rattle.gen_line.specs.Model.{zeros, less}
 use Rattle.gen_line.proofs.Tests.{same}
 
@@ -13,7 +13,7 @@ word [] os = []
 word (Old a ∷ cs) [] = []
 word (Old a ∷ cs) (e ∷ os) = a ∷ word cs os
 word (Free m ∷ cs) [] = []
-word (Free m ∷ cs) (e ∷ os) = if e == 0 then [] else label_of e ∷ word cs os
+word (Free m ∷ cs) (e ∷ os) = if e == 0 then [] else label_of_entry e ∷ word cs os
 
 -- new tiles on free squares alone, without a gap, allowed by the masks, and none where it is barred
 abbrev pub shape : (Open → Bool) → List Cell → List ℕ → Bool
@@ -24,12 +24,12 @@ shape bar (Old a ∷ cs) (e ∷ os) = (e == 0) && shape bar cs os
 shape bar (Free m ∷ cs) [] = false
 shape bar (Free m ∷ cs) (e ∷ os) =
     if e == 0 then same os (zeros (length cs))
-    else (not (bar m) && (nat_lt e 53 && slice_index_or m.mask (letter_of e) false)) && shape bar cs os
+    else (not (bar m) && (nat_lt e 53 && slice_index_or m.mask (letter_of_entry e) false)) && shape bar cs os
 
 -- the rack has the tiles, taken one after the other
 abbrev pub rack_ok : List ℕ → List ℕ → Bool
 rack_ok rack [] = true
-rack_ok rack (e ∷ os) = if e == 0 then rack_ok rack os else nat_lt 0 (slice_index rack (kind_of e)) && rack_ok (less rack e) os
+rack_ok rack (e ∷ os) = if e == 0 then rack_ok rack os else nat_lt 0 (slice_index rack (kind_of_entry e)) && rack_ok (less rack e) os
 
 -- what they leave of it
 abbrev pub rack_after : List ℕ → List ℕ → List ℕ

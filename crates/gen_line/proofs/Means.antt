@@ -4,8 +4,8 @@ use Rattle.std.proofs.lemmas.Bool.{cases_Bool, and_parts, and_right, false≢tru
 use Rattle.std.proofs.Math.Bool.{and-true, and_assoc}
 use Rattle.gen_line.specs.declared.cells.Cell.{Cell}
 use Rattle.gen_line.specs.declared.cells.Cell.TheVariants.{Old, Free}
-use Rattle.gen_line.specs.Entries.{letter_of, label_of, kind_of}
-use Rattle.gen_line.specs.Moves.{marked}
+use Rattle.gen_line.specs.Entries.{letter_of_entry, label_of_entry, kind_of_entry}
+use Rattle.gen_line.specs.Moves.{behind_mark}
 use Rattle.gen_line.specs.Model.{zeros, after, longer, may, less, starts_free}
 use Rattle.gen_line.proofs.Tests.{same, fits_right, fits_turn, behind_zeros, fits_left}
 use Rattle.gen_line.proofs.Meaning.{word, shape, rack_ok, rack_after, no_bar, at_anchor}
@@ -48,23 +48,23 @@ fits_right-is g (Old a ∷ cs) rack (e ∷ os) = by (e == 0) (fits_right-is (aft
   where
     by : (b : Bool) → fits_right (after g a) cs rack os ≡ (g (a ∷ word cs os) && (shape no_bar cs os && rack_ok rack os))
         → (b && fits_right (after g a) cs rack os)
-        ≡ (g (a ∷ word cs os) && ((b && shape no_bar cs os) && (if b then rack_ok rack os else nat_lt 0 (slice_index rack (kind_of e)) && rack_ok (less rack e) os)))
+        ≡ (g (a ∷ word cs os) && ((b && shape no_bar cs os) && (if b then rack_ok rack os else nat_lt 0 (slice_index rack (kind_of_entry e)) && rack_ok (less rack e) os)))
     by true h = h
-    by false h = and_none (g (a ∷ word cs os)) (nat_lt 0 (slice_index rack (kind_of e)) && rack_ok (less rack e) os)
+    by false h = and_none (g (a ∷ word cs os)) (nat_lt 0 (slice_index rack (kind_of_entry e)) && rack_ok (less rack e) os)
 fits_right-is g (Free m ∷ cs) rack [] = and_none (g []) true
-fits_right-is g (Free m ∷ cs) rack (e ∷ os) = by (e == 0) (fits_right-is (after g (label_of e)) cs (less rack e) os)
+fits_right-is g (Free m ∷ cs) rack (e ∷ os) = by (e == 0) (fits_right-is (after g (label_of_entry e)) cs (less rack e) os)
   where
-    by : (b : Bool) → fits_right (after g (label_of e)) cs (less rack e) os ≡ (g (label_of e ∷ word cs os) && (shape no_bar cs os && rack_ok (less rack e) os))
+    by : (b : Bool) → fits_right (after g (label_of_entry e)) cs (less rack e) os ≡ (g (label_of_entry e ∷ word cs os) && (shape no_bar cs os && rack_ok (less rack e) os))
         → (if b then g [] && same os (zeros (length cs))
-        else (nat_lt e 53 && (slice_index_or m.mask (letter_of e) false && nat_lt 0 (slice_index rack (kind_of e)))) && fits_right (after g (label_of e)) cs (less rack e) os)
-        ≡ (g (if b then [] else label_of e ∷ word cs os)
-        && ((if b then same os (zeros (length cs)) else (nat_lt e 53 && slice_index_or m.mask (letter_of e) false) && shape no_bar cs os)
-        && (if b then rack_ok rack os else nat_lt 0 (slice_index rack (kind_of e)) && rack_ok (less rack e) os)))
+        else (nat_lt e 53 && (slice_index_or m.mask (letter_of_entry e) false && nat_lt 0 (slice_index rack (kind_of_entry e)))) && fits_right (after g (label_of_entry e)) cs (less rack e) os)
+        ≡ (g (if b then [] else label_of_entry e ∷ word cs os)
+        && ((if b then same os (zeros (length cs)) else (nat_lt e 53 && slice_index_or m.mask (letter_of_entry e) false) && shape no_bar cs os)
+        && (if b then rack_ok rack os else nat_lt 0 (slice_index rack (kind_of_entry e)) && rack_ok (less rack e) os)))
     by true h = implied (g []) (same os (zeros (length cs))) (rack_ok rack os) (rack_ok-zeros (length cs) rack os)
     by false h =
         rw h
-        (shuffle (nat_lt e 53) (slice_index_or m.mask (letter_of e) false) (nat_lt 0 (slice_index rack (kind_of e)))
-        (g (label_of e ∷ word cs os)) (shape no_bar cs os) (rack_ok (less rack e) os))
+        (shuffle (nat_lt e 53) (slice_index_or m.mask (letter_of_entry e) false) (nat_lt 0 (slice_index rack (kind_of_entry e)))
+        (g (label_of_entry e ∷ word cs os)) (shape no_bar cs os) (rack_ok (less rack e) os))
 
 -- ---- the turn
 
@@ -76,13 +76,13 @@ none_or : (a b : Bool) → b ≡ false → (a || b) ≡ a
 none_or true b e = refl
 none_or false b e = e
 
-pub fits_turn-is : (g : List ℕ → Bool) (cs : List Cell) (rack ys : List ℕ) → fits_turn g cs rack ys ≡ (g (marked (word cs ys)) && (shape no_bar cs ys && rack_ok rack ys))
+pub fits_turn-is : (g : List ℕ → Bool) (cs : List Cell) (rack ys : List ℕ) → fits_turn g cs rack ys ≡ (g (behind_mark (word cs ys)) && (shape no_bar cs ys && rack_ok rack ys))
 unfolding fits_turn
 fits_turn-is g cs rack ys =
     rw (fits_right-is (longer (after g 0)) cs rack ys) (by cs ys)
   where
     by : (cs : List Cell) (ys : List ℕ) → (((starts_free cs && g []) && same ys (zeros (length cs))) || (longer (after g 0) (word cs ys) && (shape no_bar cs ys && rack_ok rack ys)))
-        ≡ (g (marked (word cs ys)) && (shape no_bar cs ys && rack_ok rack ys))
+        ≡ (g (behind_mark (word cs ys)) && (shape no_bar cs ys && rack_ok rack ys))
     by [] [] = none_or (g [] && true) false refl
     by [] (e ∷ ys) = none_or (g [] && false) false refl
     by (Old a ∷ cs) [] = and_none (g []) true
@@ -90,12 +90,12 @@ fits_turn-is g cs rack ys =
     by (Free m ∷ cs) [] = none_or (g [] && false) false refl
     by (Free m ∷ cs) (e ∷ ys) = at (e == 0)
       where
-        at : (b : Bool) → ((g [] && (b && same ys (zeros (length cs)))) || (longer (after g 0) (if b then [] else label_of e ∷ word cs ys)
-            && ((if b then same ys (zeros (length cs)) else (nat_lt e 53 && slice_index_or m.mask (letter_of e) false) && shape no_bar cs ys)
-            && (if b then rack_ok rack ys else nat_lt 0 (slice_index rack (kind_of e)) && rack_ok (less rack e) ys))))
-            ≡ (g (marked (if b then [] else label_of e ∷ word cs ys))
-            && ((if b then same ys (zeros (length cs)) else (nat_lt e 53 && slice_index_or m.mask (letter_of e) false) && shape no_bar cs ys)
-            && (if b then rack_ok rack ys else nat_lt 0 (slice_index rack (kind_of e)) && rack_ok (less rack e) ys)))
+        at : (b : Bool) → ((g [] && (b && same ys (zeros (length cs)))) || (longer (after g 0) (if b then [] else label_of_entry e ∷ word cs ys)
+            && ((if b then same ys (zeros (length cs)) else (nat_lt e 53 && slice_index_or m.mask (letter_of_entry e) false) && shape no_bar cs ys)
+            && (if b then rack_ok rack ys else nat_lt 0 (slice_index rack (kind_of_entry e)) && rack_ok (less rack e) ys))))
+            ≡ (g (behind_mark (if b then [] else label_of_entry e ∷ word cs ys))
+            && ((if b then same ys (zeros (length cs)) else (nat_lt e 53 && slice_index_or m.mask (letter_of_entry e) false) && shape no_bar cs ys)
+            && (if b then rack_ok rack ys else nat_lt 0 (slice_index rack (kind_of_entry e)) && rack_ok (less rack e) ys)))
         at true =
             none_or (g [] && same ys (zeros (length cs))) false refl
             ∙ implied (g []) (same ys (zeros (length cs))) (rack_ok rack ys) (rack_ok-zeros (length cs) rack ys)
@@ -128,21 +128,21 @@ fits_left-is g (Old a ∷ ls) cs rack (e ∷ xs) ys size = by (e == 0) (fits_lef
   where
     by : (b : Bool) → fits_left (after g a) ls cs rack (xs ++ ys) ≡ ((shape at_anchor ls xs && rack_ok rack xs) && fits_turn (λ t. g (a ∷ (word ls xs ++ t))) cs (rack_after rack xs) ys)
         → (b && fits_left (after g a) ls cs rack (xs ++ ys))
-        ≡ (((b && shape at_anchor ls xs) && (if b then rack_ok rack xs else nat_lt 0 (slice_index rack (kind_of e)) && rack_ok (less rack e) xs))
+        ≡ (((b && shape at_anchor ls xs) && (if b then rack_ok rack xs else nat_lt 0 (slice_index rack (kind_of_entry e)) && rack_ok (less rack e) xs))
         && fits_turn (λ t. g (a ∷ (word ls xs ++ t))) cs (if b then rack_after rack xs else rack_after (less rack e) xs) ys)
     by true h = h
     by false h = refl
 fits_left-is g (Free m ∷ ls) cs rack [] ys size = absurd (omega arith)
-fits_left-is g (Free m ∷ ls) cs rack (e ∷ xs) ys size = by (e == 0) (omega arith) (fits_left-is (after g (label_of e)) ls cs (less rack e) xs ys (omega arith))
+fits_left-is g (Free m ∷ ls) cs rack (e ∷ xs) ys size = by (e == 0) (omega arith) (fits_left-is (after g (label_of_entry e)) ls cs (less rack e) xs ys (omega arith))
   where
     by : (b : Bool) → length xs ≡ length ls
-        → fits_left (after g (label_of e)) ls cs (less rack e) (xs ++ ys)
-        ≡ ((shape at_anchor ls xs && rack_ok (less rack e) xs) && fits_turn (λ t. g (label_of e ∷ (word ls xs ++ t))) cs (rack_after (less rack e) xs) ys)
+        → fits_left (after g (label_of_entry e)) ls cs (less rack e) (xs ++ ys)
+        ≡ ((shape at_anchor ls xs && rack_ok (less rack e) xs) && fits_turn (λ t. g (label_of_entry e ∷ (word ls xs ++ t))) cs (rack_after (less rack e) xs) ys)
         → (if b then behind_zeros (length ls) (fits_turn g cs rack) (xs ++ ys)
-        else (not m.anchor && (nat_lt e 53 && (slice_index_or m.mask (letter_of e) false && nat_lt 0 (slice_index rack (kind_of e))))) && fits_left (after g (label_of e)) ls cs (less rack e) (xs ++ ys))
-        ≡ (((if b then same xs (zeros (length ls)) else (not m.anchor && (nat_lt e 53 && slice_index_or m.mask (letter_of e) false)) && shape at_anchor ls xs)
-        && (if b then rack_ok rack xs else nat_lt 0 (slice_index rack (kind_of e)) && rack_ok (less rack e) xs))
-        && fits_turn (λ t. g ((if b then [] else label_of e ∷ word ls xs) ++ t)) cs (if b then rack_after rack xs else rack_after (less rack e) xs) ys)
+        else (not m.anchor && (nat_lt e 53 && (slice_index_or m.mask (letter_of_entry e) false && nat_lt 0 (slice_index rack (kind_of_entry e))))) && fits_left (after g (label_of_entry e)) ls cs (less rack e) (xs ++ ys))
+        ≡ (((if b then same xs (zeros (length ls)) else (not m.anchor && (nat_lt e 53 && slice_index_or m.mask (letter_of_entry e) false)) && shape at_anchor ls xs)
+        && (if b then rack_ok rack xs else nat_lt 0 (slice_index rack (kind_of_entry e)) && rack_ok (less rack e) xs))
+        && fits_turn (λ t. g ((if b then [] else label_of_entry e ∷ word ls xs) ++ t)) cs (if b then rack_after rack xs else rack_after (less rack e) xs) ys)
     by true same_size h =
         behind_zeros-append (length ls) (fits_turn g cs rack) xs ys same_size
         ∙ ⊎_elim
@@ -152,13 +152,13 @@ fits_left-is g (Free m ∷ ls) cs rack (e ∷ xs) ys size = by (e == 0) (omega a
         (cases_Bool (same xs (zeros (length ls))))
     by false same_size h =
         rw h
-        (shuffle_left (not m.anchor) (nat_lt e 53) (slice_index_or m.mask (letter_of e) false) (nat_lt 0 (slice_index rack (kind_of e)))
-        (shape at_anchor ls xs) (rack_ok (less rack e) xs) (fits_turn (λ t. g (label_of e ∷ (word ls xs ++ t))) cs (rack_after (less rack e) xs) ys))
+        (shuffle_left (not m.anchor) (nat_lt e 53) (slice_index_or m.mask (letter_of_entry e) false) (nat_lt 0 (slice_index rack (kind_of_entry e)))
+        (shape at_anchor ls xs) (rack_ok (less rack e) xs) (fits_turn (λ t. g (label_of_entry e ∷ (word ls xs ++ t))) cs (rack_after (less rack e) xs) ys))
 
 -- the whole: one path, the squares, the rack
 pub fits_left-means : (g : List ℕ → Bool) (ls cs : List Cell) (rack xs ys : List ℕ) → length xs ≡ length ls
     → fits_left g ls cs rack (xs ++ ys)
-    ≡ ((shape at_anchor ls xs && rack_ok rack xs) && (g (word ls xs ++ marked (word cs ys)) && (shape no_bar cs ys && rack_ok (rack_after rack xs) ys)))
+    ≡ ((shape at_anchor ls xs && rack_ok rack xs) && (g (word ls xs ++ behind_mark (word cs ys)) && (shape no_bar cs ys && rack_ok (rack_after rack xs) ys)))
 fits_left-means g ls cs rack xs ys size =
     fits_left-is g ls cs rack xs ys size
     ∙ ap (λ b. (shape at_anchor ls xs && rack_ok rack xs) && b) (fits_turn-is (λ t. g (word ls xs ++ t)) cs (rack_after rack xs) ys)

@@ -7,9 +7,9 @@ use Rattle.std.proofs.lemmas.Bool.{cases_eq, cases_lt, cases_order, cases_Bool, 
 use Rattle.gen_line.specs.declared.cells.Cell.{Cell}
 use Rattle.gen_line.specs.declared.cells.Cell.TheVariants.{Old, Free}
 use Rattle.gen_line.specs.declared.cells.Open.{Open}
-use Rattle.gen_line.specs.Entries.{letter_of, label_of, kind_of}
+use Rattle.gen_line.specs.Entries.{letter_of_entry, label_of_entry, kind_of_entry}
 use Rattle.gen_line.specs.Cells.{cell_at, is_full, cell_ok, is_anchor_cell, full_on, labels}
-use Rattle.gen_line.specs.Moves.{IsMove, Labelled, marked, AreSplits}
+use Rattle.gen_line.specs.Moves.{IsMove, Labelled, behind_mark, AreSplits}
 use Rattle.gen_line.specs.Model.{after, may, less, left_of}
 use Rattle.gen_line.proofs.Tests.{left_entries, walk, fits_left, cell_fits, owes}
 use Rattle.gen_line.proofs.Meaning.{word, shape, rack_ok, rack_after, no_bar, at_anchor}
@@ -28,31 +28,31 @@ pub record Owed (g : List ℕ → Bool) (line : List Cell) (rack : List ℕ) (h 
   pub anchor : square.anchor ≡ true
   pub some : get_or y h 0 ≢ 0
   pub low : get_or y h 0 < 53
-  pub mask : slice_index_or square.mask (letter_of (get_or y h 0)) false ≡ true
+  pub mask : slice_index_or square.mask (letter_of_entry (get_or y h 0)) false ≡ true
   pub left : shape at_anchor (left_of line h) (left_entries y h) ≡ true
   pub right : shape no_bar (drop (h + 1) line) (drop (h + 1) y) ≡ true
   pub taken : rack_ok rack (walk h y) ≡ true
-  pub path : g (label_of (get_or y h 0) ∷ (word (left_of line h) (left_entries y h) ++ marked (word (drop (h + 1) line) (drop (h + 1) y)))) ≡ true
+  pub path : g (label_of_entry (get_or y h 0) ∷ (word (left_of line h) (left_entries y h) ++ behind_mark (word (drop (h + 1) line) (drop (h + 1) y)))) ≡ true
 
 sides_fit : (g : List ℕ → Bool) (line : List Cell) (rack : List ℕ) (h : ℕ) (y : List ℕ)
     → fits_left g (left_of line h) (drop (h + 1) line) rack (left_entries y h ++ drop (h + 1) y)
     ≡ ((shape at_anchor (left_of line h) (left_entries y h) && rack_ok rack (left_entries y h))
-    && (g (word (left_of line h) (left_entries y h) ++ marked (word (drop (h + 1) line) (drop (h + 1) y)))
+    && (g (word (left_of line h) (left_entries y h) ++ behind_mark (word (drop (h + 1) line) (drop (h + 1) y)))
     && (shape no_bar (drop (h + 1) line) (drop (h + 1) y) && rack_ok (rack_after rack (left_entries y h)) (drop (h + 1) y))))
 sides_fit g line rack h y =
     fits_left-means g (left_of line h) (drop (h + 1) line) rack (left_entries y h) (drop (h + 1) y) (left_entries-size y h ∙ sym (left_of-size line h))
 
 -- the tests of the new tile on the anchor: the square takes its letter, and the rack has it
 abbrev takes_letter : Open → ℕ → Bool
-takes_letter m e = slice_index_or m.mask (letter_of e) false
+takes_letter m e = slice_index_or m.mask (letter_of_entry e) false
 
 abbrev has_tile : List ℕ → ℕ → Bool
-has_tile rack e = nat_lt 0 (get_or rack (kind_of e) 0)
+has_tile rack e = nat_lt 0 (get_or rack (kind_of_entry e) 0)
 
 -- whether the lexicon has the path of the entries around the anchor
 abbrev has_path : (List ℕ → Bool) → List Cell → ℕ → List ℕ → Bool
 has_path g line h y =
-    g (label_of (get_or y h 0) ∷ (word (left_of line h) (left_entries y h) ++ marked (word (drop (h + 1) line) (drop (h + 1) y))))
+    g (label_of_entry (get_or y h 0) ∷ (word (left_of line h) (left_entries y h) ++ behind_mark (word (drop (h + 1) line) (drop (h + 1) y))))
 
 owed_free : (g : List ℕ → Bool) (line : List Cell) (rack : List ℕ) (h : ℕ) (y : List ℕ) (m : Open) → length y ≡ 15 → cell_at line h ≡ Free m
     → cell_fits g line h rack (Free m) (walk h y) ≡ true → Owed g line rack h y
@@ -66,12 +66,12 @@ owed_free g line rack h y m size is fit =
     let right = shape no_bar (drop (h + 1) line) rights in
     let left_rack = rack_ok rest lefts in
     let right_rack = rack_ok (rack_after rest lefts) rights in
-    let parts = and_parts (m.anchor && (not (e == 0) && (nat_lt e 53 && (takes_letter m e && has_tile rack e)))) (fits_left (after g (label_of e)) (left_of line h) (drop (h + 1) line) rest (lefts ++ rights)) fit in
+    let parts = and_parts (m.anchor && (not (e == 0) && (nat_lt e 53 && (takes_letter m e && has_tile rack e)))) (fits_left (after g (label_of_entry e)) (left_of line h) (drop (h + 1) line) rest (lefts ++ rights)) fit in
     let here = and_parts m.anchor (not (e == 0) && (nat_lt e 53 && (takes_letter m e && has_tile rack e))) parts.0 in
     let new = and_parts (not (e == 0)) (nat_lt e 53 && (takes_letter m e && has_tile rack e)) here.1 in
     let entry = and_parts (nat_lt e 53) (takes_letter m e && has_tile rack e) new.1 in
     let allowed = and_parts (takes_letter m e) (has_tile rack e) entry.1 in
-    let sides = and_parts (left && left_rack) (has_path g line h y && (right && right_rack)) (sym (sides_fit (after g (label_of e)) line rest h y) ∙ parts.1) in
+    let sides = and_parts (left && left_rack) (has_path g line h y && (right && right_rack)) (sym (sides_fit (after g (label_of_entry e)) line rest h y) ∙ parts.1) in
     let on_left = and_parts left left_rack sides.0 in
     let word_and_right = and_parts (has_path g line h y) (right && right_rack) sides.1 in
     let on_right = and_parts right right_rack word_and_right.1 in
@@ -115,7 +115,7 @@ owes_from g line rack h y o =
     let not_zero = ne_eqb e 0 o.some in
     let racks = and_parts (has_tile rack e) (rack_ok rest (lefts ++ rights)) (rw not_zero at o.taken) in
     let both = and_parts left_rack right_rack (sym (rack_ok-append rest lefts rights) ∙ racks.1) in
-    let sides = sides_fit (after g (label_of e)) line rest h y
+    let sides = sides_fit (after g (label_of_entry e)) line rest h y
     ∙ and_from (left && left_rack) (has_path g line h y && (right && right_rack)) (and_from left left_rack o.left both.0)
     (and_from (has_path g line h y) (right && right_rack) o.path (and_from right right_rack o.right both.1)) in
     let entry = and_from (nat_lt e 53) (takes_letter m e && has_tile rack e) (lt-ltb e 53 o.low) (and_from (takes_letter m e) (has_tile rack e) o.mask racks.0) in
@@ -123,7 +123,7 @@ owes_from g line rack h y o =
     (and_from (not (e == 0)) (nat_lt e 53 && (takes_letter m e && has_tile rack e)) (not_from_false (e == 0) not_zero) entry) in
     and_from (length y == 15) (cell_fits g line h rack (cell_at line h) (walk h y)) (eq-eqb (length y) 15 o.size)
     (rw o.is
-    (and_from (m.anchor && (not (e == 0) && (nat_lt e 53 && (takes_letter m e && has_tile rack e)))) (fits_left (after g (label_of e)) (left_of line h) (drop (h + 1) line) rest (lefts ++ rights)) here sides))
+    (and_from (m.anchor && (not (e == 0) && (nat_lt e 53 && (takes_letter m e && has_tile rack e)))) (fits_left (after g (label_of_entry e)) (left_of line h) (drop (h + 1) line) rest (lefts ++ rights)) here sides))
 
 -- ---- an anchor that owes a line makes it a move
 
@@ -198,11 +198,11 @@ move_around g listed splits line rack y h first a b labelled below o s left_word
     let right_in = s.right in
     let line_size = labelled.size in
     let y_size = o.size in
-    let front = label_of (get_or y h 0) ∷ spelt (left_of line h) (left_entries y h) a in
+    let front = label_of_entry (get_or y h 0) ∷ spelt (left_of line h) (left_entries y h) a in
     let rest = spelt (drop (h + 1) line) (drop (h + 1) y) b in
-    let path : g (front ++ marked rest) ≡ true = rw (left_word, right_word) at o.path in
+    let path : g (front ++ behind_mark rest) ≡ true = rw (left_word, right_word) at o.path in
     let none_is_mark : All (λ k. 0 < k) front =
-    All-cons (λ k. 0 < k) (label_of (get_or y h 0)) (spelt (left_of line h) (left_entries y h) a) (omega arith) (spelt-positive line y h a labelled (omega arith)) in
+    All-cons (λ k. 0 < k) (label_of_entry (get_or y h 0)) (spelt (left_of line h) (left_entries y h) a) (omega arith) (spelt-positive line y h a labelled (omega arith)) in
     let end : first + (a + suc b) ≡ h + 1 + b = omega arith in
     record {
       size = o.size;
@@ -319,7 +319,7 @@ move_owed_at : (g listed : List ℕ → Bool) → AreSplits g listed → (line :
     → ((i : ℕ) → i < h → covers_anchor line y i ≡ false) → Owed g line rack h y
 move_owed_at g listed splits line rack y first len h a b n labelled m below is anchor some left_sum right_sum none =
     let e = get_or y h 0 in
-    let mask = slice_index_or n.mask (letter_of e) false in
+    let mask = slice_index_or n.mask (letter_of_entry e) false in
     let not_zero = ne_eqb e 0 some in
     let inside = m.whole.inside in
     let line_size = labelled.size in
@@ -327,13 +327,13 @@ move_owed_at g listed splits line rack y first len h a b n labelled m below is a
     let ok = and_parts (nat_lt e 53) mask (rw (is, not_zero) at (m.allowed h below)) in
     let left = shape_from at_anchor (left_of line h) (left_entries y h) a (left_shape listed line rack y first len h a m left_sum (omega arith) none) in
     let right = shape_from no_bar (drop (h + 1) line) (drop (h + 1) y) b (right_shape listed line rack y first len h b line_size m (omega arith) right_sum) in
-    let front = label_of e ∷ spelt (left_of line h) (left_entries y h) a in
+    let front = label_of_entry e ∷ spelt (left_of line h) (left_entries y h) a in
     let rest = spelt (drop (h + 1) line) (drop (h + 1) y) b in
     let none_is_mark : All (λ k. 0 < k) front =
-    All-cons (λ k. 0 < k) (label_of e) (spelt (left_of line h) (left_entries y h) a) (omega arith) (spelt-positive line y h a labelled (omega arith)) in
+    All-cons (λ k. 0 < k) (label_of_entry e) (spelt (left_of line h) (left_entries y h) a) (omega arith) (spelt-positive line y h a labelled (omega arith)) in
     let stretch : a + suc b ≡ len = omega arith in
     let spells = whole_word line y n h first a b is left_sum (omega arith) (omega arith) ∙ ap (labels line y first) stretch in
-    let path : g (front ++ marked rest) ≡ true = splits front rest (omega arith) none_is_mark ∙ ap listed spells ∙ m.word in
+    let path : g (front ++ behind_mark rest) ≡ true = splits front rest (omega arith) none_is_mark ∙ ap listed spells ∙ m.word in
     record {
       size = m.size;
       square = n;

@@ -4,7 +4,7 @@ use Rattle.std.proofs.lemmas.Bool.{ne_eqb, eq-eqb, and_from, lt-ltb, false≢tru
 use Rattle.gen_line.specs.declared.cells.Cell.{Cell}
 use Rattle.gen_line.specs.declared.cells.Cell.TheVariants.{Old, Free}
 use Rattle.gen_line.specs.declared.cells.Open.{Open}
-use Rattle.gen_line.specs.Entries.{letter_of}
+use Rattle.gen_line.specs.Entries.{letter_of_entry}
 use Rattle.gen_line.specs.Cells.{cell_at, is_full, is_anchor_cell}
 use Rattle.gen_line.specs.Moves.{IsMove, Labelled, AreSplits}
 use Rattle.gen_line.specs.Model.{left_of, cell_moves, unwalk}
@@ -42,7 +42,7 @@ owed_reach g listed splits line rack y h labelled below o =
     let l = shaped at_anchor (left_of line h) (left_entries y h) o.left in
     let r = shaped no_bar (drop (h + 1) line) (drop (h + 1) y) o.right in
     let not_zero = ne_eqb (get_or y h 0) 0 o.some in
-    let allowed = and_from (nat_lt (get_or y h 0) 53) (slice_index_or o.square.mask (letter_of (get_or y h 0)) false) (lt-ltb (get_or y h 0) 53 o.low) o.mask in
+    let allowed = and_from (nat_lt (get_or y h 0) 53) (slice_index_or o.square.mask (letter_of_entry (get_or y h 0)) false) (lt-ltb (get_or y h 0) 53 o.low) o.mask in
     let s = around line y h l.0 r.0 below labelled.size (rw (o.is, not_zero) refl) (rw (o.is, not_zero) allowed) l.1 r.1 in
     let left_sum = s.left in (
       h - l.0,

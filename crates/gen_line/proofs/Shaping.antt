@@ -4,7 +4,7 @@ use Rattle.std.proofs.lemmas.Bool.{eqb-true, eq-eqb, eqb-false, and_parts, and_f
 use Rattle.gen_line.specs.declared.cells.Cell.{Cell}
 use Rattle.gen_line.specs.declared.cells.Cell.TheVariants.{Old, Free}
 use Rattle.gen_line.specs.declared.cells.Open.{Open}
-use Rattle.gen_line.specs.Entries.{letter_of, label_of}
+use Rattle.gen_line.specs.Entries.{letter_of_entry, label_of_entry}
 use Rattle.gen_line.specs.Cells.{cell_at, is_full, label_at, cell_ok}
 use Rattle.gen_line.specs.Model.{zeros}
 use Rattle.gen_line.proofs.Tests.{same}
@@ -98,9 +98,9 @@ fewer bar c cs e ys len s = record {
 old-starts : (bar : Open → Bool) (a e : ℕ) → (e == 0) ≡ true → Starts bar (Old a) e
 old-starts bar a e z = record { full = refl; ok = z; unbarred = λ m is ne. cc }
 
-free-starts : (bar : Open → Bool) (m : Open) (e : ℕ) → (e == 0) ≡ false → (not (bar m) && (nat_lt e 53 && slice_index_or m.mask (letter_of e) false)) ≡ true → Starts bar (Free m) e
+free-starts : (bar : Open → Bool) (m : Open) (e : ℕ) → (e == 0) ≡ false → (not (bar m) && (nat_lt e 53 && slice_index_or m.mask (letter_of_entry e) false)) ≡ true → Starts bar (Free m) e
 free-starts bar m e z h =
-    let parts = and_parts (not (bar m)) (nat_lt e 53 && slice_index_or m.mask (letter_of e) false) h in record {
+    let parts = and_parts (not (bar m)) (nat_lt e 53 && slice_index_or m.mask (letter_of_entry e) false) h in record {
       full = rw z;
       ok = rw z parts.1;
       unbarred = λ n is ne. let one : m ≡ n = cc in ap bar (sym one) ∙ not-true (bar m) parts.0;
@@ -145,14 +145,14 @@ shaped bar (Free m ∷ cs) [] e = absurd (false≢true e)
 shaped bar (Free m ∷ cs) (d ∷ ys) e = by (d == 0) refl e (shaped bar cs ys)
   where
     by : (b : Bool) → (d == 0) ≡ b
-        → (if b then same ys (zeros (length cs)) else (not (bar m) && (nat_lt d 53 && slice_index_or m.mask (letter_of d) false)) && shape bar cs ys) ≡ true
+        → (if b then same ys (zeros (length cs)) else (not (bar m) && (nat_lt d 53 && slice_index_or m.mask (letter_of_entry d) false)) && shape bar cs ys) ≡ true
         → (shape bar cs ys ≡ true → (len : ℕ) × Shaped bar cs ys len × (word cs ys ≡ spelt cs ys len))
-        → (len : ℕ) × Shaped bar (Free m ∷ cs) (d ∷ ys) len × ((if b then [] else label_of d ∷ word cs ys) ≡ spelt (Free m ∷ cs) (d ∷ ys) len)
+        → (len : ℕ) × Shaped bar (Free m ∷ cs) (d ∷ ys) len × ((if b then [] else label_of_entry d ∷ word cs ys) ≡ spelt (Free m ∷ cs) (d ∷ ys) len)
     by true z h rest = (0, stops bar m cs d ys z h, refl)
     by false z h rest =
-        let parts = and_parts (not (bar m) && (nat_lt d 53 && slice_index_or m.mask (letter_of d) false)) (shape bar cs ys) h in
+        let parts = and_parts (not (bar m) && (nat_lt d 53 && slice_index_or m.mask (letter_of_entry d) false)) (shape bar cs ys) h in
         let then' = rest parts.1 in
-        (suc then'.0, more bar (Free m) cs d ys then'.0 (free-starts bar m d z parts.0) then'.1, ap (λ (l : List ℕ). label_of d ∷ l) then'.2)
+        (suc then'.0, more bar (Free m) cs d ys then'.0 (free-starts bar m d z parts.0) then'.1, ap (λ (l : List ℕ). label_of_entry d ∷ l) then'.2)
 
 pub shape_from : (bar : Open → Bool) (cs : List Cell) (ys : List ℕ) (len : ℕ) → Shaped bar cs ys len → (shape bar cs ys ≡ true) × (word cs ys ≡ spelt cs ys len)
 shape_from bar [] [] len s = (refl, refl)
@@ -172,7 +172,7 @@ shape_from bar (Free m ∷ cs) (d ∷ ys) (suc len) s =
     let ok = rw z at (s.ok 0 (omega arith)) in
     let open_to = s.unbarred 0 m (omega arith) refl (eqb-false d 0 z) in (
       rw z
-          (and_from (not (bar m) && (nat_lt d 53 && slice_index_or m.mask (letter_of d) false)) (shape bar cs ys)
-          (and_from (not (bar m)) (nat_lt d 53 && slice_index_or m.mask (letter_of d) false) (not_from_false (bar m) open_to) ok) rest.0),
-      rw z (ap (λ (l : List ℕ). label_of d ∷ l) rest.1),
+          (and_from (not (bar m) && (nat_lt d 53 && slice_index_or m.mask (letter_of_entry d) false)) (shape bar cs ys)
+          (and_from (not (bar m)) (nat_lt d 53 && slice_index_or m.mask (letter_of_entry d) false) (not_from_false (bar m) open_to) ok) rest.0),
+      rw z (ap (λ (l : List ℕ). label_of_entry d ∷ l) rest.1),
     )

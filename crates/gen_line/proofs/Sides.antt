@@ -8,7 +8,7 @@ use Rattle.std.proofs.Math.Bool.{and_assoc}
 use Rattle.gen_line.specs.declared.cells.Cell.{Cell}
 use Rattle.gen_line.specs.declared.cells.Cell.TheVariants.{Old, Free}
 use Rattle.gen_line.specs.declared.cells.Open.{Open}
-use Rattle.gen_line.specs.Entries.{label_of, kind_of, uses}
+use Rattle.gen_line.specs.Entries.{label_of_entry, kind_of_entry, uses}
 use Rattle.gen_line.specs.Cells.{cell_at, label_at, labels}
 use Rattle.gen_line.specs.Moves.{Labelled, back}
 use Rattle.gen_line.specs.Model.{less, left_of}
@@ -87,10 +87,10 @@ spelt-right line y (suc n) p fits size =
 
 -- the labels to the left of an anchor read backwards, its own and those to the right are those of the stretch
 pub whole_word : (line : List Cell) (y : List ℕ) (m : Open) (h first a b : ℕ) → cell_at line h ≡ Free m → first + a ≡ h → h + 1 + b ≤ length line → length y ≡ length line
-    → back (label_of (get_or y h 0) ∷ spelt (left_of line h) (left_entries y h) a) (spelt (drop (h + 1) line) (drop (h + 1) y) b) ≡ labels line y first (a + suc b)
+    → back (label_of_entry (get_or y h 0) ∷ spelt (left_of line h) (left_entries y h) a) (spelt (drop (h + 1) line) (drop (h + 1) y) b) ≡ labels line y first (a + suc b)
 whole_word line y m h first a b is sum inside size =
-    back-labels line y h first a (label_of (get_or y h 0) ∷ spelt (drop (h + 1) line) (drop (h + 1) y) b) sum
-    ∙ ap (λ (l : List ℕ). labels line y first a ++ (label_of (get_or y h 0) ∷ l)) (spelt-right line y b (h + 1) inside size)
+    back-labels line y h first a (label_of_entry (get_or y h 0) ∷ spelt (drop (h + 1) line) (drop (h + 1) y) b) sum
+    ∙ ap (λ (l : List ℕ). labels line y first a ++ (label_of_entry (get_or y h 0) ∷ l)) (spelt-right line y b (h + 1) inside size)
     ∙ ap (λ (c : Cell). labels line y first a ++ (label_at c (get_or y h 0) ∷ labels line y (h + 1) b)) (sym is)
     ∙ sym (labels-append line y first h (a + suc b) a (suc b) refl (sym sum))
 
@@ -118,19 +118,19 @@ rack_ok-append rack (e ∷ xs) ys = by (e == 0) (rack_ok-append rack xs ys) (rac
   where
     by : (b : Bool) → rack_ok rack (xs ++ ys) ≡ (rack_ok rack xs && rack_ok (rack_after rack xs) ys)
         → rack_ok (less rack e) (xs ++ ys) ≡ (rack_ok (less rack e) xs && rack_ok (rack_after (less rack e) xs) ys)
-        → (if b then rack_ok rack (xs ++ ys) else nat_lt 0 (slice_index rack (kind_of e)) && rack_ok (less rack e) (xs ++ ys))
-        ≡ ((if b then rack_ok rack xs else nat_lt 0 (slice_index rack (kind_of e)) && rack_ok (less rack e) xs)
+        → (if b then rack_ok rack (xs ++ ys) else nat_lt 0 (slice_index rack (kind_of_entry e)) && rack_ok (less rack e) (xs ++ ys))
+        ≡ ((if b then rack_ok rack xs else nat_lt 0 (slice_index rack (kind_of_entry e)) && rack_ok (less rack e) xs)
         && rack_ok (if b then rack_after rack xs else rack_after (less rack e) xs) ys)
     by true kept taken = kept
     by false kept taken =
-        rw taken (sym (and_assoc (nat_lt 0 (slice_index rack (kind_of e))) (rack_ok (less rack e) xs) (rack_ok (rack_after (less rack e) xs) ys)))
+        rw taken (sym (and_assoc (nat_lt 0 (slice_index rack (kind_of_entry e))) (rack_ok (less rack e) xs) (rack_ok (rack_after (less rack e) xs) ys)))
 
 uses-append : (k : ℕ) (xs ys : List ℕ) → uses k (xs ++ ys) ≡ uses k xs + uses k ys
 uses-append k [] ys = omega arith
 uses-append k (e ∷ xs) ys = by (e == 0) (uses-append k xs ys)
   where
     by : (b : Bool) → uses k (xs ++ ys) ≡ uses k xs + uses k ys
-        → (if b then uses k (xs ++ ys) else (if kind_of e == k then 1 else 0) + uses k (xs ++ ys)) ≡ (if b then uses k xs else (if kind_of e == k then 1 else 0) + uses k xs) + uses k ys
+        → (if b then uses k (xs ++ ys) else (if kind_of_entry e == k then 1 else 0) + uses k (xs ++ ys)) ≡ (if b then uses k xs else (if kind_of_entry e == k then 1 else 0) + uses k xs) + uses k ys
     by true h = h
     by false h = omega arith
 

@@ -3,7 +3,7 @@ use Rattle.std.proofs.Common.{◌≡◌, ℕ, zero, suc, ◌+◌, ◌==◌, ◌&
 use Rattle.ref_tiles.proofs.Tallies.{tally, once}
 use Rattle.gen_line.specs.declared.cells.Cell.{Cell}
 use Rattle.gen_line.specs.declared.cells.Cell.TheVariants.{Old, Free}
-use Rattle.gen_line.specs.Entries.{label_of}
+use Rattle.gen_line.specs.Entries.{label_of_entry}
 use Rattle.gen_line.specs.Cells.{cell_at}
 use Rattle.gen_line.specs.Model.{after, longer, may, less, zeros, starts_free, left_of}
 
@@ -23,7 +23,7 @@ fits_right g (Old a ∷ cs) rack (e ∷ os) = (e == 0) && fits_right (after g a)
 fits_right g (Free m ∷ cs) rack [] = false
 fits_right g (Free m ∷ cs) rack (e ∷ os) =
     if e == 0 then g [] && same os (zeros (length cs))
-    else (nat_lt e 53 && may m rack e) && fits_right (after g (label_of e)) cs (less rack e) os
+    else (nat_lt e 53 && may m rack e) && fits_right (after g (label_of_entry e)) cs (less rack e) os
 
 -- those of the end, or of the turn
 unfoldable pub fits_turn : (List ℕ → Bool) → List Cell → List ℕ → List ℕ → Bool
@@ -43,7 +43,7 @@ fits_left g (Old a ∷ ls) cs rack (e ∷ os) = (e == 0) && fits_left (after g a
 fits_left g (Free m ∷ ls) cs rack [] = false
 fits_left g (Free m ∷ ls) cs rack (e ∷ os) =
     if e == 0 then behind_zeros (length ls) (fits_turn g cs rack) os
-    else (not m.anchor && (nat_lt e 53 && may m rack e)) && fits_left (after g (label_of e)) ls cs (less rack e) os
+    else (not m.anchor && (nat_lt e 53 && may m rack e)) && fits_left (after g (label_of_entry e)) ls cs (less rack e) os
 
 -- each thing of the set once, and no other
 abbrev pub Each : (List ℕ → Bool) → List (List ℕ) → Type 0
@@ -55,7 +55,7 @@ cell_fits g line h rack (Old a) x = false
 cell_fits g line h rack (Free m) [] = false
 cell_fits g line h rack (Free m) (e ∷ os) =
     (m.anchor && (not (e == 0) && (nat_lt e 53 && may m rack e)))
-    && fits_left (after g (label_of e)) (left_of line h) (drop (h + 1) line) (less rack e) os
+    && fits_left (after g (label_of_entry e)) (left_of line h) (drop (h + 1) line) (less rack e) os
 
 -- the entries to the left of a place, nearest first
 unfoldable pub left_entries : List ℕ → ℕ → List ℕ

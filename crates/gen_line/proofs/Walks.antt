@@ -9,7 +9,7 @@ use Rattle.gen_line.specs.declared.cells.Cell.{Cell}
 use Rattle.gen_line.specs.declared.cells.Cell.TheVariants.{Old, Free}
 use Rattle.gen_line.specs.declared.cells.Open.{Open}
 use Rattle.gen_line.specs.declared.tiles.Tiles.{Tiles}
-use Rattle.gen_line.specs.Entries.{letter_of, label_of, kind_of, is_blank_entry}
+use Rattle.gen_line.specs.Entries.{letter_of_entry, label_of_entry, kind_of_entry, is_blank_entry}
 use Rattle.gen_line.specs.Cells.{cell_at}
 use Rattle.gen_line.specs.Model.{join_range, zeros, after, may, shows, less, one_try, tries, leaf, right}
 use Rattle.lex_file.specs.Walking.{next_strings, strings}
@@ -57,7 +57,7 @@ right-never g [] rack none = leaf-none (g []) 0 (none [])
 right-never g (Old a ∷ cs) rack none = ap (map (λ os. 0 ∷ os)) (right-never (after g a) cs rack (λ t. none (a ∷ t)))
 right-never g (Free m ∷ cs) rack none =
     rw (leaf-none (g []) (suc (length cs)) (none []))
-    (tries-none m rack (λ e. right (after g (label_of e)) cs (less rack e)) (λ e. right-never (after g (label_of e)) cs (less rack e) (λ t. none (label_of e ∷ t))))
+    (tries-none m rack (λ e. right (after g (label_of_entry e)) cs (less rack e)) (λ e. right-never (after g (label_of_entry e)) cs (less rack e) (λ t. none (label_of_entry e ∷ t))))
 
 -- ---- tests of strings that agree are the same
 
@@ -66,10 +66,10 @@ unfolding right
 right-alike g h [] rack same = ap (λ b. leaf b 0) (same [])
 right-alike g h (Old a ∷ cs) rack same = ap (map (λ os. 0 ∷ os)) (right-alike (after g a) (after h a) cs rack (λ t. same (a ∷ t)))
 right-alike g h (Free m ∷ cs) rack same =
-    ap (λ b. leaf b (suc (length cs)) ++ tries m rack (λ e. right (after g (label_of e)) cs (less rack e))) (same [])
+    ap (λ b. leaf b (suc (length cs)) ++ tries m rack (λ e. right (after g (label_of_entry e)) cs (less rack e))) (same [])
     ∙ ap (λ xs. leaf (h []) (suc (length cs)) ++ xs)
-    (tries-same m rack (λ e. right (after g (label_of e)) cs (less rack e)) (λ e. right (after h (label_of e)) cs (less rack e))
-    (λ e. right-alike (after g (label_of e)) (after h (label_of e)) cs (less rack e) (λ t. same (label_of e ∷ t))))
+    (tries-same m rack (λ e. right (after g (label_of_entry e)) cs (less rack e)) (λ e. right (after h (label_of_entry e)) cs (less rack e))
+    (λ e. right-alike (after g (label_of_entry e)) (after h (label_of_entry e)) cs (less rack e) (λ t. same (label_of_entry e ∷ t))))
 
 pub right-same : (g h : List ℕ → Bool) (line : List Cell) (place : ℕ) (tiles : Tiles) → ((t : List ℕ) → g t ≡ h t) → gives_right g line place tiles ≡ gives_right h line place tiles
 right-same g h line place tiles same = ap (map (finish_right place tiles.fresh)) (right-alike g h (drop place line) tiles.rack same)
@@ -133,30 +133,30 @@ unfolding gives_one_right
 gives_one_right-no g line place m tiles e refused =
     ap (λ b. map (finish_right place tiles.fresh) (if b then map (λ os. e ∷ os) (one_right_of g line place tiles.rack e) else [])) refused
 
-pub one_right-dead : (g : List ℕ → Bool) (line : List Cell) (place : ℕ) (m : Open) (tiles : Tiles) (e label : ℕ) → label ≡ label_of e → ((t : List ℕ) → after g label t ≡ false) → gives_one_right g line place m tiles e ≡ []
+pub one_right-dead : (g : List ℕ → Bool) (line : List Cell) (place : ℕ) (m : Open) (tiles : Tiles) (e label : ℕ) → label ≡ label_of_entry e → ((t : List ℕ) → after g label t ≡ false) → gives_one_right g line place m tiles e ≡ []
 unfolding gives_one_right
 one_right-dead g line place m tiles e label same none =
     ap (map (finish_right place tiles.fresh))
     (one_try-none m tiles.rack (one_right_of g line place tiles.rack) e
-    (right-never (after g (label_of e)) (drop (place + 1) line) (less tiles.rack e) (subst (λ l. (t : List ℕ) → after g l t ≡ false) same none)))
+    (right-never (after g (label_of_entry e)) (drop (place + 1) line) (less tiles.rack e) (subst (λ l. (t : List ℕ) → after g l t ≡ false) same none)))
 
 -- an entry that is put down is written
 pub put-some : (fresh : List ℕ) (place e : ℕ) → 0 < e → put fresh place e ≡ slice_set fresh place e
 put-some fresh place e some = ap (λ b. if b then fresh else slice_set fresh place e) (ne_eqb e 0 (omega arith))
 
-pub one_right-goes : (g h : List ℕ → Bool) (line : List Cell) (place : ℕ) (m : Open) (tiles : Tiles) (e label : ℕ) → 0 < e → may m tiles.rack e ≡ true → label ≡ label_of e
+pub one_right-goes : (g h : List ℕ → Bool) (line : List Cell) (place : ℕ) (m : Open) (tiles : Tiles) (e label : ℕ) → 0 < e → may m tiles.rack e ≡ true → label ≡ label_of_entry e
     → ((t : List ℕ) → after g label t ≡ h t) → gives_one_right g line place m tiles e ≡ gives_right h line (place + 1) (with_tile tiles place e)
 unfolding gives_one_right finish_right
 one_right-goes g h line place m tiles e label some allowed same goes =
     ap (λ b. map (finish_right place tiles.fresh) (if b then map (λ os. e ∷ os) (one_right_of g line place tiles.rack e) else [])) allowed
     ∙ map-same (finish_right place tiles.fresh) (λ os. e ∷ os) (finish_right (place + 1) (slice_set tiles.fresh place e)) (one_right_of g line place tiles.rack e)
     (λ os. ap (λ y. finish_right (place + 1) y os) (put-some tiles.fresh place e some))
-    ∙ right-same (after g (label_of e)) h line (place + 1) (with_tile tiles place e) (subst (λ l. (t : List ℕ) → after g l t ≡ h t) same goes)
+    ∙ right-same (after g (label_of_entry e)) h line (place + 1) (with_tile tiles place e) (subst (λ l. (t : List ℕ) → after g l t ≡ h t) same goes)
 
 -- the rack has the tile of an entry that is allowed
-pub may-left : (m : Open) (rack : List ℕ) (e : ℕ) → may m rack e ≡ true → 0 < get_or rack (kind_of e) 0
+pub may-left : (m : Open) (rack : List ℕ) (e : ℕ) → may m rack e ≡ true → 0 < get_or rack (kind_of_entry e) 0
 unfolding may
-may-left m rack e allowed = ltb-true 0 (get_or rack (kind_of e) 0) (and_parts (get_or m.mask (letter_of e) false) (nat_lt 0 (get_or rack (kind_of e) 0)) allowed).1
+may-left m rack e allowed = ltb-true 0 (get_or rack (kind_of_entry e) 0) (and_parts (get_or m.mask (letter_of_entry e) false) (nat_lt 0 (get_or rack (kind_of_entry e) 0)) allowed).1
 
 and-swap : (a b : Bool) → (a && b) ≡ (b && a)
 and-swap true true = refl
@@ -165,17 +165,17 @@ and-swap false true = refl
 and-swap false false = refl
 
 -- an entry is allowed where the rack has its tile and the square takes its letter
-may-by : (m : Open) (rack : List ℕ) (e kind : ℕ) (has : Bool) → kind ≡ kind_of e → nat_lt 0 (get_or rack kind 0) ≡ has → (has && get_or m.mask (letter_of e) false) ≡ may m rack e
+may-by : (m : Open) (rack : List ℕ) (e kind : ℕ) (has : Bool) → kind ≡ kind_of_entry e → nat_lt 0 (get_or rack kind 0) ≡ has → (has && get_or m.mask (letter_of_entry e) false) ≡ may m rack e
 unfolding may
 may-by m rack e kind has same e_has =
-    and-swap has (get_or m.mask (letter_of e) false)
-    ∙ ap (λ b. get_or m.mask (letter_of e) false && b) (sym e_has ∙ ap (λ k. nat_lt 0 (get_or rack k 0)) same)
+    and-swap has (get_or m.mask (letter_of_entry e) false)
+    ∙ ap (λ b. get_or m.mask (letter_of_entry e) false && b) (sym e_has ∙ ap (λ k. nat_lt 0 (get_or rack k 0)) same)
 
-pub may-here : (m : Open) (rack : List ℕ) (e kind letter : ℕ) → kind ≡ kind_of e → letter ≡ letter_of e → 0 < get_or rack kind 0 → get_or m.mask letter false ≡ may m rack e
+pub may-here : (m : Open) (rack : List ℕ) (e kind letter : ℕ) → kind ≡ kind_of_entry e → letter ≡ letter_of_entry e → 0 < get_or rack kind 0 → get_or m.mask letter false ≡ may m rack e
 may-here m rack e kind letter same shown some =
     ap (λ l. get_or m.mask l false) shown ∙ may-by m rack e kind true same (lt-ltb 0 (get_or rack kind 0) some)
 
-pub may-nowhere : (m : Open) (rack : List ℕ) (e kind : ℕ) → kind ≡ kind_of e → get_or rack kind 0 ≤ 0 → nat_lt 0 (get_or rack kind 0) ≡ may m rack e
+pub may-nowhere : (m : Open) (rack : List ℕ) (e kind : ℕ) → kind ≡ kind_of_entry e → get_or rack kind 0 ≤ 0 → nat_lt 0 (get_or rack kind 0) ≡ may m rack e
 may-nowhere m rack e kind same none =
     let no_tile : nat_lt 0 (get_or rack kind 0) ≡ false = le-ltb 0 (get_or rack kind 0) none in
     no_tile ∙ may-by m rack e kind false same no_tile
@@ -186,8 +186,8 @@ pub shows-letter : (m : Open) (rack : List ℕ) (label letter : ℕ) → 0 < lab
     → shows m rack label ≡ (get_or m.mask letter false && (nat_lt 0 (get_or rack letter 0) || nat_lt 0 (get_or rack 26 0)))
 unfolding shows may
 shows-letter m rack label letter low is =
-    let tile : letter_of (2 * label - 1) ≡ letter = omega arith in
-    let blank : letter_of (2 * label) ≡ letter = omega arith in
+    let tile : letter_of_entry (2 * label - 1) ≡ letter = omega arith in
+    let blank : letter_of_entry (2 * label) ≡ letter = omega arith in
     let no_blank : is_blank_entry (2 * label - 1) ≡ false = grind arith in
     let is_blank : is_blank_entry (2 * label) ≡ true = grind arith in
     rw (tile, blank) (rw (no_blank, is_blank) (by (get_or m.mask letter false) (nat_lt 0 (get_or rack letter 0)) (nat_lt 0 (get_or rack 26 0))))
@@ -204,7 +204,7 @@ tries_right-is g line place m tiles = refl
 pub tries_right-dead : (g : List ℕ → Bool) (line : List Cell) (place : ℕ) (m : Open) (tiles : Tiles) → ((a : ℕ) (t : List ℕ) → after g a t ≡ false) → gives_tries_right g line place m tiles ≡ []
 unfolding gives_tries_right
 tries_right-dead g line place m tiles none =
-    join-none (gives_one_right g line place m tiles) 1 52 (λ e. one_right-dead g line place m tiles e (label_of e) refl (none (label_of e)))
+    join-none (gives_one_right g line place m tiles) 1 52 (λ e. one_right-dead g line place m tiles e (label_of_entry e) refl (none (label_of_entry e)))
 
 none_next : {N : Type 0} (tail : N → List ℕ → Bool) (next : Option N) → is_some next ≡ false → (a : ℕ) (t : List ℕ) → next_strings tail next (a ∷ t) ≡ false
 none_next tail None ends a t = refl

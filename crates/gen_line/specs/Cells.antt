@@ -3,7 +3,7 @@ use Rattle.std.specs.Prelude.{ℕ, zero, suc, ◌+◌, ◌==◌, ◌&&◌, ◌||
 use Rattle.gen_line.specs.declared.takers.TheConstants.{ENTRIES}
 use Rattle.gen_line.specs.declared.cells.Cell.{Cell}
 use Rattle.gen_line.specs.declared.cells.Cell.TheVariants.{Old, Free}
-use Rattle.gen_line.specs.Entries.{letter_of, label_of}
+use Rattle.gen_line.specs.Entries.{letter_of_entry, label_of_entry}
 
 -- the cell of a place
 abbrev pub cell_at : List Cell → ℕ → Cell
@@ -17,12 +17,12 @@ is_full (Free m) e = not (e == 0)
 -- the label of that tile
 abbrev pub label_at : Cell → ℕ → ℕ
 label_at (Old a) e = a
-label_at (Free m) e = label_of e
+label_at (Free m) e = label_of_entry e
 
 -- whether a cell allows an entry: no new tile on an old one, and on a free cell the letters of its mask
 abbrev pub cell_ok : Cell → ℕ → Bool
 cell_ok (Old a) e = e == 0
-cell_ok (Free m) e = (e == 0) || (nat_lt e ENTRIES && slice_index_or m.mask (letter_of e) false)
+cell_ok (Free m) e = (e == 0) || (nat_lt e ENTRIES && slice_index_or m.mask (letter_of_entry e) false)
 
 abbrev pub is_anchor_cell : Cell → Bool
 is_anchor_cell (Old a) = false

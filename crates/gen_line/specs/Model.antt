@@ -5,7 +5,7 @@ use Rattle.gen_line.specs.declared.takers.TheConstants.{ENTRIES}
 use Rattle.gen_line.specs.declared.cells.Cell.{Cell}
 use Rattle.gen_line.specs.declared.cells.Cell.TheVariants.{Old, Free}
 use Rattle.gen_line.specs.declared.cells.Open.{Open}
-use Rattle.gen_line.specs.Entries.{letter_of, label_of, kind_of}
+use Rattle.gen_line.specs.Entries.{letter_of_entry, label_of_entry, kind_of_entry}
 use Rattle.gen_line.specs.Cells.{cell_at}
 use Rattle.gen_line.specs.Moves.{back}
 
@@ -33,7 +33,7 @@ longer g (b ∷ t) = g (b ∷ t)
 
 -- whether a square and the rack allow an entry
 unfoldable pub may : Open → List ℕ → ℕ → Bool
-may m rack e = slice_index_or m.mask (letter_of e) false && nat_lt 0 (slice_index rack (kind_of e))
+may m rack e = slice_index_or m.mask (letter_of_entry e) false && nat_lt 0 (slice_index rack (kind_of_entry e))
 
 -- whether a square and the rack allow some entry that shows the letter of a label: a tile of the letter, or a blank
 unfoldable pub shows : Open → List ℕ → ℕ → Bool
@@ -41,7 +41,7 @@ shows m rack label = may m rack (2 * label - 1) || may m rack (2 * label)
 
 -- the rack without the tile of an entry
 unfoldable pub less : List ℕ → ℕ → List ℕ
-less rack e = slice_set rack (kind_of e) (slice_index rack (kind_of e) - 1)
+less rack e = slice_set rack (kind_of_entry e) (slice_index rack (kind_of_entry e) - 1)
 
 -- ---- the lists
 
@@ -59,7 +59,7 @@ leaf ok n = if ok then zeros n ∷ [] else []
 unfoldable pub right : (List ℕ → Bool) → List Cell → List ℕ → List (List ℕ)
 right g [] rack = leaf (g []) 0
 right g (Old a ∷ cs) rack = map (λ os. 0 ∷ os) (right (after g a) cs rack)
-right g (Free m ∷ cs) rack = leaf (g []) (suc (length cs)) ++ tries m rack (λ e. right (after g (label_of e)) cs (less rack e))
+right g (Free m ∷ cs) rack = leaf (g []) (suc (length cs)) ++ tries m rack (λ e. right (after g (label_of_entry e)) cs (less rack e))
 
 abbrev pub starts_free : List Cell → Bool
 starts_free [] = true
@@ -76,7 +76,7 @@ left g [] cs rack = turn g cs rack
 left g (Old a ∷ ls) cs rack = map (λ os. 0 ∷ os) (left (after g a) ls cs rack)
 left g (Free m ∷ ls) cs rack =
     map (λ os. zeros (suc (length ls)) ++ os) (turn g cs rack)
-    ++ (if m.anchor then [] else tries m rack (λ e. left (after g (label_of e)) ls cs (less rack e)))
+    ++ (if m.anchor then [] else tries m rack (λ e. left (after g (label_of_entry e)) ls cs (less rack e)))
 
 -- ---- the whole line
 
@@ -86,7 +86,7 @@ left_of line zero = []
 left_of line (suc k) = cell_at line k ∷ left_of line k
 
 abbrev pub rest_of_anchor : (List ℕ → Bool) → List Cell → ℕ → List ℕ → ℕ → List (List ℕ)
-rest_of_anchor g line h rack e = left (after g (label_of e)) (left_of line h) (drop (h + 1) line) (less rack e)
+rest_of_anchor g line h rack e = left (after g (label_of_entry e)) (left_of line h) (drop (h + 1) line) (less rack e)
 
 -- from the anchor to the left and then to the right, in this order
 abbrev pub cell_moves : (List ℕ → Bool) → List Cell → ℕ → List ℕ → Cell → List (List ℕ)

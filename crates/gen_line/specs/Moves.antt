@@ -28,12 +28,12 @@ abbrev pub back : List ℕ → List ℕ → List ℕ
 back [] ys = ys
 back (x ∷ xs) ys = back xs (x ∷ ys)
 
--- the mark and the labels, where there are some
-abbrev pub marked : List ℕ → List ℕ
-marked [] = []
-marked (l ∷ ls) = 0 ∷ l ∷ ls
+-- labels behind a mark, where there are some
+abbrev pub behind_mark : List ℕ → List ℕ
+behind_mark [] = []
+behind_mark (l ∷ ls) = 0 ∷ l ∷ ls
 
--- The paths of a word are those of its splits: a string of labels, none of them the mark, and what is marked behind
--- it, is a path exactly where the labels backwards, and the rest behind them, are a word.
+-- The paths of a word are those of its splits: a string of labels, none of them the mark, and others behind a mark,
+-- are a path exactly where the labels backwards, and the rest behind them, are a word.
 abbrev pub AreSplits : (List ℕ → Bool) → (List ℕ → Bool) → Type 0
-AreSplits g listed = (ls rest : List ℕ) → 0 < length ls → All (λ l. 0 < l) ls → g (ls ++ marked rest) ≡ listed (back ls rest)
+AreSplits g listed = (ls rest : List ℕ) → 0 < length ls → All (λ l. 0 < l) ls → g (ls ++ behind_mark rest) ≡ listed (back ls rest)

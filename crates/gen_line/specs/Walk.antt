@@ -5,7 +5,7 @@ use Rattle.gen_line.specs.declared.cells.Cell.{Cell}
 use Rattle.gen_line.specs.declared.cells.Cell.TheVariants.{Old, Free}
 use Rattle.gen_line.specs.declared.cells.Open.{Open}
 use Rattle.gen_line.specs.declared.tiles.Tiles.{Tiles}
-use Rattle.gen_line.specs.Entries.{label_of}
+use Rattle.gen_line.specs.Entries.{label_of_entry}
 use Rattle.gen_line.specs.Cells.{cell_at}
 use Rattle.gen_line.specs.Model.{right, left, turn, after, may, less, one_try, all_entries, left_of, zeros}
 
@@ -44,7 +44,7 @@ abbrev pub gives_right : (List ℕ → Bool) → List Cell → ℕ → Tiles →
 gives_right g line place tiles = map (finish_right place tiles.fresh) (right g (drop place line) tiles.rack)
 
 abbrev pub one_right_of : (List ℕ → Bool) → List Cell → ℕ → List ℕ → ℕ → List (List ℕ)
-one_right_of g line place rack e = right (after g (label_of e)) (drop (place + 1) line) (less rack e)
+one_right_of g line place rack e = right (after g (label_of_entry e)) (drop (place + 1) line) (less rack e)
 
 unfoldable pub gives_one_right : (List ℕ → Bool) → List Cell → ℕ → Open → Tiles → ℕ → List (List ℕ)
 gives_one_right g line place m tiles e = map (finish_right place tiles.fresh) (one_try m tiles.rack (one_right_of g line place tiles.rack) e)
@@ -66,7 +66,7 @@ abbrev pub gives_left : (List ℕ → Bool) → List Cell → ℕ → ℕ → Ti
 gives_left g line h k tiles = map (finish_left h k tiles.fresh) (left g (left_of line k) (drop (h + 1) line) tiles.rack)
 
 abbrev pub one_left_of : (List ℕ → Bool) → List Cell → ℕ → ℕ → List ℕ → ℕ → List (List ℕ)
-one_left_of g line h k rack e = left (after g (label_of e)) (left_of line k) (drop (h + 1) line) (less rack e)
+one_left_of g line h k rack e = left (after g (label_of_entry e)) (left_of line k) (drop (h + 1) line) (less rack e)
 
 unfoldable pub gives_one_left : (List ℕ → Bool) → List Cell → ℕ → ℕ → Open → Tiles → ℕ → List (List ℕ)
 gives_one_left g line h k m tiles e = map (finish_left h (suc k) tiles.fresh) (one_try m tiles.rack (one_left_of g line h k tiles.rack) e)

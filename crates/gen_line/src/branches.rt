@@ -11,7 +11,7 @@ use lex_file::{LABELS, MARK, Onward, PathLex, Step};
 /// What stands behind the mark, or None where no string goes on with it. It is the first label of a node that has it, so that
 /// no other one is looked at.
 #[inline(always)]
-pub fn behind_mark<L: PathLex>(lex: &L, at: Step<L::Node>) -> Option<Step<L::Node>>
+pub fn pass_mark<L: PathLex>(lex: &L, at: Step<L::Node>) -> Option<Step<L::Node>>
     requires { IsOpen (L.is_node lex.now) at.next }
     ensures none { IfNone result ((t : List ℕ) → strings (L.tail lex.now) at (0 ∷ t) ≡ false) }
     ensures some { IfSome result (λ s. (t : List ℕ) → strings (L.tail lex.now) at (0 ∷ t) ≡ strings (L.tail lex.now) s t) }

@@ -1,6 +1,6 @@
 //! Tiles of a rack as they are laid: letters, and blanks as letters.
 ghost use Rattle.std.specs.Prelude.{◌≡◌, ◌<◌, slice_index, slice_set};
-ghost use Rattle.gen_line.specs.Entries.{letter_of, kind_of};
+ghost use Rattle.gen_line.specs.Entries.{letter_of_entry, kind_of_entry};
 ghost use Rattle.gen_line.specs.Model.{may, shows, less};
 
 use crate::cells::Open;
@@ -25,7 +25,7 @@ pub struct Tiles {
 #[inline(always)]
 fn letter(entry: u8) -> u8
     requires { 0 < entry }
-    ensures { result ≡ letter_of entry }
+    ensures { result ≡ letter_of_entry entry }
 {
     (entry - 1) / 2
 }
@@ -34,7 +34,7 @@ fn letter(entry: u8) -> u8
 #[inline(always)]
 fn kind(entry: u8) -> u8
     requires { 0 < entry }
-    ensures { result ≡ kind_of entry }
+    ensures { result ≡ kind_of_entry entry }
 {
     if (entry - 1) % 2 == 1 {
         BLANK
@@ -71,7 +71,7 @@ impl Tiles {
         requires place { place < SIDE }
         requires low { 0 < entry }
         requires high { entry < ENTRIES }
-        requires left { 0 < slice_index self.old.rack (kind_of entry) }
+        requires left { 0 < slice_index self.old.rack (kind_of_entry entry) }
         ensures fresh { self.new.fresh ≡ slice_set self.old.fresh place entry }
         ensures rack { self.new.rack ≡ less self.old.rack entry }
     {

@@ -5,7 +5,7 @@ ghost use Rattle.gen_line.specs.Model.{starts_free};
 ghost use Rattle.lex_file.specs.Walking.{IsOpen, strings};
 ghost use Rattle.gen_line.specs.Walk.{MayGive, Gave, gives_leaf, gives_right, gives_tries_right, gives_letter_right, gives_try_right, gives_turn, gives_left, gives_tries_left, gives_letter_left, gives_try_left, gives_behind, behind_moves};
 
-use crate::branches::{behind_mark, next_letter};
+use crate::branches::{next_letter, pass_mark};
 use crate::cells::{Cell, Open};
 use crate::takers::{ENTRIES, Taker};
 use crate::tiles::Tiles;
@@ -203,7 +203,7 @@ impl<L: PathLex, T> LineWalk<'_, L, T> {
         ensures steady { T.grows ≡ false → IsOk result }
     {
         self.offer(ends_at(self.line, self.last + 1, at.accepts), tiles, sink)?;
-        match behind_mark(self.lex, at) {
+        match pass_mark(self.lex, at) {
             Some(behind) => {
                 let onward = Step {
                     accepts: false,

@@ -7,9 +7,9 @@ use Rattle.gen_line.specs.declared.cells.Cell.TheVariants.{Old, Free}
 use Rattle.gen_line.specs.declared.cells.Open.{Open}
 use Rattle.gen_line.specs.declared.tiles.Tiles.{Tiles}
 use Rattle.gen_line.specs.Cells.{cell_at}
-use Rattle.gen_line.specs.Entries.{label_of}
+use Rattle.gen_line.specs.Entries.{label_of_entry}
 use Rattle.gen_line.specs.Model.{after, longer, may, less, tries, right, leaf, turn}
-use Rattle.gen_line.specs.Moves.{AreSplits, back, marked}
+use Rattle.gen_line.specs.Moves.{AreSplits, back, behind_mark}
 use Rattle.gen_line.specs.Walk.{finish_right, gives_turn, gives_left, gives_one_left, gives_tries_left, gives_cell, gives_anchor, gives_behind, anchor_moves, behind_moves, none_put, with_tile}
 use Rattle.gen_line.proofs.Walks.{map-same, join-same, tries-same, right-alike}
 use Rattle.gen_line.proofs.LeftWalks.{gives_left-none, left-free, left-old, gives_one_left-no, one_left-goes, tries_left-is, tries_left-dead, tries_left-same}
@@ -45,17 +45,17 @@ back-length (b ∷ bs) xs = back-length bs (b ∷ xs) ∙ omega arith
 
 -- a word's path that turns before old tiles, and its path that begins with them
 one_word : (g listed : List ℕ → Bool) → AreSplits g listed → (b : ℕ) (bs : List ℕ) → Above (b ∷ bs) → (l : ℕ) → 0 < l → (u rest : List ℕ) → Above u
-    → g (l ∷ (u ++ 0 ∷ ((b ∷ bs) ++ rest))) ≡ g (back (b ∷ bs) (l ∷ (u ++ marked rest)))
+    → g (l ∷ (u ++ 0 ∷ ((b ∷ bs) ++ rest))) ≡ g (back (b ∷ bs) (l ∷ (u ++ behind_mark rest)))
 one_word g listed splits b bs these l pos u rest those =
     let front = above-more l u pos those in
     let size = back-length (b ∷ bs) (l ∷ u) in
     splits (l ∷ u) ((b ∷ bs) ++ rest) (omega arith) front
     ∙ ap listed (sym (back-twice (b ∷ bs) (l ∷ u) rest))
     ∙ sym (splits (back (b ∷ bs) (l ∷ u)) rest (omega arith) (above-back (b ∷ bs) (l ∷ u) these front))
-    ∙ ap g (back-append (b ∷ bs) (l ∷ u) (marked rest))
+    ∙ ap g (back-append (b ∷ bs) (l ∷ u) (behind_mark rest))
 
 -- ---- to the right over old tiles, and the turn behind them
-right_over : (k f : List ℕ → Bool) (cs : List Cell) (rack fresh : List ℕ) (place : ℕ) → ((rest : List ℕ) → k (olds cs ++ rest) ≡ f (marked rest))
+right_over : (k f : List ℕ → Bool) (cs : List Cell) (rack fresh : List ℕ) (place : ℕ) → ((rest : List ℕ) → k (olds cs ++ rest) ≡ f (behind_mark rest))
     → map (finish_right place fresh) (right k cs rack) ≡ map (finish_right (place + length (olds cs)) fresh) (turn f (drop (length (olds cs)) cs) rack)
 unfolding right turn finish_right
 right_over k f [] rack fresh place same =
@@ -70,13 +70,13 @@ right_over k f (Old a ∷ cs) rack fresh place same =
     ∙ ap (λ (n : ℕ). map (finish_right n fresh) (turn f (drop (length (olds cs)) cs) rack)) next
 right_over k f (Free m ∷ cs) rack fresh place same =
     let here : place ≡ place + 0 = omega arith in
-    let tried = tries-same m rack (λ e. right (after k (label_of e)) cs (less rack e)) (λ e. right (after (longer (after f 0)) (label_of e)) cs (less rack e))
-    (λ e. right-alike (after k (label_of e)) (after (longer (after f 0)) (label_of e)) cs (less rack e) (λ t. same (label_of e ∷ t))) in
-    ap (λ b. map (finish_right place fresh) (leaf b (suc (length cs)) ++ tries m rack (λ e. right (after k (label_of e)) cs (less rack e)))) (same [])
+    let tried = tries-same m rack (λ e. right (after k (label_of_entry e)) cs (less rack e)) (λ e. right (after (longer (after f 0)) (label_of_entry e)) cs (less rack e))
+    (λ e. right-alike (after k (label_of_entry e)) (after (longer (after f 0)) (label_of_entry e)) cs (less rack e) (λ t. same (label_of_entry e ∷ t))) in
+    ap (λ b. map (finish_right place fresh) (leaf b (suc (length cs)) ++ tries m rack (λ e. right (after k (label_of_entry e)) cs (less rack e)))) (same [])
     ∙ ap (λ ts. map (finish_right place fresh) (leaf (f []) (suc (length cs)) ++ ts)) tried
     ∙ ap (λ (n : ℕ). map (finish_right n fresh) (turn f (Free m ∷ cs) rack)) here
 
-turn_over : (k f : List ℕ → Bool) (b : ℕ) (cs : List Cell) (rack fresh : List ℕ) (place : ℕ) → ((rest : List ℕ) → k (0 ∷ ((b ∷ olds cs) ++ rest)) ≡ f (marked rest))
+turn_over : (k f : List ℕ → Bool) (b : ℕ) (cs : List Cell) (rack fresh : List ℕ) (place : ℕ) → ((rest : List ℕ) → k (0 ∷ ((b ∷ olds cs) ++ rest)) ≡ f (behind_mark rest))
     → map (finish_right place fresh) (turn k (Old b ∷ cs) rack) ≡ map (finish_right (place + suc (length (olds cs))) fresh) (turn f (drop (length (olds cs)) cs) rack)
 unfolding turn
 turn_over k f b cs rack fresh place same = right_over (longer (after k 0)) f (Old b ∷ cs) rack fresh place same
@@ -97,7 +97,7 @@ module _ (line : List Cell) (h b : ℕ) (cs : List Cell) (behind : drop (h + 1) 
   last = h + suc (length (olds cs))
 
   abbrev AreOne : (List ℕ → Bool) → (List ℕ → Bool) → Type 0
-  AreOne k f = (u rest : List ℕ) → Above u → k (u ++ 0 ∷ ((b ∷ olds cs) ++ rest)) ≡ f (u ++ marked rest)
+  AreOne k f = (u rest : List ℕ) → Above u → k (u ++ 0 ∷ ((b ∷ olds cs) ++ rest)) ≡ f (u ++ behind_mark rest)
 
   on_one : (k f : List ℕ → Bool) (a : ℕ) → 0 < a → AreOne k f → AreOne (after k a) (after f a)
   on_one k f a pos one u rest above = one (a ∷ u) rest (above-more a u pos above)
@@ -114,7 +114,7 @@ module _ (line : List Cell) (h b : ℕ) (cs : List Cell) (behind : drop (h + 1) 
       ∙ ap (λ (ds : List Cell). map (finish_right (last + 1) tiles.fresh) (turn f ds tiles.rack)) rest
 
   same_tries : (k f : List ℕ → Bool) (place : ℕ) (m : Open) (tiles : Tiles)
-      → ((e : ℕ) → 0 < e → gives_left (after k (label_of e)) line h place (with_tile tiles place e) ≡ gives_left (after f (label_of e)) line last place (with_tile tiles place e))
+      → ((e : ℕ) → 0 < e → gives_left (after k (label_of_entry e)) line h place (with_tile tiles place e) ≡ gives_left (after f (label_of_entry e)) line last place (with_tile tiles place e))
       → gives_tries_left k line h place m tiles ≡ gives_tries_left f line last place m tiles
   same_tries k f place m tiles below =
       tries_left-is k line h place m tiles
@@ -124,9 +124,9 @@ module _ (line : List Cell) (h b : ℕ) (cs : List Cell) (behind : drop (h + 1) 
       each : (e : ℕ) → 1 ≤ e → (ok : Bool) → may m tiles.rack e ≡ ok → gives_one_left k line h place m tiles e ≡ gives_one_left f line last place m tiles e
       each e low false refused = gives_one_left-no k line h place m tiles e refused ∙ sym (gives_one_left-no f line last place m tiles e refused)
       each e low true allowed =
-          one_left-goes k (after k (label_of e)) line h place m tiles e (label_of e) low allowed refl (λ t. refl)
+          one_left-goes k (after k (label_of_entry e)) line h place m tiles e (label_of_entry e) low allowed refl (λ t. refl)
           ∙ below e low
-          ∙ sym (one_left-goes f (after f (label_of e)) line last place m tiles e (label_of e) low allowed refl (λ t. refl))
+          ∙ sym (one_left-goes f (after f (label_of_entry e)) line last place m tiles e (label_of_entry e) low allowed refl (λ t. refl))
 
   same_left : (k f : List ℕ → Bool) (places : ℕ) (tiles : Tiles) → ((i a : ℕ) → i < places → cell_at line i ≡ Old a → 0 < a) → AreOne k f
       → gives_left k line h places tiles ≡ gives_left f line last places tiles
@@ -135,10 +135,10 @@ module _ (line : List Cell) (h b : ℕ) (cs : List Cell) (behind : drop (h + 1) 
       let before : (i a : ℕ) → i < place → cell_at line i ≡ Old a → 0 < a = λ i a below is. old i a (omega arith) is in
       by (cell_at line place) refl
       (λ a pos. same_left (after k a) (after f a) place tiles before (on_one k f a pos one))
-      (λ e pos. same_left (after k (label_of e)) (after f (label_of e)) place (with_tile tiles place e) before (on_one k f (label_of e) pos one))
+      (λ e pos. same_left (after k (label_of_entry e)) (after f (label_of_entry e)) place (with_tile tiles place e) before (on_one k f (label_of_entry e) pos one))
     where
       by : (c : Cell) → cell_at line place ≡ c → ((a : ℕ) → 0 < a → gives_left (after k a) line h place tiles ≡ gives_left (after f a) line last place tiles)
-          → ((e : ℕ) → 0 < label_of e → gives_left (after k (label_of e)) line h place (with_tile tiles place e) ≡ gives_left (after f (label_of e)) line last place (with_tile tiles place e))
+          → ((e : ℕ) → 0 < label_of_entry e → gives_left (after k (label_of_entry e)) line h place (with_tile tiles place e) ≡ gives_left (after f (label_of_entry e)) line last place (with_tile tiles place e))
           → gives_left k line h (suc place) tiles ≡ gives_left f line last (suc place) tiles
       by (Old a) is on_old on_new =
           left-old k line h place a tiles is
@@ -158,8 +158,8 @@ module _ (line : List Cell) (h b : ℕ) (cs : List Cell) (behind : drop (h + 1) 
       let size = spelt.labels.size in
       ap (λ (xs : List (List ℕ)). if m.anchor then xs else [])
       (same_tries g f h m (none_put rack)
-      (λ e some. same_left (after g (label_of e)) (after f (label_of e)) h (with_tile (none_put rack) h e) (λ i a low is. spelt.labels.old i a (omega arith) is)
-      (λ u rest above. one_word g spelt.listed spelt.splits b (olds cs) these (label_of e) (omega arith) u rest above)))
+      (λ e some. same_left (after g (label_of_entry e)) (after f (label_of_entry e)) h (with_tile (none_put rack) h e) (λ i a low is. spelt.labels.old i a (omega arith) is)
+      (λ u rest above. one_word g spelt.listed spelt.splits b (olds cs) these (label_of_entry e) (omega arith) u rest above)))
 
 -- ---- the labels of a line
 abbrev Positive : List Cell → Type 0

@@ -22,15 +22,15 @@ use Rattle.ref_play.proofs.RangeLaws.{Contains-here, Contains-there, Contains-ca
 use Rattle.ref_play.proofs.LineLaws.{line_of-square_at, place_of-square_at, square_at-of, line_below, place_below, square_at_rises}
 use Rattle.ref_play.proofs.FormedRuns.{none_contained, join_keys}
 use Rattle.ref_play.proofs.Reading.{tile_in-cases, tile_in-there, tile_of_symbol, places_rise, join_itself}
-use Rattle.gen_line.specs.Entries.{letter_of, is_blank_entry}
+use Rattle.gen_line.specs.Entries.{letter_of_entry, is_blank_entry}
 use Rattle.gen_moves.specs.LineTiles.{faced, tile_of_entry, line_tiles, new_tile, blank_part, entry_of}
 use Rattle.gen_moves.proofs.Lists.{list_all-each}
 
 -- ---- the entry of a tile is that of no other
-pub tile_by : (e : ℕ) (b : Bool) (l : Letter) → (e ≡ 0 → ⊥) → is_blank_entry e ≡ b → letter_of e ≡ l.index → tile_of_entry e ≡ Some (faced b l)
+pub tile_by : (e : ℕ) (b : Bool) (l : Letter) → (e ≡ 0 → ⊥) → is_blank_entry e ≡ b → letter_of_entry e ≡ l.index → tile_of_entry e ≡ Some (faced b l)
 tile_by e b l some blank letter =
     let here : (e == 0) ≡ false = ne_eqb e 0 some in
-    let at : letter_at (letter_of e) ≡ Some l = ap letter_at letter ∙ letter_at_letter l in
+    let at : letter_at (letter_of_entry e) ≡ Some l = ap letter_at letter ∙ letter_at_letter l in
     rw here (rw at (ap (λ (c : Bool). Some (faced c l)) blank))
 
 tile_again_by : (k : Kind) (l : Letter) → tile_of_entry (1 + 2 * l.index + blank_part k) ≡ tile_of None (symbol_by k l)

@@ -31,7 +31,7 @@ use Rattle.ref_play.proofs.Crossing.{flat_map_each}
 use Rattle.gen_line.specs.declared.cells.Cell.{Cell}
 use Rattle.gen_line.specs.declared.cells.Cell.TheVariants.{Old, Free}
 use Rattle.gen_line.specs.declared.cells.Open.{Open}
-use Rattle.gen_line.specs.Entries.{letter_of, uses}
+use Rattle.gen_line.specs.Entries.{letter_of_entry, uses}
 use Rattle.gen_line.specs.Cells.{cell_at, cell_ok, is_anchor_cell, labels, full_on}
 use Rattle.gen_line.specs.Moves.{IsMove}
 use Rattle.gen_moves.specs.BoardLines.{IsLineOf}
@@ -47,7 +47,7 @@ blank_low : (k : Kind) → blank_part k ≤ 1
 blank_low (kind.Letter l) = omega arith
 blank_low kind.Blank = omega arith
 
-entry_letter : (t : Tile) → letter_of (entry_of (Some t)) ≡ t.shown.index
+entry_letter : (t : Tile) → letter_of_entry (entry_of (Some t)) ≡ t.shown.index
 entry_letter t = let b = blank_low t.kind in omega arith
 
 entry_low : (t : Tile) → entry_of (Some t) < 53
@@ -143,10 +143,10 @@ allowed_by (Some t) words d board rack ps line first len k cells is i below e =
     let crossed : All (Contains words) (cross_words (other_dir d) board square t) =
     subst (λ (u : Tile). All (Contains words) (cross_words (other_dir d) board square u)) found.3
     (subst (λ (s : ℕ). All (Contains words) (cross_words (other_dir d) board s found.0.tile)) found.2 (k.crosses found.0 found.1)) in
-    let passes : get_or m.mask (letter_of n) false ≡ true =
+    let passes : get_or m.mask (letter_of_entry n) false ≡ true =
     ap (λ (j : ℕ). get_or m.mask j false) (entry_letter t) ∙ (masked words d board square m.mask (omega arith) free.3 t).1 crossed in
     ap (λ (c : Cell). cell_ok c n) free.1
-    ∙ or_right (n == 0) (nat_lt n 53 && get_or m.mask (letter_of n) false) (and_from (nat_lt n 53) (get_or m.mask (letter_of n) false) (lt-ltb n 53 (entry_low t)) passes)
+    ∙ or_right (n == 0) (nat_lt n 53 && get_or m.mask (letter_of_entry n) false) (and_from (nat_lt n 53) (get_or m.mask (letter_of_entry n) false) (lt-ltb n 53 (entry_low t)) passes)
 
 -- what is known of a place of the line
 record KnownAt (d : Dir) (board : List (Option Tile)) (line : ℕ) (cells : List Cell) (ps : List Placed) (y : List ℕ) (i : ℕ) : Type 0 where

@@ -23,7 +23,7 @@ use Rattle.ref_play.proofs.PlaceLaws.{is_play-few}
 use Rattle.ref_play.proofs.Directing.{is_play-turned, written_along}
 use Rattle.gen_line.specs.declared.cells.Cell.{Cell}
 use Rattle.gen_line.specs.declared.cells.Cell.TheVariants.{Old}
-use Rattle.gen_line.specs.Entries.{letter_of, is_blank_entry}
+use Rattle.gen_line.specs.Entries.{letter_of_entry, is_blank_entry}
 use Rattle.gen_line.specs.Cells.{cell_at}
 use Rattle.gen_line.specs.Moves.{IsMove, Labelled}
 use Rattle.gen_line.specs.Model.{line_moves}
@@ -39,7 +39,7 @@ use Rattle.gen_moves.proofs.Moving.{move_candidate}
 use Rattle.gen_moves.proofs.Finding.{entry_on, candidate_move}
 
 -- ---- the entries of the tiles of entries
-blank_entry : (b : Bool) (e : ℕ) (l : Letter) → e ≢ 0 → is_blank_entry e ≡ b → l.index ≡ letter_of e → entry_of (Some (faced b l)) ≡ e
+blank_entry : (b : Bool) (e : ℕ) (l : Letter) → e ≢ 0 → is_blank_entry e ≡ b → l.index ≡ letter_of_entry e → entry_of (Some (faced b l)) ≡ e
 blank_entry true e l some is index = let odd = eqb-true ((e - 1) % 2) 1 is in omega arith
 blank_entry false e l some is index = let even = eqb-false ((e - 1) % 2) 1 is in omega arith
 

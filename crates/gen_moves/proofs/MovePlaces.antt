@@ -31,7 +31,7 @@ use Rattle.ref_play.proofs.Agreeing.{whole_agree}
 use Rattle.gen_line.specs.declared.cells.Cell.{Cell}
 use Rattle.gen_line.specs.declared.cells.Cell.TheVariants.{Old, Free}
 use Rattle.gen_line.specs.declared.cells.Open.{Open}
-use Rattle.gen_line.specs.Entries.{letter_of, is_blank_entry, kind_of, uses}
+use Rattle.gen_line.specs.Entries.{letter_of_entry, is_blank_entry, kind_of_entry, uses}
 use Rattle.gen_line.specs.Cells.{cell_at, is_full, label_at, cell_ok, is_anchor_cell, labels, full_on}
 use Rattle.gen_line.specs.Moves.{IsMove}
 use Rattle.gen_moves.specs.BoardLines.{IsLineOf}
@@ -42,11 +42,11 @@ use Rattle.gen_moves.proofs.Entering.{tile_by, put_from, stands_at, put_there, p
 pub record Tiled (e : ℕ) : Type 0 where
   pub letter : Letter
   pub is : tile_of_entry e ≡ Some (faced (is_blank_entry e) letter)
-  pub index : letter.index ≡ letter_of e
+  pub index : letter.index ≡ letter_of_entry e
 
 pub tiled : (e : ℕ) → e ≢ 0 → e < 53 → Tiled e
 tiled e some low =
-    let l : Letter = record { index = letter_of e; in_range = omega arith } in
+    let l : Letter = record { index = letter_of_entry e; in_range = omega arith } in
     record { letter = l; is = tile_by e (is_blank_entry e) l some refl refl; index = refl }
 
 pub faced-shows : (b : Bool) (l : Letter) → (faced b l).shown.index ≡ l.index
@@ -62,8 +62,8 @@ cell_entry (Old a) e some ok = absurd (some (eqb-true e 0 ok))
 cell_entry (Free m) e some ok =
     ⊎_elim
     (λ (z : (e == 0) ≡ true). absurd (some (eqb-true e 0 z)))
-    (λ (s : (nat_lt e 53 && get_or m.mask (letter_of e) false) ≡ true). ltb-true e 53 (and_parts (nat_lt e 53) (get_or m.mask (letter_of e) false) s).0)
-    (or_cases (e == 0) (nat_lt e 53 && get_or m.mask (letter_of e) false) ok)
+    (λ (s : (nat_lt e 53 && get_or m.mask (letter_of_entry e) false) ≡ true). ltb-true e 53 (and_parts (nat_lt e 53) (get_or m.mask (letter_of_entry e) false) s).0)
+    (or_cases (e == 0) (nat_lt e 53 && get_or m.mask (letter_of_entry e) false) ok)
 
 -- ---- one place of the line, with its new tile
 -- A place is full exactly where a tile lies there then, the label is that of the letter shown, and a new tile comes on
@@ -87,7 +87,7 @@ at_old board square c e t there is ok =
 at_free : (board : List (Option Tile)) (square : ℕ) (c : Cell) (e : ℕ) (m : Open) → tile_at board square ≡ None → c ≡ Free m → cell_ok c e ≡ true → AtPlace board square c e
 at_free board square c e m there is ok =
     let full_is : is_full c e ≡ not (e == 0) = ap (λ (x : Cell). is_full x e) is in
-    let label : label_at c e ≡ letter_of e + 1 = ap (λ (x : Cell). label_at x e) is in
+    let label : label_at c e ≡ letter_of_entry e + 1 = ap (λ (x : Cell). label_at x e) is in
     ⊎_elim
     (λ (z : e ≡ 0).
     let none : is_full c e ≡ false = full_is ∙ ap (λ (n : ℕ). not (n == 0)) z in
@@ -98,7 +98,7 @@ at_free board square c e m there is ok =
     let tile : Tile = faced (is_blank_entry e) t.letter in
     let top : on_top (tile_of_entry e) (tile_at board square) ≡ Some tile = ap (λ (o : Option Tile). on_top o (tile_at board square)) t.is in
     let full : is_full c e ≡ true = full_is ∙ not_from_false (e == 0) (ne_eqb e 0 some) in
-    let shown : tile.shown.index ≡ letter_of e = faced-shows (is_blank_entry e) t.letter ∙ t.index in
+    let shown : tile.shown.index ≡ letter_of_entry e = faced-shows (is_blank_entry e) t.letter ∙ t.index in
     record { filled = ap is_some top ∙ sym full; shows = λ f. ap capital_shown top ∙ omega arith; empty = λ s. there })
     (cases_eq e 0)
 
@@ -283,22 +283,22 @@ is_kind k n = if n == k then 1 else 0
 one_used : (square : ℕ) (t : Tile) (k : ℕ) → used (placed_on square (Some t)) k ≡ is_kind k (number_of t.kind)
 one_used square t k = omega arith
 
-entry_used : (e k : ℕ) (square : ℕ) → (e ≢ 0 → e < 53) → used (placed_on square (tile_of_entry e)) k ≡ (if e == 0 then 0 else is_kind k (kind_of e))
+entry_used : (e k : ℕ) (square : ℕ) → (e ≢ 0 → e < 53) → used (placed_on square (tile_of_entry e)) k ≡ (if e == 0 then 0 else is_kind k (kind_of_entry e))
 entry_used e k square low =
     ⊎_elim
     (λ (z : e ≡ 0).
     let zero : (e == 0) ≡ true = eq-eqb e 0 z in
-    ap (λ (n : ℕ). used (placed_on square (tile_of_entry n)) k) z ∙ sym (ap (λ (b : Bool). if b then 0 else is_kind k (kind_of e)) zero))
+    ap (λ (n : ℕ). used (placed_on square (tile_of_entry n)) k) z ∙ sym (ap (λ (b : Bool). if b then 0 else is_kind k (kind_of_entry e)) zero))
     (λ (some : e ≡ 0 → ⊥).
     let not_zero : (e == 0) ≡ false = ne_eqb e 0 some in
     let t = tiled e some (low some) in
     let tile : Tile = faced (is_blank_entry e) t.letter in
-    let number : number_of tile.kind ≡ kind_of e = faced_number (is_blank_entry e) t.letter ∙ ap (λ (n : ℕ). if is_blank_entry e then 26 else n) t.index in
+    let number : number_of tile.kind ≡ kind_of_entry e = faced_number (is_blank_entry e) t.letter ∙ ap (λ (n : ℕ). if is_blank_entry e then 26 else n) t.index in
     ap (λ (o : Option Tile). used (placed_on square o) k) t.is ∙ one_used square tile k ∙ ap (is_kind k) number
-    ∙ sym (ap (λ (b : Bool). if b then 0 else is_kind k (kind_of e)) not_zero))
+    ∙ sym (ap (λ (b : Bool). if b then 0 else is_kind k (kind_of_entry e)) not_zero))
     (cases_eq e 0)
 
-uses-cons : (k e : ℕ) (os : List ℕ) → uses k (e ∷ os) ≡ (if e == 0 then 0 else is_kind k (kind_of e)) + uses k os
+uses-cons : (k e : ℕ) (os : List ℕ) → uses k (e ∷ os) ≡ (if e == 0 then 0 else is_kind k (kind_of_entry e)) + uses k os
 uses-cons k e os =
     ⊎_elim
     (λ (z : (e == 0) ≡ true). rw z (omega arith))
@@ -315,7 +315,7 @@ used-put d line f a (suc n) k low =
     sum_by-append (λ (p : Placed). if number_of p.tile.kind == k then 1 else 0) (placed_on (square_at d line a) (tile a)) rest in
     let here = entry_used (f a) k (square_at d line a) (low a (omega arith) (omega arith)) in
     let more = used-put d line f (a + 1) n k (λ i from upto. low i (omega arith) (omega arith)) in
-    split ∙ ap (λ (m : ℕ). m + used rest k) here ∙ ap (λ (m : ℕ). (if f a == 0 then 0 else is_kind k (kind_of (f a))) + m) more
+    split ∙ ap (λ (m : ℕ). m + used rest k) here ∙ ap (λ (m : ℕ). (if f a == 0 then 0 else is_kind k (kind_of_entry (f a))) + m) more
     ∙ sym (uses-cons k (f a) (map f (range_with_len (a + 1) n)))
 
 pub entries_by_place : (y : List ℕ) → length y ≡ 15 → map (λ i. get_or y i 0) (range_with_len 0 15) ≡ y

@@ -30,7 +30,7 @@ use Rattle.gen_cross.specs.Values.{IsMask}
 use Rattle.gen_line.specs.declared.cells.Cell.{Cell}
 use Rattle.gen_line.specs.declared.cells.Cell.TheVariants.{Free}
 use Rattle.gen_line.specs.declared.cells.Open.{Open}
-use Rattle.gen_line.specs.Entries.{letter_of, is_blank_entry, uses}
+use Rattle.gen_line.specs.Entries.{letter_of_entry, is_blank_entry, uses}
 use Rattle.gen_line.specs.Cells.{cell_at, cell_ok, labels}
 use Rattle.gen_line.specs.Moves.{IsMove}
 use Rattle.gen_moves.specs.BoardLines.{IsLineOf}
@@ -67,12 +67,12 @@ masked words d board square mask on is t =
     (λ e. subst (All (Contains words)) (sym same) (law.0 e), λ h. law.1 (subst (All (Contains words)) same h))
 
 -- the letter of an entry passes the mask of its cell
-mask_passes : (m : Open) (e : ℕ) → e ≢ 0 → cell_ok (Free m) e ≡ true → get_or m.mask (letter_of e) false ≡ true
+mask_passes : (m : Open) (e : ℕ) → e ≢ 0 → cell_ok (Free m) e ≡ true → get_or m.mask (letter_of_entry e) false ≡ true
 mask_passes m e some ok =
     ⊎_elim
     (λ (z : (e == 0) ≡ true). absurd (some (eqb-true e 0 z)))
-    (λ (s : (nat_lt e 53 && get_or m.mask (letter_of e) false) ≡ true). (and_parts (nat_lt e 53) (get_or m.mask (letter_of e) false) s).1)
-    (or_cases (e == 0) (nat_lt e 53 && get_or m.mask (letter_of e) false) ok)
+    (λ (s : (nat_lt e 53 && get_or m.mask (letter_of_entry e) false) ≡ true). (and_parts (nat_lt e 53) (get_or m.mask (letter_of_entry e) false) s).1)
+    (or_cases (e == 0) (nat_lt e 53 && get_or m.mask (letter_of_entry e) false) ok)
 
 -- the cross words of a move
 move_crosses : (words : List (List ℕ)) (d : Dir) (board : List (Option Tile)) (line : ℕ) (cells : List Cell) → IsLineOf words d board line cells → (listed : List ℕ → Bool) (rack y : List ℕ) (first len : ℕ)
@@ -87,12 +87,12 @@ move_crosses words d board line cells is listed rack y first len size low move =
     let ok = move.allowed i at.below in
     let free = is.free i at.below ((at_place words d board line cells is i e at.below ok).empty at.some) in
     let m : Open = free.0 in
-    let passes : get_or m.mask (letter_of e) false ≡ true = mask_passes m e at.some (subst (λ (x : Cell). cell_ok x e ≡ true) free.1 ok) in
+    let passes : get_or m.mask (letter_of_entry e) false ≡ true = mask_passes m e at.some (subst (λ (x : Cell). cell_ok x e ≡ true) free.1 ok) in
     let t = tiled e at.some (cell_entry (cell_at cells i) e at.some ok) in
     let tile : Tile = faced (is_blank_entry e) t.letter in
     let same : Some q.tile ≡ Some tile = sym at.tile ∙ t.is in
     let tile_is : q.tile ≡ tile = cc in
-    let index : letter_of e ≡ q.tile.shown.index = sym (ap (λ (u : Tile). u.shown.index) tile_is ∙ faced-shows (is_blank_entry e) t.letter ∙ t.index) in
+    let index : letter_of_entry e ≡ q.tile.shown.index = sym (ap (λ (u : Tile). u.shown.index) tile_is ∙ faced-shows (is_blank_entry e) t.letter ∙ t.index) in
     let on_board = square_at_below d line i low at.below in
     subst (λ (s : ℕ). All (Contains words) (cross_words (other_dir d) board s q.tile)) (sym at.square)
     ((masked words d board square m.mask (omega arith) free.3 q.tile).0 (ap (λ (n : ℕ). get_or m.mask n false) (sym index) ∙ passes)))

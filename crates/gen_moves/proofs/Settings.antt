@@ -3,7 +3,8 @@
 use Rattle.std.proofs.Common.{◌≡◌, ℕ, ◌<◌, Bool, List, [], ◌∷◌, ◌++◌, map, length, refl, sym, ap, ◌∙◌, append_assoc, Option}
 use Rattle.std.specs.Prelude.{reverse, slice_index_or}
 use Rattle.std.proofs.lemmas.List.{reverse-append}
-use Rattle.lex_list.specs.RotatedPaths.{letter_of, behind_mark, StandsFor}
+use Rattle.lex_list.specs.RotatedPaths.{letter_of, StandsFor}
+use Rattle.lex_list.specs.RotatedPaths as paths
 use Rattle.lex_list.specs.Words.{is_listed}
 use Rattle.lex_list.proofs.Orders.{listed_from_member, member_from_listed}
 use Rattle.lex_list.proofs.Splitting.{split}
@@ -14,7 +15,7 @@ use Rattle.ref_board.specs.declared.directions.Dir.TheVariants.{Across, Down}
 use Rattle.gen_cross.specs.declared.crosses.Cross.{Cross}
 use Rattle.gen_cross.specs.Values.{HasMasks, IsRight}
 use Rattle.gen_line.specs.declared.cells.Cell.{Cell}
-use Rattle.gen_line.specs.Moves.{back, marked, AreSplits}
+use Rattle.gen_line.specs.Moves.{back, behind_mark, AreSplits}
 use Rattle.gen_moves.specs.BoardLines.{IsLineOf}
 use Rattle.gen_moves.specs.Laws.{AreLong, Setting}
 use Rattle.gen_moves.specs.Telling.{both_cells}
@@ -23,9 +24,9 @@ use Rattle.gen_moves.specs.Telling.{both_cells}
 abbrev pub lists : List (List ℕ) → List ℕ → Bool
 lists words ls = is_listed words (map letter_of ls)
 
-marked_is : (rest : List ℕ) → marked rest ≡ behind_mark rest
-marked_is [] = refl
-marked_is (l ∷ ls) = refl
+behind_is : (rest : List ℕ) → behind_mark rest ≡ paths.behind_mark rest
+behind_is [] = refl
+behind_is (l ∷ ls) = refl
 
 back_is : (ls rest : List ℕ) → back ls rest ≡ reverse ls ++ rest
 back_is [] rest = refl
@@ -34,7 +35,7 @@ back_is (l ∷ ls) rest =
 
 splits_of : (words : List (List ℕ)) (g : List ℕ → Bool) → StandsFor g words → AreSplits g (lists words)
 splits_of words g stands ls rest some above =
-    ap (λ (behind : List ℕ). g (ls ++ behind)) (marked_is rest) ∙ split words g stands ls rest some above ∙ ap (lists words) (sym (back_is ls rest))
+    ap (λ (behind : List ℕ). g (ls ++ behind)) (behind_is rest) ∙ split words g stands ls rest some above ∙ ap (lists words) (sym (back_is ls rest))
 
 pub set_up : (words : List (List ℕ)) (board : List (Option Tile)) (g : List ℕ → Bool) (a b : List (List Cell)) → length board ≡ 225 → StandsFor g words → AreLong words
     → ((line : ℕ) → line < 15 → IsLineOf words Across board line (slice_index_or a line [])) → ((line : ℕ) → line < 15 → IsLineOf words Down board line (slice_index_or b line []))

@@ -7,7 +7,7 @@ use Rattle.std.proofs.lemmas.Bool.{le-leb, ne_eqb, eq-eqb, false_from_ne_true}
 use Rattle.ref_tiles.specs.declared.letters.Letter.{Letter}
 use Rattle.ref_tiles.specs.Letters.{letter_at}
 use Rattle.ref_tiles.specs.Faces.{blank_tile}
-use Rattle.gen_line.specs.Entries.{letter_of, is_blank_entry}
+use Rattle.gen_line.specs.Entries.{letter_of_entry, is_blank_entry}
 use Rattle.gen_moves.specs.LineTiles.{faced, tile_of_entry}
 use Rattle.ref_tiles.specs.declared.tiles.Tile.{Tile}
 use Rattle.ref_board.specs.declared.directions.Dir.{Dir}
@@ -24,7 +24,7 @@ use Rattle.ref_play.proofs.Naming.{notation_direction}
 use Rattle.gen_moves.proofs.Entering.{put_from}
 
 -- the tile of an entry that stands for a blank
-pub entry_blank : (e : ℕ) (l : Letter) (t : Tile) → (e ≡ 0 → ⊥) → (e - 1) % 2 ≡ 1 → letter_at (letter_of e) ≡ Some l → t ≡ blank_tile l → Some t ≡ tile_of_entry e
+pub entry_blank : (e : ℕ) (l : Letter) (t : Tile) → (e ≡ 0 → ⊥) → (e - 1) % 2 ≡ 1 → letter_at (letter_of_entry e) ≡ Some l → t ≡ blank_tile l → Some t ≡ tile_of_entry e
 entry_blank e l t some odd letter is =
     let here : (e == 0) ≡ false = ne_eqb e 0 some in
     let blank : is_blank_entry e ≡ true = eq-eqb ((e - 1) % 2) 1 odd in

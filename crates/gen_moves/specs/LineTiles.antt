@@ -14,7 +14,7 @@ use Rattle.ref_board.specs.Lines.{square_at}
 use Rattle.ref_play.specs.declared.placed.Placed.{Placed}
 use Rattle.ref_play.specs.Notations.{tile_in}
 use Rattle.ref_play.specs.Texts.{placed_on}
-use Rattle.gen_line.specs.Entries.{letter_of, is_blank_entry}
+use Rattle.gen_line.specs.Entries.{letter_of_entry, is_blank_entry}
 
 -- a blank or a letter tile
 abbrev pub faced : Bool → Letter → Tile
@@ -23,7 +23,7 @@ faced false l = letter_tile l
 
 -- the tile of an entry
 abbrev pub tile_of_entry : ℕ → Option Tile
-tile_of_entry e = if e == 0 then None else option_map (faced (is_blank_entry e)) (letter_at (letter_of e))
+tile_of_entry e = if e == 0 then None else option_map (faced (is_blank_entry e)) (letter_at (letter_of_entry e))
 
 abbrev pub blank_part : Kind → ℕ
 blank_part (kind.Letter l) = 0

@@ -4,9 +4,10 @@ ghost use Rattle.std.specs.List.Sorted.{IsPermutation};
 ghost use Rattle.gen_moves.specs.Starts.{IsStartOf, AreStarts};
 
 use ref_board::{Dir, SIDE};
+use ref_tiles::SQUARES;
 
 /// How many places the lines of both directions have.
-pub const STARTS: usize = 2 * SIDE * SIDE;
+pub const STARTS: usize = 2 * SQUARES;
 
 /// A place of a line, from which the plays are looked for of which it is the first anchor covered.
 #[derive(Clone, Copy)]
@@ -28,7 +29,7 @@ fn start_of(across: &[[u64; SIDE]; SIDE], down: &[[u64; SIDE]; SIDE], number: us
 {
     let line = number / SIDE % SIDE;
     let place = number % SIDE;
-    if number < SIDE * SIDE {
+    if number < SQUARES {
         return Start {
             dir: Dir::Across,
             line,

@@ -16,9 +16,18 @@ use Rattle.lex_file.specs.Shapes.{file_node, is_file_node, fault_of}
 use Rattle.lex_file.specs.SoundFiles.{file_labels, sound}
 use Rattle.lex_file.specs.Graphs.{none_of_zero}
 use Rattle.lex_file.specs.Walking.{next_strings}
-use Rattle.lex_agree.specs.Counts.{HasAtMost, most_counted, slot_of, IsCount, IsCountedBy, AreCountedBeside, IsCounted, IsCountedThere, AreCountedBelow, AreCountedUntil, IsFirstTable, IsPut}
+use Rattle.lex_agree.specs.Counts.{HasAtMost, most_counted, slot_of, IsCount, IsCountedBy, AreCountedBeside, IsCounted, IsCountedThere, AreCountedBelow, IsFirstTable, IsPut}
 use Rattle.lex_agree.specs.Walks.{node_tail, Leads}
 use Rattle.lex_agree.specs.declared.tables.CountTable.{CountTable}
+
+-- all nodes of a file are counted
+pub record AreCounted (bytes : List ℕ) (table : CountTable) : Type 0 where
+  pub each : (n : ℕ) → is_file_node bytes n ≡ true → IsCounted bytes table n
+
+-- the nodes before one are counted, which is one of the file, or all where there is none
+abbrev pub AreCountedUntil : List ℕ → CountTable → Option Node → Type 0
+AreCountedUntil bytes table None = AreCounted bytes table
+AreCountedUntil bytes table (Some node) = AreCountedBelow bytes table (number_of node) × (is_file_node bytes (number_of node) ≡ true)
 
 -- the strings of a set that begin with a label below one
 abbrev pub has_below : (List ℕ → Bool) → ℕ → List ℕ → Bool

@@ -15,8 +15,12 @@ use Rattle.std.proofs.lemmas.List.Sums.{sum_by-cons}
 use Rattle.lex_list.specs.RotatedPaths.{label_of, letter_of, marked, path_of, IsPath, is_path, StandsFor}
 use Rattle.lex_list.specs.Words.{word_order, is_word, has_word_length, has_capitals_alone, IsWordList}
 use Rattle.lex_list.proofs.RotatedPaths.{not_equal, letter_above, letter_again, capitals_of, list_capitals, tested}
-use Rattle.lex_agree.specs.Counts.{HasAtMost, HoldsPaths, IsCount, letters_of}
+use Rattle.lex_agree.specs.Counts.{HasAtMost, IsCount, letters_of}
 use Rattle.lex_agree.proofs.Pigeons.{AreApart, all_there, apart_both, is_first, is_behind, first_or_behind}
+
+-- every rotated path of the words is in the set
+abbrev pub HoldsPaths : (List ℕ → Bool) → List (List ℕ) → Type 0
+HoldsPaths has words = (string : List ℕ) → IsPath words string → IsTrue (has string)
 
 -- the path of a word that is split behind so many letters
 abbrev split_path : List ℕ → ℕ → List ℕ

@@ -9,9 +9,12 @@ use Rattle.std.proofs.lemmas.List.{reverse-append, get_or_default}
 use Rattle.lex_list.specs.RotatedPaths.{label_of, behind_mark, marked, path_of}
 use Rattle.lex_list.specs.Words.{is_word}
 use Rattle.lex_list.proofs.RotatedPaths.{letter_above}
-use Rattle.lex_agree.specs.Chains.{AreLetters, TurnsOverFrom, first_path, HasSplits}
-use Rattle.lex_agree.specs.Counts.{HoldsPaths}
-use Rattle.lex_agree.proofs.Paths.{all_reversed, front_capitals, word_sizes}
+use Rattle.lex_agree.specs.Chains.{AreLetters, TurnsOverFrom, first_path}
+use Rattle.lex_agree.proofs.Paths.{HoldsPaths, all_reversed, front_capitals, word_sizes}
+
+-- every split of a word is a path of the set
+abbrev pub HasSplits : (List ℕ → Bool) → List ℕ → Type 0
+HasSplits has word = (split : ℕ) → 0 < split → split ≤ length word → has (path_of (take split word) (drop split word)) ≡ true
 
 letters_of_capitals : (word : List ℕ) → list_all is_ascii_uppercase word ≡ true → AreLetters (map label_of word)
 letters_of_capitals [] capitals = tt

@@ -1,6 +1,6 @@
 -- How the rotated paths of a word hang together in a set of strings of labels.
-use Rattle.std.specs.Prelude.{◌≡◌, ℕ, ◌<◌, ◌≤◌, Bool, true, List, [], ◌∷◌, ◌++◌, length, map, take, drop}
-use Rattle.lex_list.specs.RotatedPaths.{label_of, mark, behind_mark, path_of}
+use Rattle.std.specs.Prelude.{◌≡◌, ℕ, ◌<◌, Bool, true, List, [], ◌∷◌, ◌++◌, map}
+use Rattle.lex_list.specs.RotatedPaths.{label_of, mark, behind_mark}
 
 -- labels of letters alone, and no mark
 abbrev pub AreLetters : List ℕ → Type 0
@@ -20,7 +20,3 @@ TurnsOverFrom has front = (labels : List ℕ) → AreLetters labels → TurnsOve
 abbrev pub first_path : List ℕ → List ℕ
 first_path [] = []
 first_path (letter ∷ letters) = label_of letter ∷ mark ∷ map label_of letters
-
--- every split of a word is a path of the set
-abbrev pub HasSplits : (List ℕ → Bool) → List ℕ → Type 0
-HasSplits has word = (split : ℕ) → 0 < split → split ≤ length word → has (path_of (take split word) (drop split word)) ≡ true

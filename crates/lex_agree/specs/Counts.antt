@@ -1,7 +1,6 @@
--- How many strings a set has at most, and that it has all rotated paths of words.
-use Rattle.std.specs.Prelude.{◌≡◌, ℕ, ◌+◌, ◌/◌, ◌<◌, ◌≤◌, Bool, true, List, [], ◌∷◌, length, slice_index, Option, Some, None, IsTrue, if◌then◌else◌}
+-- How many strings a set has at most.
+use Rattle.std.specs.Prelude.{◌≡◌, ℕ, ◌+◌, ◌/◌, ◌<◌, ◌≤◌, Bool, true, List, [], ◌∷◌, length, slice_index, Option, Some, None, if◌then◌else◌}
 use Rattle.std.specs.List.{Contains, sum_by}
-use Rattle.lex_list.specs.RotatedPaths.{IsPath}
 use Rattle.lex_file.specs.declared.files.Node.{Node}
 use Rattle.lex_file.specs.Files.{number_of}
 use Rattle.lex_file.specs.Languages.{file_tail}
@@ -13,10 +12,6 @@ pub record HasAtMost (has : List ℕ → Bool) (count : ℕ) : Type 0 where
   pub strings : List (List ℕ)
   pub all : (string : List ℕ) → has string ≡ true → Contains strings string
   pub few : length strings ≤ count
-
--- every rotated path of the words is in the set
-abbrev pub HoldsPaths : (List ℕ → Bool) → List (List ℕ) → Type 0
-HoldsPaths has words = (string : List ℕ) → IsPath words string → IsTrue (has string)
 
 -- the number of letters of all words: each ends one front, so it is that of their rotated paths
 abbrev pub letters_of : List (List ℕ) → ℕ
@@ -60,15 +55,6 @@ IsCountedThere bytes table (Some node) = IsCounted bytes table (number_of node)
 pub record AreCountedBelow (bytes : List ℕ) (table : CountTable) (n : ℕ) : Type 0 where
   pub beside : AreCountedBeside bytes table.nodes.items table.large.items
   pub each : (m : ℕ) → m < n → is_file_node bytes m ≡ true → IsCountedBy bytes table.small.items (slot_of table.thirds m) m
-
--- all nodes of a file are counted
-pub record AreCounted (bytes : List ℕ) (table : CountTable) : Type 0 where
-  pub each : (n : ℕ) → is_file_node bytes n ≡ true → IsCounted bytes table n
-
--- the nodes before one are counted, which is one of the file, or all where there is none
-abbrev pub AreCountedUntil : List ℕ → CountTable → Option Node → Type 0
-AreCountedUntil bytes table None = AreCounted bytes table
-AreCountedUntil bytes table (Some node) = AreCountedBelow bytes table (number_of node) × (is_file_node bytes (number_of node) ≡ true)
 
 -- a table in which the number 0 alone has a count
 pub record IsFirstTable (table : CountTable) : Type 0 where

@@ -18,4 +18,5 @@ mod tables;
 mod turning;
 
 pub use agreeing::agree;
+pub use letters::letter_count;
 pub use steps::label_of;

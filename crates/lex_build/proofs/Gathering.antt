@@ -14,12 +14,29 @@ use Rattle.lex_file.specs.Lexicons.{is_label, IsBehind, NextGives}
 use Rattle.lex_file.specs.Graphs.{none_of_zero}
 use Rattle.lex_file.proofs.Runs.{not_equal}
 use Rattle.lex_build.specs.Bodies.{IsBody, IsGrown, is_target, IsOpenArc, IsArcList, IsPlaced, IsUnplaced}
-use Rattle.lex_build.specs.Labels.{HasLabels, has_below}
-use Rattle.lex_build.specs.Walks.{IsWritten, IsUnwritten, arcs_tail, IsGathered}
+use Rattle.lex_build.specs.Labels.{HasLabels}
+use Rattle.lex_build.specs.Walks.{IsWritten, IsUnwritten}
 use Rattle.lex_build.specs.declared.faults.BuildFault.{BuildFault}
 use Rattle.lex_build.specs.declared.faults.BuildFault.TheVariants as why
 use Rattle.lex_build.proofs.Growth.{tails_grown, target_grown, target_of_first}
-use Rattle.lex_build.proofs.Labels.{labels_none, labels_alone, labels_more, labels_all}
+use Rattle.lex_build.proofs.Labels.{has_below, labels_none, labels_alone, labels_more, labels_all}
+
+-- whether a string is a tail of a node with these arcs
+unfoldable pub arcs_tail : (ℕ → List Arc) → List Arc → List ℕ → Bool
+arcs_tail node arcs [] = false
+arcs_tail node arcs (label ∷ []) = accepts_of (arc_with label arcs)
+arcs_tail node arcs (label ∷ after ∷ rest) = tail_in node (target_of (arc_with label arcs)) (after ∷ rest)
+
+-- The arcs of a node for all labels below one, and what is written for them.
+pub record IsGathered (old now : List ℕ) (has : List ℕ → Bool) (from : ℕ) (arcs : List ℕ) : Type 0 where
+  pub grown : IsGrown old now
+  pub list : IsArcList now arcs
+  pub below : (place : ℕ) → place < length arcs → (arc_of (get_or arcs place 0)).label < from
+  pub tails : (label : ℕ) (rest : List ℕ) → label < from → arcs_tail (node_at now) (map arc_of arcs) (label ∷ rest) ≡ has (label ∷ rest)
+  pub nothing : length arcs ≡ 0 → now ≡ old
+  pub count : ℕ
+  pub labels : HasLabels (has_below has from) count
+  pub size : length now + length arcs ≤ length old + count
 
 -- ---- the arc with a label
 

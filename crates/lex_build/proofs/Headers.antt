@@ -7,11 +7,12 @@ use Rattle.lex_file.specs.FileWords.{words_in, body_of}
 use Rattle.lex_file.specs.Formats.{header_bytes, gad1_magic, gad2_magic, most_arcs, most_body_words}
 use Rattle.lex_file.specs.Nodes.{begins, is_node, node_at}
 use Rattle.lex_list.specs.RotatedPaths.{StandsFor}
+use Rattle.lex_file.specs.declared.arcs.Arc.{Arc}
 use Rattle.lex_file.specs.declared.formats.Format.{Format}
 use Rattle.lex_file.specs.declared.formats.Format.TheVariants as form
 use Rattle.lex_file.specs.Shapes.{format_of, count_of, root_of, word_count_of, body_fault, header_fault, mask_header_fault, form_fault, fault_of, names_node}
-use Rattle.lex_file.specs.Languages.{tail_in}
-use Rattle.lex_file.specs.SoundFiles.{file_tail_is}
+use Rattle.lex_file.specs.Languages.{tail_in, file_tail}
+use Rattle.lex_file.specs.SoundFiles.{nodes_are}
 use Rattle.lex_build.specs.Bodies.{IsKept, is_target}
 use Rattle.lex_check.specs.Stretches.{IsPathList, is_one_of}
 use Rattle.smallvec.specs.SmallVec.{SmallVec}
@@ -24,6 +25,9 @@ use Rattle.lex_build.specs.declared.faults.BuildFault.TheVariants as why
 use Rattle.lex_build.proofs.Labels.{many_labels}
 use Rattle.lex_build.proofs.Bytes.{word_back, take_all}
 use Rattle.lex_build.proofs.NewArcs.{not_less}
+
+file_tail_is : (bytes : List ℕ) (n : ℕ) (string : List ℕ) → format_of bytes ≡ Some form.Gad1 → file_tail bytes n string ≡ tail_in (node_at (body_of bytes)) n string
+file_tail_is bytes n string is = ap (λ (node : ℕ → List Arc). tail_in node n string) (nodes_are bytes form.Gad1 is)
 
 -- ---- the words of a header
 

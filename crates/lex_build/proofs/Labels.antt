@@ -1,18 +1,24 @@
 -- The labels of the strings that a walk has seen, counted together.
 use Rattle.std.proofs.Common.{◌≡◌, ℕ, zero, suc, ◌+◌, ◌<◌, ◌≤◌, Bool, true, false, List, [], ◌∷◌, ◌++◌, length, get_or, drop, inl, inr, ◌⊎◌, ⊎_elim, refl, sym, ap, subst, ◌∙◌, arith}
-use Rattle.std.specs.Prelude.{nat_lt}
+use Rattle.std.specs.Prelude.{nat_lt, ◌&&◌}
 use Rattle.std.specs.List.{Contains, sum_by}
 use Rattle.std.proofs.lemmas.Bool.{and_parts, lt-ltb, ltb-true, false≢true}
 use Rattle.std.proofs.lemmas.List.Elements.{Contains-append_left, Contains-append_right, Contains-append_cases}
 use Rattle.std.proofs.lemmas.List.Sums.{sum_by-cons, sum_by-append}
 use Rattle.lex_file.specs.Lexicons.{IsBehind}
-use Rattle.lex_build.specs.Labels.{AreApart, HasLabels, has_below}
+use Rattle.lex_build.specs.Labels.{AreApart, HasLabels}
 use Rattle.lex_list.specs.RotatedPaths.{StandsFor}
 use Rattle.lex_check.specs.Stretches.{IsPathList, is_one_of}
-use Rattle.lex_check.specs.StretchLaws.{left_from, left_to}
+use Rattle.lex_check.specs.StretchLaws.{left_to}
+use Rattle.lex_check.proofs.LeftStrings.{left_from}
 use Rattle.lex_build.specs.Builds.{HasManyLabels}
 use Rattle.lex_file.specs.Formats.{most_arcs}
 use Rattle.std.proofs.lemmas.List.{get_or_default}
+
+-- the strings of the set whose first label is below one
+abbrev pub has_below : (List ℕ → Bool) → ℕ → List ℕ → Bool
+has_below has bound [] = false
+has_below has bound (label ∷ rest) = nat_lt label bound && has (label ∷ rest)
 
 -- ---- places of strings
 

@@ -9,7 +9,8 @@ use Rattle.lex_file.specs.declared.faults.FileFault.{FileFault}
 use Rattle.lex_file.specs.Graphs.{or_cases}
 use Rattle.lex_file.specs.Masks.{has_bit, is_marked, labels_below, node_size, mask_arc, arcs_among, mask_node, is_mask_node}
 use Rattle.lex_file.specs.MaskShapes.{points_back, label_fault, node_fault, nodes_fault}
-use Rattle.lex_file.specs.SoundMasks.{IsFineNode, place_of_label, among_has, among_lacks, among_none, label_facts, label_fine, node_facts, node_fine}
+use Rattle.lex_file.specs.SoundMasks.{IsFineNode, among_has, among_lacks, among_none, label_facts, label_fine, node_facts, node_fine}
+use Rattle.lex_file.proofs.MaskRuns.{place_of_label}
 use Rattle.lex_build.specs.Stores.{IsMaskBody}
 use Rattle.lex_build.proofs.MaskNodes.{points_to_none, points_from, label_from, labels_from, node_from}
 

@@ -1,5 +1,5 @@
 -- How many labels the strings of a set have together, of which each counts once.
-use Rattle.std.specs.Prelude.{◌≡◌, ℕ, ◌≤◌, nat_lt, Bool, true, false, ◌&&◌, List, [], ◌∷◌, length}
+use Rattle.std.specs.Prelude.{◌≡◌, ℕ, ◌≤◌, Bool, true, List, [], ◌∷◌, length}
 use Rattle.std.specs.List.{Contains, sum_by}
 
 -- no string stands twice
@@ -13,8 +13,3 @@ pub record HasLabels (has : List ℕ → Bool) (count : ℕ) : Type 0 where
   pub each : (string : List ℕ) → Contains strings string → has string ≡ true
   pub once : AreApart strings
   pub enough : count ≤ sum_by length strings
-
--- the strings of the set whose first label is below one
-abbrev pub has_below : (List ℕ → Bool) → ℕ → List ℕ → Bool
-has_below has bound [] = false
-has_below has bound (label ∷ rest) = nat_lt label bound && has (label ∷ rest)

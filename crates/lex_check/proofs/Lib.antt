@@ -1,5 +1,6 @@
 pub mod Held
 pub mod Firsts
+pub mod LeftStrings
 pub mod Stretches
 pub mod Rotations
 pub mod Agreements

@@ -21,7 +21,8 @@ use Rattle.lex_list.specs.Laws.{PathsAreTested}
 use Rattle.lex_file.specs.Lexicons.{is_label}
 use Rattle.lex_list.specs.RotatedPaths.{label_of, marked, path_of, IsPath, StandsFor}
 use Rattle.lex_check.specs.Stretches.{IsPathOfLabels, IsPathList, is_one_of}
-use Rattle.lex_check.specs.StretchLaws.{left_from, left_to}
+use Rattle.lex_check.specs.StretchLaws.{left_to}
+use Rattle.lex_check.proofs.LeftStrings.{left_from}
 use Rattle.lex_check.proofs.Stretches.{same_tests}
 use Rattle.lex_check.specs.Rotations.{paths_of, gathered}
 use Rattle.lex_check.proofs.Held.{number_of, number_order}

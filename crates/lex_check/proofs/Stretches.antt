@@ -10,7 +10,8 @@ use Rattle.lex_file.specs.Lexicons.{is_label, IsBehind}
 use Rattle.lex_check.specs.Orders.{IsBefore}
 use Rattle.lex_check.specs.declared.sorted.Stretch.{Stretch}
 use Rattle.lex_check.specs.Stretches.{label_at, left_at, IsStretch, IsPartWith, IsPlaceFrom, IsBelow, IsPartFrom, height_of, stretch_tail, ends_at, is_left, is_one_of, IsPathList}
-use Rattle.lex_check.specs.StretchLaws.{IsLeft, tail_from, tail_to, tail_none}
+use Rattle.lex_check.specs.StretchLaws.{IsLeft, tail_to, tail_none}
+use Rattle.lex_check.proofs.LeftStrings.{tail_from}
 
 -- what is left of a path begins with its label at the depth
 pub left_cons : (paths : List (List ℕ)) (depth place : ℕ) → depth < length (get_or paths place [])

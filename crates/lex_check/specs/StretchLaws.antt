@@ -1,5 +1,5 @@
 -- Laws of stretches: which strings are tails, and that they are of labels, not empty and short.
-use Rattle.std.proofs.Common.{◌≡◌, ℕ, zero, suc, ◌+◌, ◌-◌, ◌<◌, ◌≤◌, Bool, true, false, ◌||◌, List, [], length, get_or, length-drop, refl, sym, ap, subst, ◌∙◌, arith}
+use Rattle.std.proofs.Common.{◌≡◌, ℕ, zero, suc, ◌+◌, ◌-◌, ◌<◌, ◌≤◌, Bool, true, false, ◌||◌, List, [], length, get_or, length-drop, refl, ap, subst, ◌∙◌, arith}
 use Rattle.std.specs.Prelude.{IsTrue, nat_eq}
 use Rattle.std.specs.Cmp.Lexicographic.{pointwise}
 use Rattle.std.specs.List.{list_all}
@@ -8,9 +8,6 @@ use Rattle.std.proofs.lemmas.Slice.Eq.{bytes_eq-Decides}
 use Rattle.lex_file.specs.Lexicons.{is_label}
 use Rattle.lex_check.specs.declared.sorted.Stretch.{Stretch}
 use Rattle.lex_check.specs.Stretches.{left_at, is_left, IsStretch, stretch_tail}
-
-same_string : (x y : List ℕ) → x ≡ y → pointwise nat_eq x y ≡ true
-same_string x y e = (bytes_eq-Decides x y).1 e
 
 one_string : (x y : List ℕ) → pointwise nat_eq x y ≡ true → x ≡ y
 one_string x y e = (bytes_eq-Decides x y).0 e
@@ -21,23 +18,6 @@ pub record IsLeft (paths : List (List ℕ)) (depth : ℕ) (string : List ℕ) (l
   pub from : low ≤ place
   pub to : place < high
   pub left : string ≡ left_at paths depth place
-
-pub left_from : (paths : List (List ℕ)) (depth : ℕ) (string : List ℕ) (low count : ℕ) → IsLeft paths depth string low (low + count)
-    → is_left paths depth string low count ≡ true
-unfolding is_left
-left_from paths depth string low zero at = absurd (let h = at.from in let k = at.to in omega arith)
-left_from paths depth string low (suc count) at =
-    by (pointwise nat_eq string (left_at paths depth low)) refl (left_from paths depth string (suc low) count)
-  where
-    by : (b : Bool) → pointwise nat_eq string (left_at paths depth low) ≡ b
-        → (IsLeft paths depth string (suc low) (suc low + count) → is_left paths depth string (suc low) count ≡ true)
-        → (b || is_left paths depth string (suc low) count) ≡ true
-    by true e more = refl
-    by false e more =
-        let from = at.from in
-        let to = at.to in
-        let other : at.place ≡ low → ⊥ = λ same. false≢true (sym e ∙ same_string string (left_at paths depth low) (at.left ∙ ap (left_at paths depth) same)) in
-        more (record { place = at.place; from = omega arith; to = omega arith; left = at.left })
 
 pub left_to : (paths : List (List ℕ)) (depth : ℕ) (string : List ℕ) (low count : ℕ) → is_left paths depth string low count ≡ true
     → IsLeft paths depth string low (low + count)
@@ -55,13 +35,6 @@ left_to paths depth string low (suc count) e =
         let from = at.from in
         let to = at.to in
         record { place = at.place; from = omega arith; to = omega arith; left = at.left }
-
-pub tail_from : (paths : List (List ℕ)) (stretch : Stretch) (string : List ℕ) → IsStretch paths stretch
-    → IsLeft paths stretch.depth string stretch.low stretch.high → stretch_tail paths stretch string ≡ true
-tail_from paths stretch string is at =
-    let order = is.order in
-    let high : stretch.high ≡ stretch.low + (stretch.high - stretch.low) = omega arith in
-    left_from paths stretch.depth string stretch.low (stretch.high - stretch.low) (subst (IsLeft paths stretch.depth string stretch.low) high at)
 
 pub tail_to : (paths : List (List ℕ)) (stretch : Stretch) (string : List ℕ) → IsStretch paths stretch → stretch_tail paths stretch string ≡ true
     → IsLeft paths stretch.depth string stretch.low stretch.high

@@ -8,7 +8,7 @@ ghost use Rattle.lex_check.specs.Rotations.{paths_of, gathered};
 
 use crate::rotated::{MAX_LABELS, Rotated};
 use arrayvec::ArrayVec;
-use lex_agree::label_of;
+use lex_agree::{label_of, letter_count};
 use lex_file::MARK;
 use lex_list::WordList;
 use std::alloc::{AllocError, Global};
@@ -75,16 +75,7 @@ fn push_paths(paths: &mut Vec<Rotated>, word: &[u8]) -> Result<(), AllocError>
     Ok(())
 }
 
-/// The number of letters of all words, which is that of their paths: each letter ends one front.
-fn letter_count(list: &WordList) -> usize {
-    let mut count = 0usize;
-    for place in 0..list.len() {
-        count = count.saturating_add(list.word(place).len());
-    }
-    count
-}
-
-/// The rotated paths of the words of a list, word by word.
+/// The rotated paths of the words of a list, word by word. They are as many as the letters: each letter ends one front.
 pub fn gather(alloc: Global, list: &WordList) -> Result<Vec<Rotated>, AllocError>
     ensures { IfOk result (λ paths. paths.items ≡ gathered list.now (length list.now)) }
 {

@@ -1,7 +1,7 @@
 -- The arcs of a GAD2 node as the code reads them.
 use Rattle.std.proofs.Common.{◌≡◌, ℕ, zero, suc, ◌+◌, ◌-◌, ◌*◌, ◌/◌, ◌%◌, ◌^◌, ◌<◌, ◌≤◌, Bool, true, false, cond, leb, List, get_or, Some, None, inl, inr, refl, sym, ap, subst, ◌∙◌, add-one, arith}
 use Rattle.std.specs.Prelude.{count_ones, bit_and}
-use Rattle.std.proofs.lemmas.Bool.{eq-eqb, le-leb, lt-leb, cases_lt}
+use Rattle.std.proofs.lemmas.Bool.{eq-eqb, eqb-true, le-leb, lt-leb, cases_lt}
 use Rattle.std.proofs.lemmas.Nat.{and_mask, ones-le, pow_pos, pow-add, mod_below, one_shl}
 use Rattle.std.proofs.lemmas.Nat.Bits.{bit_at_lowest, bit_at-suc}
 use Rattle.std.proofs.Math.Nat.{div-div-eq-div-mul}
@@ -9,7 +9,7 @@ use Rattle.std.specs.Int.{bit_at}
 use lib.Count.{count_trailing_zeros, under}
 use Rattle.lex_file.specs.Arcs.{arc_with, arc_from}
 use Rattle.lex_file.specs.Masks.{has_bit, is_marked, labels_below, label_count, mask_arc, arcs_among, mask_node, labels_within, HasRoom, IsInside}
-use Rattle.lex_file.specs.SoundMasks.{among_has, among_lacks, among_none}
+use Rattle.lex_file.specs.SoundMasks.{below_more, among_has, among_lacks, among_none}
 use Rattle.lex_file.proofs.Runs.{not_equal}
 
 -- ---- label words
@@ -22,6 +22,21 @@ below word label le = ap (λ (top : ℕ). count_ones (bit_and word (top - 1))) (
 
 pub few_labels : (word : ℕ) → label_count word ≤ 27
 few_labels word = ones-le 27 (word % 2 ^ 27) (mod_below word (2 ^ 27) (pow_pos 27))
+
+-- fewer labels are below a label of the word than below a higher one
+pub below_rises : (word label more : ℕ) → has_bit word label ≡ true → labels_below label word < labels_below (suc label + more) word
+below_rises word label zero is =
+    let same : suc label + zero ≡ suc label = omega arith in
+    rw same (let step = below_more word label in let one = eqb-true (word / 2 ^ label % 2) 1 is in omega (arith, step, one))
+below_rises word label (suc more) is =
+    let same : suc label + suc more ≡ suc (suc label + more) = omega arith in
+    rw same (let step = below_more word (suc label + more) in let rest = below_rises word label more is in omega (arith, step, rest))
+
+-- a label has its place among those of the word
+pub place_of_label : (word label : ℕ) → has_bit word label ≡ true → label < 27 → labels_below label word < label_count word
+place_of_label word label is lt =
+    let same : suc label + (26 - label) ≡ 27 = omega arith in
+    subst (λ (n : ℕ). labels_below label word < labels_below n word) same (below_rises word label (26 - label) is)
 
 -- ---- a node by its number
 

@@ -10,10 +10,11 @@ use Rattle.lex_file.specs.FileWords.{words_in, body_of}
 use Rattle.lex_file.specs.Formats.{most_body_words}
 use Rattle.lex_file.specs.Arcs.{arc_from}
 use Rattle.lex_file.specs.Nodes.{begins, node_at}
-use Rattle.lex_file.specs.Masks.{is_marked, labels_within, HasRoom}
+use Rattle.lex_file.specs.Masks.{is_marked, is_mask_node, labels_within, HasRoom}
 use Rattle.lex_file.specs.Shapes.{format_of, fault_of, root_of, nodes_by, names_node, arcs_by, file_node, is_file_node, arc_count_of}
 use Rattle.lex_file.specs.Files.{IsNextNode, IsRest}
 use Rattle.lex_file.specs.SoundFiles as files
+use Rattle.lex_file.specs.SoundMasks.{node_fine}
 use Rattle.lex_file.proofs.Runs as runs
 use Rattle.lex_file.proofs.MaskRuns.{few_within}
 
@@ -50,11 +51,23 @@ arcs_are file format body e is =
     ap (λ (b : List ℕ). arcs_by (Some format) (words_in b)) is
     ∙ sym (ap (λ (form : Option Format). arcs_by form (body_of file.bytes.now)) (is_named file format e))
 
+-- the words of a node of a GAD2 file are there
+room_in_file : (bytes : List ℕ) → IsTrue (is_none (fault_of bytes)) → format_of bytes ≡ Some form.Gad2 → (n : ℕ) → is_mask_node (body_of bytes) n ≡ true → HasRoom (body_of bytes) n
+room_in_file bytes shape is zero names = tt
+room_in_file bytes shape is (suc place) names = let f = files.formed bytes shape in by f.format f.named f.sound
+  where
+    by : (format : Format) → format_of bytes ≡ Some format → files.IsSoundBy format bytes → HasRoom (body_of bytes) (suc place)
+    by form.Gad1 named s = absurd (other (sym named ∙ is))
+      where
+        other : Some form.Gad1 ≡ Some form.Gad2 → ⊥
+        other e = cc
+    by form.Gad2 named s = (node_fine (body_of bytes) place (files.sound bytes shape).few s.fine names).room
+
 pub mask_room : (file : LexFile) (n : ℕ) (body : List ℕ) → file.format ≡ form.Gad2 → body ≡ drop 16 file.bytes.now → is_file_node file.bytes.now n ≡ true
     → HasRoom (words_in body) n
 mask_room file n body e is names =
     subst (λ (b : List ℕ). HasRoom (words_in b) n) (sym is)
-    (files.mask_room file.bytes.now file.shape (is_named file form.Gad2 e) n (names_are file form.Gad2 n (drop 16 file.bytes.now) e refl ∙ names))
+    (room_in_file file.bytes.now file.shape (is_named file form.Gad2 e) n (names_are file form.Gad2 n (drop 16 file.bytes.now) e refl ∙ names))
 
 -- ---- numbers that fit
 

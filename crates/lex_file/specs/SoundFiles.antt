@@ -1,5 +1,5 @@
 -- What holds of every file without a fault, whatever its format: lemmas, for the laws of a lexicon that is walked.
-use Rattle.std.proofs.Common.{◌≡◌, ℕ, zero, suc, ◌+◌, ◌*◌, ◌<◌, ◌≤◌, Bool, true, false, cond, ◌&&◌, eqb, ltb, leb, List, [], ◌∷◌, length, drop, length-drop, Option, Some, None, refl, sym, ap, ◌∙◌, arith}
+use Rattle.std.proofs.Common.{◌≡◌, ℕ, ◌+◌, ◌*◌, ◌<◌, ◌≤◌, Bool, true, false, cond, ◌&&◌, eqb, ltb, leb, List, [], ◌∷◌, length, drop, length-drop, Option, Some, None, refl, ap, arith}
 use Rattle.std.specs.Prelude.{IsTrue, is_none}
 use Rattle.std.specs.List.{list_all}
 use Rattle.std.proofs.lemmas.Bool.{ltb-false, leb-true, eqb-true, false≢true, and_parts}
@@ -12,15 +12,15 @@ use Rattle.lex_file.specs.declared.formats.Format.{Format}
 use Rattle.lex_file.specs.declared.formats.Format.TheVariants as form
 use Rattle.lex_file.specs.FileWords.{words_in, body_of}
 use Rattle.lex_file.specs.Formats.{header_bytes, most_arcs, most_body_words}
-use Rattle.lex_file.specs.Nodes.{node_at, begins, is_node}
-use Rattle.lex_file.specs.Masks.{is_mask_node, HasRoom}
+use Rattle.lex_file.specs.Nodes.{begins, is_node}
+use Rattle.lex_file.specs.Masks.{is_mask_node}
 use Rattle.lex_file.specs.MaskShapes.{nodes_fault}
 use Rattle.lex_file.specs.Shapes.{format_of, arcs_fault, body_fault, header_fault_by, header_fault, mask_header_fault, form_fault, fault_of, root_of, count_of, nodes_by, names_node, file_node, is_file_node}
 use Rattle.lex_file.specs.Lexicons.{is_label}
 use Rattle.lex_file.specs.Languages.{tail_in, file_tail}
 use Rattle.lex_file.specs.Graphs.{IsSoundGraph, labels_in, bounded_in}
 use Rattle.lex_file.specs.SoundNodes.{gad1_graph}
-use Rattle.lex_file.specs.SoundMasks.{gad2_graph, node_fine}
+use Rattle.lex_file.specs.SoundMasks.{gad2_graph}
 
 -- how many words there are: four bytes each
 pub sizes : (bytes : List ℕ) → (4 * length (words_in bytes) ≤ length bytes) × (length bytes < 4 * length (words_in bytes) + 4)
@@ -118,9 +118,6 @@ pub names_are : (bytes : List ℕ) (format : Format) → format_of bytes ≡ Som
 unfolding is_file_node
 names_are bytes format is = let names : Option Format → ℕ → Bool = λ form n. names_node form (body_of bytes) n in ap names is
 
-pub file_tail_is : (bytes : List ℕ) (n : ℕ) (string : List ℕ) → format_of bytes ≡ Some form.Gad1 → file_tail bytes n string ≡ tail_in (node_at (body_of bytes)) n string
-file_tail_is bytes n string is = ap (λ (node : ℕ → List Arc). tail_in node n string) (nodes_are bytes form.Gad1 is)
-
 -- the words behind the header are as many as it states
 pub body_size : (bytes : List ℕ) (count : ℕ) → length bytes ≡ header_bytes + 4 * count → length (body_of bytes) ≡ count
 body_size bytes count size = let words = sizes (drop header_bytes bytes) in omega (arith, size, words.0, words.1, length-drop header_bytes bytes)
@@ -156,18 +153,6 @@ sound bytes shape = let f = formed bytes shape in by f.format f.named f.sound
           root = rw names s.root;
           graph = rw (nodes, names) (gad2_graph (body_of bytes) few s.fine);
         }
-
--- the words of a node of a GAD2 file are there
-pub mask_room : (bytes : List ℕ) → IsTrue (is_none (fault_of bytes)) → format_of bytes ≡ Some form.Gad2 → (n : ℕ) → is_mask_node (body_of bytes) n ≡ true → HasRoom (body_of bytes) n
-mask_room bytes shape is zero names = tt
-mask_room bytes shape is (suc place) names = let f = formed bytes shape in by f.format f.named f.sound
-  where
-    by : (format : Format) → format_of bytes ≡ Some format → IsSoundBy format bytes → HasRoom (body_of bytes) (suc place)
-    by form.Gad1 named s = absurd (other (sym named ∙ is))
-      where
-        other : Some form.Gad1 ≡ Some form.Gad2 → ⊥
-        other e = cc
-    by form.Gad2 named s = (node_fine (body_of bytes) place (sound bytes shape).few s.fine names).room
 
 -- ---- the laws, of files
 

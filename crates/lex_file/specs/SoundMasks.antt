@@ -35,21 +35,6 @@ below_more word label =
 bit_one : (word label : ℕ) → has_bit word label ≡ true → word / 2 ^ label % 2 ≡ 1
 bit_one word label is = eqb-true (word / 2 ^ label % 2) 1 is
 
--- fewer labels are below a label of the word than below a higher one
-pub below_rises : (word label more : ℕ) → has_bit word label ≡ true → labels_below label word < labels_below (suc label + more) word
-below_rises word label zero is =
-    let same : suc label + zero ≡ suc label = omega arith in
-    rw same (let step = below_more word label in let one = bit_one word label is in omega (arith, step, one))
-below_rises word label (suc more) is =
-    let same : suc label + suc more ≡ suc (suc label + more) = omega arith in
-    rw same (let step = below_more word (suc label + more) in let rest = below_rises word label more is in omega (arith, step, rest))
-
--- a label has its place among those of the word
-pub place_of_label : (word label : ℕ) → has_bit word label ≡ true → label < 27 → labels_below label word < label_count word
-place_of_label word label is lt =
-    let same : suc label + (26 - label) ≡ 27 = omega arith in
-    subst (λ (n : ℕ). labels_below label word < labels_below n word) same (below_rises word label (26 - label) is)
-
 none_below : (word : ℕ) → labels_below 0 word ≡ 0
 none_below word =
     let rest : word % 1 ≡ 0 = let small = mod_below word 1 (omega arith) in omega (arith, small) in

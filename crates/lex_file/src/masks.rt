@@ -72,7 +72,7 @@ pub fn is_mask_node(body: &[u8], number: u32) -> bool
 }
 
 /// The arc with a label of the node at a place.
-#[tactic(auto, using(crate::specs::SoundMasks::place_of_label, crate::proofs::Runs::shorter))]
+#[tactic(auto, using(crate::proofs::MaskRuns::place_of_label, crate::proofs::Runs::shorter))]
 pub fn mask_arc(body: &[u8], place: usize, label: u8) -> Arc
     requires room { IsInside (words_in body.now) place }
     requires label { label < 27 }

@@ -14,11 +14,15 @@ use Rattle.ref_board.specs.Runs.{IsWhole}
 use Rattle.ref_play.specs.declared.runs.Run.{Run}
 use Rattle.ref_play.specs.Formed.{along, is_formed, stretches_on, run_of, runs_through}
 use Rattle.ref_play.specs.Words.{capital_shown, letters_of}
-use Rattle.ref_play.specs.Crosses.{AgreeOn, cross_words}
+use Rattle.ref_play.specs.Crosses.{cross_words}
 use Rattle.ref_play.proofs.RangeLaws.{All-filter_range, All-flat_map_range}
 use Rattle.ref_play.proofs.LineLaws.{is_formed-parts, is_formed-from}
 use Rattle.ref_play.proofs.FormedRuns.{same_test, stretches_same}
 use Rattle.ref_play.proofs.Reading.{along_at}
+
+-- two boards have the same tiles on a line
+abbrev pub AgreeOn : Dir → ℕ → List (Option Tile) → List (Option Tile) → Type 0
+AgreeOn d line a b = (place : ℕ) → place < 15 → tile_at a (square_at d line place) ≡ tile_at b (square_at d line place)
 
 -- a map and a sum depend on the function's values at the elements alone
 pub map_agree : {X Y : Type 0} (P : X → Type 0) (f g : X → Y) → ((x : X) → P x → f x ≡ g x) → (xs : List X) → All P xs → map f xs ≡ map g xs

@@ -15,13 +15,13 @@ use Rattle.ref_play.specs.Placements.{is_play, with_tiles, covers}
 use Rattle.ref_play.specs.Formed.{runs_through}
 use Rattle.ref_play.specs.Words.{letters_of, words_formed}
 use Rattle.ref_play.specs.Legality.{HasNoGap}
-use Rattle.ref_play.specs.Crosses.{AgreeOn, cross_words}
+use Rattle.ref_play.specs.Crosses.{cross_words}
 use Rattle.ref_play.proofs.LineLaws.{line_of-square_at, line_below}
 use Rattle.ref_play.proofs.PlaceLaws.{is_play-parts, on_board}
 use Rattle.ref_play.proofs.FormedRuns.{same_by_lines, covering, laid_from, runs_of_play}
 use Rattle.ref_play.proofs.Taking.{with-kept, laid_has}
 use Rattle.ref_play.proofs.Laying.{on_same_line}
-use Rattle.ref_play.proofs.Agreeing.{letters_agree}
+use Rattle.ref_play.proofs.Agreeing.{AgreeOn, letters_agree}
 
 -- the tile of a placement on its square
 pub tile_there : (d : Dir) (board : List (Option Tile)) (ps : List Placed) → length board ≡ 225 → is_play d ps ≡ true → (q : Placed) → Contains ps q

@@ -1,20 +1,15 @@
 -- What a new tile on an empty square does across the play: the cross word and its score, by the board and the tile alone.
-use Rattle.std.specs.Prelude.{◌≡◌, ℕ, ◌+◌, ◌*◌, ◌<◌, List, [], ◌∷◌, map, sum_by, nat_le, Option, Some, if◌then◌else◌}
+use Rattle.std.specs.Prelude.{ℕ, ◌+◌, ◌*◌, List, [], ◌∷◌, map, sum_by, nat_le, Option, Some, if◌then◌else◌}
 use Rattle.std.specs.List.{range_with_len}
 use Rattle.ref_tiles.specs.declared.tiles.Tile.{Tile}
 use Rattle.ref_tiles.specs.declared.rulebook.Rules.{Rules}
 use Rattle.ref_tiles.specs.Rulebook.{points_of, premium_at, letter_factor, word_factor}
 use Rattle.ref_board.specs.declared.directions.Dir.{Dir}
-use Rattle.ref_board.specs.Lines.{square_at}
 use Rattle.ref_board.specs.Cells.{tile_at, with_tile}
 use Rattle.ref_play.specs.declared.runs.Run.{Run}
 use Rattle.ref_play.specs.Formed.{along, run_of, runs_through}
 use Rattle.ref_play.specs.Words.{letters_of}
 use Rattle.ref_play.specs.Scores.{points_on}
-
--- two boards have the same tiles on a line
-abbrev pub AgreeOn : Dir → ℕ → List (Option Tile) → List (Option Tile) → Type 0
-AgreeOn d line a b = (place : ℕ) → place < 15 → tile_at a (square_at d line place) ≡ tile_at b (square_at d line place)
 
 -- the run of a stretch of a line: none where it has fewer than two tiles
 abbrev pub run_in : Dir → ℕ → ℕ → ℕ → List Run

@@ -8,6 +8,7 @@ use crate::sources::STANDARD_INPUT;
 use clap::builder::ValueParser;
 use clap::error::ErrorKind;
 use clap::{Arg, ArgAction, ArgMatches, Command, Error, value_parser};
+use engine::MOST_PLAYS;
 use lex_file::Format;
 use std::alloc::{AllocError, Global};
 
@@ -354,7 +355,7 @@ fn top_command<'a>(alloc: Global) -> Result<Command<'a>, AllocError> {
             "N",
             "how many plays are printed at the most, 1 to 100; 10 without it",
         )
-        .value_parser(ValueParser::Unsigned(1, 100)))?
+        .value_parser(ValueParser::Unsigned(1, MOST_PLAYS as u64)))?
         .arg(before_option(alloc))?;
     with_input_options(alloc, command)
 }

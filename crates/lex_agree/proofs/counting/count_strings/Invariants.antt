@@ -1,5 +1,4 @@
-use Rattle.lex_agree.specs.Counts.{AreCountedUntil}
-use Rattle.lex_agree.proofs.Bounds.{left_behind}
+use Rattle.lex_agree.proofs.Bounds.{AreCountedUntil, left_behind}
 use Rattle.lex_agree.proofs.counting.count_strings.Given as goal
 
 abbrev pub invariant-loop-next : goal.invariant-loop-next

@@ -1,7 +1,7 @@
 use Rattle.std.proofs.Common.{◌≤◌, ◌-◌}
 use Rattle.lex_file.specs.FileWords.{body_of}
 use Rattle.lex_build.specs.Bodies.{IsKept}
-use Rattle.lex_build.specs.Walks.{IsGathered}
+use Rattle.lex_build.proofs.Gathering.{IsGathered}
 use Rattle.lex_build.proofs.walks.+write_node.Given as goal
 
 abbrev pub decreases-write_node : goal.decreases-write_node
