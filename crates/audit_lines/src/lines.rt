@@ -2,7 +2,7 @@
 
 use engine::{Audit, Finding, finding_line};
 use game_sheets::WrongNumber;
-use gcg_read::{Players, Seat};
+use gcg_read::Players;
 use itoa::{Buffer, Integer};
 use std::alloc::{AllocError, Global};
 
@@ -37,18 +37,10 @@ fn push_wrong(
             right,
         } => {
             text.extend_from_slice(b"total of ")?;
-            text.extend_from_slice(nick_of(players, *player))?;
+            text.extend_from_slice(players.of(*player).nick.as_bytes())?;
             text.extend_from_slice(b": ")?;
             push_both(text, *written, *right)
         }
-    }
-}
-
-/// The nickname of a player.
-fn nick_of(players: &Players, player: Seat) -> &[u8] {
-    match player {
-        Seat::First => players.first.nick.as_bytes(),
-        Seat::Second => players.second.nick.as_bytes(),
     }
 }
 

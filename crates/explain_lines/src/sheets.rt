@@ -51,10 +51,7 @@ impl<'a> Sheet<'a> {
 
     /// The nickname of a player, or words for a player who has none.
     pub fn nick(&self, player: Seat) -> &'a [u8] {
-        let nick = match player {
-            Seat::First => self.record.players.first.nick.as_bytes(),
-            Seat::Second => self.record.players.second.nick.as_bytes(),
-        };
+        let nick = self.record.players.of(player).nick.as_bytes();
         if !nick.is_empty() {
             return nick;
         }
