@@ -25,28 +25,3 @@ pub fn allows(alloc: Global, rules: &Rules, list: &WordList, text: &[u8]) -> Res
     let game = read(alloc, text)?;
     Ok(play_through(rules, &game, list).is_ok())
 }
-
-#[cfg(test)]
-mod tests {
-    use super::allows;
-    use lex_list::WordList;
-    use ref_tiles::english_rules;
-    use std::rt::HostRuntime;
-
-    /// Texts, and what is answered of them by the list of the word AT.
-    const ROWS: [(&[u8], Option<bool>); 4] = [
-        (b">A: AT 8G AT +4 4\n", Some(true)),
-        (b">A: AT 8G AT +5 5\n", Some(false)),
-        (b">A: AT 8G AT +4 4\n>B: - +0 1\n", Some(false)),
-        (b">A: AT 8G AT four\n", None),
-    ];
-
-    #[test]
-    fn answers_of_texts(rt: HostRuntime) {
-        let list = WordList::read(rt.alloc(), b"AT\n").expect(&rt, "a list");
-        for row in &ROWS {
-            let answer = allows(rt.alloc(), &english_rules(), &list, row.0);
-            assert_eq!(rt; answer.ok(), row.1);
-        }
-    }
-}
