@@ -1,10 +1,10 @@
 //! Each module has the tables of one crate, each table shows one rule.
 
+mod best_plays;
 mod boards;
 mod following;
 mod normal_forms;
 mod notations;
-mod notes;
 mod plays;
 mod records;
 mod tiles;

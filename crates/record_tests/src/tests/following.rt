@@ -4,8 +4,8 @@ ghost use Rattle.lex_check.specs.Pairs.{list_in};
 ghost use Rattle.ref_play.specs.Placements.{HasTiles};
 ghost use Rattle.annotator.specs.Following.{board_of, Follows};
 
+use super::best_plays::tiles;
 use super::notations::assert_written;
-use super::notes::tiles;
 use super::plays::{AT, Text, WORD, after, judged};
 use annotator::{Follow, cross_sets};
 use lex_build::build;
