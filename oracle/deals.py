@@ -180,7 +180,7 @@ def keep(number, wanted, rack):
     return kept
 
 
-def complete(places, tiles):
+def complete_deal(places, tiles):
     """The deal that the rule of completion gives: both racks before each event and the tiles that it throws, or None."""
     bag, racks, waiting, deal = Counter(tiles), [Counter(), Counter()], Counter(), []
 
@@ -272,7 +272,7 @@ def settle(places, tiles):
     exceeded = bound(places, tiles)
     if exceeded:
         return f"illegal line {exceeded[0]}: {exceeded[1]}"
-    deal = complete(places, tiles)
+    deal = complete_deal(places, tiles)
     return None if deal is not None and fits(places, tiles, deal) else "unsettled"
 
 
