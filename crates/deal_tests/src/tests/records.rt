@@ -1,4 +1,5 @@
 //! Deals of records: bounds, the deal of the rule, and its check.
+use super::settling;
 use super::steps::short_rules;
 use Answer::{Exceeds, Fits, NoDeal};
 use Game::{English, Short};
@@ -7,7 +8,7 @@ use game_deal::{
     DealFault, Steps, bounds, complete_deal, fits, law_of_bounds, law_of_runs, law_of_tiles,
 };
 use game_turns::{Passed, play_through};
-use gcg_read::read;
+use gcg_read::{EventKind, read};
 use lex_list::WordList;
 use ref_tiles::{Kind, Letter, Rules, english_rules};
 use std::alloc::Global;
@@ -121,17 +122,43 @@ fn answer_of(rt: &impl Abort, alloc: Global, passed: &Passed<'_>) -> Answer {
     }
 }
 
+/// Whether tiles are exchanged.
+fn is_exchange(kind: &EventKind) -> bool {
+    matches!(kind, EventKind::Exchange(_) | EventKind::ExchangeUnknown(_))
+}
+
+/// What becomes of the deal of a record. The rule gives one where no bound is exceeded and there is no exchange.
+fn told(rt: &impl Abort, alloc: Global, rules: &Rules, words: &[u8], lines: &[u8]) -> Answer {
+    let record = read(alloc, lines).expect(rt, "a record");
+    let list = WordList::read(alloc, words).expect(rt, "a word list");
+    let passed = play_through(rules, &record, &list).expect(rt, "a record that passed");
+    let answer = answer_of(rt, alloc, &passed);
+    let mut events = record.events.as_slice().iter();
+    let has_exchange = events.any(|event| is_exchange(&event.kind));
+    assert!(rt; answer != NoDeal || has_exchange, "{:?}", lines);
+    answer
+}
+
 #[test]
 fn deals(rt: HostRuntime) {
     for (game, words, lines, expected) in &ROWS {
-        let rules = rules_of(&rt, *game);
-        let record = read(rt.alloc(), lines).expect(&rt, "a record");
-        let list = WordList::read(rt.alloc(), words).expect(&rt, "a word list");
-        let passed = play_through(&rules, &record, &list).expect(&rt, "a record that passed");
-        let answer = answer_of(&rt, rt.alloc(), &passed);
+        let answer = told(&rt, rt.alloc(), &rules_of(&rt, *game), words, lines);
         assert_eq!(rt; answer, *expected, "{:?}", lines);
     }
     law_of_runs();
     law_of_bounds();
     law_of_tiles();
+}
+
+/// No bound is exceeded in the records that a search settles, and one that the rule gives a deal is dealt by the search too.
+#[test]
+fn deals_beside_a_search(rt: HostRuntime) {
+    let rules = english_rules();
+    for (lines, settled) in &settling::ROWS {
+        match told(&rt, rt.alloc(), &rules, b"AT", lines) {
+            Fits => assert_eq!(rt; *settled, settling::Answer::Dealt, "{:?}", lines),
+            NoDeal => {}
+            Exceeds(fault) => assert!(rt; false, "{fault:?} {lines:?}"),
+        }
+    }
 }

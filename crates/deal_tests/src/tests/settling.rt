@@ -13,7 +13,7 @@ use std::process::Abort;
 
 /// What settles a row.
 #[derive(Clone, Copy, Debug, PartialEq, Eq)]
-enum Answer {
+pub enum Answer {
     /// A deal that fits.
     Dealt,
     /// No racks fit so many first steps.
@@ -23,7 +23,7 @@ enum Answer {
 }
 
 /// Records, and what settles them.
-const ROWS: [(&[u8], Answer); 8] = [
+pub const ROWS: [(&[u8], Answer); 8] = [
     (b"", Dealt),
     (
         b">A: AEINRST -7 +0 0\n>B: - +0 0\n>A: BCDFGHJ - +0 0\n",
