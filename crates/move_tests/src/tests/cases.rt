@@ -9,7 +9,7 @@ const WORD: [Laid; 1] = ["8E WORD"];
 const RETAINS: [Laid; 1] = ["8D RETAINS"];
 
 /// The boards and racks of games that were worked by hand.
-pub const CASES: [Case<'static>; 21] = [
+pub const CASES: [Case<'static>; 25] = [
     (b"WORD", &[], b"DORWAAE", 8),
     (b"WORD", &[], b"DOW?", 8),
     (b"RETAINS", &[], b"AEINRST", 14),
@@ -17,6 +17,10 @@ pub const CASES: [Case<'static>; 21] = [
     (b"QI", &[], b"AEOUUTT", 0),
     (b"AT\nRA\nWORD", &WORD, b"AT", 1),
     (b"AT\nDT\nRA\nWORD", &WORD, b"AT", 3),
+    (b"DT\nRA\nWORD", &WORD, b"AT", 2),
+    (b"DT\nRA\nWORD", &WORD, b"T", 1),
+    (b"SWORDS\nWORD", &WORD, b"?S", 2),
+    (b"SWORD\nSWORDS\nWORD", &WORD, b"?S", 4),
     (b"RETAINS", &RETAINS, b"ADEORTW", 0),
     (b"RETAINS", &RETAINS, b"AEINRST", 7),
     (b"AT", &[], b"SX", 0),
@@ -49,7 +53,8 @@ const EIGHT: [Laid; 9] = [
 ];
 
 /// The boards behind the last play of games that were worked by hand, and those of the tables of cross-sets.
-pub const PLAYED: [Case<'static>; 13] = [
+pub const PLAYED: [Case<'static>; 14] = [
+    (b"WORD", &["H8 WORD"], b"DORWAAE", 4),
     (b"QAT", &["8F QAT"], b"AQT", 3),
     (b"AT\nRA\nWORD\nWORDS", &["8E WOrD"], b"AST", 2),
     (b"AT\nRA\nWORD\nWORDS", &["8E WORDS"], b"ART", 1),
