@@ -3,15 +3,15 @@
 mod archiving;
 mod best_plays;
 mod boards;
+mod callers;
 mod converting;
 mod deals;
 mod devices_over_memory;
 mod explaining;
-mod first_fields;
+mod first_fields_over_memory;
 mod games;
 mod inputs;
 mod lexicons;
-mod library_example;
 mod pieces;
 mod plays;
 mod ruled;

@@ -1,4 +1,4 @@
-//! What the example of a caller answers of texts of records.
+//! What the example of a caller of the crates answers of texts.
 use lex_list::WordList;
 use library_example::allows;
 use ref_tiles::english_rules;
