@@ -18,6 +18,9 @@ pub mod Converting
 pub mod Headlines
 pub mod Settling
 pub mod OwnVerdicts
+pub mod OwnJudging
+pub mod OwnBestPlays
+pub mod OwnTurnPlays
 pub mod Archiving
 pub mod Auditing
 pub mod Explaining

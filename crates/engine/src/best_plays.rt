@@ -53,7 +53,7 @@ pub struct BestPlays {
 
 impl Question for BestPlays {
     ghost use Rattle.engine.specs.Topping.{IsToppedOn};
-    ghost use Rattle.engine.specs.OwnVerdicts.{topped_own};
+    ghost use Rattle.engine.specs.OwnBestPlays.{topped_own};
 
     ghost is_answer = { λ question rules words game v report. IsToppedOn rules words question.rack game v report };
 

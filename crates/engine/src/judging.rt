@@ -108,7 +108,7 @@ pub enum Judging {
 
 impl Question for Judging {
     ghost use Rattle.engine.specs.Settling.{IsJudgedBy};
-    ghost use Rattle.engine.specs.OwnVerdicts.{judged_by_own};
+    ghost use Rattle.engine.specs.OwnJudging.{judged_by_own};
 
     ghost is_answer = { λ question rules words game v report. IsJudgedBy question rules words game v report };
 

@@ -143,7 +143,7 @@ fn tell_by_line(
 
 impl Question for TurnPlays {
     ghost use Rattle.engine.specs.TopBefore.{IsToppedBefore};
-    ghost use Rattle.engine.specs.OwnVerdicts.{topped_before_own};
+    ghost use Rattle.engine.specs.OwnTurnPlays.{topped_before_own};
 
     ghost is_answer = { λ question rules words game v report. IsToppedBefore question.number question.before rules words question.rack game v report };
 
