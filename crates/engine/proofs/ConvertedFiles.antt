@@ -9,6 +9,8 @@ use Rattle.engine.specs.declared.lexicons.LexiconFault.TheVariants as fault
 use Rattle.engine.specs.declared.verdicts.Verdict.TheVariants as verdict
 use Rattle.engine.specs.Converting.{IsNewFormat, IsMalformed, IsPastLimit, IsConvertedBy, StaysLexicon}
 use Rattle.engine.specs.Lexicons.{file_fault, IsRefusedFile}
+use Rattle.engine.specs.Reports.{too_many_arcs_line}
+use Rattle.engine.specs.Telling.{IsTold}
 
 pub converted : (format : Format) (bytes shown report : List ℕ) → file_fault bytes ≡ None → shown ≡ bytes → IsConverted format shown report
     → IsConvertedBy format bytes verdict.Done report
@@ -21,7 +23,7 @@ malformed format bytes first (Ok d) fails refused = inr (inl (record { first = f
 malformed format bytes first (Err gone) fails refused = tt
 
 pub past_limit : {E : Type 0} (format : Format) (bytes shown : List ℕ) (r : Result Decision E) → file_fault bytes ≡ None → shown ≡ bytes
-    → limit_of format < words_in_format format shown → IfOk r (λ d. IsRefusedFile fault.TooManyArcs d)
+    → limit_of format < words_in_format format shown → IfOk r (λ d. IsTold verdict.BadFile too_many_arcs_line d.verdict d.report.items)
     → IfOk r (λ d. IsConvertedBy format bytes d.verdict d.report.items)
 past_limit format bytes shown (Ok d) form same many refused =
     inr (inr (record { form = form; many = subst (λ b. limit_of format < words_in_format format b) same many; told = refused }))

@@ -11,7 +11,7 @@ use Rattle.gcg_read.specs.declared.faults.Why.TheVariants as why
 use Rattle.game_turns.specs.declared.faults.RuleFault.TheVariants as rule
 use Rattle.engine.specs.declared.verdicts.GameFault.TheVariants as game
 use Rattle.engine.specs.declared.lexicons.LexiconFault.TheVariants as lexicon
-use Rattle.engine.specs.Reports.{illegal_line, bad_record_line, bad_rules_line, bad_list_line, bad_file_line, ok_line}
+use Rattle.engine.specs.Reports.{illegal_line, bad_record_line, bad_rules_line, bad_list_line, bad_file_line, too_many_arcs_line, ok_line}
 
 -- the lines of faults
 faults_are_told :
@@ -23,8 +23,8 @@ faults_are_told :
     × (bad_rules_line (record { line = 0; why = rules_why.Limits }) ≡ codes "bad rules: Limits\n")
     × (bad_list_line (record { line = 2; why = list_why.BadLetter }) ≡ codes "bad word list line 2: BadLetter\n")
     × (bad_file_line (lexicon.Form form.Magic) ≡ codes "bad lexicon: Magic\n")
-    × (bad_file_line lexicon.TooManyArcs ≡ codes "bad lexicon: TooManyArcs\n")
-unfolding digits illegal_line bad_record_line bad_rules_line bad_list_line bad_file_line
+    × (too_many_arcs_line ≡ codes "bad lexicon: TooManyArcs\n")
+unfolding digits illegal_line bad_record_line bad_rules_line bad_list_line bad_file_line too_many_arcs_line
 faults_are_told = (refl, refl, refl, refl, refl, refl, refl, refl, refl)
 
 path_is_told : (path : ArrayVec ℕ) → path.items ≡ 9 ∷ 0 ∷ 20 ∷ [] → bad_file_line (lexicon.Missing path) ≡ codes "bad lexicon: Missing I+T\n"

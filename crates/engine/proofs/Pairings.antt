@@ -36,7 +36,6 @@ unlike_by words bytes (fault.Form form) is lexicon = let both : None ≡ Some fo
 unlike_by words bytes (fault.Missing path) is lexicon = missing_differs words bytes path.items is.1.differs lexicon.agreed.paths
 unlike_by words bytes (fault.Extra path) is lexicon = extra_differs words bytes path.items is.1.differs lexicon.agreed.paths
 unlike_by words bytes fault.WordCount is lexicon = is.1.1 lexicon.agreed.count
-unlike_by words bytes fault.TooManyArcs is lexicon = is
 
 -- ---- the verdict on it
 

@@ -1,11 +1,10 @@
 -- What building the lexicon file of a word list answers.
 use Rattle.std.specs.Prelude.{◌≡◌, ◌⊎◌, ℕ, List}
 use Rattle.lex_build.specs.Builds.{IsBuiltOf, HasManyLabels}
-use Rattle.engine.specs.declared.lexicons.LexiconFault.TheVariants as fault
 use Rattle.engine.specs.declared.verdicts.Verdict.{Verdict}
 use Rattle.engine.specs.declared.verdicts.Verdict.TheVariants as verdict
 use Rattle.engine.specs.Reading.{ReadsNoMore, ReadsList}
-use Rattle.engine.specs.Reports.{bad_file_line}
+use Rattle.engine.specs.Reports.{too_many_arcs_line}
 use Rattle.engine.specs.Telling.{IsTold}
 
 -- it is done, and these bytes are a lexicon of the words, in the first format
@@ -16,7 +15,7 @@ pub record IsNewFile (words : List (List ℕ)) (v : Verdict) (bytes : List ℕ) 
 -- the rotated paths of the words have more labels than a file has arcs, and that is told
 pub record IsTooLarge (words : List (List ℕ)) (v : Verdict) (report : List ℕ) : Type 0 where
   pub many : HasManyLabels words
-  pub told : IsTold verdict.BadFile (bad_file_line fault.TooManyArcs) v report
+  pub told : IsTold verdict.BadFile too_many_arcs_line v report
 
 abbrev pub IsBuiltBy : (words : List (List ℕ)) → Verdict → List ℕ → Type 0
 IsBuiltBy words v report = IsNewFile words v report ⊎ IsTooLarge words v report

@@ -10,7 +10,7 @@ use Rattle.engine.specs.declared.verdicts.Verdict.{Verdict}
 use Rattle.engine.specs.declared.verdicts.Verdict.TheVariants as verdict
 use Rattle.engine.specs.Lexicons.{file_fault}
 use Rattle.engine.specs.Reading.{ReadsNoMore, ReadsNext}
-use Rattle.engine.specs.Reports.{bad_file_line}
+use Rattle.engine.specs.Reports.{bad_file_line, too_many_arcs_line}
 use Rattle.engine.specs.Telling.{IsTold}
 
 -- the file has the form of a lexicon, and these bytes are it in the format: the same nodes, language and number of words
@@ -29,7 +29,7 @@ pub record IsMalformed (lexicon : List ℕ) (v : Verdict) (report : List ℕ) : 
 pub record IsPastLimit (format : Format) (lexicon : List ℕ) (v : Verdict) (report : List ℕ) : Type 0 where
   pub form : file_fault lexicon ≡ None
   pub many : limit_of format < words_in_format format lexicon
-  pub told : IsTold verdict.BadFile (bad_file_line fault.TooManyArcs) v report
+  pub told : IsTold verdict.BadFile too_many_arcs_line v report
 
 abbrev pub IsConvertedBy : Format → (lexicon : List ℕ) → Verdict → List ℕ → Type 0
 IsConvertedBy format lexicon v report = IsNewFormat format lexicon v report ⊎ IsMalformed lexicon v report ⊎ IsPastLimit format lexicon v report

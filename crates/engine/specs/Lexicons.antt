@@ -35,7 +35,6 @@ IsFaultOf words bytes (fault.Form first) = file_fault bytes ≡ Some first
 IsFaultOf words bytes (fault.Missing path) = (file_fault bytes ≡ None) × IsMismatch words bytes (why.Missing path)
 IsFaultOf words bytes (fault.Extra path) = (file_fault bytes ≡ None) × IsMismatch words bytes (why.Extra path)
 IsFaultOf words bytes fault.WordCount = (file_fault bytes ≡ None) × IsMismatch words bytes why.WordCount
-IsFaultOf words bytes fault.TooManyArcs = ⊥
 
 -- the bytes are no lexicon of the words, and this tells what is wrong with them
 pub record IsBadFile (words : List (List ℕ)) (bytes report : List ℕ) : Type 0 where

@@ -78,10 +78,13 @@ lexicon_text (lexicon.Form first) = file.name_of first
 lexicon_text (lexicon.Missing path) = codes "Missing " ++ map symbol_of path.items
 lexicon_text (lexicon.Extra path) = codes "Extra " ++ map symbol_of path.items
 lexicon_text lexicon.WordCount = codes "WordCount"
-lexicon_text lexicon.TooManyArcs = codes "TooManyArcs"
 
 unfoldable pub bad_file_line : LexiconFault → List ℕ
 bad_file_line fault = codes "bad lexicon: " ++ lexicon_text fault ++ 10 ∷ []
+
+-- the line that the file which is asked for would have more arcs, or words, than its format can number
+unfoldable pub too_many_arcs_line : List ℕ
+too_many_arcs_line = codes "bad lexicon: TooManyArcs\n"
 
 -- the line that a rack is none
 unfoldable pub bad_rack_line : List ℕ

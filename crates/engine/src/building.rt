@@ -1,13 +1,15 @@
 //! The lexicon of a word list, by the bytes of its input.
 ghost use Rattle.std.specs.Prelude.{◌∷◌, [], IfOk};
 ghost use Rattle.devices.specs.Devices.{HasRoom};
+ghost use Rattle.engine.specs.declared.verdicts.Verdict.TheVariants as verdict;
 ghost use Rattle.engine.specs.Building.{IsBuilt, IsBuiltBy};
+ghost use Rattle.engine.specs.Reports as reports;
 ghost use Rattle.engine.specs.Runs.{Decides, IsRun};
 ghost use Rattle.engine.specs.Sources.{words_source};
+ghost use Rattle.engine.specs.Telling.{IsTold};
 
 use crate::decisions::Decision;
 use crate::faults::RunFault;
-use crate::lexicons::{LexiconFault, bad_file};
 use crate::meanings::read_list;
 use crate::transfers::finish;
 use crate::verdicts::Verdict;
@@ -15,6 +17,14 @@ use devices::{Input, Output};
 use lex_build::{BuildFault, build};
 use lex_list::WordList;
 use std::alloc::{AllocError, Global};
+
+/// The verdict that the file which is asked for would have more arcs, or words, than its format can number.
+#[tactic(auto, unfolding(crate::specs::Reports::too_many_arcs_line))]
+pub(crate) fn too_many_arcs(alloc: Global) -> Result<Decision, AllocError>
+    ensures { IfOk result (λ d. IsTold verdict.BadFile reports.too_many_arcs_line d.verdict d.report.items) }
+{
+    Decision::told(alloc, Verdict::BadFile, b"bad lexicon: TooManyArcs\n")
+}
 
 /// The lexicon of a word list, or the verdict that it has too many arcs.
 #[tactic(auto, using(crate::proofs::BuiltFiles::built, crate::proofs::BuiltFiles::too_large))]
@@ -26,7 +36,7 @@ fn build_list(alloc: Global, list: &WordList) -> Result<Decision, AllocError>
             verdict: Verdict::Done,
             report,
         }),
-        Err(BuildFault::TooManyArcs) => bad_file(alloc, &LexiconFault::TooManyArcs),
+        Err(BuildFault::TooManyArcs) => too_many_arcs(alloc),
         Err(BuildFault::NoMemory) => Err(AllocError),
     }
 }

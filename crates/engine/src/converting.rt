@@ -5,6 +5,7 @@ ghost use Rattle.engine.specs.Converting.{IsConvertedBy, IsConvertedFile};
 ghost use Rattle.engine.specs.Runs.{Decides, IsRun};
 ghost use Rattle.engine.specs.Sources.{lexicon_source};
 
+use crate::building::too_many_arcs;
 use crate::decisions::Decision;
 use crate::faults::RunFault;
 use crate::lexicons::{LexiconFault, bad_file, open_within, read_lexicon};
@@ -29,7 +30,7 @@ fn convert_bytes(alloc: Global, bytes: &[u8], format: Format) -> Result<Decision
             verdict: Verdict::Done,
             report,
         }),
-        Err(BuildFault::TooManyArcs) => bad_file(alloc, &LexiconFault::TooManyArcs),
+        Err(BuildFault::TooManyArcs) => too_many_arcs(alloc),
         Err(BuildFault::NoMemory) => Err(AllocError),
     }
 }

@@ -29,8 +29,6 @@ pub enum LexiconFault {
     Extra(Path),
     /// The file states another number of words.
     WordCount,
-    /// The file that is asked for would have more arcs, or words, than its format can number.
-    TooManyArcs,
 }
 
 /// Opens a lexicon file. One that has too many bytes is reported as such before anything else.

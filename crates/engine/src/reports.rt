@@ -186,7 +186,6 @@ fn push_lexicon_fault(text: &mut Vec<u8>, fault: &LexiconFault) -> Result<(), Al
         LexiconFault::Missing(path) => push_path(text, b"Missing ", path),
         LexiconFault::Extra(path) => push_path(text, b"Extra ", path),
         LexiconFault::WordCount => text.extend_from_slice(b"WordCount"),
-        LexiconFault::TooManyArcs => text.extend_from_slice(b"TooManyArcs"),
     }
 }
 
