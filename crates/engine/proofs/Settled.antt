@@ -1,5 +1,5 @@
 -- Verdicts on records, by what is found of their racks.
-use Rattle.std.proofs.Common.{◌≡◌, ℕ, Bool, true, false, List, Some, None, IsTrue, ◌↔◌, refl, sym, ◌∙◌, inl, inr}
+use Rattle.std.proofs.Common.{◌≡◌, ℕ, Bool, true, false, List, Some, None, IsTrue, ◌↔◌, sym, ◌∙◌, inl, inr}
 use Rattle.ref_tiles.specs.declared.rulebook.Rules.{Rules}
 use Rattle.gcg_read.specs.declared.records.Record.{Record}
 use Rattle.game_turns.specs.declared.faults.RuleFault.{RuleFault}
@@ -20,13 +20,13 @@ use Rattle.engine.specs.declared.judging.Judging.TheVariants as judging
 use Rattle.engine.specs.declared.verdicts.GameFault.TheVariants as game
 use Rattle.engine.specs.declared.verdicts.Verdict.{Verdict}
 use Rattle.engine.specs.declared.verdicts.Verdict.TheVariants as verdict
-use Rattle.engine.specs.Judging.{IsToldBound, IsToldLegal, IsPastBound}
+use Rattle.engine.specs.Judging.{IsToldBound, IsToldLegal, IsPastBound, IsJudged}
 use Rattle.engine.specs.Reports.{illegal_line, unsettled_line}
-use Rattle.engine.specs.Settling.{IsJudgedBy}
+use Rattle.engine.specs.Settling.{IsSettled, IsJudgedBy}
 use Rattle.engine.specs.Telling.{IsTold}
-use Rattle.engine.specs.Racks.{AreTried, AreFound, AreFoundBy}
-use Rattle.engine.specs.declared.racks.RackFinding.{RackFinding}
+use Rattle.engine.specs.Racks.{AreTried, AreFound}
 use Rattle.engine.specs.declared.racks.RackFinding.TheVariants as rack
+use Rattle.engine.specs.declared.racks.RackTrial.TheVariants as trial
 use Rattle.engine.specs.Verdicts.{IsDealt, HasNoDealBy, IsOpenGame}
 use Rattle.engine.proofs.Deals.{exceeds}
 use Rattle.engine.proofs.Headlines.{some_of}
@@ -50,14 +50,14 @@ pub open_game : (passed : Passed) (words : List (List ℕ)) → AreAllowed (rule
     → IsOpenGame (rules_in passed) words (record_in passed).events
 open_game passed words allowed found = record { allowed = allowed; bounded = found.0; exchanged = found.1 }
 
--- ---- the deal that is tried first, and the search
+-- ---- the deal of the rule, and the search
 
-pub tried_dealt : (passed : Passed) (b : Bool) → b ≡ true → IsTrue b ↔ IsDealt (rules_in passed) (record_in passed).events → AreTried passed rack.Dealt
+pub tried_dealt : (passed : Passed) (b : Bool) → b ≡ true → IsTrue b ↔ IsDealt (rules_in passed) (record_in passed).events → AreTried passed trial.Dealt
 tried_dealt passed b holds same = same.0 holds
 
 pub tried_open : (passed : Passed) (b : Bool) → first_bound (rules_in passed) (steps_of (rules_in passed) (record_in passed).events) ≡ None → b ≡ false
     → IsTrue b ↔ IsDealt (rules_in passed) (record_in passed).events
-    → (first_bound (rules_in passed) (steps_of (rules_in passed) (record_in passed).events) ≡ None → HaveNoExchange (record_in passed).events → IsTrue b) → AreTried passed rack.Unknown
+    → (first_bound (rules_in passed) (steps_of (rules_in passed) (record_in passed).events) ≡ None → HaveNoExchange (record_in passed).events → IsTrue b) → AreTried passed trial.Open
 tried_open passed b bounded fails same plain =
     record {
       bounded = bounded;
@@ -65,14 +65,11 @@ tried_open passed b bounded fails same plain =
       exchanged = λ none. let both : false ≡ true = sym fails ∙ plain bounded none in cc;
     }
 
--- where the deal that is tried first tells something, that is found
-pub tried_found : (passed : Passed) (found : RackFinding) → (found ≡ rack.Unknown → ⊥) → AreTried passed found → AreFound passed found
-tried_found passed rack.Dealt other is =
+-- where the deal of the rule fits, some deal does
+pub dealt_found : (passed : Passed) → AreTried passed trial.Dealt → AreFound passed rack.Dealt
+dealt_found passed is =
     let deal = some_of (dealt (rules_in passed) (steps_of (rules_in passed) (record_in passed).events)) (Fits (rules_in passed) (steps_of (rules_in passed) (record_in passed).events)) is in
     record { racks = deal.0; fits = deal.1 }
-tried_found passed (rack.PastBound bound) other is = is
-tried_found passed (rack.NoDeal line) other never = absurd never
-tried_found passed rack.Unknown other is = absurd (other refl)
 
 pub found_deal : (passed : Passed) (racks : List Held) → FitsRecord passed racks → AreFound passed rack.Dealt
 found_deal passed racks fits = record { racks = racks; fits = fits }
@@ -84,28 +81,40 @@ pub judged_refused : (question : Judging) (rules : Rules) (words : List (List �
 judged_refused judging.ByRule rules words r line why v report first told = inr (inl (record { line = line; why = why; first = first; told = told }))
 judged_refused judging.BySearch rules words r line why v report first told = inr (inl (record { line = line; why = why; first = first; told = told }))
 
-pub judged_dealt : (question : Judging) (passed : Passed) (words : List (List ℕ)) (v : Verdict) (report : List ℕ) → AreAllowed (rules_in passed) words (record_in passed).events
-    → AreFoundBy question passed rack.Dealt → IsToldLegal (rules_in passed) words (record_in passed) v report → IsJudgedBy question (rules_in passed) words (record_in passed) v report
-judged_dealt judging.ByRule passed words v report allowed dealt told = inl (record { allowed = allowed; is_dealt = dealt; told = told })
-judged_dealt judging.BySearch passed words v report allowed deal told = inl (record { game = record { allowed = allowed; racks = deal.racks; dealt = deal.fits }; told = told })
-
 past_bound : FittingIsBounded → (rules : Rules) (words : List (List ℕ)) (r : Record) (bound : DealFault) (v : Verdict) (report : List ℕ) → AreAllowed rules words r.events
     → first_bound rules (steps_of rules r.events) ≡ Some bound → IsToldBound bound v report → IsPastBound rules words r v report
 past_bound law rules words r bound v report allowed is told = record { bound = bound; exceeded = exceeds law rules words r.events bound allowed is; told = told }
 
-pub judged_past : FittingIsBounded → (question : Judging) (passed : Passed) (words : List (List ℕ)) (bound : DealFault) (v : Verdict) (report : List ℕ) → AreAllowed (rules_in passed) words (record_in passed).events
-    → AreFoundBy question passed (rack.PastBound bound) → IsToldBound bound v report → IsJudgedBy question (rules_in passed) words (record_in passed) v report
-judged_past law judging.ByRule passed words bound v report allowed is told = inr (inr (inl (past_bound law (rules_in passed) words (record_in passed) bound v report allowed is told)))
-judged_past law judging.BySearch passed words bound v report allowed is told = inr (inr (inl (past_bound law (rules_in passed) words (record_in passed) bound v report allowed is told)))
+-- ---- by the deal of the rule
 
-pub judged_out : (question : Judging) (passed : Passed) (words : List (List ℕ)) (line : ℕ) (v : Verdict) (report : List ℕ) → AreAllowed (rules_in passed) words (record_in passed).events
-    → AreFoundBy question passed (rack.NoDeal line) → IsTold (verdict.Illegal line game.NoDeal) (illegal_line line game.NoDeal) v report
-    → IsJudgedBy question (rules_in passed) words (record_in passed) v report
-judged_out judging.ByRule passed words line v report allowed never told = absurd never
-judged_out judging.BySearch passed words line v report allowed found told = inr (inr (inr (inl (record { line = line; ends = ends_on passed words line allowed found; told = told }))))
+pub judged_dealt : (passed : Passed) (words : List (List ℕ)) (v : Verdict) (report : List ℕ) → AreAllowed (rules_in passed) words (record_in passed).events
+    → AreTried passed trial.Dealt → IsToldLegal (rules_in passed) words (record_in passed) v report → IsJudged (rules_in passed) words (record_in passed) v report
+judged_dealt passed words v report allowed dealt told = inl (record { allowed = allowed; is_dealt = dealt; told = told })
 
-pub judged_open : (question : Judging) (passed : Passed) (words : List (List ℕ)) (v : Verdict) (report : List ℕ) → AreAllowed (rules_in passed) words (record_in passed).events
-    → AreFoundBy question passed rack.Unknown → IsTold verdict.Unsettled unsettled_line v report → IsJudgedBy question (rules_in passed) words (record_in passed) v report
-judged_open judging.ByRule passed words v report allowed left told =
+pub judged_past : FittingIsBounded → (passed : Passed) (words : List (List ℕ)) (bound : DealFault) (v : Verdict) (report : List ℕ) → AreAllowed (rules_in passed) words (record_in passed).events
+    → AreTried passed (trial.PastBound bound) → IsToldBound bound v report → IsJudged (rules_in passed) words (record_in passed) v report
+judged_past law passed words bound v report allowed is told = inr (inr (inl (past_bound law (rules_in passed) words (record_in passed) bound v report allowed is told)))
+
+pub judged_open : (passed : Passed) (words : List (List ℕ)) (v : Verdict) (report : List ℕ) → AreAllowed (rules_in passed) words (record_in passed).events
+    → AreTried passed trial.Open → IsTold verdict.Unsettled unsettled_line v report → IsJudged (rules_in passed) words (record_in passed) v report
+judged_open passed words v report allowed left told =
     inr (inr (inr (record { unsettled = record { allowed = allowed; bounded = left.bounded; undealt = left.undealt; exchanged = left.exchanged }; told = told })))
-judged_open judging.BySearch passed words v report allowed found told = inr (inr (inr (inr (record { left = open_game passed words allowed found; told = told }))))
+
+-- ---- by a search
+
+pub settled_dealt : (passed : Passed) (words : List (List ℕ)) (v : Verdict) (report : List ℕ) → AreAllowed (rules_in passed) words (record_in passed).events
+    → AreFound passed rack.Dealt → IsToldLegal (rules_in passed) words (record_in passed) v report → IsSettled (rules_in passed) words (record_in passed) v report
+settled_dealt passed words v report allowed deal told = inl (record { game = record { allowed = allowed; racks = deal.racks; dealt = deal.fits }; told = told })
+
+pub settled_past : FittingIsBounded → (passed : Passed) (words : List (List ℕ)) (bound : DealFault) (v : Verdict) (report : List ℕ) → AreAllowed (rules_in passed) words (record_in passed).events
+    → AreFound passed (rack.PastBound bound) → IsToldBound bound v report → IsSettled (rules_in passed) words (record_in passed) v report
+settled_past law passed words bound v report allowed is told = inr (inr (inl (past_bound law (rules_in passed) words (record_in passed) bound v report allowed is told)))
+
+pub settled_out : (passed : Passed) (words : List (List ℕ)) (line : ℕ) (v : Verdict) (report : List ℕ) → AreAllowed (rules_in passed) words (record_in passed).events
+    → AreFound passed (rack.NoDeal line) → IsTold (verdict.Illegal line game.NoDeal) (illegal_line line game.NoDeal) v report
+    → IsSettled (rules_in passed) words (record_in passed) v report
+settled_out passed words line v report allowed found told = inr (inr (inr (inl (record { line = line; ends = ends_on passed words line allowed found; told = told }))))
+
+pub settled_open : (passed : Passed) (words : List (List ℕ)) (v : Verdict) (report : List ℕ) → AreAllowed (rules_in passed) words (record_in passed).events
+    → AreFound passed rack.Unknown → IsTold verdict.Unsettled unsettled_line v report → IsSettled (rules_in passed) words (record_in passed) v report
+settled_open passed words v report allowed found told = inr (inr (inr (inr (record { left = open_game passed words allowed found; told = told }))))

@@ -1,4 +1,4 @@
--- What is found of the racks of a record that passed.
+-- What is found of the racks of a record that passed: by the deal of the rule of completion, or by a search too.
 use Rattle.std.specs.Prelude.{◌≡◌, List, Some}
 use Rattle.game_turns.specs.declared.passed.Passed.{Passed}
 use Rattle.game_turns.specs.Passing.{rules_in, record_in}
@@ -6,10 +6,10 @@ use Rattle.deal_steps.specs.declared.deals.Held.{Held}
 use Rattle.game_deal.specs.Bounded.{bound_in, IsBounded, FitsRecord}
 use Rattle.game_deal.specs.Plain.{HaveNoExchange}
 use Rattle.game_deal.specs.Settling.{EndsOnLine}
-use Rattle.engine.specs.declared.judging.Judging.{Judging}
-use Rattle.engine.specs.declared.judging.Judging.TheVariants as judging
 use Rattle.engine.specs.declared.racks.RackFinding.{RackFinding}
 use Rattle.engine.specs.declared.racks.RackFinding.TheVariants as rack
+use Rattle.engine.specs.declared.racks.RackTrial.{RackTrial}
+use Rattle.engine.specs.declared.racks.RackTrial.TheVariants as trial
 use Rattle.engine.specs.Verdicts.{IsDealt}
 
 -- some deal yields every rack
@@ -24,11 +24,10 @@ pub record IsUndealtByRule (passed : Passed) : Type 0 where
   pub exchanged : HaveNoExchange (record_in passed).events → ⊥
 
 -- The deal of the rule of completion fits, or a bound is exceeded, or neither.
-abbrev pub AreTried : Passed → RackFinding → Type 0
-AreTried passed rack.Dealt = IsDealt (rules_in passed) (record_in passed).events
-AreTried passed (rack.PastBound bound) = bound_in passed ≡ Some bound
-AreTried passed (rack.NoDeal line) = ⊥
-AreTried passed rack.Unknown = IsUndealtByRule passed
+abbrev pub AreTried : Passed → RackTrial → Type 0
+AreTried passed trial.Dealt = IsDealt (rules_in passed) (record_in passed).events
+AreTried passed (trial.PastBound bound) = bound_in passed ≡ Some bound
+AreTried passed trial.Open = IsUndealtByRule passed
 
 -- A deal fits, or a bound is exceeded, or no racks fit the steps up to a line; or neither a deal nor a proof that there is none
 -- was found, and that only where tiles were exchanged.
@@ -37,8 +36,3 @@ AreFound passed rack.Dealt = HasDeal passed
 AreFound passed (rack.PastBound bound) = bound_in passed ≡ Some bound
 AreFound passed (rack.NoDeal line) = IsBounded passed × EndsOnLine passed line
 AreFound passed rack.Unknown = IsBounded passed × (HaveNoExchange (record_in passed).events → ⊥)
-
--- what a question of a game finds
-abbrev pub AreFoundBy : Judging → Passed → RackFinding → Type 0
-AreFoundBy judging.ByRule passed found = AreTried passed found
-AreFoundBy judging.BySearch passed found = AreFound passed found

@@ -3,12 +3,12 @@ ghost use Rattle.std.specs.Prelude.{IfOk};
 ghost use Rattle.game_turns.specs.{Passing.{rules_in, record_in}, Places.{AreAllowed}};
 ghost use Rattle.lex_check.specs.Pairs as pairs;
 ghost use Rattle.engine.specs.declared.verdicts.Verdict.TheVariants as verdict;
-ghost use Rattle.engine.specs.{Judging.{IsToldBound, IsToldLegal}, Settling.{IsJudgedBy}, Telling.{IsTold}};
+ghost use Rattle.engine.specs.{Judging.{IsToldBound, IsToldLegal, IsJudged}, Settling.{IsSettled, IsJudgedBy}, Telling.{IsTold}};
 ghost use Rattle.engine.specs.Reports as reports;
 
 use crate::decisions::Decision;
 use crate::questions::{AskedGame, Question};
-use crate::racks::{RackFinding, find_racks};
+use crate::racks::{RackFinding, RackTrial, settle_racks, try_racks};
 use crate::reports::{illegal_line, legal_report, unsettled_line};
 use crate::verdicts::{GameFault, Verdict};
 use game_deal::{DealFault, law_of_bounds};
@@ -62,8 +62,44 @@ fn past_bound(alloc: Global, bound: &DealFault) -> Result<Decision, AllocError>
     }
 }
 
-/// The verdict on a record of which every event is allowed, by what is found of its racks.
-#[tactic(auto, using(crate::proofs::Settled::judged_dealt, crate::proofs::Settled::judged_past, crate::proofs::Settled::judged_out, crate::proofs::Settled::judged_open))]
+/// The verdict on a record of which every event is allowed, by the deal of the rule of completion alone.
+#[tactic(auto, using(crate::proofs::Settled::judged_dealt, crate::proofs::Settled::judged_past, crate::proofs::Settled::judged_open))]
+fn judge_by_rule(
+    alloc: Global,
+    passed: &Passed<'_>,
+    pair: &Checked<'_>,
+) -> Result<Decision, AllocError>
+    requires { AreAllowed (rules_in passed.now) (pairs.list_in pair.now) (record_in passed.now).events }
+    ensures { IfOk result (λ d. IsJudged (rules_in passed.now) (pairs.list_in pair.now) (record_in passed.now) d.verdict d.report.items) }
+{
+    law_of_bounds();
+    match try_racks(alloc, passed)? {
+        RackTrial::Dealt => legal(alloc, passed, pair),
+        RackTrial::PastBound(bound) => past_bound(alloc, &bound),
+        RackTrial::Open => unsettled(alloc),
+    }
+}
+
+/// The same by any deal that a search finds, or by a proof that there is none.
+#[tactic(auto, using(crate::proofs::Settled::settled_dealt, crate::proofs::Settled::settled_past, crate::proofs::Settled::settled_out, crate::proofs::Settled::settled_open))]
+fn judge_by_search(
+    alloc: Global,
+    passed: &Passed<'_>,
+    pair: &Checked<'_>,
+) -> Result<Decision, AllocError>
+    requires { AreAllowed (rules_in passed.now) (pairs.list_in pair.now) (record_in passed.now).events }
+    ensures { IfOk result (λ d. IsSettled (rules_in passed.now) (pairs.list_in pair.now) (record_in passed.now) d.verdict d.report.items) }
+{
+    law_of_bounds();
+    match settle_racks(alloc, passed)? {
+        RackFinding::Dealt => legal(alloc, passed, pair),
+        RackFinding::PastBound(bound) => past_bound(alloc, &bound),
+        RackFinding::NoDeal { line } => illegal(alloc, line, GameFault::NoDeal),
+        RackFinding::Unknown => unsettled(alloc),
+    }
+}
+
+/// The verdict on a record of which every event is allowed.
 fn judge_passed(
     alloc: Global,
     passed: &Passed<'_>,
@@ -73,12 +109,9 @@ fn judge_passed(
     requires { AreAllowed (rules_in passed.now) (pairs.list_in pair.now) (record_in passed.now).events }
     ensures { IfOk result (λ d. IsJudgedBy question (rules_in passed.now) (pairs.list_in pair.now) (record_in passed.now) d.verdict d.report.items) }
 {
-    law_of_bounds();
-    match find_racks(alloc, passed, question)? {
-        RackFinding::Dealt => legal(alloc, passed, pair),
-        RackFinding::PastBound(bound) => past_bound(alloc, &bound),
-        RackFinding::NoDeal { line } => illegal(alloc, line, GameFault::NoDeal),
-        RackFinding::Unknown => unsettled(alloc),
+    match question {
+        Judging::ByRule => judge_by_rule(alloc, passed, pair),
+        Judging::BySearch => judge_by_search(alloc, passed, pair),
     }
 }
 

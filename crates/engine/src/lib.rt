@@ -62,7 +62,7 @@ pub use meanings::{
     game_from, list_from, read_list, read_record, read_rules, record_from, rules_from,
 };
 pub use questions::{AskedGame, Question};
-pub use racks::{RackFinding, settle_racks};
+pub use racks::{RackFinding, RackTrial, settle_racks, try_racks};
 pub use reports::{fault_text, legal_report};
 pub use running::{run, run_ruled, run_settled, run_settled_ruled};
 pub use tidying::run_tidy;

@@ -3,15 +3,25 @@ ghost use Rattle.std.specs.Prelude.{◌≡◌, ◌↔◌, IsTrue, IfOk, None};
 ghost use Rattle.game_turns.specs.Passing.{rules_in, record_in};
 ghost use Rattle.deal_steps.specs.Bounds.{first_bound};
 ghost use Rattle.game_deal.specs.{Bounded.{IsBounded}, Plain.{HaveNoExchange}, Recorded.{steps_of}, Stepping.{passed_in}};
-ghost use Rattle.engine.specs.Racks.{AreTried, AreFound, AreFoundBy};
+ghost use Rattle.engine.specs.Racks.{AreTried, AreFound};
 ghost use Rattle.engine.specs.Verdicts.{IsDealt};
 
-use crate::judging::Judging;
 use game_deal::{DealFault, Settled, Steps, bounds, complete_deal, fits, settle};
 use game_turns::Passed;
 use std::alloc::{AllocError, Global};
 
-/// What is found of the racks of a record that passed.
+/// What the bounds and the deal of the rule of completion tell of the racks of a record that passed.
+#[derive(Clone, Copy, Debug, PartialEq, Eq)]
+pub enum RackTrial {
+    /// The deal yields every rack.
+    Dealt,
+    /// The first bound that the racks exceed: so no deal yields them.
+    PastBound(DealFault),
+    /// No bound is exceeded, and the rule gives no deal that yields them.
+    Open,
+}
+
+/// What is found of the racks of a record that passed, where a search is made too.
 #[derive(Clone, Copy, Debug, PartialEq, Eq)]
 pub enum RackFinding {
     /// Some deal of the tiles yields every rack.
@@ -40,19 +50,30 @@ fn is_dealt(alloc: Global, steps: &Steps<'_>) -> Result<bool, AllocError>
     }
 }
 
-/// What is found of racks by the bounds, and by the deal that is tried first.
+/// What the bounds and the deal of the rule of completion tell of steps.
 #[tactic(auto, using(crate::proofs::Settled::tried_dealt, crate::proofs::Settled::tried_open))]
-fn try_racks(alloc: Global, steps: &Steps<'_>) -> Result<RackFinding, AllocError>
+fn try_steps(alloc: Global, steps: &Steps<'_>) -> Result<RackTrial, AllocError>
     ensures { IfOk result (AreTried (passed_in steps.now)) }
 {
     if let Some(bound) = bounds(steps) {
-        return Ok(RackFinding::PastBound(bound));
+        return Ok(RackTrial::PastBound(bound));
     }
     if is_dealt(alloc, steps)? {
-        Ok(RackFinding::Dealt)
+        Ok(RackTrial::Dealt)
     } else {
-        Ok(RackFinding::Unknown)
+        Ok(RackTrial::Open)
     }
+}
+
+/// What the bounds and the deal of the rule of completion tell of the racks of a record that passed. Of a record without an
+/// exchange it is never `Open`.
+///
+/// It fails only where memory runs out.
+pub fn try_racks(alloc: Global, passed: &Passed<'_>) -> Result<RackTrial, AllocError>
+    ensures { IfOk result (AreTried passed.now) }
+{
+    let steps = Steps::of(alloc, passed)?;
+    try_steps(alloc, &steps)
 }
 
 /// What a search finds of racks that exceed no bound.
@@ -73,30 +94,14 @@ fn search_racks(alloc: Global, steps: &Steps<'_>) -> Result<RackFinding, AllocEr
 /// record without an exchange it is never `Unknown`.
 ///
 /// It fails only where memory runs out.
-#[tactic(auto, using(crate::proofs::Settled::tried_found))]
+#[tactic(auto, using(crate::proofs::Settled::dealt_found))]
 pub fn settle_racks(alloc: Global, passed: &Passed<'_>) -> Result<RackFinding, AllocError>
     ensures { IfOk result (AreFound passed.now) }
 {
     let steps = Steps::of(alloc, passed)?;
-    match try_racks(alloc, &steps)? {
-        RackFinding::Unknown => search_racks(alloc, &steps),
-        found => Ok(found),
-    }
-}
-
-/// What a question of a game finds of the racks of its record.
-pub fn find_racks(
-    alloc: Global,
-    passed: &Passed<'_>,
-    question: Judging,
-) -> Result<RackFinding, AllocError>
-    ensures { IfOk result (AreFoundBy question passed.now) }
-{
-    match question {
-        Judging::ByRule => {
-            let steps = Steps::of(alloc, passed)?;
-            try_racks(alloc, &steps)
-        }
-        Judging::BySearch => settle_racks(alloc, passed),
+    match try_steps(alloc, &steps)? {
+        RackTrial::Dealt => Ok(RackFinding::Dealt),
+        RackTrial::PastBound(bound) => Ok(RackFinding::PastBound(bound)),
+        RackTrial::Open => search_racks(alloc, &steps),
     }
 }
