@@ -8,6 +8,10 @@
 //! take it for what it means; [`read_lexicon`] reads a file, and [`pair_file`] takes it and a list for a pair; a [`Question`] is answered on an
 //! [`AskedGame`], a record with rules and a pair. [`decide_game`] puts these together, [`decide_by_pair`] does it for one game of many by the same pair, and [`finish`]
 //! writes what was decided.
+//!
+//! An answer on a record is made of stages too. [`play_through`] goes from a record and a list to what passed, or to the first event that
+//! is not allowed; [`try_racks`] and [`settle_racks`] go from what passed to what is found of its racks, by the deal of the rule of
+//! completion alone and by a search; and [`legal_report`] goes from what passed to its report.
 #![tactic(auto)]
 
 mod audits;
@@ -51,6 +55,7 @@ pub use explains::{Case, case_line, case_verdict, finding_line, open_case};
 pub use faults::RunFault;
 pub use findings::Finding;
 pub use game_report::MOST_PLAYS;
+pub use game_turns::{Passed, play_through};
 pub use games::{decide_by_pair, decide_by_rules, decide_game};
 pub use judging::Judging;
 pub use laws::{
