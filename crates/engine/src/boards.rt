@@ -44,7 +44,7 @@ pub(crate) fn place_asked(events: &[Event], before: Option<u32>) -> Option<usize
 
 /// The board before a place of a record.
 #[tactic(auto, using(crate::proofs::ShownBoards::shown))]
-fn show_board(
+pub fn show_board(
     alloc: Global,
     rules: &Rules,
     game: &Record,

@@ -9,7 +9,7 @@ use Rattle.engine.proofs.boards.run_board_ruled.Goals as goal
 pub returns-in-Ok-Err : goal.returns-in-Ok-Err
 returns-in-Ok-Err g c =
     let arm = c.in-Ok-Err in
-    runs (text_bad rules_texts _ _ _ (ByParts (λ rules. IsBoarded rules c.args.before)) arm.field-0 arm.decision arm.ensures arm.field-0-is (refl, tt)) c.finish.ensures
+    runs (text_bad rules_texts _ _ _ (ByParts (λ rules. IsBoarded rules _)) arm.field-0 arm.decision arm.ensures arm.field-0-is (refl, tt)) c.finish.ensures
 
 pub returns-in-Err : goal.returns-in-Err
 returns-in-Err g c = runs_unread c.in-Err.ensures (refl, tt)
@@ -18,6 +18,6 @@ pub returns : goal.returns
 returns g c =
     let arm = c.in-Ok-Ok in
     runs
-    (rules_good _ _ _ (λ rules. IsBoarded rules c.args.before) arm.field-0 arm.rules c.decide_board-decided.result arm.ensures arm.field-0-is c.decide_board-decided.ensures
-    (board_spares arm.rules c.args.before))
+    (rules_good _ _ _ (λ rules. IsBoarded rules _) arm.field-0 arm.rules c.decide_board-decided.result arm.ensures arm.field-0-is c.decide_board-decided.ensures
+    (board_spares arm.rules _))
     c.finish-2.ensures
