@@ -4,7 +4,7 @@ use crate::lines::Line;
 use crate::pieces::{Piece, write};
 use crate::plays::push_play;
 use crate::sheets::Sheet;
-use annotator::{annotate, cross_sets};
+use game_notes::{annotate, cross_sets};
 use game_report::{full_rack, is_judged};
 use game_turns::Machine;
 use ref_board::Board;

@@ -13,8 +13,8 @@ use Rattle.game_turns.specs.Standing.{is_withdraw}
 use Rattle.game_turns.specs.Tallies.{State, LatestPlay, Latest, played, taken_back, other, tally, tally_at}
 use Rattle.game_turns.specs.LatestEvents.{latest_tiles}
 use Rattle.game_turns.specs.Places.{AreAllowed}
-use Rattle.annotator.specs.declared.following.Follow.{Follow}
-use Rattle.annotator.specs.Following.{board_of, Follows}
+use Rattle.game_notes.specs.declared.following.Follow.{Follow}
+use Rattle.game_notes.specs.Following.{board_of, Follows}
 use Rattle.game_report.specs.Beside.{StandsBeside, StandAt}
 use Rattle.game_report.proofs.ReportLines.{start_of_game, read_there}
 use Rattle.game_report.proofs.BoardSteps.{PutDown, TookOff, Moves, moves_at}

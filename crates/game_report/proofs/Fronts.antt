@@ -10,7 +10,7 @@ use Rattle.ref_play.specs.Best.{Given, given_of}
 use Rattle.gen_sinks.specs.Sinks.{seen_pair}
 use Rattle.gen_sinks.specs.Ranks.{ranks_before}
 use Rattle.gen_sinks.proofs.Ranking.{first_of_first}
-use Rattle.annotator.specs.Keeping.{AreFirstPlays}
+use Rattle.game_notes.specs.Keeping.{AreFirstPlays}
 use Rattle.game_report.specs.TopPlays.{AreLegal, top_text, TellsFirst}
 
 pub fewer_plays : (many n : ℕ) (rules : Rules) (words : List (List ℕ)) (board : List (Option Tile)) (rack : List ℕ) (plays : List Given) → n ≤ many

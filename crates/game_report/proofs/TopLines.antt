@@ -10,7 +10,7 @@ use Rattle.ref_play.specs.Legality.{IsLegal}
 use Rattle.ref_tiles.specs.declared.rulebook.Rules.{Rules}
 use Rattle.ref_play.specs.Candidates.{IsCandidate}
 use Rattle.ref_play.specs.Best.{Given, given_of}
-use Rattle.annotator.specs.Tops.{AreTop}
+use Rattle.game_notes.specs.Tops.{AreTop}
 use Rattle.gen_sinks.specs.Sinks.{seen_pair}
 use Rattle.game_report.specs.TopPlays.{play_line, top_text, AreLegal, TellsTop}
 

@@ -6,8 +6,8 @@ use Rattle.gcg_read.specs.declared.events.Event.{Event}
 use Rattle.game_turns.specs.declared.machine.Machine.{Machine}
 use Rattle.game_turns.specs.Machines.{rules_of, state_of}
 use Rattle.game_turns.specs.Tallies.{State, LatestPlay, played, tally_at}
-use Rattle.annotator.specs.declared.following.Follow.{Follow}
-use Rattle.annotator.specs.Following.{board_of, Follows}
+use Rattle.game_notes.specs.declared.following.Follow.{Follow}
+use Rattle.game_notes.specs.Following.{board_of, Follows}
 
 -- The board is that of the state, its cross-sets are right for it, and where the latest event is a play its tiles lie there.
 pub record StandsBeside (rules : Rules) (words : List (List ℕ)) (s : State) (follow : Follow) : Type 0 where

@@ -10,8 +10,8 @@ use Rattle.ref_play.specs.Notations.{notation_of}
 use Rattle.ref_play.specs.Best.{Given}
 use Rattle.gcg_read.specs.declared.events.Event.{Event}
 use Rattle.game_turns.specs.Tallies.{tally_at}
-use Rattle.annotator.specs.Keeping.{AreFirstPlays}
-use Rattle.annotator.specs.Tops.{AreTop}
+use Rattle.game_notes.specs.Keeping.{AreFirstPlays}
+use Rattle.game_notes.specs.Tops.{AreTop}
 use Rattle.game_report.specs.BestPlays.{notation_text}
 
 -- a play on a board: its notation and its score

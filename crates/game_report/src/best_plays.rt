@@ -4,9 +4,9 @@ ghost use Rattle.ref_play.specs.{Legality.{IsLegal}, Notations.{notation_of}, Be
 ghost use Rattle.game_turns.specs.{Machines.{state_of}, Passing.{rules_in}};
 ghost use Rattle.lex_check.specs.Pairs.{list_in};
 ghost use Rattle.game_report.specs.{Beside.{StandsBeside}, BestPlays.{is_judged, full_rack, notation_text, best_text, TellsByRack, TellsBest, Appends}};
-ghost use Rattle.annotator.specs.Following.{board_of, Follows};
+ghost use Rattle.game_notes.specs.Following.{board_of, Follows};
 
-use annotator::Follow;
+use game_notes::Follow;
 use game_turns::{Machine, Passed};
 use gcg_read::{Event, EventKind, Seat};
 use gcg_write::play_text;

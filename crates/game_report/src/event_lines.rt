@@ -9,7 +9,7 @@ ghost use Rattle.game_report.specs.EventLines.{unlisted_word, unlisted_text, Are
 
 use crate::best_plays::push_best;
 use crate::replaying::follow_event;
-use annotator::Follow;
+use game_notes::Follow;
 use game_turns::{Machine, Passed, all_listed};
 use gcg_write::event_text;
 use itoa::Buffer;

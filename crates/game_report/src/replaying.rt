@@ -4,7 +4,7 @@ ghost use Rattle.game_turns.specs.Passing.{rules_in, record_in};
 ghost use Rattle.lex_check.specs.Pairs.{list_in};
 ghost use Rattle.game_report.specs.Beside.{StandAt};
 
-use annotator::Follow;
+use game_notes::Follow;
 use game_turns::{Machine, Passed, withdraws};
 use lex_check::Checked;
 

@@ -3,13 +3,13 @@ ghost use Rattle.std.specs.Prelude.{◌≡◌, ◌≤◌, ◌++◌, IfOk, OnOk, 
 ghost use Rattle.ref_play.specs.Legality.{IsLegal};
 ghost use Rattle.gen_sinks.specs.Sinks.{seen_pair};
 ghost use Rattle.game_turns.specs.Passing.{rules_in, record_in};
-ghost use Rattle.annotator.specs.Following.{board_of, Follows};
+ghost use Rattle.game_notes.specs.Following.{board_of, Follows};
 ghost use Rattle.game_report.specs.TopPlays.{play_line, top_text, AreLegal, board_after, TellsFirst, TellsTop};
 ghost use Rattle.lex_check.specs.Pairs.{list_in};
 
 use crate::best_plays::push_scored;
 use crate::replaying::follow_event;
-use annotator::{Follow, top_many};
+use game_notes::{Follow, top_many};
 use game_turns::{Machine, Passed};
 use gen_sinks::Top;
 use lex_check::Checked;

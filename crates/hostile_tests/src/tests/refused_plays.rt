@@ -33,7 +33,7 @@ fn offer<L: PathLex>(
 }
 
 /// The same; the words of a list have two letters or more.
-#[tactic(auto, using(annotator::proofs::FirstPlays::long_words))]
+#[tactic(auto, using(game_notes::proofs::FirstPlays::long_words))]
 fn offer_by<L: PathLex>(
     rules: &Rules,
     list: &WordList,

@@ -6,7 +6,7 @@ ghost use Rattle.gen_moves.specs.Laws.{AreLong};
 use super::boards::{Laid, Position, list_of, text_of};
 use super::cases::{CASES, Case, GAME, LIST, NO_GAME, PLAYED, POSITIONS};
 use super::searching::{Told, searched};
-use annotator::{annotate, cross_sets, top};
+use game_notes::{annotate, cross_sets, top};
 use gen_cross::Cross;
 use gen_moves::{All, generate};
 use lex_build::build;
@@ -60,7 +60,7 @@ fn plays_of<L: PathLex>(
 }
 
 /// The same; the words of a list have two letters or more.
-#[tactic(auto, using(annotator::proofs::FirstPlays::long_words))]
+#[tactic(auto, using(game_notes::proofs::FirstPlays::long_words))]
 fn plays_by<L: PathLex>(
     rt: &impl Abort,
     alloc: Global,
@@ -82,7 +82,7 @@ fn by_paths(rt: &impl Abort, alloc: Global, list: &WordList, position: &Position
 }
 
 /// All plays over the file of a pair.
-#[tactic(auto, using(annotator::proofs::FirstPlays::file_stands))]
+#[tactic(auto, using(game_notes::proofs::FirstPlays::file_stands))]
 fn by_file(rt: &impl Abort, alloc: Global, pair: &Checked<'_>, position: &Position) -> Vec<Told> {
     plays_by(rt, alloc, pair.list(), pair.file(), position)
 }

@@ -1,7 +1,7 @@
 //! The best play of a rack.
 use super::notations::assert_written;
 use super::plays::{AT, Text, WORD, after};
-use annotator::{annotate, cross_sets};
+use game_notes::{annotate, cross_sets};
 use gcg_read::read_rack;
 use lex_build::build;
 use lex_check::pair;

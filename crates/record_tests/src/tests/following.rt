@@ -2,12 +2,12 @@
 ghost use Rattle.std.specs.Prelude.{IfSome};
 ghost use Rattle.lex_check.specs.Pairs.{list_in};
 ghost use Rattle.ref_play.specs.Placements.{HasTiles};
-ghost use Rattle.annotator.specs.Following.{board_of, Follows};
+ghost use Rattle.game_notes.specs.Following.{board_of, Follows};
 
 use super::best_plays::tiles;
 use super::notations::assert_written;
 use super::plays::{AT, Text, WORD, after, judged};
-use annotator::{Follow, cross_sets};
+use game_notes::{Follow, cross_sets};
 use lex_build::build;
 use lex_check::{Checked, pair};
 use lex_file::LexFile;

@@ -4,8 +4,8 @@ use Rattle.ref_tiles.specs.declared.rulebook.Rules.{Rules}
 use Rattle.gen_sinks.specs.Sinks.{seen_pair}
 use Rattle.game_turns.specs.Passing.{rules_in, record_in}
 use Rattle.lex_check.specs.Pairs.{list_in}
-use Rattle.annotator.specs.Following.{board_of}
-use Rattle.annotator.specs.Tops.{AreTop}
+use Rattle.game_notes.specs.Following.{board_of}
+use Rattle.game_notes.specs.Tops.{AreTop}
 use Rattle.game_report.specs.TopPlays.{AreLegal, top_text, board_after, TellsTop}
 use Rattle.game_report.proofs.TopLines.{plays_are_legal, tells_top}
 use Rattle.game_report.proofs.top_plays.top_report.Goals as goal

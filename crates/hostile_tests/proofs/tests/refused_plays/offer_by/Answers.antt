@@ -1,5 +1,5 @@
 use Rattle.std.proofs.Common.{rules}
-use Rattle.annotator.proofs.FirstPlays.{long_words}
+use Rattle.game_notes.proofs.FirstPlays.{long_words}
 use Rattle.hostile_tests.proofs.tests.refused_plays.offer_by.Goals as goal
 
 pub offer-requires : goal.offer-requires

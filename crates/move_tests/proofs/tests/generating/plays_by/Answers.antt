@@ -1,5 +1,5 @@
 use Rattle.std.proofs.Common.{rules}
-use Rattle.annotator.proofs.FirstPlays.{long_words}
+use Rattle.game_notes.proofs.FirstPlays.{long_words}
 use Rattle.move_tests.proofs.tests.generating.plays_by.Goals as goal
 
 pub plays_of-requires : goal.plays_of-requires

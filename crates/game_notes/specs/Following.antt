@@ -4,7 +4,7 @@ use Rattle.ref_tiles.specs.declared.tiles.Tile.{Tile}
 use Rattle.ref_tiles.specs.declared.rulebook.Rules.{Rules}
 use Rattle.gen_cross.specs.declared.crosses.Cross.{Cross}
 use Rattle.gen_cross.specs.Values.{IsRight}
-use Rattle.annotator.specs.declared.following.Follow.{Follow}
+use Rattle.game_notes.specs.declared.following.Follow.{Follow}
 
 -- the board
 abbrev pub board_of : Follow → List (Option Tile)

@@ -3,7 +3,7 @@ use Rattle.std.specs.Prelude.{ℕ, List, Option}
 use Rattle.ref_tiles.specs.declared.tiles.Tile.{Tile}
 use Rattle.ref_tiles.specs.declared.rulebook.Rules.{Rules}
 use Rattle.ref_play.specs.Best.{Given}
-use Rattle.annotator.specs.Keeping.{AreFirstPlays}
+use Rattle.game_notes.specs.Keeping.{AreFirstPlays}
 
 -- the first ten of all candidates by a rack on a board, in the order of greater score and then of notation
 abbrev pub AreTop : Rules → List (List ℕ) → List (Option Tile) → List ℕ → List Given → Type 0

@@ -1,7 +1,7 @@
 use Rattle.lex_check.specs.Pairs.{list_in}
-use Rattle.annotator.specs.Following.{board_of, cross_of}
-use Rattle.annotator.proofs.FollowLaws.{lift_is_right}
-use Rattle.annotator.proofs.following.Follow.undo.Goals as goal
+use Rattle.game_notes.specs.Following.{board_of, cross_of}
+use Rattle.game_notes.proofs.FollowLaws.{lift_is_right}
+use Rattle.game_notes.proofs.following.Follow.undo.Goals as goal
 
 pub returns-clause-follows : goal.returns-clause-follows
 returns-clause-follows c =

@@ -1,6 +1,6 @@
 use Rattle.std.proofs.Common.{rules}
-use Rattle.annotator.proofs.FirstPlays.{long_words}
-use Rattle.annotator.proofs.searching.first_by.Goals as goal
+use Rattle.game_notes.proofs.FirstPlays.{long_words}
+use Rattle.game_notes.proofs.searching.first_by.Goals as goal
 
 pub first_plays-requires : goal.first_plays-requires
 first_plays-requires g c κs within =

@@ -1,9 +1,9 @@
 use Rattle.std.proofs.Common.{None, rules, subst, sym, w32, to_z-of_z}
 use Rattle.std.proofs.lemmas.Int.{ints}
 use Rattle.lex_check.specs.Pairs.{list_in}
-use Rattle.annotator.specs.Keeping.{AreFirstPlays}
-use Rattle.annotator.proofs.FirstPlays.{best_is_first, best_is_shown}
-use Rattle.annotator.proofs.annotating.annotate.Goals as goal
+use Rattle.game_notes.specs.Keeping.{AreFirstPlays}
+use Rattle.game_notes.proofs.FirstPlays.{best_is_first, best_is_shown}
+use Rattle.game_notes.proofs.annotating.annotate.Goals as goal
 
 pub returns-in-Some-clause-annotation : goal.returns-in-Some-clause-annotation
 returns-in-Some-clause-annotation c =

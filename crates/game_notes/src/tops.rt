@@ -1,8 +1,8 @@
 //! The ten best plays that a rack allows.
 ghost use Rattle.std.specs.Prelude.{◌≡◌, Some};
 ghost use Rattle.lex_check.specs.Pairs.{list_in};
-ghost use Rattle.annotator.specs.Keeping.{AreFirstPlays};
-ghost use Rattle.annotator.specs.Tops.{AreTop};
+ghost use Rattle.game_notes.specs.Keeping.{AreFirstPlays};
+ghost use Rattle.game_notes.specs.Tops.{AreTop};
 
 use crate::crossing::cross_sets;
 use crate::searching::best_plays;

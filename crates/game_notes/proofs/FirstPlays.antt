@@ -19,7 +19,7 @@ use Rattle.lex_check.specs.Checks.{IsAgreed}
 use Rattle.gen_cross.specs.declared.crosses.Cross.{Cross}
 use Rattle.gen_cross.specs.Values.{IsRight}
 use Rattle.gen_moves.specs.Laws.{AreLong}
-use Rattle.annotator.specs.Keeping.{AreFirstPlays}
+use Rattle.game_notes.specs.Keeping.{AreFirstPlays}
 
 -- adding one after another is a fold
 added : {A : Type 0} (add : List A → A → List A) (kept xs : List A) → add_all add kept xs ≡ fold add kept xs

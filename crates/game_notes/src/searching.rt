@@ -4,7 +4,7 @@ ghost use Rattle.lex_list.specs.RotatedPaths.{StandsFor};
 ghost use Rattle.lex_check.specs.Pairs.{list_in};
 ghost use Rattle.gen_cross.specs.Values.{IsRight};
 ghost use Rattle.gen_moves.specs.Laws.{AreLong};
-ghost use Rattle.annotator.specs.Keeping.{AreFirstPlays};
+ghost use Rattle.game_notes.specs.Keeping.{AreFirstPlays};
 
 use gen_cross::Cross;
 use gen_moves::generate;

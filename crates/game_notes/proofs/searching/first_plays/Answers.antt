@@ -1,6 +1,6 @@
 use Rattle.std.proofs.Common.{refl}
-use Rattle.annotator.proofs.FirstPlays.{first_taken}
-use Rattle.annotator.proofs.searching.first_plays.Goals as goal
+use Rattle.game_notes.proofs.FirstPlays.{first_taken}
+use Rattle.game_notes.proofs.searching.first_plays.Goals as goal
 
 pub returns-clause-first : goal.returns-clause-first
 returns-clause-first g c =

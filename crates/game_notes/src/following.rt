@@ -5,7 +5,7 @@ ghost use Rattle.ref_play.specs.{Placements.{with_tiles, without_tiles, HasTiles
 ghost use Rattle.lex_check.specs.Pairs.{list_in};
 ghost use Rattle.gen_cross.specs.Values.{value_at};
 ghost use Rattle.gen_sinks.specs.Sinks.{seen_pair};
-ghost use Rattle.annotator.specs.Tops.{AreTop};
+ghost use Rattle.game_notes.specs.Tops.{AreTop};
 
 use crate::annotating::annotate;
 use crate::crossing::cross_sets;
@@ -30,7 +30,7 @@ pub struct Follow {
 }
 
 impl Follow {
-    ghost use Rattle.annotator.specs.Following.{board_of, cross_of, Follows};
+    ghost use Rattle.game_notes.specs.Following.{board_of, cross_of, Follows};
 
     /// The empty board, by rules and the words of a pair.
     pub fn new(rules: &Rules, pair: &Checked<'_>) -> Follow
