@@ -425,7 +425,7 @@ def converted(run):
     run.row(["convert", "gad2", "nowhere", "out"], 4, error="cannot open nowhere", wrote=b"something")
     run.row(["convert", "gad2", "at.gad", "no/where"], 4, error="cannot open no/where")
     run.row(["convert", "gad2", "nowhere", "no/where"], 4, error="cannot open nowhere")
-    run.row(["convert", "gad2", "folder", "out"], 4, error="cannot read folder", wrote=b"")
+    run.row(["convert", "gad2", "folder", "out"], 4, error="read failed: folder", wrote=b"")
     for form in ("gad3", "GAD2", "gad", "2", ""):
         Path(run.folder, "out").write_bytes(b"something")
         run.row(["convert", form, "at.gad", "out"], 64, error=None, wrote=b"something")
@@ -525,7 +525,7 @@ def ruled_tops(run):
     run.row(["top", "--rules", "tiles.rules", "at", "at.gad", "nothing", "A1"], 3, "bad rack\n")
     run.row(["top", "--rules", "folder", "folder", "folder", "folder", "A1"], 3, "bad rack\n")
     run.row(["top", "--rules", "nowhere", "at", "at.gad", "nothing", "A1"], 4, error="cannot open nowhere")
-    run.row(["top", "--rules", "folder", "at", "at.gad", "nothing", "A"], 4, error="cannot read folder")
+    run.row(["top", "--rules", "folder", "at", "at.gad", "nothing", "A"], 4, error="read failed: folder")
 
 
 def ruled_lines(run):
@@ -537,7 +537,7 @@ def ruled_lines(run):
     run.row(["top", "at", "at.gad", "nothing", "Q", "--rules", "english.rules"], 0, "none\n")
     run.row(["judge", "--rules", "nowhere", "elsewhere", "at.gad", "line"], 4, error="cannot open nowhere")
     run.row(["judge", "--rules", "tiles.rules", "elsewhere", "at.gad", "line"], 4, error="cannot open elsewhere")
-    run.row(["judge", "--rules", "folder", "digit", "at.gad", "line"], 4, error="cannot read folder")
+    run.row(["judge", "--rules", "folder", "digit", "at.gad", "line"], 4, error="read failed: folder")
     # What stands behind a bad rules text is not read.
     run.row(["judge", "--rules", "tiles.rules", "folder", "folder", "folder"], 3, "bad rules line 1: Unknown\n")
     run.row(["judge", "--rules", "english.rules", "digit", "folder", "folder"], 3, "bad word list line 2: BadLetter\n")
@@ -568,7 +568,7 @@ def topped(run):
     # The files are opened before the rack is looked at, and none is read behind a rack that is none.
     run.row(["top", "at", "at.gad", "nowhere", "A1"], 4, error="cannot open nowhere")
     run.row(["top", "folder", "folder", "folder", "A1"], 3, "bad rack\n")
-    run.row(["top", "at", "at.gad", "folder", "A"], 4, error="cannot read folder")
+    run.row(["top", "at", "at.gad", "folder", "A"], 4, error="read failed: folder")
 
 
 def topped_before(run):
@@ -685,7 +685,7 @@ def fielded(run):
     run.row(["check", "--first-field", "fields", "at.gad"], 0, "ok 1\n")
     run.row(["check", "fields", "at.gad"], 3, "bad word list: TooLong\n")
     run.row(["check", "--first-field", "long-list", "at.gad"], 3, "bad word list: TooLong\n")
-    run.row(["check", "--first-field", "folder", "at.gad"], 4, error="cannot read folder")
+    run.row(["check", "--first-field", "folder", "at.gad"], 4, error="read failed: folder")
     run.row(["check", "--first-field", "nowhere", "at.gad"], 4, error="cannot open nowhere")
     for words in (["tidy", "--first-field", "line"], ["convert", "--first-field", "gad2", "at.gad", "out"],
                   ["check", "--first-field", "--first-field", "at", "at.gad"], ["check", "--first-field=1", "at", "at.gad"]):
@@ -699,7 +699,7 @@ def unreadable(run):
                   ["top", "-", "at.gad", "line", "A"], ["top", "--rules", "english.rules", "at", "at.gad", "-", "A"], ["tidy", "-"],
                   ["check", "-", "at.gad"], ["build", "-", "out"], ["archive", "-", "at.gad", "line"], ["archive", "--names", "-", "at", "at.gad"]):
         ran = subprocess.run([run.program, *words], stdin=folder, cwd=run.folder, capture_output=True, check=False)
-        run.expect(f"{words} of a folder", (ran.returncode, ran.stdout, ran.stderr) == (4, b"", b"cannot read standard input\n"))
+        run.expect(f"{words} of a folder", (ran.returncode, ran.stdout, ran.stderr) == (4, b"", b"read failed: standard input\n"))
     ran = subprocess.run([run.program, "archive", "at", "at.gad", "-"], stdin=folder, cwd=run.folder, capture_output=True, check=False)
     run.expect("a game that is a folder", (ran.returncode, ran.stdout.split(b"\t")[:5]) == (4, [b"-", b"unread", b"-", b"-", b"read failed"]))
     os.close(folder)
@@ -790,7 +790,7 @@ def boarded(run):
     run.row(["board", "--rules", "tiles.rules", "folder"], 3, "bad rules line 1: Unknown\n")
     run.row(["board", "--rules", "nowhere", "elsewhere"], 4, error="cannot open nowhere")
     run.row(["board", "nowhere"], 4, error="cannot open nowhere")
-    run.row(["board", "folder"], 4, error="cannot read folder")
+    run.row(["board", "folder"], 4, error="read failed: folder")
     for words in (["--before", "line"], ["--before", "-1", "line"], ["--before", "x", "line"], ["--before", "4294967296", "line"], ["--settle", "line"]):
         run.row(["board", *words], 64, error=None)
 
@@ -864,13 +864,13 @@ def archived_inputs(run):
         run.row(["archive", *words, *games], 4, error="cannot open nowhere")
     for words in (["folder", "at.gad"], ["at", "folder"], ["--names", "folder", "at", "at.gad"], ["--rules", "folder", "digit", "at.gad"]):
         games = [] if "--names" in words else ["line"]
-        run.row(["archive", *words, *games], 4, error="cannot read folder")
+        run.row(["archive", *words, *games], 4, error="read failed: folder")
     run.row(["archive", "--rules", "two-sets.rules", "at", "at.gad", "blanks"], 0, "blanks\tlegal\tunfinished\t-\t-\t2\tA\t0\tB\t0\t0\n")
     run.row(["archive", "--rules", "fourteen.rules", "retains", "retains.gad", "goes-out"], 0, "goes-out\tlegal\tcomplete\t-\t-\t2\tA\t88\t-\t-\t0\n")
     run.row(["archive", "many", "at.gad", "line"], 4, error="no memory", room=1 << 23)
     if os.path.exists("/dev/full"):
-        run.row(["archive", "word", "word.gad", "nowhere", "line"], 4, error="write failed", stdout="/dev/full")
-        run.row(["archive", "digit", "word.gad", "line"], 4, error="write failed", stdout="/dev/full")
+        run.row(["archive", "word", "word.gad", "nowhere", "line"], 4, error="write failed: standard output", stdout="/dev/full")
+        run.row(["archive", "digit", "word.gad", "line"], 4, error="write failed: standard output", stdout="/dev/full")
 
 
 PAGED = [  # a game, its line but for its name and its page, the page, and the verdict and the totals in the index
@@ -917,7 +917,7 @@ def refused_pages(run):
     Path(run.folder, "some/line.html").mkdir(parents=True)
     run.row(["archive", "--pages", "some", "word", "word.gad", "line", "caf\u00e9"], 4, f"line\t{legal}\tcannot write\ncaf\u00e9\t{legal}\tcaf\u00e9.html\n")
     Path(run.folder, "none/index.html").mkdir(parents=True)
-    run.row(["archive", "--pages", "none", "word", "word.gad", "line"], 4, f"line\t{legal}\tline.html\n", error="write failed")
+    run.row(["archive", "--pages", "none", "word", "word.gad", "line"], 4, f"line\t{legal}\tline.html\n", error="write failed: none")
 
 
 def archived_lines(run):
@@ -968,12 +968,12 @@ def audited(run):
     run.row(["audit", "--rules", "two-sets.rules", "at", "at.gad", "blanks"], 0, "legal unfinished\n")
     run.row(["audit", "word", "word.gad", "-"], 0, "legal unfinished\n", stdin=WORD)
     run.row(["audit", "word", "word.gad", "nowhere"], 4, error="cannot open nowhere")
-    run.row(["audit", "word", "folder", "line"], 4, error="cannot read folder")
+    run.row(["audit", "word", "folder", "line"], 4, error="read failed: folder")
     run.row(["audit", "--corrected", "no/where", "word", "word.gad", "line"], 4, error="cannot open no/where")
     run.row(["audit", "word", "word.gad"], 64, error=None)
     if os.path.exists("/dev/full"):
-        run.row(["audit", "word", "word.gad", "line"], 4, error="write failed", stdout="/dev/full")
-        run.row(["audit", "--corrected", "/dev/full", "word", "word.gad", "line"], 4, error="write failed")
+        run.row(["audit", "word", "word.gad", "line"], 4, error="write failed: standard output", stdout="/dev/full")
+        run.row(["audit", "--corrected", "/dev/full", "word", "word.gad", "line"], 4, error="write failed: /dev/full")
 
 
 STANDS = "The rules allow every event, and a deal of the tiles gives the players every rack that is shown.\n"
@@ -1055,12 +1055,12 @@ def explained(run):
         run.row(["explain", *words], status, out)
     run.row(["explain", "word", "word.gad", "-"], 0, f"legal unfinished\n{STANDS}", stdin=WORD)
     run.row(["explain", "word", "word.gad", "nowhere"], 4, error="cannot open nowhere")
-    run.row(["explain", "word", "folder", "line"], 4, error="cannot read folder")
-    run.row(["explain", "word", "word.gad", "folder"], 4, error="cannot read folder")
+    run.row(["explain", "word", "folder", "line"], 4, error="read failed: folder")
+    run.row(["explain", "word", "word.gad", "folder"], 4, error="read failed: folder")
     for words in (["line", "x"], ["line", "-1"], ["line", "4294967296"], ["line", "1", "2"], ["--before", "1", "line"]):
         run.row(["explain", "word", "word.gad", *words], 64, error=None)
     if os.path.exists("/dev/full"):
-        run.row(["explain", "word", "word.gad", "line"], 4, error="write failed", stdout="/dev/full")
+        run.row(["explain", "word", "word.gad", "line"], 4, error="write failed: standard output", stdout="/dev/full")
 
 
 def paged(run):
@@ -1098,7 +1098,7 @@ def unread_pages(run, out):
     for place, words in enumerate([["nowhere", "word.gad", "line"], ["word", "nowhere", "line"], ["word", "word.gad", "nowhere"]]):
         run.row(["page", *words, "out"], 4, error="cannot open nowhere", wrote=b"as it was")
         words[place] = "folder"
-        run.row(["page", *words, "out"], 4, error="cannot read folder", wrote=b"as it was")
+        run.row(["page", *words, "out"], 4, error="read failed: folder", wrote=b"as it was")
     run.row(["page", "word", "word.gad", "line", "folder"], 4, error="cannot open folder")
     run.row(["page", "many", "at.gad", "line", "out"], 4, error="no memory", wrote=b"as it was", room=1 << 23)
     run.row(["page", "word", "word.gad", "-", "out"], 0, "legal unfinished\n", stdin=WORD)
@@ -1107,8 +1107,8 @@ def unread_pages(run, out):
         run.row(["page", *words, "out"], 0, "legal unfinished\n", stdin="WORD\n", wrote=page)
     run.row(["page", "-", "word.gad", "-", "out"], 64, error=None)
     if os.path.exists("/dev/full"):
-        run.row(["page", "word", "word.gad", "line", "/dev/full"], 4, error="write failed")
-        run.row(["page", "word", "word.gad", "line", "out"], 4, error="write failed", stdout="/dev/full")
+        run.row(["page", "word", "word.gad", "line", "/dev/full"], 4, error="write failed: /dev/full")
+        run.row(["page", "word", "word.gad", "line", "out"], 4, error="write failed: standard output", stdout="/dev/full")
 
 
 def broken(run):
@@ -1125,20 +1125,20 @@ def broken(run):
     run.row(["build", "at", "no/where"], 4, error="cannot open no/where")
     run.row(["build", "at", "folder"], 4, error="cannot open folder")
     for words in (["judge", "folder", "at.gad", "line"], ["judge", "at", "folder", "line"], ["judge", "at", "at.gad", "folder"]):
-        run.row(words, 4, error="cannot read folder")
-    run.row(["check", "at", "folder"], 4, error="cannot read folder")
-    run.row(["tidy", "folder"], 4, error="cannot read folder")
+        run.row(words, 4, error="read failed: folder")
+    run.row(["check", "at", "folder"], 4, error="read failed: folder")
+    run.row(["tidy", "folder"], 4, error="read failed: folder")
     Path(run.folder, "out").write_text("something")
-    run.row(["build", "folder", "out"], 4, error="cannot read folder", wrote=b"")
+    run.row(["build", "folder", "out"], 4, error="read failed: folder", wrote=b"")
     # What stands behind a bad word list or a bad lexicon is not read.
     run.row(["judge", "digit", "folder", "folder"], 3, "bad word list line 2: BadLetter\n")
     run.row(["judge", "at", "extra.gad", "folder"], 3, "bad lexicon: Extra A\n")
     run.row(["check", "digit", "folder"], 3, "bad word list line 2: BadLetter\n")
     if os.path.exists("/dev/full"):
         for words in (["judge", "at", "at.gad", "nothing"], ["check", "at", "at.gad"], ["tidy", "untidy"], ["tidy", "number"]):
-            run.row(words, 4, error="write failed", stdout="/dev/full")
+            run.row(words, 4, error="write failed: standard output", stdout="/dev/full")
         run.row(["tidy", "nothing"], 0, stdout="/dev/full")
-        run.row(["build", "at", "/dev/full"], 4, error="write failed")
+        run.row(["build", "at", "/dev/full"], 4, error="write failed: /dev/full")
     run.row(["build", "many", "out"], 4, error="no memory", wrote=b"", room=1 << 26)
     run.row(["judge", "many", "at.gad", "line"], 4, error="no memory", room=1 << 23)
 
@@ -1154,7 +1154,7 @@ def helped(run):
         run.row([command, "--help"], 0, None)
     if os.path.exists("/dev/full"):
         for words in (["--version"], ["help"], ["help", "judge"]):
-            run.row(words, 4, error="write failed", stdout="/dev/full")
+            run.row(words, 4, error="write failed: standard output", stdout="/dev/full")
 
 
 def misused(run):

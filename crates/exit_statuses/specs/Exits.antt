@@ -32,8 +32,8 @@ exit_of verdict.BadRack = BadInput
 exit_of verdict.BadRules = BadInput
 exit_of verdict.BadLine = BadInput
 
--- what kept the program from its end, where a call gave up and this file is the one that failed, if one did
+-- what kept the program from its end, where a call gave up and this is the name of the input or output that failed, if one did
 abbrev pub trouble_of : RunFault → Bor (List ℕ) → Trouble
-trouble_of run.ReadFailed input = trouble.CannotRead input
-trouble_of run.WriteFailed input = trouble.WriteFailed
-trouble_of run.NoMemory input = trouble.NoMemory
+trouble_of run.ReadFailed name = trouble.ReadFailed name
+trouble_of run.WriteFailed name = trouble.WriteFailed name
+trouble_of run.NoMemory name = trouble.NoMemory

@@ -53,10 +53,10 @@ impl Exit {
 /// What kept the program from its end. Its text is what standard error gets.
 #[derive(Clone, Copy, Debug, PartialEq, Eq)]
 pub enum Trouble<'a> {
-    /// The file of this name could not be read.
-    CannotRead(&'a str),
-    /// The output failed, or took no byte of a write.
-    WriteFailed,
+    /// A read of the input of this name failed.
+    ReadFailed(&'a str),
+    /// A write to the output of this name failed, or the output took no byte of it.
+    WriteFailed(&'a str),
     /// Memory was refused.
     NoMemory,
     /// The file of this name could not be opened.
@@ -66,8 +66,8 @@ pub enum Trouble<'a> {
 impl fmt::Display for Trouble<'_> {
     fn fmt<W: fmt::Write>(&self, f: &mut fmt::Formatter<W>) -> fmt::Result {
         match self {
-            Trouble::CannotRead(name) => write!(f, "cannot read {name}"),
-            Trouble::WriteFailed => write!(f, "write failed"),
+            Trouble::ReadFailed(name) => write!(f, "read failed: {name}"),
+            Trouble::WriteFailed(name) => write!(f, "write failed: {name}"),
             Trouble::NoMemory => write!(f, "no memory"),
             Trouble::CannotOpen(name) => write!(f, "cannot open {name}"),
         }
@@ -77,13 +77,13 @@ impl fmt::Display for Trouble<'_> {
 impl<'a> Trouble<'a> {
     ghost use Rattle.exit_statuses.specs.Exits.{trouble_of};
 
-    /// What kept the program from its end, where a call gave up. `input` is the file that failed, where one did.
-    pub fn of(fault: RunFault, input: &'a str) -> Trouble<'a>
-        ensures { result ≡ trouble_of fault input.entry }
+    /// What kept the program from its end, where a call gave up. `name` is that of the input or output that failed, where one did.
+    pub fn of(fault: RunFault, name: &'a str) -> Trouble<'a>
+        ensures { result ≡ trouble_of fault name.entry }
     {
         match fault {
-            RunFault::ReadFailed => Trouble::CannotRead(input),
-            RunFault::WriteFailed => Trouble::WriteFailed,
+            RunFault::ReadFailed => Trouble::ReadFailed(name),
+            RunFault::WriteFailed => Trouble::WriteFailed(name),
             RunFault::NoMemory => Trouble::NoMemory,
         }
     }

@@ -108,7 +108,7 @@ fn go_through<'a, R: Runtime + AllocGlobal, N: Names + Drop>(
             Err(error) if error.kind() == io::ErrorKind::OutOfMemory => {
                 return Err(Trouble::NoMemory);
             }
-            Err(_) => return Err(Trouble::CannotRead(shown(request.names.source()))),
+            Err(_) => return Err(Trouble::ReadFailed(shown(request.names.source()))),
         }
     }
     run.progress.end(rt);

@@ -48,6 +48,6 @@ fn keep<'a, R: Runtime + AllocGlobal>(
     let mut file = FromWrite::new(create(rt, out)?);
     match write_whole(&mut file, text.as_slice()) {
         Ok(()) => Ok(()),
-        Err(_) => Err(Trouble::WriteFailed),
+        Err(_) => Err(Trouble::WriteFailed(out)),
     }
 }

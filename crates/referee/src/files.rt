@@ -27,6 +27,9 @@ fn opened<'a, F>(name: &'a str, file: io::Result<F>) -> Result<F, Trouble<'a>> {
     }
 }
 
+/// What messages name the output that is no file.
+pub const STANDARD_OUTPUT: &str = "standard output";
+
 /// An input after a call: what messages name it, and how often a read of it failed.
 #[derive(Clone, Copy)]
 pub struct InputFile<'a> {
@@ -61,16 +64,18 @@ pub fn used<'a, F: Read + Drop>(name: &'a str, input: &FromRead<F>) -> InputFile
     }
 }
 
-/// What a call came to. Where an input failed, it is the first of these that has a failure.
+/// What a call came to that wrote to the output of this name. Where an input failed, it is the first of these that has a failure; else
+/// the output did.
 pub fn told<'a>(
     outcome: Result<Verdict, RunFault>,
     inputs: &[InputFile<'a>],
+    out: &'a str,
 ) -> Result<Verdict, Trouble<'a>> {
     match outcome {
         Ok(verdict) => Ok(verdict),
         Err(fault) => {
             let failed = inputs.iter().find(|input| input.failures > 0);
-            Err(Trouble::of(fault, failed.map_or("", |input| input.name)))
+            Err(Trouble::of(fault, failed.map_or(out, |input| input.name)))
         }
     }
 }

@@ -4,7 +4,7 @@ ghost use Rattle.devices.specs.Devices.{HasRoom};
 
 use crate::command_line::{GameFiles, PlaysAsked};
 use crate::counted::Counted;
-use crate::files::{InputFile, open, told, used, used_rules, used_source};
+use crate::files::{InputFile, STANDARD_OUTPUT, open, told, used, used_rules, used_source};
 use crate::sources::{Source, Words, open_source, open_words, shown};
 use devices::{FromRead, FromWrite, Input, Output};
 use engine::{
@@ -158,7 +158,7 @@ fn answer_game<'a, R: Runtime + AllocGlobal>(
     let mut inputs = open_game(rt, files)?;
     let mut out = FromWrite::new(Counted::new(io::writer(rt)));
     let outcome = inputs.ask(rt.alloc(), task, &mut out);
-    let verdict = told(outcome, &inputs.used(files))?;
+    let verdict = told(outcome, &inputs.used(files), STANDARD_OUTPUT)?;
     let bytes = out.into_inner().taken();
     Ok(Answered { verdict, bytes })
 }
@@ -224,7 +224,7 @@ pub fn tidy<'a, R: Runtime + AllocGlobal>(rt: &R, game: &'a str) -> Result<Verdi
     let mut record = FromRead::new(open_source(rt, game)?);
     let mut out = FromWrite::new(io::writer(rt));
     let outcome = run_tidy(rt.alloc(), &mut record, &mut out);
-    told(outcome, &[used_source(game, &record)])
+    told(outcome, &[used_source(game, &record)], STANDARD_OUTPUT)
 }
 
 /// Writes the board of a record to standard output, before a line where one is named, by the English rules or those of a text, which is
@@ -244,5 +244,5 @@ pub fn board<'a, R: Runtime + AllocGlobal>(
         Some(text) => run_board_ruled(alloc, text, &mut record, before, &mut out),
     };
     let inputs = [used_rules(rules, &text), used_source(game, &record)];
-    told(outcome, &inputs)
+    told(outcome, &inputs, STANDARD_OUTPUT)
 }

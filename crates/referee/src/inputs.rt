@@ -1,7 +1,7 @@
 //! The inputs that games are judged by: rules, a word list and its lexicon, which are opened and read once.
 
 use crate::command_line::PairFiles;
-use crate::files::open;
+use crate::files::{STANDARD_OUTPUT, open};
 use crate::sources::{Source, open_source, shown};
 use devices::{FromRead, FromWrite, write_whole};
 use engine::{Decision, read_lexicon, read_list, read_rules};
@@ -93,6 +93,6 @@ pub fn write<'a, R: Runtime>(rt: &R, bytes: &[u8]) -> Result<(), Trouble<'a>> {
     let mut out = FromWrite::new(io::writer(rt));
     match write_whole(&mut out, bytes) {
         Ok(()) => Ok(()),
-        Err(_) => Err(Trouble::WriteFailed),
+        Err(_) => Err(Trouble::WriteFailed(STANDARD_OUTPUT)),
     }
 }

@@ -1,7 +1,7 @@
 //! The commands that keep the lexicon of a word list.
 
 use crate::command_line::{PairFiles, WordsFile};
-use crate::files::{create, open, told, used, used_source};
+use crate::files::{STANDARD_OUTPUT, create, open, told, used, used_source};
 use crate::sources::open_words;
 use devices::{FromRead, FromWrite};
 use engine::{Verdict, run_build, run_check, run_convert};
@@ -17,9 +17,9 @@ pub fn build<'a, R: Runtime + AllocGlobal>(
     out: &'a str,
 ) -> Result<Verdict, Trouble<'a>> {
     let mut list = FromRead::new(open_words(rt, words)?);
-    let mut out = FromWrite::new(create(rt, out)?);
-    let outcome = run_build(rt.alloc(), &mut list, &mut out);
-    told(outcome, &[used_source(words.name, &list)])
+    let mut file = FromWrite::new(create(rt, out)?);
+    let outcome = run_build(rt.alloc(), &mut list, &mut file);
+    told(outcome, &[used_source(words.name, &list)], out)
 }
 
 /// Compares a lexicon with a word list. What was found goes to standard output.
@@ -35,6 +35,7 @@ pub fn check<'a, R: Runtime + AllocGlobal>(
     told(
         outcome,
         &[used_source(words.name, &list), used(lexicon, &file)],
+        STANDARD_OUTPUT,
     )
 }
 
@@ -46,7 +47,7 @@ pub fn convert<'a, R: Runtime + AllocGlobal>(
     out: &'a str,
 ) -> Result<Verdict, Trouble<'a>> {
     let mut file = FromRead::new(open(rt, lexicon)?);
-    let mut out = FromWrite::new(create(rt, out)?);
-    let outcome = run_convert(rt.alloc(), &mut file, format, &mut out);
-    told(outcome, &[used(lexicon, &file)])
+    let mut converted = FromWrite::new(create(rt, out)?);
+    let outcome = run_convert(rt.alloc(), &mut file, format, &mut converted);
+    told(outcome, &[used(lexicon, &file)], out)
 }

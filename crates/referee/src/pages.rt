@@ -140,7 +140,7 @@ impl<'a> Pages<'a> {
         };
         match put(rt, path.as_str(), self.index.as_slice()) {
             Ok(true) => Ok(()),
-            Ok(false) => Err(Trouble::WriteFailed),
+            Ok(false) => Err(Trouble::WriteFailed(self.folder)),
             Err(_) => Err(Trouble::NoMemory),
         }
     }

@@ -60,7 +60,7 @@ fn write_page<'a, R: Runtime + AllocGlobal>(
     if case.read.is_ok() {
         let mut file = FromWrite::new(create(rt, out)?);
         if write_whole(&mut file, page.as_slice()).is_err() {
-            return Err(Trouble::WriteFailed);
+            return Err(Trouble::WriteFailed(out));
         }
     }
     write(rt, line.as_slice())?;

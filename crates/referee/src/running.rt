@@ -2,6 +2,7 @@
 
 use crate::archiving::archive;
 use crate::command_line::{Request, mistake, parse_arguments};
+use crate::files::STANDARD_OUTPUT;
 use crate::games::{board, judge, tidy, top};
 use crate::lexicons::{build, check, convert};
 use crate::paging::page;
@@ -47,7 +48,7 @@ fn refuse<R: Runtime>(rt: &R, error: &Error) -> Exit {
     }
     match rt.print(error) {
         Ok(()) => Exit::Fine,
-        Err(_) => give_up(rt, Trouble::WriteFailed),
+        Err(_) => give_up(rt, Trouble::WriteFailed(STANDARD_OUTPUT)),
     }
 }
 
