@@ -1,6 +1,7 @@
 -- What is found of the game of a record, without a report.
-use Rattle.std.proofs.Common.{◌≡◌, ℕ, ◌+◌, Bool, List, sym, subst}
+use Rattle.std.proofs.Common.{◌≡◌, ℕ, ◌+◌, Bool, List, [], slice_get, Some, ap, sym, ◌∙◌, subst}
 use Rattle.ref_tiles.specs.declared.rulebook.Rules.{Rules}
+use Rattle.gcg_read.specs.declared.events.Event.{Event}
 use Rattle.gcg_read.specs.declared.records.Record.{Record}
 use Rattle.game_turns.specs.declared.passed.Passed.{Passed}
 use Rattle.game_turns.specs.declared.faults.RuleFault.{RuleFault}
@@ -16,28 +17,48 @@ use Rattle.engine.specs.declared.findings.Finding.TheVariants as finding
 use Rattle.engine.specs.declared.racks.RackFinding.TheVariants as rack
 use Rattle.engine.specs.declared.verdicts.GameFault.{GameFault}
 use Rattle.engine.specs.declared.verdicts.GameFault.TheVariants as game
-use Rattle.engine.specs.Archiving.{past_bound, IsFinding, IsFaulty, FindingsDecide}
+use Rattle.engine.specs.declared.verdicts.Verdict.TheVariants as verdict
+use Rattle.engine.specs.Judging.{IsJudged}
+use Rattle.engine.specs.Archiving.{past_bound, HasEvents, IsFinding, IsFaulty, FindingsDecide}
 use Rattle.engine.specs.Racks.{AreFound}
 use Rattle.engine.specs.Verdicts.{IsGame}
 use Rattle.engine.proofs.Deals.{exceeds}
-use Rattle.engine.proofs.Headlines.{first_not_allowed}
+use Rattle.engine.proofs.Headlines.{legal_answer, game_of, same_complete, first_not_allowed}
+use Rattle.engine.proofs.Settled.{ends_on, left_open}
 
 -- ---- what is found of racks
 
-pub by_deal : (passed : Passed) (words : List (List ℕ)) (complete : Bool) → AreAllowed (rules_in passed) words (record_in passed).events → AreFound passed rack.Dealt
-    → complete ≡ is_finished (rules_in passed) (record_in passed).events → IsFinding (rules_in passed) words (record_in passed) (finding.Legal complete)
-by_deal passed words complete allowed deal is = (record { allowed = allowed; racks = deal.racks; dealt = deal.fits }, is)
+pub by_deal : (passed : Passed) (words : List (List ℕ)) (complete : Bool) → HasEvents (record_in passed) → AreAllowed (rules_in passed) words (record_in passed).events
+    → AreFound passed rack.Dealt → complete ≡ is_finished (rules_in passed) (record_in passed).events → IsFinding (rules_in passed) words (record_in passed) (finding.Legal complete)
+by_deal passed words complete has allowed deal is = (has, record { allowed = allowed; racks = deal.racks; dealt = deal.fits }, is)
 
-past_of : FittingIsBounded → (passed : Passed) (words : List (List ℕ)) (bound : DealFault) → AreAllowed (rules_in passed) words (record_in passed).events
+past_of : FittingIsBounded → (passed : Passed) (words : List (List ℕ)) (bound : DealFault) → HasEvents (record_in passed) → AreAllowed (rules_in passed) words (record_in passed).events
     → AreFound passed (rack.PastBound bound) → IsFinding (rules_in passed) words (record_in passed) (past_bound bound)
-past_of law passed words (deal.RackTooBig line) allowed found = exceeds law (rules_in passed) words (record_in passed).events (deal.RackTooBig line) allowed found
-past_of law passed words (deal.TilesShort line kind) allowed found = exceeds law (rules_in passed) words (record_in passed).events (deal.TilesShort line kind) allowed found
+past_of law passed words (deal.RackTooBig line) has allowed found = (has, exceeds law (rules_in passed) words (record_in passed).events (deal.RackTooBig line) allowed found)
+past_of law passed words (deal.TilesShort line kind) has allowed found = (has, exceeds law (rules_in passed) words (record_in passed).events (deal.TilesShort line kind) allowed found)
 
-pub past : FittingIsBounded → (passed : Passed) (words : List (List ℕ)) (bound : DealFault) (f : Finding) → AreAllowed (rules_in passed) words (record_in passed).events
+pub past : FittingIsBounded → (passed : Passed) (words : List (List ℕ)) (bound : DealFault) (f : Finding) → HasEvents (record_in passed) → AreAllowed (rules_in passed) words (record_in passed).events
     → AreFound passed (rack.PastBound bound) → f ≡ past_bound bound → IsFinding (rules_in passed) words (record_in passed) f
-past law passed words bound f allowed found is = subst (λ (g : Finding). IsFinding (rules_in passed) words (record_in passed) g) (sym is) (past_of law passed words bound allowed found)
+past law passed words bound f has allowed found is = subst (λ (g : Finding). IsFinding (rules_in passed) words (record_in passed) g) (sym is) (past_of law passed words bound has allowed found)
+
+pub out : (passed : Passed) (words : List (List ℕ)) (line : ℕ) → HasEvents (record_in passed) → AreAllowed (rules_in passed) words (record_in passed).events
+    → AreFound passed (rack.NoDeal line) → IsFinding (rules_in passed) words (record_in passed) (finding.Illegal line game.NoDeal)
+out passed words line has allowed found = (has, ends_on passed words line allowed found)
+
+pub unknown : (passed : Passed) (words : List (List ℕ)) → HasEvents (record_in passed) → AreAllowed (rules_in passed) words (record_in passed).events → AreFound passed rack.Unknown
+    → IsFinding (rules_in passed) words (record_in passed) finding.Unsettled
+unknown passed words has allowed found = (has, left_open passed words allowed found)
 
 -- ---- refusals
+
+-- where an event stands, there are events
+has_events : (r : Record) (place : ℕ) (event : Event) → slice_get r.events place ≡ Some event → HasEvents r
+has_events r place event stands = λ none. let both : slice_get [] place ≡ Some event = subst (λ (events : List Event). slice_get events place ≡ Some event) none stands in cc
+
+pub refused : (rules : Rules) (words : List (List ℕ)) (r : Record) (line : ℕ) (why : RuleFault) (f : Finding) → IsFirstRefusal rules words r.events line why
+    → f ≡ finding.Illegal line (game.Rule why) → IsFinding rules words r f
+refused rules words r line why f first is =
+    subst (λ (g : Finding). IsFinding rules words r g) (sym is) (has_events r first.place first.event first.stands, first)
 
 pub not_allowed : (rules : Rules) (words : List (List ℕ)) (r : Record) (line : ℕ) (why : RuleFault) → IsFirstRefusal rules words r.events line why → AreAllowed rules words r.events → ⊥
 not_allowed rules words r line why first allowed = first_not_allowed rules words r.events line why first allowed
@@ -48,9 +69,25 @@ faulty_no_game fronts rules words r line game.RackTooBig is there = is.undealt t
 faulty_no_game fronts rules words r line (game.TilesShort kind) is there = is.undealt there.racks there.dealt
 faulty_no_game fronts rules words r line game.NoDeal is there = fronts rules (steps_of rules r.events) (is.place + 1) is.undealt there.racks there.dealt
 
+-- ---- what the deal of the rule makes legal
+
+found_legal : FrontsDecide → (rules : Rules) (words : List (List ℕ)) (r : Record) (complete : Bool) (report : List ℕ) → IsJudged rules words r (verdict.Legal complete) report → HasEvents r
+    → (f : Finding) → IsFinding rules words r f → f ≡ finding.Legal complete
+found_legal fronts rules words r complete report judged has finding.NoGame is = absurd (has is)
+found_legal fronts rules words r complete report judged has (finding.Legal other) is =
+    let legal = legal_answer rules words r complete report judged in
+    ap (λ c. finding.Legal c) (is.2 ∙ sym (same_complete complete (is_finished rules r.events) legal.told.verdict_is))
+found_legal fronts rules words r complete report judged has (finding.Illegal line fault) is =
+    let legal = legal_answer rules words r complete report judged in
+    absurd (faulty_no_game fronts rules words r line fault is.1 (game_of rules words r (verdict.Legal complete) report legal))
+found_legal fronts rules words r complete report judged has finding.Unsettled is =
+    let legal = legal_answer rules words r complete report judged in
+    absurd (is.1.undealt legal.is_dealt)
+
 pub findings_decide : FrontsDecide → FindingsDecide
 findings_decide fronts =
     record {
-      illegal = λ rules words r line fault is there. faulty_no_game fronts rules words r line fault is there;
-      settled = λ rules words r is plain. is.exchanged plain;
+      illegal = λ rules words r line fault is there. faulty_no_game fronts rules words r line fault is.1 there;
+      settled = λ rules words r is plain. is.1.exchanged plain;
+      legal = λ rules words r complete report judged has f is. found_legal fronts rules words r complete report judged has f is;
     }

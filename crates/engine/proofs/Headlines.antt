@@ -42,7 +42,7 @@ use Rattle.engine.specs.Reading.{ReadsNoMore, ReadsList, ByMeaning, ByParts, Rea
 use Rattle.engine.specs.Reports.{IsLegalReport, legal_line, bad_list_line, bad_record_line, bad_rules_line}
 use Rattle.engine.specs.Runs.{IsRun}
 use Rattle.deal_cuts.specs.Laws.{FrontsDecide}
-use Rattle.engine.specs.Settling.{IsSettledLegal, IsUndealt, IsStillOpen, IsSettled, IsSettledBy, SettledLegalMeansLegal, SettledIllegalMeansNoGame}
+use Rattle.engine.specs.Settling.{IsSettledLegal, IsUndealt, IsSettled, IsSettledBy, SettledLegalMeansLegal, SettledIllegalMeansNoGame}
 use Rattle.engine.specs.Sources.{Source, AreGiven}
 use Rattle.engine.specs.Telling.{IsOwn}
 use Rattle.engine.specs.Verdicts.{IsGame}
@@ -99,7 +99,7 @@ same_ok : {A E : Type 0} (a b : A) (r : Result A E) → r ≡ Ok a → r ≡ Ok 
 same_ok a b r one other = let same : Ok a ≡ Ok b = sym one ∙ other in cc
 
 -- two verdicts that a game is legal
-same_complete : (complete other : Bool) → verdict.Legal complete ≡ verdict.Legal other → complete ≡ other
+pub same_complete : (complete other : Bool) → verdict.Legal complete ≡ verdict.Legal other → complete ≡ other
 same_complete complete other same = cc
 
 -- ---- answers that come by the meaning of an input
@@ -143,7 +143,7 @@ bound_line : (bound : DealFault) (complete : Bool) (report : List ℕ) → IsTol
 bound_line (deal.RackTooBig line) complete report told = let both = told.verdict_is in cc
 bound_line (deal.TilesShort line kind) complete report told = let both = told.verdict_is in cc
 
-legal_answer : (rules : Rules) (words : List (List ℕ)) (r : Record) (complete : Bool) (report : List ℕ) → IsJudged rules words r (verdict.Legal complete) report
+pub legal_answer : (rules : Rules) (words : List (List ℕ)) (r : Record) (complete : Bool) (report : List ℕ) → IsJudged rules words r (verdict.Legal complete) report
     → IsLegal rules words r (verdict.Legal complete) report
 legal_answer rules words r complete report is =
     ⊎_elim
@@ -186,7 +186,7 @@ legal_game exact rules texts complete report words game listed paired recorded i
           by_rack rules words (tally_at rules game.events place).board rack (slice_index_or lines.is_told.best place []) (full_rack (tally_at rules game.events place) e) turn.is_full (tells.judged turn.is_turn);
     }
 
-game_of : (rules : Rules) (words : List (List ℕ)) (r : Record) (v : Verdict) (report : List ℕ) → IsLegal rules words r v report → IsGame rules words r.events
+pub game_of : (rules : Rules) (words : List (List ℕ)) (r : Record) (v : Verdict) (report : List ℕ) → IsLegal rules words r v report → IsGame rules words r.events
 game_of rules words r v report legal =
     let deal = some_of (dealt rules (steps_of rules r.events)) (Fits rules (steps_of rules r.events)) legal.is_dealt in
     record { allowed = legal.allowed; racks = deal.0; dealt = deal.1 }
@@ -205,16 +205,16 @@ settled_answer : (rules : Rules) (words : List (List ℕ)) (r : Record) (complet
 settled_answer rules words r complete report is =
     ⊎_elim
     (λ (legal : IsSettledLegal rules words r (verdict.Legal complete) report). legal)
-    (λ (rest : IsRefused rules words r (verdict.Legal complete) report ⊎ IsPastBound rules words r (verdict.Legal complete) report ⊎ IsUndealt rules words r (verdict.Legal complete) report ⊎ IsStillOpen rules words r (verdict.Legal complete) report).
+    (λ (rest : IsRefused rules words r (verdict.Legal complete) report ⊎ IsPastBound rules words r (verdict.Legal complete) report ⊎ IsUndealt rules words r (verdict.Legal complete) report ⊎ IsLeftOpen rules words r (verdict.Legal complete) report).
     ⊎_elim
     (λ (refused : IsRefused rules words r (verdict.Legal complete) report). let both = refused.told.verdict_is in cc)
-    (λ (others : IsPastBound rules words r (verdict.Legal complete) report ⊎ IsUndealt rules words r (verdict.Legal complete) report ⊎ IsStillOpen rules words r (verdict.Legal complete) report).
+    (λ (others : IsPastBound rules words r (verdict.Legal complete) report ⊎ IsUndealt rules words r (verdict.Legal complete) report ⊎ IsLeftOpen rules words r (verdict.Legal complete) report).
     ⊎_elim
     (λ (past : IsPastBound rules words r (verdict.Legal complete) report). absurd (bound_line past.bound complete report past.told))
-    (λ (last : IsUndealt rules words r (verdict.Legal complete) report ⊎ IsStillOpen rules words r (verdict.Legal complete) report).
+    (λ (last : IsUndealt rules words r (verdict.Legal complete) report ⊎ IsLeftOpen rules words r (verdict.Legal complete) report).
     ⊎_elim
     (λ (none : IsUndealt rules words r (verdict.Legal complete) report). let both = none.told.verdict_is in cc)
-    (λ (left : IsStillOpen rules words r (verdict.Legal complete) report). let both = left.told.verdict_is in cc)
+    (λ (left : IsLeftOpen rules words r (verdict.Legal complete) report). let both = left.told.verdict_is in cc)
     last)
     others)
     rest)
@@ -330,16 +330,16 @@ settled_no_game : FrontsDecide → (rules : Rules) (words : List (List ℕ)) (r 
 settled_no_game fronts rules words r line fault report is game =
     ⊎_elim
     (λ (legal : IsSettledLegal rules words r (verdict.Illegal line fault) report). let both = legal.told.verdict_is in cc)
-    (λ (rest : IsRefused rules words r (verdict.Illegal line fault) report ⊎ IsPastBound rules words r (verdict.Illegal line fault) report ⊎ IsUndealt rules words r (verdict.Illegal line fault) report ⊎ IsStillOpen rules words r (verdict.Illegal line fault) report).
+    (λ (rest : IsRefused rules words r (verdict.Illegal line fault) report ⊎ IsPastBound rules words r (verdict.Illegal line fault) report ⊎ IsUndealt rules words r (verdict.Illegal line fault) report ⊎ IsLeftOpen rules words r (verdict.Illegal line fault) report).
     ⊎_elim
     (λ (refused : IsRefused rules words r (verdict.Illegal line fault) report). refused_no_game rules words r (verdict.Illegal line fault) report refused game)
-    (λ (others : IsPastBound rules words r (verdict.Illegal line fault) report ⊎ IsUndealt rules words r (verdict.Illegal line fault) report ⊎ IsStillOpen rules words r (verdict.Illegal line fault) report).
+    (λ (others : IsPastBound rules words r (verdict.Illegal line fault) report ⊎ IsUndealt rules words r (verdict.Illegal line fault) report ⊎ IsLeftOpen rules words r (verdict.Illegal line fault) report).
     ⊎_elim
     (λ (past : IsPastBound rules words r (verdict.Illegal line fault) report). past.exceeded.undealt game.racks game.dealt)
-    (λ (last : IsUndealt rules words r (verdict.Illegal line fault) report ⊎ IsStillOpen rules words r (verdict.Illegal line fault) report).
+    (λ (last : IsUndealt rules words r (verdict.Illegal line fault) report ⊎ IsLeftOpen rules words r (verdict.Illegal line fault) report).
     ⊎_elim
     (λ (none : IsUndealt rules words r (verdict.Illegal line fault) report). fronts rules (steps_of rules r.events) (none.ends.place + 1) none.ends.undealt game.racks game.dealt)
-    (λ (left : IsStillOpen rules words r (verdict.Illegal line fault) report). let both = left.told.verdict_is in cc)
+    (λ (left : IsLeftOpen rules words r (verdict.Illegal line fault) report). let both = left.told.verdict_is in cc)
     last)
     others)
     rest)

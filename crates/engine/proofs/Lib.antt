@@ -7,6 +7,7 @@ pub mod Runs
 pub mod Pairings
 pub mod Headlines
 pub mod Settled
+pub mod StayingLegal
 pub mod FoundGames
 pub mod Examples
 pub mod BuiltFiles

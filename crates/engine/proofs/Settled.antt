@@ -24,10 +24,10 @@ use Rattle.engine.specs.Judging.{IsToldBound, IsToldLegal, IsPastBound, IsJudged
 use Rattle.engine.specs.Reports.{illegal_line, unsettled_line}
 use Rattle.engine.specs.Settling.{IsSettled, IsJudgedBy}
 use Rattle.engine.specs.Telling.{IsTold}
-use Rattle.engine.specs.Racks.{AreTried, AreFound}
+use Rattle.engine.specs.Racks.{IsUndealtByRule, AreTried, AreFound}
 use Rattle.engine.specs.declared.racks.RackFinding.TheVariants as rack
 use Rattle.engine.specs.declared.racks.RackTrial.TheVariants as trial
-use Rattle.engine.specs.Verdicts.{IsDealt, HasNoDealBy, IsOpenGame}
+use Rattle.engine.specs.Verdicts.{IsDealt, IsUnsettled, HasNoDealBy}
 use Rattle.engine.proofs.Deals.{exceeds}
 use Rattle.engine.proofs.Headlines.{some_of}
 
@@ -46,9 +46,9 @@ ends_on passed words line allowed found =
       undealt = found.1.undealt;
     }
 
-pub open_game : (passed : Passed) (words : List (List ℕ)) → AreAllowed (rules_in passed) words (record_in passed).events → AreFound passed rack.Unknown
-    → IsOpenGame (rules_in passed) words (record_in passed).events
-open_game passed words allowed found = record { allowed = allowed; bounded = found.0; exchanged = found.1 }
+pub left_open : (passed : Passed) (words : List (List ℕ)) → AreAllowed (rules_in passed) words (record_in passed).events → IsUndealtByRule passed
+    → IsUnsettled (rules_in passed) words (record_in passed).events
+left_open passed words allowed left = record { allowed = allowed; bounded = left.bounded; undealt = left.undealt; exchanged = left.exchanged }
 
 -- ---- the deal of the rule, and the search
 
@@ -98,7 +98,7 @@ judged_past law passed words bound v report allowed is told = inr (inr (inl (pas
 pub judged_open : (passed : Passed) (words : List (List ℕ)) (v : Verdict) (report : List ℕ) → AreAllowed (rules_in passed) words (record_in passed).events
     → AreTried passed trial.Open → IsTold verdict.Unsettled unsettled_line v report → IsJudged (rules_in passed) words (record_in passed) v report
 judged_open passed words v report allowed left told =
-    inr (inr (inr (record { unsettled = record { allowed = allowed; bounded = left.bounded; undealt = left.undealt; exchanged = left.exchanged }; told = told })))
+    inr (inr (inr (record { unsettled = left_open passed words allowed left; told = told })))
 
 -- ---- by a search
 
@@ -117,4 +117,4 @@ settled_out passed words line v report allowed found told = inr (inr (inr (inl (
 
 pub settled_open : (passed : Passed) (words : List (List ℕ)) (v : Verdict) (report : List ℕ) → AreAllowed (rules_in passed) words (record_in passed).events
     → AreFound passed rack.Unknown → IsTold verdict.Unsettled unsettled_line v report → IsSettled (rules_in passed) words (record_in passed) v report
-settled_open passed words v report allowed found told = inr (inr (inr (inr (record { left = open_game passed words allowed found; told = told }))))
+settled_open passed words v report allowed found told = inr (inr (inr (inr (record { unsettled = left_open passed words allowed found; told = told }))))

@@ -18,7 +18,9 @@ use Rattle.engine.specs.declared.findings.Finding.{Finding}
 use Rattle.engine.specs.declared.findings.Finding.TheVariants as finding
 use Rattle.engine.specs.declared.verdicts.GameFault.{GameFault}
 use Rattle.engine.specs.declared.verdicts.GameFault.TheVariants as game
-use Rattle.engine.specs.Verdicts.{IsGame, Exceeds, HasNoDealBy, IsOpenGame}
+use Rattle.engine.specs.declared.verdicts.Verdict.TheVariants as verdict
+use Rattle.engine.specs.Judging.{IsJudged}
+use Rattle.engine.specs.Verdicts.{IsGame, Exceeds, IsUnsettled, HasNoDealBy}
 
 -- what is found of a game whose racks exceed a bound
 abbrev pub past_bound : DealFault → Finding
@@ -32,12 +34,16 @@ IsFaulty rules list events line game.RackTooBig = Exceeds rules list events (dea
 IsFaulty rules list events line (game.TilesShort kind) = Exceeds rules list events (deal.TilesShort line kind)
 IsFaulty rules list events line game.NoDeal = HasNoDealBy rules list events line
 
--- What is found of a record, by the words of a list: what the settled verdict says of it.
+-- some event stands in a record
+abbrev pub HasEvents : Record → Type 0
+HasEvents r = r.events ≡ [] → ⊥
+
+-- What is found of a record, by the words of a list: that it has no event, or what the settled verdict says of it.
 abbrev pub IsFinding : Rules → (list : List (List ℕ)) → Record → Finding → Type 0
 IsFinding rules list r finding.NoGame = r.events ≡ []
-IsFinding rules list r (finding.Legal complete) = IsGame rules list r.events × (complete ≡ is_finished rules r.events)
-IsFinding rules list r (finding.Illegal line fault) = IsFaulty rules list r.events line fault
-IsFinding rules list r finding.Unsettled = IsOpenGame rules list r.events
+IsFinding rules list r (finding.Legal complete) = HasEvents r × IsGame rules list r.events × (complete ≡ is_finished rules r.events)
+IsFinding rules list r (finding.Illegal line fault) = HasEvents r × IsFaulty rules list r.events line fault
+IsFinding rules list r finding.Unsettled = HasEvents r × IsUnsettled rules list r.events
 
 -- whether the event at a place, from 0, is a play that stands with a word that is not in the list
 abbrev pub has_unlisted : Rules → (list : List (List ℕ)) → List Event → (place : ℕ) → Bool
@@ -69,7 +75,10 @@ IsEntryOf rules list text (Err fault) = record_of text ≡ Err fault
 
 -- ---- laws
 
--- That a game is illegal means that the record is no game; and without an exchange a game is settled.
+-- That a game is illegal means that the record is no game; without an exchange a game is settled; and what is legal by the deal
+-- of the rule is found legal.
 pub record FindingsDecide : Type 0 where
   pub illegal : (rules : Rules) (list : List (List ℕ)) (r : Record) (line : ℕ) (fault : GameFault) → IsFinding rules list r (finding.Illegal line fault) → IsGame rules list r.events → ⊥
   pub settled : (rules : Rules) (list : List (List ℕ)) (r : Record) → IsFinding rules list r finding.Unsettled → HaveNoExchange r.events → ⊥
+  pub legal : (rules : Rules) (list : List (List ℕ)) (r : Record) (complete : Bool) (report : List ℕ) → IsJudged rules list r (verdict.Legal complete) report → HasEvents r
+      → (f : Finding) → IsFinding rules list r f → f ≡ finding.Legal complete

@@ -12,7 +12,7 @@ use Rattle.engine.specs.declared.verdicts.Verdict.{Verdict}
 use Rattle.engine.specs.declared.verdicts.Verdict.TheVariants as verdict
 use Rattle.engine.specs.Judging.{IsLegal, IsRefused, IsPastBound, IsLeftOpen, IsToldBound, IsJudged}
 use Rattle.engine.specs.OwnVerdicts.{own_as, illegal_own, refused_own}
-use Rattle.engine.specs.Settling.{IsSettledLegal, IsUndealt, IsStillOpen, IsSettled, IsJudgedBy}
+use Rattle.engine.specs.Settling.{IsSettledLegal, IsUndealt, IsSettled, IsJudgedBy}
 use Rattle.engine.specs.Telling.{IsOwn}
 
 pub legal_own : (complete : Bool) → IsOwn (verdict.Legal complete)
@@ -44,16 +44,16 @@ settled_own : (rules : Rules) (words : List (List ℕ)) (r : Record) (v : Verdic
 settled_own rules words r v report is =
     ⊎_elim
     (λ (legal : IsSettledLegal rules words r v report). own_as v (verdict.Legal (is_finished rules r.events)) legal.told.verdict_is (legal_own (is_finished rules r.events)))
-    (λ (rest : IsRefused rules words r v report ⊎ IsPastBound rules words r v report ⊎ IsUndealt rules words r v report ⊎ IsStillOpen rules words r v report).
+    (λ (rest : IsRefused rules words r v report ⊎ IsPastBound rules words r v report ⊎ IsUndealt rules words r v report ⊎ IsLeftOpen rules words r v report).
     ⊎_elim
     (λ (refused : IsRefused rules words r v report). refused_own rules words r v report refused)
-    (λ (others : IsPastBound rules words r v report ⊎ IsUndealt rules words r v report ⊎ IsStillOpen rules words r v report).
+    (λ (others : IsPastBound rules words r v report ⊎ IsUndealt rules words r v report ⊎ IsLeftOpen rules words r v report).
     ⊎_elim
     (λ (past : IsPastBound rules words r v report). bound_own past.bound v report past.told)
-    (λ (last : IsUndealt rules words r v report ⊎ IsStillOpen rules words r v report).
+    (λ (last : IsUndealt rules words r v report ⊎ IsLeftOpen rules words r v report).
     ⊎_elim
     (λ (none : IsUndealt rules words r v report). own_as v (verdict.Illegal none.line game.NoDeal) none.told.verdict_is (illegal_own none.line game.NoDeal))
-    (λ (left : IsStillOpen rules words r v report). own_as v verdict.Unsettled left.told.verdict_is unsettled_own)
+    (λ (left : IsLeftOpen rules words r v report). own_as v verdict.Unsettled left.told.verdict_is unsettled_own)
     last)
     others)
     rest)

@@ -30,9 +30,9 @@ AreTried passed (trial.PastBound bound) = bound_in passed ≡ Some bound
 AreTried passed trial.Open = IsUndealtByRule passed
 
 -- A deal fits, or a bound is exceeded, or no racks fit the steps up to a line; or neither a deal nor a proof that there is none
--- was found, and that only where tiles were exchanged.
+-- was found, and that only where the deal of the rule does not fit and tiles were exchanged.
 abbrev pub AreFound : Passed → RackFinding → Type 0
 AreFound passed rack.Dealt = HasDeal passed
 AreFound passed (rack.PastBound bound) = bound_in passed ≡ Some bound
 AreFound passed (rack.NoDeal line) = IsBounded passed × EndsOnLine passed line
-AreFound passed rack.Unknown = IsBounded passed × (HaveNoExchange (record_in passed).events → ⊥)
+AreFound passed rack.Unknown = IsUndealtByRule passed

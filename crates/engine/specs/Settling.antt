@@ -1,5 +1,5 @@
 -- The settled verdict on the inputs of a game: by any deal that is found, or by a proof that there is none.
-use Rattle.std.specs.Prelude.{◌⊎◌, ℕ, List}
+use Rattle.std.specs.Prelude.{◌≡◌, ◌⊎◌, ℕ, Bool, List}
 use Rattle.ref_tiles.specs.declared.rulebook.Rules.{Rules}
 use Rattle.gcg_read.specs.declared.records.Record.{Record}
 use Rattle.engine.specs.declared.judging.Judging.{Judging}
@@ -8,11 +8,11 @@ use Rattle.engine.specs.declared.verdicts.GameFault.TheVariants as game
 use Rattle.engine.specs.declared.verdicts.Verdict.{Verdict}
 use Rattle.engine.specs.declared.verdicts.Verdict.TheVariants as verdict
 use Rattle.engine.specs.Headlines.{MeansLegal, MeansNoGame}
-use Rattle.engine.specs.Judging.{IsToldLegal, IsRefused, IsPastBound, IsJudged}
+use Rattle.engine.specs.Judging.{IsToldLegal, IsRefused, IsPastBound, IsLeftOpen, IsJudged}
 use Rattle.engine.specs.Reading.{ReadsNoMore, ReadsList, ReadsLexicon, ReadsRecord, ReadsRules}
-use Rattle.engine.specs.Reports.{illegal_line, unsettled_line}
+use Rattle.engine.specs.Reports.{illegal_line}
 use Rattle.engine.specs.Telling.{IsTold}
-use Rattle.engine.specs.Verdicts.{IsGame, HasNoDealBy, IsOpenGame}
+use Rattle.engine.specs.Verdicts.{IsGame, HasNoDealBy}
 
 -- the record is a game, and that it is legal is told
 pub record IsSettledLegal (rules : Rules) (words : List (List ℕ)) (r : Record) (v : Verdict) (report : List ℕ) : Type 0 where
@@ -25,16 +25,12 @@ pub record IsUndealt (rules : Rules) (words : List (List ℕ)) (r : Record) (v :
   pub ends : HasNoDealBy rules words r.events line
   pub told : IsTold (verdict.Illegal line game.NoDeal) (illegal_line line game.NoDeal) v report
 
--- neither a deal nor a proof that there is none was found, and that is told
-pub record IsStillOpen (rules : Rules) (words : List (List ℕ)) (r : Record) (v : Verdict) (report : List ℕ) : Type 0 where
-  pub left : IsOpenGame rules words r.events
-  pub told : IsTold verdict.Unsettled unsettled_line v report
-
--- what is answered on a record, by the words of a list
+-- What is answered on a record, by the words of a list. A record is left open only where the deal of the rule does not fit, and
+-- no bound is exceeded.
 abbrev pub IsSettled : Rules → (words : List (List ℕ)) → Record → Verdict → (report : List ℕ) → Type 0
 IsSettled rules words r v report =
     IsSettledLegal rules words r v report ⊎ IsRefused rules words r v report ⊎ IsPastBound rules words r v report ⊎ IsUndealt rules words r v report
-    ⊎ IsStillOpen rules words r v report
+    ⊎ IsLeftOpen rules words r v report
 
 -- the same by the deal of the rule of completion alone, or by a search
 abbrev pub IsJudgedBy : Judging → Rules → (words : List (List ℕ)) → Record → Verdict → (report : List ℕ) → Type 0
@@ -54,6 +50,12 @@ IsSettledByText = ReadsRules IsSettledBy
 -- that a game is legal means what the headline says, whichever deal was found
 abbrev pub SettledLegalMeansLegal : Type 0
 SettledLegalMeansLegal = MeansLegal IsSettledBy
+
+-- what is legal by the deal of the rule is legal where a deal is searched for
+abbrev pub LegalStaysLegal : Type 0
+LegalStaysLegal =
+    (rules : Rules) (words : List (List ℕ)) (r : Record) (complete : Bool) (report : List ℕ) → IsJudged rules words r (verdict.Legal complete) report
+    → (v : Verdict) (settled : List ℕ) → IsSettled rules words r v settled → v ≡ verdict.Legal complete
 
 -- that it is illegal means that the record is no game by the words of the list
 abbrev pub SettledIllegalMeansNoGame : Type 0

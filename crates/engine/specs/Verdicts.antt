@@ -46,10 +46,3 @@ pub record HasNoDealBy (rules : Rules) (list : List (List ℕ)) (events : List E
   pub stands : slice_get events place ≡ Some event
   pub on_line : event.line ≡ line
   pub undealt : HasNoDeal rules (take (place + 1) (steps_of rules events))
-
--- Every event is allowed and no bound is exceeded, but neither a deal nor a proof that there is none was found. That is so of
--- records with an exchange alone.
-pub record IsOpenGame (rules : Rules) (list : List (List ℕ)) (events : List Event) : Type 0 where
-  pub allowed : AreAllowed rules list events
-  pub bounded : first_bound rules (steps_of rules events) ≡ None
-  pub exchanged : HaveNoExchange events → ⊥

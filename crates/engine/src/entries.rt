@@ -53,7 +53,7 @@ fn past_bound(bound: &DealFault) -> Finding
 }
 
 /// What is found of a record that passed, or that it has no event.
-#[tactic(auto, using(crate::proofs::FoundGames::by_deal, crate::proofs::FoundGames::past, crate::proofs::Settled::ends_on, crate::proofs::Settled::open_game))]
+#[tactic(auto, using(crate::proofs::FoundGames::by_deal, crate::proofs::FoundGames::past, crate::proofs::FoundGames::out, crate::proofs::FoundGames::unknown))]
 fn find_passed(alloc: Global, passed: &Passed<'_>) -> Result<Finding, AllocError>
     requires { AreAllowed (rules_in passed.now) (list_in passed.now) (record_in passed.now).events }
     ensures { IfOk result (IsFinding (rules_in passed.now) (list_in passed.now) (record_in passed.now)) }
@@ -111,7 +111,7 @@ fn allowed(alloc: Global, passed: &Passed<'_>) -> Result<Found, AllocError>
 }
 
 /// What is found of a record, by the list of a pair.
-#[tactic(auto, using(crate::proofs::FoundGames::not_allowed))]
+#[tactic(auto, using(crate::proofs::FoundGames::not_allowed, crate::proofs::FoundGames::refused))]
 fn find(
     alloc: Global,
     rules: &Rules,

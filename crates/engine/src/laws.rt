@@ -1,7 +1,7 @@
 //! The headline, and what conversion keeps. The functions do nothing: their contracts are the laws.
 ghost use Rattle.engine.specs.Archiving.{FindingsDecide};
 ghost use Rattle.engine.specs.Converting.{StaysLexicon};
-ghost use Rattle.engine.specs.Settling.{SettledLegalMeansLegal, SettledIllegalMeansNoGame};
+ghost use Rattle.engine.specs.Settling.{SettledLegalMeansLegal, SettledIllegalMeansNoGame, LegalStaysLegal};
 ghost use Rattle.engine.specs.Headlines.{LegalMeansLegal, LegalMeansLegalByText, IllegalMeansNoGame, PlainGamesAreDecided};
 
 use deal_cuts::law_of_fronts;
@@ -57,8 +57,16 @@ pub fn law_of_undealt_games()
     law_of_fronts();
 }
 
-/// What an entry of an archive means where it says illegal: the record is no game by the words of the list. And of a record
-/// without an exchange it never says unsettled.
+/// What [`run`](crate::run) finds legal, [`run_settled`](crate::run_settled) finds legal too: a search never loses the deal of the
+/// rule of completion.
+pub fn law_of_legal_games()
+    ensures { LegalStaysLegal }
+{
+    law_of_fronts();
+}
+
+/// What an entry of an archive means where it says illegal: the record is no game by the words of the list. Of a record without
+/// an exchange it never says unsettled; and of a record with an event that [`run`](crate::run) finds legal it says so too.
 #[tactic(auto, using(crate::proofs::FoundGames::findings_decide))]
 pub fn law_of_findings()
     ensures { FindingsDecide }

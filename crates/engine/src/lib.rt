@@ -59,8 +59,8 @@ pub use game_turns::{Passed, play_through};
 pub use games::{decide_by_pair, decide_by_rules, decide_game};
 pub use judging::Judging;
 pub use laws::{
-    law_of_conversions, law_of_findings, law_of_illegal, law_of_legal, law_of_plain_games,
-    law_of_ruled_games, law_of_settled_games, law_of_undealt_games,
+    law_of_conversions, law_of_findings, law_of_illegal, law_of_legal, law_of_legal_games,
+    law_of_plain_games, law_of_ruled_games, law_of_settled_games, law_of_undealt_games,
 };
 pub use lexicons::{LexiconFault, pair_file, read_lexicon};
 pub use meanings::{

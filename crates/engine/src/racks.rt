@@ -3,7 +3,7 @@ ghost use Rattle.std.specs.Prelude.{◌≡◌, ◌↔◌, IsTrue, IfOk, None};
 ghost use Rattle.game_turns.specs.Passing.{rules_in, record_in};
 ghost use Rattle.deal_steps.specs.Bounds.{first_bound};
 ghost use Rattle.game_deal.specs.{Bounded.{IsBounded}, Plain.{HaveNoExchange}, Recorded.{steps_of}, Stepping.{passed_in}};
-ghost use Rattle.engine.specs.Racks.{AreTried, AreFound};
+ghost use Rattle.engine.specs.Racks.{IsUndealtByRule, AreTried, AreFound};
 ghost use Rattle.engine.specs.Verdicts.{IsDealt};
 
 use game_deal::{DealFault, Settled, Steps, bounds, complete_deal, fits, settle};
@@ -33,7 +33,8 @@ pub enum RackFinding {
         /// The line, counted from 1.
         line: u32,
     },
-    /// Neither a deal nor a proof that there is none was found.
+    /// The deal of the rule of completion does not yield the racks, and a search found neither a deal nor a proof that there is
+    /// none.
     Unknown,
 }
 
@@ -76,11 +77,10 @@ pub fn try_racks(alloc: Global, passed: &Passed<'_>) -> Result<RackTrial, AllocE
     try_steps(alloc, &steps)
 }
 
-/// What a search finds of racks that exceed no bound.
+/// What a search finds of racks that exceed no bound, and that the deal of the rule does not yield.
 #[tactic(auto, using(crate::proofs::Settled::found_deal))]
 fn search_racks(alloc: Global, steps: &Steps<'_>) -> Result<RackFinding, AllocError>
-    requires bounded { IsBounded (passed_in steps.now) }
-    requires exchanged { HaveNoExchange (record_in (passed_in steps.now)).events → ⊥ }
+    requires { IsUndealtByRule (passed_in steps.now) }
     ensures { IfOk result (AreFound (passed_in steps.now)) }
 {
     match settle(alloc, steps)? {

@@ -1,6 +1,6 @@
 use Rattle.std.proofs.Common.{rules}
-use Rattle.engine.proofs.Settled.{open_game}
+use Rattle.engine.proofs.FoundGames.{unknown}
 use Rattle.engine.proofs.entries.find_passed.Goals as goal
 
 pub returns-in-Unknown : goal.returns-in-Unknown
-returns-in-Unknown c = search (open_game, rules)
+returns-in-Unknown c = search (unknown, rules)
