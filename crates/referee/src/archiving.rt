@@ -1,6 +1,5 @@
 //! `archive`: many games by one word list and one lexicon, which are read once, and a line for each.
 
-use crate::command_line::{Archive, ArchiveNames, Progressing};
 use crate::digests::read_digested;
 use crate::files::open;
 use crate::inputs::{Inputs, open_inputs, refuse, write};
@@ -9,6 +8,7 @@ use crate::pages::{Pages, unread_by};
 use crate::progress::Progress;
 use crate::sources::{Source, open_source, shown};
 use archive_lines::{Fields, PageField, Unread, push_json_line, push_tab_line};
+use command_line::{Archive, ArchiveNames, Progressing};
 use devices::FromRead;
 use either::Either;
 use engine::{archive_entry, pair_file};

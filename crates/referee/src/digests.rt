@@ -1,9 +1,8 @@
 //! Inputs with the SHA-256 of their bytes, which pages tell.
 
-use crate::command_line::{PairFiles, WordsFile};
-use crate::commands::PROGRAM;
 use crate::inputs::{Inputs, lexicon_of};
 use crate::sources::shown;
+use command_line::{PROGRAM, PairFiles, WordsFile};
 use devices::FromRead;
 use digesting::Digesting;
 use engine::{Decision, RunFault, read_list, read_rules};

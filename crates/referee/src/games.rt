@@ -2,10 +2,10 @@
 ghost use Rattle.std.specs.Prelude.{IfOk, IfSome};
 ghost use Rattle.devices.specs.Devices.{HasRoom};
 
-use crate::command_line::{GameFiles, PlaysAsked};
 use crate::counted::Counted;
 use crate::files::{InputFile, STANDARD_OUTPUT, open, told, used, used_rules, used_source};
 use crate::sources::{Source, Words, open_source, open_words, shown};
+use command_line::{GameFiles, PlaysAsked};
 use devices::{FromRead, FromWrite, Input, Output};
 use engine::{
     MOST_PLAYS, RunFault, Verdict, run, run_board, run_board_ruled, run_ruled, run_settled,
@@ -19,6 +19,9 @@ use std::rt::{Files, Runtime};
 
 /// How long the report of a legal game without events is.
 const WITHOUT_EVENTS: u64 = b"legal unfinished\n".len() as u64;
+
+/// No more plays are asked for than the engine gives.
+const _: () = prove!(command_line::MOST_PLAYS as usize == MOST_PLAYS);
 
 /// How many plays are printed where no number is asked for.
 const USUAL_PLAYS: u32 = 10;

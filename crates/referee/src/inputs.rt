@@ -1,8 +1,8 @@
 //! The inputs that games are judged by: rules, a word list and its lexicon, which are opened and read once.
 
-use crate::command_line::PairFiles;
 use crate::files::{STANDARD_OUTPUT, open};
 use crate::sources::{Source, open_source, shown};
+use command_line::PairFiles;
 use devices::{FromRead, FromWrite, write_whole};
 use engine::{Decision, read_lexicon, read_list, read_rules};
 use exit_statuses::{Exit, Trouble};

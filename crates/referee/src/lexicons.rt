@@ -1,8 +1,8 @@
 //! The commands that keep the lexicon of a word list.
 
-use crate::command_line::{PairFiles, WordsFile};
 use crate::files::{STANDARD_OUTPUT, create, open, told, used, used_source};
 use crate::sources::open_words;
+use command_line::{PairFiles, WordsFile};
 use devices::{FromRead, FromWrite};
 use engine::{Verdict, run_build, run_check, run_convert};
 use exit_statuses::Trouble;

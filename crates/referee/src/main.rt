@@ -5,8 +5,6 @@
 
 mod archiving;
 mod auditing;
-mod command_line;
-mod commands;
 mod counted;
 mod digests;
 mod explaining;

@@ -1,10 +1,10 @@
 //! `page`: the page of a game.
 
-use crate::command_line::GameFiles;
 use crate::digests::read_digested;
 use crate::files::create;
 use crate::inputs::{open_inputs, refuse, write};
 use crate::sources::{open_source, shown};
+use command_line::GameFiles;
 use devices::{FromRead, FromWrite, write_whole};
 use engine::{case_line, open_case, pair_file, record_from};
 use exit_statuses::{Exit, Trouble};

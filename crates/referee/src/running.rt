@@ -1,7 +1,6 @@
 //! What the program does: it takes the command line for a request, has it done, and says what kept it from its end.
 
 use crate::archiving::archive;
-use crate::command_line::{Request, mistake, parse_arguments};
 use crate::files::STANDARD_OUTPUT;
 use crate::games::{board, judge, tidy, top};
 use crate::lexicons::{build, check, convert};
@@ -9,6 +8,7 @@ use crate::paging::page;
 use crate::sheets::{SheetTask, answer_sheet};
 use clap::Error;
 use clap::error::ErrorKind;
+use command_line::{Request, mistake, parse_arguments};
 use engine::Verdict;
 use exit_statuses::{Exit, Trouble};
 use std::alloc::AllocError;

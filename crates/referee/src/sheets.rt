@@ -1,10 +1,10 @@
 //! The commands that are about one sheet, by rules, a word list and its lexicon that are read before its record.
 
 use crate::auditing::tell_audit;
-use crate::command_line::GameFiles;
 use crate::explaining::tell_case;
 use crate::inputs::{Inputs, lexicon_of, list_of, open_inputs, refuse, rules_of};
 use crate::sources::{Source, fields_of, open_source, shown};
+use command_line::GameFiles;
 use devices::FromRead;
 use engine::{audit_sheet, open_case, pair_file};
 use exit_statuses::{Exit, Trouble};

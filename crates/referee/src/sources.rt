@@ -1,15 +1,12 @@
 //! The word lists and records of a command line: files, or standard input.
 
-use crate::command_line::WordsFile;
 use crate::files::open;
+use command_line::{STANDARD_INPUT, WordsFile};
 use either::Either;
 use exit_statuses::Trouble;
 use first_fields::FirstFields;
 use std::io::{Input, Read};
 use std::rt::{Files, Runtime};
-
-/// The name of standard input on the command line.
-pub const STANDARD_INPUT: &str = "-";
 
 /// A file, or standard input.
 pub type Source<R> = Either<<R as Files>::File, <R as Input>::Reader>;

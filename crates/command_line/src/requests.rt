@@ -1,22 +1,13 @@
-//! The command line: the commands that the program knows, and what one asks for.
+//! What a command line asks for.
 
-use crate::commands::{
-    ARCHIVE, AUDIT, BOARD, BUILD, CHECK, CONVERT, CommandText, EXPLAIN, JUDGE, PAGE, SHORT_VERSION,
-    TIDY, TOP, VERSION,
-};
-use crate::sources::STANDARD_INPUT;
-use clap::builder::ValueParser;
+use crate::commands::{FIRST_FIELD, command};
 use clap::error::ErrorKind;
-use clap::{Arg, ArgAction, ArgMatches, Command, Error, value_parser};
-use engine::MOST_PLAYS;
+use clap::{ArgMatches, Error};
 use lex_file::Format;
 use std::alloc::{AllocError, Global};
 
-/// The name of the option by which the first field of each line of a word list is read.
-const FIRST_FIELD: &str = "first-field";
-
-/// The names of the formats of a lexicon.
-const FORMATS: [&str; 2] = ["gad1", "gad2"];
+/// The name of standard input on the command line.
+pub const STANDARD_INPUT: &str = "-";
 
 /// A word list, and how its lines are read.
 #[derive(Clone, Copy)]
@@ -188,235 +179,6 @@ pub fn mistake(alloc: Global, text: &str) -> Error {
     }
 }
 
-/// The commands that the program knows.
-fn command<'a>(alloc: Global) -> Result<Command<'a>, AllocError> {
-    Command::new(alloc, "referee")
-        .about("Judges a game of Scrabble from its GCG record")
-        .version(SHORT_VERSION)
-        .long_version(VERSION)
-        .subcommand_required(true)
-        .subcommand(judge_command(alloc)?)?
-        .subcommand(archive_command(alloc)?)?
-        .subcommand(audit_command(alloc)?)?
-        .subcommand(explain_command(alloc)?)?
-        .subcommand(page_command(alloc)?)?
-        .subcommand(build_command(alloc)?)?
-        .subcommand(check_command(alloc)?)?
-        .subcommand(convert_command(alloc)?)?
-        .subcommand(top_command(alloc)?)?
-        .subcommand(tidy_command(alloc)?)?
-        .subcommand(board_command(alloc)?)
-}
-
-/// A command that reads a word list, with its name.
-fn words_command<'a>(alloc: Global, text: &CommandText) -> Result<Command<'a>, AllocError> {
-    text.command(alloc)
-        .arg(name(alloc, "WORDS", "the word list; - is standard input"))
-}
-
-/// A command about one game, with the names of its files.
-fn game_command<'a>(alloc: Global, text: &CommandText) -> Result<Command<'a>, AllocError> {
-    words_command(alloc, text)?
-        .arg(name(alloc, "LEXICON", "the lexicon file of the words"))?
-        .arg(name(alloc, "GAME", "the GCG record; - is standard input"))
-}
-
-/// A command about one game with one more argument, and the options by which its words and its rules are read.
-fn judging_command<'a>(
-    alloc: Global,
-    text: &CommandText,
-    more: Arg<'a>,
-) -> Result<Command<'a>, AllocError> {
-    with_input_options(alloc, game_command(alloc, text)?.arg(more)?)
-}
-
-/// A command with the options by which its words and its rules are read.
-fn with_input_options<'a>(alloc: Global, command: Command<'a>) -> Result<Command<'a>, AllocError> {
-    command
-        .arg(first_field_option(alloc))?
-        .arg(rules_option(alloc))
-}
-
-/// `judge [--first-field] [--settle] [--rules FILE] WORDS LEXICON GAME`.
-fn judge_command<'a>(alloc: Global) -> Result<Command<'a>, AllocError> {
-    let settle = flag(
-        alloc,
-        "settle",
-        "search for a deal, or a proof that there is none, where the game would be unsettled",
-    );
-    judging_command(alloc, &JUDGE, settle)
-}
-
-/// `archive [--first-field] [--rules FILE] [--names FILE] [--json] [--pages FOLDER] [--progress|--quiet] WORDS LEXICON [GAME...]`.
-fn archive_command<'a>(alloc: Global) -> Result<Command<'a>, AllocError> {
-    let command = words_command(alloc, &ARCHIVE)?
-        .arg(name(alloc, "LEXICON", "the lexicon file of the words"))?
-        .arg(
-            Arg::new(alloc, "GAME")
-                .action(ArgAction::Append)
-                .num_args(1..)
-                .required_unless_present("names")?
-                .conflicts_with("names")?
-                .help("the GCG records; - is standard input"),
-        )?
-        .arg(option(
-            alloc,
-            "names",
-            "FILE",
-            "the names of the records, one a line; - is standard input",
-        ))?
-        .arg(flag(alloc, "json", "write each line as a JSON object"))?
-        .arg(option(
-            alloc,
-            "pages",
-            "FOLDER",
-            "write a page of each game, and their index, to this folder",
-        ))?
-        .arg(flag(
-            alloc,
-            "progress",
-            "show on standard error how many games are done",
-        )
-        .conflicts_with("quiet")?)?
-        .arg(flag(alloc, "quiet", "do not show how many games are done"))?;
-    with_input_options(alloc, command)
-}
-
-/// `audit [--first-field] [--rules FILE] [--corrected OUT] WORDS LEXICON GAME`.
-fn audit_command<'a>(alloc: Global) -> Result<Command<'a>, AllocError> {
-    let corrected = option(
-        alloc,
-        "corrected",
-        "OUT",
-        "write the corrected record to this file, where nothing else is wrong",
-    );
-    judging_command(alloc, &AUDIT, corrected)
-}
-
-/// `explain [--first-field] [--rules FILE] WORDS LEXICON GAME [LINE]`.
-fn explain_command<'a>(alloc: Global) -> Result<Command<'a>, AllocError> {
-    let line = Arg::new(alloc, "LINE")
-        .value_parser(value_parser!(u32))
-        .help(
-            "the line of the record to be explained, counted from 1; without it the one that the verdict names",
-        );
-    judging_command(alloc, &EXPLAIN, line)
-}
-
-/// `page [--first-field] [--rules FILE] WORDS LEXICON GAME OUT`.
-fn page_command<'a>(alloc: Global) -> Result<Command<'a>, AllocError> {
-    let out = name(alloc, "OUT", "the page to be written, or emptied first");
-    judging_command(alloc, &PAGE, out)
-}
-
-/// The name of the lexicon file that a command writes.
-fn lexicon_out<'a>(alloc: Global) -> Arg<'a> {
-    name(
-        alloc,
-        "OUT",
-        "the lexicon file to be written, or emptied first",
-    )
-}
-
-/// `build [--first-field] WORDS OUT`.
-fn build_command<'a>(alloc: Global) -> Result<Command<'a>, AllocError> {
-    words_command(alloc, &BUILD)?
-        .arg(lexicon_out(alloc))?
-        .arg(first_field_option(alloc))
-}
-
-/// `check [--first-field] WORDS LEXICON`.
-fn check_command<'a>(alloc: Global) -> Result<Command<'a>, AllocError> {
-    words_command(alloc, &CHECK)?
-        .arg(name(alloc, "LEXICON", "the lexicon file"))?
-        .arg(first_field_option(alloc))
-}
-
-/// `convert FORMAT LEXICON OUT`.
-fn convert_command<'a>(alloc: Global) -> Result<Command<'a>, AllocError> {
-    CONVERT
-        .command(alloc)
-        .arg(name(alloc, "FORMAT", "the format").value_parser(FORMATS.as_slice()))?
-        .arg(name(alloc, "LEXICON", "the lexicon file"))?
-        .arg(lexicon_out(alloc))
-}
-
-/// `top [--first-field] [--rules FILE] [--number N] [--before LINE] WORDS LEXICON GAME [RACK]`.
-fn top_command<'a>(alloc: Global) -> Result<Command<'a>, AllocError> {
-    let command = game_command(alloc, &TOP)?
-        .arg(
-            Arg::new(alloc, "RACK")
-                .required_unless_present("before")?
-                .help("1 to 7 tiles: A to Z, and ? for a blank; without it, the rack of LINE"),
-        )?
-        .arg(option(
-            alloc,
-            "number",
-            "N",
-            "how many plays are printed at the most, 1 to 100; 10 without it",
-        )
-        .value_parser(ValueParser::Unsigned(1, MOST_PLAYS as u64)))?
-        .arg(before_option(alloc))?;
-    with_input_options(alloc, command)
-}
-
-/// `tidy GAME`.
-fn tidy_command<'a>(alloc: Global) -> Result<Command<'a>, AllocError> {
-    TIDY.command(alloc)
-        .arg(name(alloc, "GAME", "the GCG record; - is standard input"))
-}
-
-/// `board [--rules FILE] [--before LINE] GAME`.
-fn board_command<'a>(alloc: Global) -> Result<Command<'a>, AllocError> {
-    BOARD
-        .command(alloc)
-        .arg(name(alloc, "GAME", "the GCG record; - is standard input"))?
-        .arg(before_option(alloc))?
-        .arg(rules_option(alloc))
-}
-
-/// The option that names a line of the record.
-fn before_option<'a>(alloc: Global) -> Arg<'a> {
-    option(
-        alloc,
-        "before",
-        "LINE",
-        "the line of the record before which the board is taken, counted from 1",
-    )
-    .value_parser(value_parser!(u32))
-}
-
-/// An argument that the command needs.
-fn name<'a>(alloc: Global, name: &'a str, help: &'a str) -> Arg<'a> {
-    Arg::new(alloc, name).required(true).help(help)
-}
-
-/// An option without a value.
-fn flag<'a>(alloc: Global, name: &'a str, help: &'a str) -> Arg<'a> {
-    Arg::new(alloc, name)
-        .long(name)
-        .action(ArgAction::SetTrue)
-        .help(help)
-}
-
-/// An option with a value, which help calls by the name `value`.
-fn option<'a>(alloc: Global, name: &'a str, value: &'a str, help: &'a str) -> Arg<'a> {
-    Arg::new(alloc, name)
-        .long(name)
-        .value_name(value)
-        .help(help)
-}
-
-/// The option that names a rules text.
-fn rules_option<'a>(alloc: Global) -> Arg<'a> {
-    option(
-        alloc,
-        "rules",
-        "FILE",
-        "the rules text; without it the rules are the English ones",
-    )
-}
-
 /// Whether more than one of the names in a command line is that of standard input.
 fn reads_twice(matches: &ArgMatches<'_>) -> bool {
     let Some((_, names)) = matches.subcommand() else {
@@ -566,15 +328,6 @@ fn game_files<'a>(names: &ArgMatches<'a>) -> Option<GameFiles<'a>> {
         pair: pair_files(names)?,
         game: names.get_str("GAME")?,
     })
-}
-
-/// The option by which the first field of each line of a word list is read.
-fn first_field_option<'a>(alloc: Global) -> Arg<'a> {
-    flag(
-        alloc,
-        FIRST_FIELD,
-        "read the first field of each line of WORDS, and ignore lines that begin with #",
-    )
 }
 
 /// The format of this name.

@@ -1,0 +1,11 @@
+//! The command line of the program: the commands that it knows, what help says of each, and what a line of arguments asks for.
+#![tactic(auto)]
+
+mod commands;
+mod requests;
+
+pub use commands::{MOST_PLAYS, PROGRAM};
+pub use requests::{
+    Archive, ArchiveNames, GameFiles, PairFiles, PlaysAsked, Progressing, Request, STANDARD_INPUT,
+    WordsFile, mistake, parse_arguments,
+};
