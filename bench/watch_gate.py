@@ -1,85 +1,119 @@
 #!/usr/bin/env python3
-"""What the gate costs, crate by crate, in seconds of processor time (user and system): watch_gate.py [COMMAND..]
+"""What the gate costs, crate by crate, in seconds of processor time (user and system).
 
-It runs the command, `rt ci` where none is named, at the top of the repository, and looks at the processes of the prover while it
-runs: each names its crate, a check of tests is told by its flag, and a check of an edit by the folder that it runs in. Behind the
-command's own output it prints a table with a row for each crate, and the processor time and the time of the whole. What a process
-takes between the last look and its end is not seen: two looks are a tenth of a second apart.
+  watch_gate.py [COMMAND..]         runs the command, `.ci/run` where none is named, watches it and prints the table
+  watch_gate.py --watch-only END    watches all runs of rt on the machine until the process of number END has ended or the file END exists
+  watch_gate.py --table             prints the table, in Markdown
+All keep what they saw in --into FILE and add to what it holds, so a gate may run in pieces. One watcher at a time writes to a file.
+--of FOLDER, which may be repeated, makes the table of runs in these folders alone. Where several runs did a part of a crate, the dearest
+counts: the others were cut short or began with what was kept. The rest is what other processes below rt and oracle/gate.sh took.
 """
+import argparse
+import contextlib
+import json
 import os
 import re
-import resource
 import subprocess
 import sys
+import tempfile
 import time
 from collections import defaultdict
 from pathlib import Path
 
-TICK = os.sysconf("SC_CLK_TCK")
-COLUMNS = ("proof", "tests", "edits")
+TOP = Path(__file__).resolve().parent.parent
 
 
-def part_of(process):
-    """The crate that a process of the prover works on, and which part of its gate; none of other processes."""
-    try:
-        words = (process / "cmdline").read_bytes().decode(errors="replace").split("\0")
-        if not words[0].endswith("rattle") or "--crate-name" not in words:
-            return None
-        folder = os.readlink(process / "cwd")
-    except OSError:
-        return None
-    crate = words[words.index("--crate-name") + 1]
-    if re.search(r"/rt-edit-[^/]*$", folder):
-        return crate, "edits"
-    return crate, "tests" if "--test" in words else "proof"
-
-
-def time_of(process):
-    """The processor time of a process so far, and when it began, which tells it from a later one of its number."""
-    try:
-        fields = (process / "stat").read_text().rpartition(")")[2].split()
-    except OSError:
-        return None
-    return fields[19], (int(fields[11]) + int(fields[12])) / TICK
-
-
-def look(seen, parts):
-    """Looks at all processes once."""
+def all_processes():
+    """Of each process its key, which no later one has, its parent, its processor time so far, its command line and its folder."""
+    found = {}
     for process in Path("/proc").glob("[0-9]*"):
-        told = time_of(process)
-        if told is None:
-            continue
-        key = process.name, told[0]
-        if parts.get(key) is None:
-            parts[key] = part_of(process)
-        if parts[key]:
-            seen[key] = told[1]
+        with contextlib.suppress(OSError):
+            fields = (process / "stat").read_text().rpartition(")")[2].split()
+            words = (process / "cmdline").read_bytes().decode(errors="replace").split("\0")
+            seconds = (int(fields[11]) + int(fields[12])) / os.sysconf("SC_CLK_TCK")
+            found[process.name] = f"{process.name} {fields[19]}", fields[1], seconds, words, os.readlink(process / "cwd")
+    return found
 
 
-def report(seen, parts, took):
-    """The table, and the whole."""
-    spent = defaultdict(lambda: dict.fromkeys(COLUMNS, 0.0))
-    for key, seconds in seen.items():
-        crate, part = parts[key]
-        spent[crate][part] += seconds
-    print(f"| crate | {' | '.join(COLUMNS)} | edits in number |\n|---|---|---|---|---|")
-    for crate, row in sorted(spent.items()):
-        edits = len(list(Path("crates", crate, "must-fail").glob("*.edit")))
-        print(f"| `{crate}` | {' | '.join(f'{row[it]:.0f}' for it in COLUMNS)} | {edits} |")
-    print(f"| together | {' | '.join(f'{sum(row[it] for row in spent.values()):.0f}' for it in COLUMNS)} | |")
-    used = resource.getrusage(resource.RUSAGE_CHILDREN)
-    print(f"\n{used.ru_utime + used.ru_stime:.0f} s of processor time in all, {took:.0f} s of time, {os.cpu_count()} processors")
+def run_above(pid, processes):
+    """The run of rt or oracle/gate.sh that a process is or is below, and the folder of that run; none of other processes."""
+    while pid in processes:
+        key, parent, _, words, folder = processes[pid]
+        if any(re.search(r"(^|/)(rt|oracle/gate\.sh)$", word) for word in words[:3]):
+            return key, folder
+        pid = parent
+    return None
+
+
+def part_of(words, folder):
+    """The crate that a process works on, and which part of its gate."""
+    if not words[0].endswith("/rattle") or "--crate-name" not in words or "--only" in words:
+        return "", "rest"
+    part = "edits" if re.search(r"/rt-edit-[^/]*$", folder) else "tests" if "--test" in words else "proof"
+    return words[words.index("--crate-name") + 1], part
+
+
+def look(seen):
+    """Looks at all processes once. One that is told as the rest may still become one of the prover."""
+    processes = all_processes()
+    for pid, (key, _, seconds, words, folder) in processes.items():
+        if key not in seen or seen[key][3] == "rest":
+            if run := run_above(pid, processes):
+                seen[key] = [*run, *part_of(words, folder), 0]
+        if key in seen:
+            seen[key][4] = seconds
+
+
+def watch(seen, into, has_ended):
+    """Looks five times a second until the end has come, and writes what was seen every ten seconds and at the end."""
+    looks, ended = 0, False
+    while not ended:
+        ended, looks = has_ended(), looks + 1
+        look(seen)
+        if ended or looks % 50 == 1:
+            into.with_suffix(".new").write_text(json.dumps(seen))
+            into.with_suffix(".new").replace(into)
+        time.sleep(0.2)
+
+
+def table(seen, folders):
+    """Prints the table, and what the whole comes to."""
+    spent = defaultdict(lambda: {part: defaultdict(float) for part in ("proof", "tests", "edits")})
+    asked = [it for it in seen.values() if not folders or any(Path(it[1]).is_relative_to(folder) for folder in folders)]
+    rest = sum(seconds for _, _, crate, _, seconds in asked if not crate)
+    for run, _, crate, part, seconds in (it for it in asked if it[2]):
+        spent[crate][part][run] += seconds
+    edits = {crate: len(list((TOP / "crates" / crate / "must-fail").glob("*.edit"))) for crate in spent}
+    rows = {crate: [*(max(it.values(), default=0) for it in spent[crate].values()), edits[crate]] for crate in sorted(spent)}
+    sums = [sum(column) for column in zip(*rows.values())] or [0] * 4
+    print("| crate | proof | tests | edits | number of edits |\n|---|---|---|---|---|")
+    for crate, row in [*((f"`{crate}`", row) for crate, row in rows.items()), ("together", sums)]:
+        print(f"| {crate} | {' | '.join(f'{it:.0f}' for it in row)} |")
+    program = {"referee"}
+    for line in reversed((TOP / "crates.txt").read_text().splitlines()):  # a crate stands above those that stand on it
+        program |= set(line.split()[1:]) if line.partition(":")[0] in program else set()
+    whole, proof = sum(sums[:3]) + rest, sum(row[0] for crate, row in rows.items() if crate in program)
+    print(f"\nThe rest took {rest:.0f} s, all of it {whole:.0f} s, the edits {sums[2]:.0f} s and the proof of the program {proof:.0f} s.")
+    print(f"All of it took {whole / proof if proof else 0:.1f} times as long as the proof of the program.")
 
 
 def main():
-    os.chdir(Path(__file__).resolve().parent.parent)
-    began, seen, parts = time.time(), {}, {}
-    gate = subprocess.Popen(sys.argv[1:] or ["rt", "ci"], stdin=subprocess.DEVNULL)
-    while gate.poll() is None:
-        look(seen, parts)
-        time.sleep(0.1)
-    report(seen, parts, time.time() - began)
-    return gate.returncode
+    known = argparse.ArgumentParser(description=__doc__, formatter_class=argparse.RawDescriptionHelpFormatter)
+    known.add_argument("--into", type=Path, default=Path(tempfile.gettempdir(), "gate-times.json"), metavar="FILE")
+    known.add_argument("--of", type=lambda it: Path(it).resolve(), action="append", default=[], metavar="FOLDER")
+    known.add_argument("--watch-only", metavar="END")
+    known.add_argument("--table", action="store_true")
+    known.add_argument("command", nargs=argparse.REMAINDER)
+    asked = known.parse_args()
+    seen = json.loads(asked.into.read_text()) if asked.into.exists() else {}
+    if asked.watch_only:
+        end = asked.watch_only
+        return watch(seen, asked.into, lambda: end not in all_processes() if end.isdigit() else Path(end).exists())
+    gate = None if asked.table else subprocess.Popen(asked.command or [".ci/run"], stdin=subprocess.DEVNULL, cwd=TOP)
+    if gate:
+        watch(seen, asked.into, lambda: gate.poll() is not None)
+    table(seen, asked.of)
+    return gate and gate.returncode
 
 
 if __name__ == "__main__":
