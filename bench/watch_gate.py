@@ -101,14 +101,13 @@ def main():
     known = argparse.ArgumentParser(description=__doc__, formatter_class=argparse.RawDescriptionHelpFormatter)
     known.add_argument("--into", type=Path, default=Path(tempfile.gettempdir(), "gate-times.json"), metavar="FILE")
     known.add_argument("--of", type=lambda it: Path(it).resolve(), action="append", default=[], metavar="FOLDER")
-    known.add_argument("--watch-only", metavar="END")
+    known.add_argument("--watch-only", dest="end", metavar="END")
     known.add_argument("--table", action="store_true")
     known.add_argument("command", nargs=argparse.REMAINDER)
     asked = known.parse_args()
     seen = json.loads(asked.into.read_text()) if asked.into.exists() else {}
-    if asked.watch_only:
-        end = asked.watch_only
-        return watch(seen, asked.into, lambda: end not in all_processes() if end.isdigit() else Path(end).exists())
+    if asked.end:
+        return watch(seen, asked.into, lambda: asked.end not in all_processes() if asked.end.isdigit() else Path(asked.end).exists())
     gate = None if asked.table else subprocess.Popen(asked.command or [".ci/run"], stdin=subprocess.DEVNULL, cwd=TOP)
     if gate:
         watch(seen, asked.into, lambda: gate.poll() is not None)
