@@ -1,8 +1,9 @@
 //! What explains the verdict on a record, or one of its lines, in plain words for a director.
 //!
 //! [`push_explanation`] writes the verdict line, the line as it stands in the file, what is wrong with it, the words of a play with
-//! what each square adds, and the board before the line. Each number, square and letter comes from a proved call of the crates below;
-//! that the sentences say it well is a matter of tests. [`exit_of`] is the exit of the program.
+//! what each square adds, and the board before the line. It takes numbers, squares and letters from calls of the crates below, whose
+//! contracts are exact; that they stand at the right places, and that the sentences say it well, is a matter of tests. [`exit_of`] is the
+//! exit of the program.
 #![tactic(auto)]
 
 mod boards;

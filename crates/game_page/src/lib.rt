@@ -1,7 +1,7 @@
 //! The page of a game: one HTML file with its verdict, its board and its sheet.
 //!
-//! [`push_page`] writes the page. It has no script and loads nothing. What it has of a record goes through [`html_text::push_text`] alone;
-//! all else of its markup stands in this crate.
+//! [`push_page`] writes the page. It has no script and loads nothing. What it has of a record is written by [`html_text::push_text`] alone,
+//! and all else of its markup stands in this crate; no contract says so, and `oracle/compare_pages.py` tests it.
 #![tactic(auto)]
 
 mod banners;

@@ -1,6 +1,6 @@
 //! Text of any origin as text of an HTML page.
 //!
-//! [`push_text`] is the one way from bytes that someone else wrote into a page: of what it writes no byte is `<`, `>`, `"` or `'`, each
+//! [`push_text`] writes bytes that someone else wrote into a page: of what it writes no byte is `<`, `>`, `"` or `'`, each
 //! `&` begins one of five names, and a reader that undoes the names has the text again. Bytes that are not UTF-8 stand as U+FFFD.
 #![tactic(auto)]
 
