@@ -14,13 +14,12 @@ import json
 import os
 import re
 import subprocess
-import sys
-import tempfile
 import time
 from collections import defaultdict
 from pathlib import Path
 
 TOP = Path(__file__).resolve().parent.parent
+TICKS = os.sysconf("SC_CLK_TCK")
 
 
 def all_processes():
@@ -30,8 +29,10 @@ def all_processes():
         with contextlib.suppress(OSError):
             fields = (process / "stat").read_text().rpartition(")")[2].split()
             words = (process / "cmdline").read_bytes().decode(errors="replace").split("\0")
-            seconds = (int(fields[11]) + int(fields[12])) / os.sysconf("SC_CLK_TCK")
-            found[process.name] = f"{process.name} {fields[19]}", fields[1], seconds, words, os.readlink(process / "cwd")
+            folder = os.readlink(process / "cwd")
+            if "/rt-copy-" in folder:  # `rt ci NAME..` works in a copy of the folder that it was started in
+                folder = re.search(r"\0PWD=([^\0]*)|$", "\0" + (process / "environ").read_text(errors="replace"))[1] or folder
+            found[process.name] = f"{process.name} {fields[19]}", fields[1], sum(map(int, fields[11:13])) / TICKS, words, folder
     return found
 
 
@@ -83,8 +84,8 @@ def table(seen, folders):
     rest = sum(seconds for _, _, crate, _, seconds in asked if not crate)
     for run, _, crate, part, seconds in (it for it in asked if it[2]):
         spent[crate][part][run] += seconds
-    edits = {crate: len(list((TOP / "crates" / crate / "must-fail").glob("*.edit"))) for crate in spent}
-    rows = {crate: [*(max(it.values(), default=0) for it in spent[crate].values()), edits[crate]] for crate in sorted(spent)}
+    rows = {crate: [max(it.values(), default=0) for it in parts.values()] for crate, parts in sorted(spent.items())}
+    rows = {crate: [*row, len(list(TOP.glob(f"crates/{crate}/must-fail/*.edit")))] for crate, row in rows.items()}
     sums = [sum(column) for column in zip(*rows.values())] or [0] * 4
     print("| crate | proof | tests | edits | number of edits |\n|---|---|---|---|---|")
     for crate, row in [*((f"`{crate}`", row) for crate, row in rows.items()), ("together", sums)]:
@@ -93,13 +94,12 @@ def table(seen, folders):
     for line in reversed((TOP / "crates.txt").read_text().splitlines()):  # a crate stands above those that stand on it
         program |= set(line.split()[1:]) if line.partition(":")[0] in program else set()
     whole, proof = sum(sums[:3]) + rest, sum(row[0] for crate, row in rows.items() if crate in program)
-    print(f"\nThe rest took {rest:.0f} s, all of it {whole:.0f} s, the edits {sums[2]:.0f} s and the proof of the program {proof:.0f} s.")
-    print(f"All of it took {whole / proof if proof else 0:.1f} times as long as the proof of the program.")
+    print(f"\nThe rest: {rest:.0f} s. All of it: {whole:.0f} s, {whole / (proof or 1):.1f} times the proof of the program, {proof:.0f} s.")
 
 
 def main():
     known = argparse.ArgumentParser(description=__doc__, formatter_class=argparse.RawDescriptionHelpFormatter)
-    known.add_argument("--into", type=Path, default=Path(tempfile.gettempdir(), "gate-times.json"), metavar="FILE")
+    known.add_argument("--into", type=Path, default=Path(os.environ.get("TMPDIR", "/tmp"), "gate-times.json"), metavar="FILE")
     known.add_argument("--of", type=lambda it: Path(it).resolve(), action="append", default=[], metavar="FOLDER")
     known.add_argument("--watch-only", dest="end", metavar="END")
     known.add_argument("--table", action="store_true")
@@ -116,4 +116,4 @@ def main():
 
 
 if __name__ == "__main__":
-    sys.exit(main())
+    raise SystemExit(main())
