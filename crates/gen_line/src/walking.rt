@@ -114,7 +114,7 @@ impl<L: PathLex, T> LineWalk<'_, L, T> {
             return Ok(());
         };
         let mut from = 1;
-        let mut rest = self.lex.rest(node);
+        let mut rest = node;
         while let Some(on) = next_letter(self.lex, node, from, rest, free, tiles) {
             let Branch { label, step } = on.branch;
             self.letter_right(step, place, free, label, tiles, sink)?;
@@ -282,7 +282,7 @@ impl<L: PathLex, T> LineWalk<'_, L, T> {
             return Ok(());
         };
         let mut from = 1;
-        let mut rest = self.lex.rest(node);
+        let mut rest = node;
         while let Some(on) = next_letter(self.lex, node, from, rest, free, tiles) {
             let Branch { label, step } = on.branch;
             self.letter_left(step, place, free, label, tiles, sink)?;

@@ -31,24 +31,12 @@ impl All {
 }
 
 impl Sink for All {
-    ghost use Rattle.std.specs.Prelude.{None, true, map};
+    ghost use Rattle.std.specs.Prelude.{map};
     ghost use Rattle.gen_sinks.specs.Sinks.{seen_pair, add_last};
-
-    ghost made_for = { λ _. None };
-
-    ghost grows = { true };
 
     ghost items = { λ sink. map seen_pair sink.kept.items };
 
     ghost add = { add_last };
-
-    fn skips(&self, _bound: i32) -> bool {
-        false
-    }
-
-    fn skips_down(&self, _bound: i32) -> bool {
-        false
-    }
 
     fn take(&mut self, play: &Play, score: i32) -> Result<(), NoMemory> {
         self.kept.push((play.copy(), score))?;

@@ -1,5 +1,5 @@
 //! What takes plays, one by one.
-ghost use Rattle.std.specs.Prelude.{◌≡◌, ◌≤ℤ◌, List, Option, Bool, false, IsOk, IsTrue, OnOk, OnErr};
+ghost use Rattle.std.specs.Prelude.{◌≡◌, ◌≤ℤ◌, List, Option, None, Bool, true, false, IsOk, IsTrue, OnOk, OnErr};
 ghost use Rattle.ref_tiles.specs.declared.tiles.Tile.{Tile};
 ghost use Rattle.ref_play.specs.Best.{Given};
 ghost use Rattle.gen_sinks.specs.Sinks.{seen, CanTake};
@@ -10,13 +10,14 @@ use ref_play::Play;
 /// Memory ran out.
 pub use std::alloc::AllocError as NoMemory;
 
-/// What takes plays one by one, each with its score.
+/// What takes plays one by one, each with its score. Its list of plays, what one more makes of it, and `take` make a sink: one that
+/// was made for no board, and may be refused memory, unless it says otherwise.
 pub trait Sink {
     // The board whose plays it takes, where it was made for one.
-    ghost made_for: { Self → Option (List (Option Tile)) };
+    ghost made_for: { Self → Option (List (Option Tile)) } = { λ _. None };
 
     // Whether it takes memory.
-    ghost grows: { Bool };
+    ghost grows: { Bool } = { true };
 
     // The plays that it has, with their scores.
     ghost items: { Self → List Given };
@@ -24,15 +25,21 @@ pub trait Sink {
     // What plays it has with one more, on its board.
     ghost add: { Option (List (Option Tile)) → List Given → Given → List Given };
 
-    /// Whether no play that scores so much at the most would change what the sink has.
-    fn skips(&self, bound: i32) -> bool
-        ensures { IsTrue result → (given : Given) → given.score ≤ℤ bound
-            → add (made_for self.now) (items self.now) given ≡ items self.now };
+    /// Whether it is known that no play that scores so much at the most would change what the sink has.
+    fn skips(&self, _bound: i32) -> bool
+        ensures { IsTrue result → (given : Given) → given.score ≤ℤ _bound
+            → add (made_for self.now) (items self.now) given ≡ items self.now }
+    {
+        false
+    }
 
-    /// Whether no play that is written down and scores so much at the most would change what the sink has.
-    fn skips_down(&self, bound: i32) -> bool
-        ensures { IsTrue result → (given : Given) → GoesDown (made_for self.now) given → given.score ≤ℤ bound
-            → add (made_for self.now) (items self.now) given ≡ items self.now };
+    /// Whether it is known that no play that is written down and scores so much at the most would change what the sink has.
+    fn skips_down(&self, _bound: i32) -> bool
+        ensures { IsTrue result → (given : Given) → GoesDown (made_for self.now) given → given.score ≤ℤ _bound
+            → add (made_for self.now) (items self.now) given ≡ items self.now }
+    {
+        false
+    }
 
     /// Takes a play with its score. A sink that was made for a board asks that the play is legal on that board.
     ///

@@ -46,7 +46,7 @@ fn count_node(file: &LexFile<'_>, counts: &CountTable, node: Node) -> u32
 {
     let mut count = 0;
     let mut from = 0;
-    let mut rest = file.rest(node);
+    let mut rest = node;
     while let Some(on) = file.branch_on(node, from, rest) {
         let branch = on.branch;
         law_of_labels(file, node, branch);

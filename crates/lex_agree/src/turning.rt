@@ -52,7 +52,7 @@ fn turn_over(
     }
     let mut left = fronts - 1;
     let mut from = 0;
-    let mut rest = file.rest(node);
+    let mut rest = node;
     while let Some(on) = file.branch_on(node, from, rest) {
         let branch = on.branch;
         law_of_labels(file, node, branch);
@@ -88,7 +88,7 @@ fn turn_over_at(
     ensures kept { OnTrue result (AreKept (bytes_of file.now) kept.new) }
 {
     let mut from = 0;
-    let mut rest = file.rest(behind);
+    let mut rest = behind;
     while let Some(on) = file.branch_on(behind, from, rest) {
         let branch = on.branch;
         law_of_labels(file, behind, branch);

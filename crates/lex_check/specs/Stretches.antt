@@ -72,12 +72,6 @@ pub record IsPlaceFrom (paths : List (List ℕ)) (stretch : Stretch) (label plac
   pub before : (other : ℕ) → stretch.low ≤ other → other < place → label_at paths stretch.depth other < label
   pub behind : (other : ℕ) → place ≤ other → other < stretch.high → label ≤ label_at paths stretch.depth other
 
--- a place of a stretch, or its end, before which no path has this label at the depth or a higher one
-pub record IsPlaceOn (paths : List (List ℕ)) (stretch : Stretch) (label place : ℕ) : Type 0 where
-  pub from : stretch.low ≤ place
-  pub to : place ≤ stretch.high
-  pub before : (other : ℕ) → stretch.low ≤ other → other < place → label_at paths stretch.depth other < label
-
 -- the part of a stretch with the first label from one on
 pub record IsPartFrom (paths : List (List ℕ)) (stretch : Stretch) (from label low high : ℕ) : Type 0 where
   pub with : IsPartWith paths stretch label low high

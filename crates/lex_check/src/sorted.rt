@@ -1,11 +1,11 @@
 //! The rotated paths of a word list in order, as a lexicon.
 ghost use Rattle.std.specs.Prelude.{◌≡◌, ◌≤◌, ◌<◌, ℕ, [], ◌∷◌, false, length, slice_index_or, IfNone, IfSome, IsSome};
 ghost use Rattle.lex_file.specs.Lexicons.{NoTail, NextGives};
-ghost use Rattle.lex_check.specs.Stretches.{label_at, ends_at, stretch_tail, height_of, IsStretch, IsPartWith, IsPlaceFrom, IsPlaceOn, IsBelow, IsPartFrom};
+ghost use Rattle.lex_check.specs.Stretches.{label_at, ends_at, stretch_tail, height_of, IsStretch, IsPartWith, IsPlaceFrom, IsBelow, IsPartFrom};
 
 use crate::rotated::Rotated;
 use crate::rotating::gather;
-use lex_file::{Branch, Onward, PathLex, Step};
+use lex_file::{Branch, PathLex, Step};
 use lex_list::{WordList, law_of_paths};
 use std::alloc::{AllocError as NoMemory, Global};
 use std::marker::Model;
@@ -114,23 +114,6 @@ fn part_from(paths: &[Rotated], stretch: Stretch, from: u8) -> Option<Part>
     Some(Part { label, low, high })
 }
 
-/// The part of a stretch with the first label from `from` on, looked for from a place that the paths with lower labels stand
-/// before.
-#[inline(always)]
-fn part_on(paths: &[Rotated], stretch: Stretch, from: u8, low: usize) -> Option<Part>
-    requires stretch { IsStretch paths.now stretch }
-    requires low { IsPlaceOn paths.now stretch from low }
-    ensures none { IfNone result (IsBelow paths.now stretch from) }
-    ensures part { IfSome result (λ part. IsPartFrom paths.now stretch from part.label part.low part.high) }
-{
-    let rest = Stretch {
-        low,
-        high: stretch.high,
-        depth: stretch.depth,
-    };
-    part_from(paths, rest, from)
-}
-
 /// Whether the path at a place ends at a depth that it reaches.
 fn ends_at(paths: &[Rotated], depth: usize, place: usize) -> bool
     requires place { place < length paths.now }
@@ -209,12 +192,10 @@ fn step_in(paths: &[Rotated], stretch: Stretch, label: u8) -> Option<Step<Stretc
 
 impl PathLex for SortedPaths {
     ghost use Rattle.std.specs.Prelude.{List, ℕ};
-    ghost use Rattle.lex_check.specs.Stretches.{IsStretch, IsPlaceOn, stretch_tail, is_one_of, height_of};
+    ghost use Rattle.lex_check.specs.Stretches.{IsStretch, stretch_tail, is_one_of, height_of};
     ghost use Rattle.lex_check.specs.StretchLaws.{stretch_nonempty, stretch_labels, stretch_bounded};
 
     type Node = Stretch;
-
-    type Rest = usize;
 
     ghost language = { λ paths string. is_one_of paths string };
 
@@ -223,8 +204,6 @@ impl PathLex for SortedPaths {
     ghost tail = { λ paths stretch string. stretch_tail paths stretch string };
 
     ghost height = { λ paths stretch. height_of stretch };
-
-    ghost is_rest = { λ paths stretch from rest. IsPlaceOn paths stretch from rest };
 
     #[tactic(auto, using(crate::proofs::Stretches::root_is, crate::proofs::Stretches::root_tails))]
     fn root(&self) -> Stretch {
@@ -242,26 +221,6 @@ impl PathLex for SortedPaths {
     #[inline(always)]
     fn branch_from(&self, node: Stretch, from: u8) -> Option<Branch<Stretch>> {
         branch_in(&self.paths, node, from)
-    }
-
-    fn rest(&self, node: Stretch) -> usize {
-        node.low
-    }
-
-    #[tactic(auto, using(crate::proofs::Stretches::branch_none))]
-    #[inline(always)]
-    fn branch_on(&self, node: Stretch, from: u8, rest: usize) -> Option<Onward<Stretch, usize>> {
-        let Some(part) = part_on(&self.paths, node, from, rest) else {
-            return None;
-        };
-        let branch = Branch {
-            label: part.label,
-            step: step_behind(&self.paths, node, part),
-        };
-        Some(Onward {
-            branch,
-            rest: part.high,
-        })
     }
 
     ghost nonempty = { stretch_nonempty };

@@ -1,5 +1,5 @@
 -- What a lexicon that is walked label by label gives at a step. A node has a set of tails, told by a test on strings.
-use Rattle.std.specs.Prelude.{◌≡◌, ℕ, ◌<◌, nat_lt, Bool, true, false, List, ◌∷◌, Option, Some, None}
+use Rattle.std.specs.Prelude.{◌≡◌, ◌⊎◌, ℕ, ◌<◌, nat_lt, Bool, true, false, List, ◌∷◌, Option, Some, None}
 
 -- the mark or a letter
 abbrev pub is_label : ℕ → Bool
@@ -25,3 +25,7 @@ pub record IsBehind {N : Type 0} (is_node : N → Type 0) (tail : N → List ℕ
 abbrev pub NextGives : {N : Type 0} → (N → Type 0) → (N → List ℕ → Bool) → (N → ℕ) → N → ℕ → Option N → Type 0
 NextGives is_node tail height node label None = NoLonger tail node label
 NextGives is_node tail height node label (Some next) = IsBehind is_node tail height node label next
+
+-- What a walk over the labels of a node from one on may go on from: the node itself, or what is left of it.
+abbrev pub IsLeft : {N : Type 0} → (N → ℕ → N → Type 0) → N → ℕ → N → Type 0
+IsLeft is_rest node from rest = (rest ≡ node) ⊎ is_rest node from rest

@@ -26,7 +26,7 @@ pub struct LexFile<'a> {
 }
 
 impl<'a> LexFile<'a> {
-    ghost use Rattle.std.specs.Prelude.{◌≡◌, ℕ, List, [], ◌∷◌, ◌+◌, ◌<◌, false, Some, None, IfOk, IfSome, IfNone, IsSome, IsTrue, drop};
+    ghost use Rattle.std.specs.Prelude.{◌≡◌, ℕ, List, [], ◌∷◌, ◌+◌, ◌^◌, ◌<◌, false, Some, None, IfOk, IfSome, IfNone, IsSome, IsTrue, drop};
     ghost use Rattle.lex_file.specs.Arcs.{arc_with, arc_from};
     ghost use Rattle.first_faults.specs.Checks.{Refuses};
     ghost use Rattle.lex_file.specs.Languages.{file_tail};
@@ -167,6 +167,7 @@ impl<'a> LexFile<'a> {
         ensures none { IfNone result (arc_from label (file_node (bytes_of self.now) node.first) ≡ None) }
         ensures arc { IfSome result (λ on. arc_from label (file_node (bytes_of self.now) node.first) ≡ Some on.arc) }
         ensures rest { IfSome result (λ on. IsRest (bytes_of self.now) node.first (on.arc.label + 1) on.rest) }
+        ensures low { IfSome result (λ on. on.rest < 2 ^ 32) }
     {
         match self.format {
             Format::Gad1 => find_arc(self.body(), rest, Sought::AtLeast(label)),
@@ -211,8 +212,6 @@ impl<'a> PathLex for LexFile<'a> {
 
     type Node = Node;
 
-    type Rest = usize;
-
     ghost language = { λ file string. language_of file.bytes.now string };
 
     ghost is_node = { λ file node. IsTrue (is_file_node file.bytes.now node.first) };
@@ -221,7 +220,7 @@ impl<'a> PathLex for LexFile<'a> {
 
     ghost height = { λ file node. node.first };
 
-    ghost is_rest = { λ file node from rest. IsRest file.bytes.now node.first from rest };
+    ghost is_rest = { λ file node from rest. IsRest file.bytes.now node.first from rest.first };
 
     #[tactic(auto, using(crate::proofs::Views::header_words, crate::proofs::Views::root_is_node))]
     fn root(&self) -> Node
@@ -251,15 +250,10 @@ impl<'a> PathLex for LexFile<'a> {
         })
     }
 
-    fn rest(&self, node: Node) -> usize {
-        let Node { first } = node;
-        first as usize
-    }
-
     #[tactic(auto, using(crate::proofs::Walks::branch_none, crate::proofs::Walks::branch_reached, crate::proofs::Walks::first_itself))]
     #[inline(always)]
-    fn branch_on(&self, node: Node, from: u8, rest: usize) -> Option<Onward<Node, usize>> {
-        let Some(on) = self.arc_on(node, from, rest) else {
+    fn branch_on(&self, node: Node, from: u8, rest: Node) -> Option<Onward<Node>> {
+        let Some(on) = self.arc_on(node, from, rest.first as usize) else {
             return None;
         };
         let branch = Branch {
@@ -268,7 +262,9 @@ impl<'a> PathLex for LexFile<'a> {
         };
         Some(Onward {
             branch,
-            rest: on.rest,
+            rest: Node {
+                first: on.rest as u32,
+            },
         })
     }
 

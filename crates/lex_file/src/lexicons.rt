@@ -1,7 +1,7 @@
 //! What a lexicon is that is walked label by label.
 ghost use Rattle.std.specs.Prelude.{◌≡◌, ◌<◌, ◌≤◌, ◌+◌, ℕ, List, [], ◌∷◌, Bool, true, false, IfSome, IfNone, IsSome, IsTrue, length};
 ghost use Rattle.std.specs.List.{list_all};
-ghost use Rattle.lex_file.specs.Lexicons.{is_label, NoTail, NextGives};
+ghost use Rattle.lex_file.specs.Lexicons.{is_label, NoTail, NextGives, IsLeft};
 
 /// The number of labels: the mark and the letters A to Z.
 pub const LABELS: u8 = 27;
@@ -29,17 +29,18 @@ pub struct Branch<N> {
 
 /// A branch of a node, and where to go on from behind its label.
 #[derive(Clone, Copy, Debug, PartialEq, Eq)]
-pub struct Onward<N, R> {
+pub struct Onward<N> {
     /// The branch.
     pub branch: Branch<N>,
-    /// What is left of the node behind the branch's label.
-    pub rest: R,
+    /// What is left of the node behind the branch's label, or the whole node.
+    pub rest: N,
 }
 
 /// A finite set of strings of labels, none of them empty, that is walked label by label.
 ///
-/// `root` and `step` make a lexicon; `branch_from` tries the labels one by one unless a lexicon has a faster way. `rest` and
-/// `branch_on` go over the labels of a node from the lowest to the highest without looking twice at what lies behind.
+/// `root` and `step` make a lexicon. `branch_from` tries the labels one by one, unless a lexicon has a faster way. `branch_on` goes
+/// over the labels of a node from the lowest to the highest, and a lexicon may go on there from what is left of the node, so that
+/// it looks at nothing twice.
 ///
 /// Each node has a set of tails; those of the root are the set. A whole number of the node, its height, falls with
 /// each step, so every walk ends. Labels are below 27, and a tail has no more labels than the height of its node, so
@@ -47,9 +48,6 @@ pub struct Onward<N, R> {
 pub trait PathLex {
     /// A place in a walk.
     type Node: Copy;
-
-    /// What is left of a node behind a label: a place in it to go on from.
-    type Rest: Copy;
 
     // Whether a string is in the set.
     ghost language: { Self → List ℕ → Bool };
@@ -63,8 +61,8 @@ pub trait PathLex {
     // A number that falls with each step.
     ghost height: { Self → Self.Node → ℕ };
 
-    // What is left of a node for the labels from one on.
-    ghost is_rest: { Self → Self.Node → ℕ → Self.Rest → Type 0 };
+    // What is left of a node for the labels from one on, as a lexicon writes it that goes on from there.
+    ghost is_rest: { Self → Self.Node → ℕ → Self.Node → Type 0 } = { λ _ node _ rest. rest ≡ node };
 
     /// The node whose tails are the whole set.
     fn root(&self) -> Self::Node
@@ -99,29 +97,30 @@ pub trait PathLex {
         None
     }
 
-    /// The whole of a node, for the labels from any one on. The node is one that this lexicon gave.
-    fn rest(&self, node: Self::Node) -> Self::Rest
-        requires { is_node self.now node }
-        ensures { (from : ℕ) → is_rest self.now node from result };
-
     /// The first label from `from` on with which some tail of the node begins, what stands behind it, and what is left of
-    /// the node behind that label; or None where there is no such label. The node is one that this lexicon gave, and the
-    /// rest is what it gave of the node for the labels from `from` on.
+    /// the node behind that label; or None where there is no such label. The node is one that this lexicon gave. The rest is
+    /// the node itself, or what the lexicon gave as left of it for the labels from `from` on.
     fn branch_on(
         &self,
         node: Self::Node,
         from: u8,
-        rest: Self::Rest,
-    ) -> Option<Onward<Self::Node, Self::Rest>>
+        rest: Self::Node,
+    ) -> Option<Onward<Self::Node>>
         requires node { is_node self.now node }
-        requires rest { is_rest self.now node from rest }
+        requires rest { IsLeft (is_rest self.now) node from rest }
         ensures none { IfNone result ((label : ℕ) → from ≤ label → NoTail (tail self.now) node label) }
         ensures reached { IfSome result (λ on. from ≤ on.branch.label) }
         ensures passed { IfSome result (λ on. (label : ℕ) → from ≤ label → label < on.branch.label → NoTail (tail self.now) node label) }
         ensures accepts { IfSome result (λ on. on.branch.step.accepts ≡ tail self.now node (on.branch.label ∷ [])) }
         ensures next { IfSome result (λ on. NextGives (is_node self.now) (tail self.now) (height self.now) node on.branch.label on.branch.step.next) }
         ensures alive { IfSome result (λ on. on.branch.step.accepts ≡ false → IsSome on.branch.step.next) }
-        ensures rest { IfSome result (λ on. is_rest self.now node (on.branch.label + 1) on.rest) };
+        ensures rest { IfSome result (λ on. IsLeft (is_rest self.now) node (on.branch.label + 1) on.rest) }
+    {
+        let Some(branch) = self.branch_from(node, from) else {
+            return None;
+        };
+        Some(Onward { branch, rest: node })
+    }
 
     // No tail is empty.
     ghost nonempty: { (lexicon : Self) (node : Self.Node) → is_node lexicon node → tail lexicon node [] ≡ false };

@@ -1,5 +1,5 @@
 //! The words of 32 bits of a file, and the arcs and masks that they hold.
-ghost use Rattle.std.specs.Prelude.{◌≡◌, ◌^◌, ◌<◌, ◌≤◌, ℕ, None, Some, IfNone, IfSome, length, slice_index};
+ghost use Rattle.std.specs.Prelude.{◌≡◌, ◌^◌, ◌<◌, ◌≤◌, ◌+◌, ℕ, None, Some, IfNone, IfSome, length, slice_index};
 ghost use Rattle.std.specs.List.{find};
 ghost use Rattle.lex_file.specs.FileWords.{words_in};
 ghost use Rattle.lex_file.specs.Arcs.{arc_from, is_last, is_sought, PassesBelow};
@@ -71,6 +71,7 @@ pub fn is_node(arcs: &[u8], number: u32) -> bool
 pub fn find_arc(arcs: &[u8], number: usize, sought: Sought) -> Option<ArcOn>
     ensures none { IfNone result (find (is_sought sought) (node_at (words_in arcs.now) number) ≡ None) }
     ensures arc { IfSome result (λ on. find (is_sought sought) (node_at (words_in arcs.now) number) ≡ Some on.arc) }
+    ensures low { IfSome result (λ on. on.rest ≤ length (words_in arcs.now) + 1) }
     ensures rest { IfSome result (λ on. (above : ℕ) → PassesBelow sought above → on.arc.label < above → arc_from above (node_at (words_in arcs.now) number) ≡ arc_from above (node_at (words_in arcs.now) on.rest)) }
 {
     if number == 0 {

@@ -1,10 +1,11 @@
-use Rattle.std.proofs.Common.{◌∙◌, sym, ap, arith, List}
+use Rattle.std.proofs.Common.{◌∙◌, ◌≤◌, ℕ, length, sym, ap, subst, arith, List}
 use Rattle.lex_file.specs.declared.arcs.Arc.{Arc}
 use Rattle.lex_file.specs.declared.formats.Format.TheVariants as form
 use Rattle.lex_file.specs.FileWords.{words_in}
+use Rattle.lex_file.specs.Formats.{most_body_words}
 use Rattle.lex_file.specs.Arcs as arcs
 use Rattle.lex_file.specs.Nodes.{node_at}
-use Rattle.lex_file.proofs.Views.{nodes_are, mask_room, if_none, if_some, both_some, rest_has, rest_of_rest}
+use Rattle.lex_file.proofs.Views.{nodes_are, mask_room, if_none, if_some, both_some, rest_has, rest_of_rest, few_words}
 use Rattle.std.proofs.lemmas.Bool.{leb-false}
 use Rattle.lex_file.proofs.Walks.{branch_reached}
 use Rattle.lex_file.proofs.files.LexFile.arc_on.Goals as goal
@@ -32,6 +33,11 @@ returns-in-Gad1-clause-rest c =
     rest_of_rest c.args.self.now c.args.node.first c.args.label c.args.rest on.arc.label on.rest c.body.result.now c.in-Gad1.is c.body.ensures c.requires.rest
     reached (λ above less. behind above (λ arc passed. let below = leb-false c.args.label arc.label passed in omega (arith, below, reached, less)) less))
     c.find_arc.ensures.arc c.find_arc.ensures.rest
+
+pub returns-in-Gad1-clause-low : goal.returns-in-Gad1-clause-low
+returns-in-Gad1-clause-low c =
+    let few = subst (λ (body : List ℕ). length (words_in body) ≤ most_body_words) (sym c.body.ensures) (few_words c.args.self.now.bytes.now c.args.self.now.shape) in
+    if_some c.find_arc.result _ _ (λ on low. omega (arith, low, few)) c.find_arc.ensures.low
 
 pub returns-in-Some-clause-arc : goal.returns-in-Some-clause-arc
 returns-in-Some-clause-arc c =
