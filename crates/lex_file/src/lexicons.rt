@@ -100,12 +100,7 @@ pub trait PathLex {
     /// The first label from `from` on with which some tail of the node begins, what stands behind it, and what is left of
     /// the node behind that label; or None where there is no such label. The node is one that this lexicon gave. The rest is
     /// the node itself, or what the lexicon gave as left of it for the labels from `from` on.
-    fn branch_on(
-        &self,
-        node: Self::Node,
-        from: u8,
-        rest: Self::Node,
-    ) -> Option<Onward<Self::Node>>
+    fn branch_on(&self, node: Self::Node, from: u8, rest: Self::Node) -> Option<Onward<Self::Node>>
         requires node { is_node self.now node }
         requires rest { IsLeft (is_rest self.now) node from rest }
         ensures none { IfNone result ((label : ℕ) → from ≤ label → NoTail (tail self.now) node label) }

@@ -24,10 +24,10 @@
 //!
 //! So every walk ends. Nodes that no walk reaches are allowed.
 //!
-//! [`PathLex`] is what a lexicon promises that is walked label by label: its root, what stands behind a label of a
-//! node, and the first label from one on with which a tail of a node begins. By the last of these a walk goes from
-//! label to label, and tries none that is not there; and where it says what is left of the node, it looks at each label
-//! once.
+//! [`PathLex`] is what a lexicon promises that is walked label by label: its root, and what stands behind a label of a
+//! node. From these it has the first label from one on with which a tail of a node begins, by which a walk goes from
+//! label to label. A lexicon that finds it faster than by trying the labels says how; and where it says what is left of
+//! the node behind the label, a walk looks at each label once.
 #![tactic(auto)]
 
 mod arcs;

@@ -5,4 +5,5 @@ mod cases;
 mod crosses;
 mod generating;
 mod increments;
+mod least;
 mod searching;

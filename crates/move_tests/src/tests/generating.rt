@@ -5,6 +5,7 @@ ghost use Rattle.gen_moves.specs.Laws.{AreLong};
 
 use super::boards::{Laid, Position, list_of, text_of};
 use super::cases::{CASES, Case, GAME, LIST, NO_GAME, PLAYED, POSITIONS};
+use super::least::{Last, StepsAlone};
 use super::searching::{Told, searched};
 use game_notes::{annotate, cross_sets, top};
 use gen_cross::Cross;
@@ -37,7 +38,8 @@ fn told(rt: &impl Abort, alloc: Global, board: &Board, items: &[(Play, i32)]) ->
     told
 }
 
-/// All plays by a list of words and a lexicon that stands for it. The board has to be left as it was.
+/// All plays by a list of words and a lexicon that stands for it. The board has to be left as it was, and the last play to be that
+/// of a sink that has no other.
 fn plays_of<L: PathLex>(
     rt: &impl Abort,
     alloc: Global,
@@ -55,8 +57,13 @@ fn plays_of<L: PathLex>(
     let mut held = *board;
     let mut all = All::new(alloc);
     generate(rules, &mut held, &cross, rack, lex, &mut all).expect(rt, "memory");
+    let mut last = Last::new();
+    generate(rules, &mut held, &cross, rack, lex, &mut last).expect(rt, "memory");
     assert_eq!(rt; held, *board);
-    told(rt, alloc, board, all.items())
+    let given = told(rt, alloc, board, all.items());
+    let last = told(rt, alloc, board, last.items());
+    assert_eq!(rt; last.last(), given.last());
+    given
 }
 
 /// The same; the words of a list have two letters or more.
@@ -85,6 +92,13 @@ fn by_paths(rt: &impl Abort, alloc: Global, list: &WordList, position: &Position
 #[tactic(auto, using(game_notes::proofs::FirstPlays::file_stands))]
 fn by_file(rt: &impl Abort, alloc: Global, pair: &Checked<'_>, position: &Position) -> Vec<Told> {
     plays_by(rt, alloc, pair.list(), pair.file(), position)
+}
+
+/// All plays over the root and the steps of the file of a pair alone.
+#[tactic(auto, using(game_notes::proofs::FirstPlays::file_stands))]
+fn by_steps(rt: &impl Abort, alloc: Global, pair: &Checked<'_>, position: &Position) -> Vec<Told> {
+    let steps = StepsAlone { of: pair.file() };
+    plays_by(rt, alloc, pair.list(), &steps, position)
 }
 
 /// A play as records write it, and its score.
@@ -220,6 +234,8 @@ fn assert_case(rt: &impl Abort, alloc: Global, case: Case<'_>) -> Vec<Told> {
     assert_eq!(rt; plain.len(), plays, "{:?} {:?}", words, held);
     let given = by_file(rt, alloc, &pair, &position);
     assert_same(rt, &given, &plain);
+    let by_steps = by_steps(rt, alloc, &pair, &position);
+    assert_same(rt, &by_steps, &plain);
     assert_best(rt, alloc, &pair, &position, &plain);
     given
 }
