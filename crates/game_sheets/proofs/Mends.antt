@@ -16,8 +16,8 @@ use Rattle.game_turns.specs.Seats.{side_of}
 use Rattle.game_turns.specs.Tallies.{State}
 use Rattle.game_turns.specs.Checks.{fault_in}
 use Rattle.game_turns.specs.Places.{fault_of_event}
-use Rattle.game_sheets.specs.Corrections.{right_score, right_total, IsRenumbered, IsLeft}
-use Rattle.game_sheets.specs.Mending.{IsMendedAt}
+use Rattle.game_sheets.specs.Corrections.{right_score, right_total, IsRenumbered, IsLeft, HasRefusedNumbers}
+use Rattle.game_sheets.specs.Mending.{IsMendedAt, IsRefusedAt}
 use Rattle.game_sheets.proofs.Fronts.{itself, all_themselves, all_through}
 use Rattle.game_sheets.proofs.Numbers.{score_cures, wrong_not_given, total_cures, total_told}
 
@@ -163,3 +163,37 @@ pub score_left : (rules : Rules) (list : List (List ℕ)) (s : State) (mid new :
 score_left rules list s mid new place (Ok x) told same only left = tt
 score_left rules list s mid new place (Err why) told same only left =
     left_number why (only why (sym (ap (λ es. fault_of_event rules list s (slice_get es place)) same) ∙ told)) left
+
+-- ---- the numbers of an event that is refused
+
+own_numbers : (rules : Rules) (list : List (List ℕ)) (s : State) (e x : Event) → x ≡ e → HasRefusedNumbers rules list s e x
+own_numbers rules list s e x same = record { total = ap (λ (d : Event). d.total) same; score = inl (ap (λ (d : Event). d.score) same) }
+
+as_written : (rules : Rules) (list : List (List ℕ)) (s : State) (old new : List Event) (place : ℕ) → new ≡ old → IsRefusedAt rules list s old new place
+as_written rules list s old new place same =
+    record { numbers = λ e x of_old of_new. own_numbers rules list s e x (same_Some x e (sym of_new ∙ ap (λ es. slice_get es place) same ∙ of_old)) }
+
+-- the events are as they were
+pub refused_same : (rules : Rules) (list : List (List ℕ)) (s : State) (old new : List Event) (place : ℕ) (result : Result ⊤ RuleFault) → OnErr result (new ≡ old)
+    → OnErr result (IsRefusedAt rules list s old new place)
+refused_same rules list s old new place (Ok x) same = tt
+refused_same rules list s old new place (Err why) same = as_written rules list s old new place same
+
+-- they are as they were with the right score
+pub refused_scored : (rules : Rules) (list : List (List ℕ)) (s : State) (events mid new : List Event) (place : ℕ) (score : ℤ) (result : Result ⊤ RuleFault)
+    → fault_of_event rules list s (slice_get events place) ≡ Some (fault.WrongScore score)
+    → ((e : Event) → slice_get events place ≡ Some e → mid ≡ set events place (record e { score = score }))
+    → OnErr result (new ≡ mid) → OnErr result (IsRefusedAt rules list s events new place)
+refused_scored rules list s events mid new place score (Ok x) told made same = tt
+refused_scored rules list s events mid new place score (Err why) told made same =
+    record {
+      numbers = λ e x of_old of_new.
+          let y : Event = record e { score = score } in
+          let is : x ≡ y =
+          same_Some x y (sym of_new ∙ ap (λ es. slice_get es place) (same ∙ made e of_old) ∙ set_there events place e y of_old) in
+          let names : fault_in rules list s e ≡ Some (fault.WrongScore score) = sym (ap (fault_of_event rules list s) of_old) ∙ told in
+          record {
+            total = ap (λ (d : Event). d.total) is;
+            score = inr (names ∙ ap (λ (d : Event). Some (fault.WrongScore d.score)) (sym is));
+          };
+    }

@@ -11,8 +11,8 @@ use Rattle.game_turns.specs.Tallies.{State, tally_at, withdraws}
 use Rattle.game_turns.specs.Changes.{after}
 use Rattle.game_turns.specs.Places.{fault_of_event, fault_at, AreAllowedTo}
 use Rattle.game_turns.proofs.PlaceLaws.{allowed_more}
-use Rattle.game_sheets.specs.Corrections.{AreRenumbered, IsCorrection, HavePoints, IsLeft, StopsAt}
-use Rattle.game_sheets.specs.Mending.{IsMendedAt, after_event, state_behind}
+use Rattle.game_sheets.specs.Corrections.{AreRenumbered, IsCorrection, HavePoints, IsLeft, HasRefusedNumbers, StopsAt}
+use Rattle.game_sheets.specs.Mending.{IsMendedAt, IsRefusedAt, after_event, state_behind}
 use Rattle.game_sheets.proofs.Fronts.{all_themselves, all_through, same_tally, no_correction}
 
 -- ---- lists that agree up to a place
@@ -94,16 +94,20 @@ pub whole : (rules : Rules) (list : List (List ℕ)) (written events : List Even
 whole rules list written events end up all =
     record { renumbered = up.renumbered; allowed = λ k below. up.allowed k (subst (λ n. k < n) (up.renumbered.as_many ∙ sym all) below) }
 
-pub stops : (rules : Rules) (list : List (List ℕ)) (written a b : List Event) (place : ℕ) (e : Event) (why : RuleFault) → IsUpTo rules list written a place → IsMendedAt a b place
-    → slice_get b place ≡ Some e → fault_at rules list b place ≡ Some why → IsLeft why → StopsAt rules list written b e.line why
-stops rules list written a b place e why up is stands fails left =
+pub stops : (rules : Rules) (list : List (List ℕ)) (written a b : List Event) (place : ℕ) (own e : Event) (why : RuleFault) → IsUpTo rules list written a place → IsMendedAt a b place
+    → slice_get a place ≡ Some own → slice_get b place ≡ Some e → fault_at rules list b place ≡ Some why → IsLeft why
+    → HasRefusedNumbers rules list (tally_at rules b place) own e → StopsAt rules list written b e.line why
+stops rules list written a b place own e why up is stood stands fails left numbers =
     record {
       place = place;
       event = e;
+      own = own;
       stands = stands;
+      stood = sym (up.untouched place (omega arith)) ∙ stood;
       on_line = refl;
       fails = fails;
       left = left;
+      numbers = numbers;
       before = record {
         renumbered = all_through written a b up.renumbered is.renumbered;
         allowed = before_kept rules list written a b place up is;
@@ -134,10 +138,22 @@ pub item_there : (rules : Rules) (list : List (List ℕ)) (written a b items : L
 item_there rules list written a b items place e up is within same read =
     slice_get_read b (length b) place e refl (subst (λ n. place < n) (sym (is.renumbered.as_many ∙ up.renumbered.as_many)) within) (read ∙ ap (λ es. get_or es place e) same)
 
+-- the numbers that it is refused with, by the tally there
+numbers_there : (rules own_rules : Rules) (list : List (List ℕ)) (a b : List Event) (place : ℕ) (s : State) (own e : Event) → IsMendedAt a b place → own_rules ≡ rules
+    → s ≡ tally_at rules a place → IsRefusedAt own_rules list s a b place → slice_get a place ≡ Some own → slice_get b place ≡ Some e
+    → HasRefusedNumbers rules list (tally_at rules b place) own e
+numbers_there rules own_rules list a b place s own e is same_rules same_state refused stood stands =
+    subst (λ t. HasRefusedNumbers rules list t own e) (same_state ∙ sym (tally_kept rules a b place place is (omega arith)))
+    (subst (λ r. HasRefusedNumbers r list s own e) same_rules (refused.numbers own e stood stands))
+
 -- where an event stays refused, whatever its numbers
 pub stopped : (rules : Rules) (list : List (List ℕ)) (written a b items : List Event) (place : ℕ) (e : Event) (machine : Machine) (why : RuleFault) → IsUpTo rules list written a place
     → IsMendedAt a b place → place < length written → items ≡ b → e ≡ get_or items place e → rules_of machine ≡ rules → state_of machine ≡ tally_at rules a place
-    → Some why ≡ fault_of_event (rules_of machine) list (state_of machine) (slice_get b place) → IsLeft why → StopsAt rules list written b e.line why
-stopped rules list written a b items place e machine why up is within same read same_rules same_state told left =
-    stops rules list written a b place e why up is (item_there rules list written a b items place e up is within same read)
+    → Some why ≡ fault_of_event (rules_of machine) list (state_of machine) (slice_get b place) → IsLeft why
+    → IsRefusedAt (rules_of machine) list (state_of machine) a b place → StopsAt rules list written b e.line why
+stopped rules list written a b items place e machine why up is within same read same_rules same_state told left refused =
+    let stands = item_there rules list written a b items place e up is within same read in
+    let was = some_event a place (subst (λ n. place < n) (sym up.renumbered.as_many) within) in
+    stops rules list written a b place was.event e why up is was.stands stands
     (fault_mended rules (rules_of machine) list a b place (state_of machine) (Some why) is same_rules same_state told) left
+    (numbers_there rules (rules_of machine) list a b place (state_of machine) was.event e is same_rules same_state refused was.stands stands)

@@ -1,5 +1,5 @@
 -- The correction of a sheet: the same events, with the scores and totals that the rules give.
-use Rattle.std.specs.Prelude.{◌≡◌, ℕ, ℤ, ◌<◌, Bool, true, false, List, length, slice_get, Option, Some, None}
+use Rattle.std.specs.Prelude.{◌≡◌, ◌⊎◌, ℕ, ℤ, ◌<◌, Bool, true, false, List, length, slice_get, Option, Some, None}
 use Rattle.std.specs.Option.{option_or}
 use Rattle.ref_tiles.specs.declared.rulebook.Rules.{Rules}
 use Rattle.gcg_read.specs.Numerals.{IsPoints}
@@ -8,6 +8,8 @@ use Rattle.gcg_read.specs.declared.events.EventKind.{EventKind}
 use Rattle.gcg_read.specs.declared.events.EventKind.TheVariants as kind
 use Rattle.game_turns.specs.declared.faults.RuleFault.{RuleFault}
 use Rattle.game_turns.specs.declared.faults.RuleFault.TheVariants as fault
+use Rattle.game_turns.specs.Tallies.{State, tally_at}
+use Rattle.game_turns.specs.Checks.{fault_in}
 use Rattle.game_turns.specs.Places.{fault_at, AreAllowed, AreAllowedTo}
 
 -- Whether the score of an event is taken as it is written: the rules allow more than one bonus for a challenge, and more than
@@ -67,13 +69,22 @@ right_number why = option_or (right_score why) (right_total why)
 abbrev pub IsLeft : RuleFault → Type 0
 IsLeft why = (right : ℤ) → right_number why ≡ Some right → IsPoints right → ⊥
 
+-- The numbers of the event at which a correction stops, beside the same event as it is written, by the state before it. Its total
+-- is the one that is written. So is its score, but where the rules refuse that as a wrong score, it may be the one that they give.
+pub record HasRefusedNumbers (rules : Rules) (list : List (List ℕ)) (s : State) (written refused : Event) : Type 0 where
+  pub total : refused.total ≡ written.total
+  pub score : (refused.score ≡ written.score) ⊎ (fault_in rules list s written ≡ Some (fault.WrongScore refused.score))
+
 -- The correction stops at the event on a line: it is refused with this fault, which no number cures. The events before it are
 -- corrected, and those behind it are as they were written.
 pub record StopsAt (rules : Rules) (list : List (List ℕ)) (written right : List Event) (line : ℕ) (why : RuleFault) : Type 0 where
   pub place : ℕ
   pub event : Event
+  pub own : Event
   pub stands : slice_get right place ≡ Some event
+  pub stood : slice_get written place ≡ Some own
   pub on_line : event.line ≡ line
   pub fails : fault_at rules list right place ≡ Some why
   pub left : IsLeft why
+  pub numbers : HasRefusedNumbers rules list (tally_at rules right place) own event
   pub before : IsCorrectedTo rules list written right place

@@ -4,12 +4,16 @@ use Rattle.ref_tiles.specs.declared.rulebook.Rules.{Rules}
 use Rattle.gcg_read.specs.declared.events.Event.{Event}
 use Rattle.game_turns.specs.Tallies.{State, withdraws}
 use Rattle.game_turns.specs.Changes.{after}
-use Rattle.game_sheets.specs.Corrections.{AreRenumbered}
+use Rattle.game_sheets.specs.Corrections.{AreRenumbered, HasRefusedNumbers}
 
 -- the events, that at a place with its own numbers or with others
 pub record IsMendedAt (old new : List Event) (place : ℕ) : Type 0 where
   pub renumbered : AreRenumbered old new
   pub others : (k : ℕ) → (k ≡ place → ⊥) → slice_get new k ≡ slice_get old k
+
+-- the event at a place with the numbers that it is refused with, by the state before it
+pub record IsRefusedAt (rules : Rules) (list : List (List ℕ)) (s : State) (old new : List Event) (place : ℕ) : Type 0 where
+  pub numbers : (e x : Event) → slice_get old place ≡ Some e → slice_get new place ≡ Some x → HasRefusedNumbers rules list s e x
 
 -- the state after an event, where there is one, and the next event
 abbrev pub after_event : Rules → State → Option Event → (next : Option Event) → State

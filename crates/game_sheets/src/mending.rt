@@ -6,7 +6,7 @@ ghost use Rattle.game_turns.specs.Answers.{Tells};
 ghost use Rattle.game_turns.specs.Machines.{rules_of, state_of};
 ghost use Rattle.game_turns.specs.Places.{fault_of_event};
 ghost use Rattle.game_sheets.specs.Corrections.{right_score, right_total, IsLeft};
-ghost use Rattle.game_sheets.specs.Mending.{IsMendedAt, state_behind};
+ghost use Rattle.game_sheets.specs.Mending.{IsMendedAt, IsRefusedAt, state_behind};
 
 use game_turns::{Machine, RuleFault};
 use gcg_read::{Events, Points};
@@ -92,6 +92,7 @@ fn take_with_score(
     ensures mended { IsMendedAt events.old events.new place }
     ensures told { Tells result (fault_of_event (rules_of machine.old) list.now (state_of machine.old) (slice_get events.new place)) }
     ensures left { IfErr result IsLeft }
+    ensures refused { OnErr result (IsRefusedAt (rules_of machine.old) list.now (state_of machine.old) events.old events.new place) }
     ensures state { OnOk result (state_of machine.new ≡ state_behind (rules_of machine.old) (state_of machine.old) events.new place) }
     ensures rules { rules_of machine.new ≡ rules_of machine.old }
 {
@@ -100,7 +101,7 @@ fn take_with_score(
 }
 
 /// Takes the event at a place, with the score and the total that the rules give where its own are wrong. Where it is refused,
-/// no other number of it would be taken.
+/// no other number of it would be taken; it then has its own total, and its own score where that is not the wrong number.
 pub(crate) fn mend(
     machine: &mut Machine,
     events: &mut Events,
@@ -110,6 +111,7 @@ pub(crate) fn mend(
     ensures mended { IsMendedAt events.old events.new place }
     ensures told { Tells result (fault_of_event (rules_of machine.old) list.now (state_of machine.old) (slice_get events.new place)) }
     ensures left { IfErr result IsLeft }
+    ensures refused { OnErr result (IsRefusedAt (rules_of machine.old) list.now (state_of machine.old) events.old events.new place) }
     ensures state { OnOk result (state_of machine.new ≡ state_behind (rules_of machine.old) (state_of machine.old) events.new place) }
     ensures rules { rules_of machine.new ≡ rules_of machine.old }
 {

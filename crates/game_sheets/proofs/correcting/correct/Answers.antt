@@ -20,14 +20,14 @@ returns-in-Err-clause-none c =
     none_left c.args.rules.now c.args.list.now c.args.events.now c.mend.new.events c.index-as_slice-place.result.line c.in-Err.fault
     (stopped c.args.rules.now c.args.list.now c.args.events.now c.loop-place.events c.mend.new.events c.as_slice.result.now c.loop-place.place c.index-as_slice-place.result
     c.loop-place.machine c.in-Err.fault c.loop-place.invariant.up c.in-Err.ensures.mended (omega arith) c.as_slice.ensures c.index-as_slice-place.is
-    c.loop-place.invariant.rules c.loop-place.invariant.state (sym c.in-Err.ensures.told) c.in-Err.ensures.left)
+    c.loop-place.invariant.rules c.loop-place.invariant.state (sym c.in-Err.ensures.told) c.in-Err.ensures.left c.in-Err.ensures.refused)
 
 pub returns-in-Err-clause-stops : goal.returns-in-Err-clause-stops
 returns-in-Err-clause-stops c =
     subst (λ (x : Event). StopsAt c.args.rules.now c.args.list.now c.args.events.now c.mend.new.events x.line c.in-Err.fault) c.index-as_slice-place.is
     (stopped c.args.rules.now c.args.list.now c.args.events.now c.loop-place.events c.mend.new.events c.as_slice.result.now c.loop-place.place c.index-as_slice-place.result
     c.loop-place.machine c.in-Err.fault c.loop-place.invariant.up c.in-Err.ensures.mended (omega arith) c.as_slice.ensures c.index-as_slice-place.is
-    c.loop-place.invariant.rules c.loop-place.invariant.state (sym c.in-Err.ensures.told) c.in-Err.ensures.left)
+    c.loop-place.invariant.rules c.loop-place.invariant.state (sym c.in-Err.ensures.told) c.in-Err.ensures.left c.in-Err.ensures.refused)
 
 pub loop-place-preserved : goal.loop-place-preserved
 loop-place-preserved c =

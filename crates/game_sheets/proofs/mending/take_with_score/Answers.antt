@@ -1,5 +1,5 @@
 use Rattle.game_turns.specs.Machines.{rules_of, state_of}
-use Rattle.game_sheets.proofs.Mends.{score_set, mended_through, score_left}
+use Rattle.game_sheets.proofs.Mends.{score_set, mended_through, score_left, refused_scored}
 use Rattle.game_sheets.proofs.mending.take_with_score.Goals as goal
 
 pub returns-clause-mended : goal.returns-clause-mended
@@ -14,3 +14,8 @@ returns-clause-left c =
     let scored = score_set rules c.args.list.now s c.args.events.now c.set_score.new.self c.args.place c.args.score c.requires c.set_score.ensures.there in
     score_left rules c.args.list.now s c.set_score.new.self c.take_with_total.new.events c.args.place c.take_with_total.result c.take_with_total.ensures.told
     c.take_with_total.ensures.same scored.told c.take_with_total.ensures.left
+
+pub returns-clause-refused : goal.returns-clause-refused
+returns-clause-refused c =
+    refused_scored (rules_of c.args.machine.now) c.args.list.now (state_of c.args.machine.now) c.args.events.now c.set_score.new.self c.take_with_total.new.events c.args.place
+    c.args.score c.take_with_total.result c.requires c.set_score.ensures.there c.take_with_total.ensures.same
