@@ -17,3 +17,4 @@ pub mod Trims
 pub mod Readings
 pub mod RoundTrips
 pub mod Examples
+pub mod Rescored

@@ -1,6 +1,6 @@
 //! What holds of the normal form, stated as the contract of a call that does nothing.
 
-ghost use Rattle.gcg_write.specs.Rounds.{IsReadAgain};
+ghost use Rattle.gcg_write.specs.Rounds.{IsReadAgain, IsReadWithPoints, IsRescoredReadAgain};
 
 /// The normal form of a record that was read is a record again. Reading it gives the same players and the same
 /// events, and the numbers of the lines are then those of the normal form. It asks that the normal form has no more
@@ -8,4 +8,13 @@ ghost use Rattle.gcg_write.specs.Rounds.{IsReadAgain};
 /// which would be taken for the end of the line.
 pub fn law_of_round_trip()
     ensures { IsReadAgain }
+{}
+
+/// The scores and totals of a record that was read are from -999,999 to 999,999. And a record that was read and then got other
+/// scores and totals in that range has a normal form that is a record again: reading it gives the same players and the
+/// same events, with the new scores and totals, and the numbers of the lines are then those of the normal form. It asks the same of
+/// the length and of the names as [`law_of_round_trip`].
+pub fn law_of_other_points()
+    ensures points { IsReadWithPoints }
+    ensures again { IsRescoredReadAgain }
 {}
