@@ -16,7 +16,7 @@ use Rattle.game_turns.specs.Seats.{side_of}
 use Rattle.game_turns.specs.Tallies.{State}
 use Rattle.game_turns.specs.Checks.{fault_in}
 use Rattle.game_turns.specs.Places.{fault_of_event}
-use Rattle.game_sheets.specs.Corrections.{right_score, right_total, IsRenumbered, IsLeft, HasRefusedNumbers}
+use Rattle.game_sheets.specs.Corrections.{right_score, right_total, IsRenumbered, IsLeft, HasRefusedNumbers, HasPoints, HavePoints, KeepPoints}
 use Rattle.game_sheets.specs.Mending.{IsMendedAt, IsRefusedAt}
 use Rattle.game_sheets.proofs.Fronts.{itself, all_themselves, all_through}
 use Rattle.game_sheets.proofs.Numbers.{score_cures, wrong_not_given, total_cures, total_told}
@@ -196,4 +196,44 @@ refused_scored rules list s events mid new place score (Err why) told made same 
             total = ap (λ (d : Event). d.total) is;
             score = inr (names ∙ ap (λ (d : Event). Some (fault.WrongScore d.score)) (sym is));
           };
+    }
+
+-- ---- numbers that a record can write
+
+pub points_kept : (events : List Event) → KeepPoints events events
+points_kept events = record { points = λ points. points }
+
+pub points_through : (a b d : List Event) → KeepPoints a b → KeepPoints b d → KeepPoints a d
+points_through a b d first second = record { points = λ points. second.points (first.points points) }
+
+each_points : (events : List Event) (place : ℕ) (e x : Event) → slice_get events place ≡ Some e → HavePoints events → HasPoints x
+    → (k : ℕ) (y : Event) → slice_get (set events place x) k ≡ Some y → (k ≡ place) ⊎ (k ≡ place → ⊥) → HasPoints y
+each_points events place e x is points good k y at (inl same) =
+    subst HasPoints (same_Some x y (sym (set_there events place e x is) ∙ sym (ap (slice_get (set events place x)) same) ∙ at)) good
+each_points events place e x is points good k y at (inr other) = points k y (sym (set_elsewhere events place k x other) ∙ at)
+
+points_with : (events new : List Event) (place : ℕ) (change : Event → Event) (o : Option Event) → slice_get events place ≡ o
+    → ((e : Event) → HasPoints e → HasPoints (change e)) → ((e : Event) → slice_get events place ≡ Some e → new ≡ set events place (change e))
+    → (slice_get events place ≡ None → new ≡ events) → HavePoints events → HavePoints new
+points_with events new place change None is good made past points = subst HavePoints (sym (past is)) points
+points_with events new place change (Some e) is good made past points =
+    subst HavePoints (sym (made e is))
+    (λ k y at. each_points events place e (change e) is points (good e (points place e is)) k y at (cases_eq k place))
+
+pub total_points : (events new : List Event) (place : ℕ) (total : ℤ) → IsPoints total
+    → ((e : Event) → slice_get events place ≡ Some e → new ≡ set events place (record e { total = total }))
+    → (slice_get events place ≡ None → new ≡ events) → KeepPoints events new
+total_points events new place total fits made past =
+    record {
+      points = points_with events new place (λ (e : Event). record e { total = total }) (slice_get events place) refl
+          (λ e good. record { score = good.score; total = fits }) made past;
+    }
+
+pub score_points : (events new : List Event) (place : ℕ) (score : ℤ) → IsPoints score
+    → ((e : Event) → slice_get events place ≡ Some e → new ≡ set events place (record e { score = score }))
+    → (slice_get events place ≡ None → new ≡ events) → KeepPoints events new
+score_points events new place score fits made past =
+    record {
+      points = points_with events new place (λ (e : Event). record e { score = score }) (slice_get events place) refl
+          (λ e good. record { score = fits; total = good.total }) made past;
     }

@@ -45,6 +45,10 @@ pub record HasPoints (e : Event) : Type 0 where
 abbrev pub HavePoints : List Event → Type 0
 HavePoints events = (place : ℕ) (e : Event) → slice_get events place ≡ Some e → HasPoints e
 
+-- the new events have numbers that a record can write where the old ones have
+pub record KeepPoints (old new : List Event) : Type 0 where
+  pub points : HavePoints old → HavePoints new
+
 -- The sheet is corrected up to a place, and behind it as it was written.
 pub record IsCorrectedTo (rules : Rules) (list : List (List ℕ)) (written right : List Event) (end : ℕ) : Type 0 where
   pub renumbered : AreRenumbered written right

@@ -1,6 +1,7 @@
 //! The audit of a sheet.
 ghost use Rattle.std.specs.Prelude.{◌≡◌, IfOk};
 ghost use Rattle.game_sheets.specs.Auditing.{IsAudited};
+ghost use Rattle.game_sheets.specs.Corrections.{KeepPoints};
 
 use crate::correcting::correct;
 use crate::wrong_numbers::{WrongNumber, push_totals, wrong_lines};
@@ -22,12 +23,18 @@ pub fn audit(
     list: &WordList,
 ) -> Result<Vec<WrongNumber>, AllocError>
     requires { written.now ≡ events.old }
-    ensures { IfOk result (λ wrong. IsAudited rules.now list.now written.now events.new wrong.items) }
+    ensures points { KeepPoints events.old events.new }
+    ensures audited { IfOk result (λ wrong. IsAudited rules.now list.now written.now events.new wrong.items) }
 {
-    let corrected = correct(rules, events, list);
-    let mut wrong = wrong_lines(alloc, written, events.as_slice())?;
-    if corrected.is_ok() {
-        push_totals(&mut wrong, written, events.as_slice())?;
+    match correct(rules, events, list) {
+        Ok(()) => {
+            let mut wrong = wrong_lines(alloc, written, events.as_slice())?;
+            push_totals(&mut wrong, written, events.as_slice())?;
+            Ok(wrong)
+        }
+        Err(_) => {
+            let wrong = wrong_lines(alloc, written, events.as_slice())?;
+            Ok(wrong)
+        }
     }
-    Ok(wrong)
 }

@@ -1,7 +1,7 @@
 //! The correction of the events of a record.
 ghost use Rattle.std.specs.Prelude.{◌≡◌, OnOk, IfErr, OnErr, List, ℕ};
 ghost use Rattle.gcg_read.specs.declared.events.Event.{Event};
-ghost use Rattle.game_sheets.specs.Corrections.{IsCorrection, HavePoints, StopsAt};
+ghost use Rattle.game_sheets.specs.Corrections.{IsCorrection, HavePoints, KeepPoints, StopsAt};
 
 use crate::mending::mend;
 use game_turns::{Machine, Refusal, law_of_tallies};
@@ -10,7 +10,8 @@ use lex_list::WordList;
 use ref_tiles::Rules;
 
 /// Gives each event the score and the total that the rules give, up to the first event that is refused for something else; from
-/// there on the events stay as they were. The scores of challenges and penalties are taken as they are written.
+/// there on the events stay as they were. The scores of challenges and penalties are taken as they are written. No score and no total
+/// becomes one that a record cannot write: where the right one is, the correction stops.
 ///
 /// # Errors
 ///
@@ -19,6 +20,7 @@ pub fn correct(rules: &Rules, events: &mut Events, list: &WordList) -> Result<()
     ensures correction { OnOk result (IsCorrection rules.now list.now events.old events.new) }
     ensures none { OnErr result ((other : List Event) → HavePoints other → IsCorrection rules.now list.now events.old other → ⊥) }
     ensures stops { IfErr result (λ r. StopsAt rules.now list.now events.old events.new r.line r.fault) }
+    ensures points { KeepPoints events.old events.new }
 {
     law_of_tallies();
     let mut machine = Machine::new(rules);

@@ -5,7 +5,7 @@ ghost use Rattle.game_turns.specs.declared.faults.RuleFault.TheVariants as fault
 ghost use Rattle.game_turns.specs.Answers.{Tells};
 ghost use Rattle.game_turns.specs.Machines.{rules_of, state_of};
 ghost use Rattle.game_turns.specs.Places.{fault_of_event};
-ghost use Rattle.game_sheets.specs.Corrections.{right_score, right_total, IsLeft};
+ghost use Rattle.game_sheets.specs.Corrections.{right_score, right_total, IsLeft, KeepPoints};
 ghost use Rattle.game_sheets.specs.Mending.{IsMendedAt, IsRefusedAt, state_behind};
 
 use game_turns::{Machine, RuleFault};
@@ -60,6 +60,7 @@ fn take_with_total(
     list: &WordList,
 ) -> Result<(), RuleFault>
     ensures mended { IsMendedAt events.old events.new place }
+    ensures points { KeepPoints events.old events.new }
     ensures told { Tells result (fault_of_event (rules_of machine.old) list.now (state_of machine.old) (slice_get events.new place)) }
     ensures left { IfErr result (λ why. (right : ℤ) → right_total why ≡ Some right → IsPoints right → ⊥) }
     ensures same { OnErr result (events.new ≡ events.old) }
@@ -88,8 +89,10 @@ fn take_with_score(
     list: &WordList,
     score: Points,
 ) -> Result<(), RuleFault>
-    requires { fault_of_event (rules_of machine.old) list.now (state_of machine.old) (slice_get events.old place) ≡ Some (fault.WrongScore score) }
+    requires told { fault_of_event (rules_of machine.old) list.now (state_of machine.old) (slice_get events.old place) ≡ Some (fault.WrongScore score) }
+    requires fits { IsPoints score }
     ensures mended { IsMendedAt events.old events.new place }
+    ensures points { KeepPoints events.old events.new }
     ensures told { Tells result (fault_of_event (rules_of machine.old) list.now (state_of machine.old) (slice_get events.new place)) }
     ensures left { IfErr result IsLeft }
     ensures refused { OnErr result (IsRefusedAt (rules_of machine.old) list.now (state_of machine.old) events.old events.new place) }
@@ -109,6 +112,7 @@ pub(crate) fn mend(
     list: &WordList,
 ) -> Result<(), RuleFault>
     ensures mended { IsMendedAt events.old events.new place }
+    ensures points { KeepPoints events.old events.new }
     ensures told { Tells result (fault_of_event (rules_of machine.old) list.now (state_of machine.old) (slice_get events.new place)) }
     ensures left { IfErr result IsLeft }
     ensures refused { OnErr result (IsRefusedAt (rules_of machine.old) list.now (state_of machine.old) events.old events.new place) }

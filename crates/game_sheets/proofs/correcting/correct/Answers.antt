@@ -1,9 +1,10 @@
-use Rattle.std.proofs.Common.{◌≡◌, ◌<◌, ◌∙◌, Some, None, length, sym, subst, arith}
+use Rattle.std.proofs.Common.{◌≡◌, ◌<◌, ◌∙◌, None, length, sym, subst, arith}
 use Rattle.gcg_read.specs.declared.events.Event.{Event}
 use Rattle.game_turns.specs.Machines.{rules_of, state_of}
 use Rattle.game_turns.specs.Places.{fault_at}
 use Rattle.game_turns.proofs.PlaceLaws.{start_tally}
 use Rattle.game_sheets.specs.Corrections.{StopsAt}
+use Rattle.game_sheets.proofs.Mends.{points_kept, points_through}
 use Rattle.game_sheets.proofs.Sheets.{at_start, fault_mended, one_more, state_more, stopped, none_left, event_there}
 use Rattle.game_sheets.proofs.correcting.correct.Goals as goal
 
@@ -12,6 +13,7 @@ loop-place-init c =
     record {
       rules = c.new-machine.ensures.rules;
       state = c.new-machine.ensures.state ∙ start_tally c.args.rules.now c.args.events.now;
+      points = points_kept c.args.events.now;
       up = at_start c.args.rules.now c.args.list.now c.args.events.now;
     }
 
@@ -47,5 +49,10 @@ loop-place-preserved c =
       rules = c.in_default.ensures.rules ∙ c.loop-place.invariant.rules;
       state = state_more c.law_of_tallies.ensures rules (rules_of machine) list c.args.events.now a b place (state_of machine) (state_of c.mend.new.machine) there.event up is there.stands none
           c.loop-place.invariant.rules c.loop-place.invariant.state c.in_default.ensures.state;
+      points = points_through c.args.events.now a b c.loop-place.invariant.points c.in_default.ensures.points;
       up = one_more rules list c.args.events.now a b place up is none;
     }
+
+pub returns-in-Err-clause-points : goal.returns-in-Err-clause-points
+returns-in-Err-clause-points c =
+    points_through c.args.events.now c.loop-place.events c.mend.new.events c.loop-place.invariant.points c.in-Err.ensures.points
