@@ -1,7 +1,9 @@
 //! What explains a case.
+ghost use Rattle.std.specs.Prelude.{◌≡◌, ◌++◌, OnOk};
+ghost use Rattle.explain_lines.specs.Openings.{opening, GoesOn};
 
 use crate::boards::{Stretch, push_board};
-use crate::lines::push_line;
+use crate::openings::{place_of_fault, push_opening};
 use crate::parts::say_of_line;
 use crate::racks::push_rack_fault;
 use crate::record_faults::push_record_fault;
@@ -9,10 +11,10 @@ use crate::rule_faults::push_rule_fault;
 use crate::scenes::Scene;
 use crate::sheets::Sheet;
 use crate::words::push_words;
-use engine::{Case, Finding, GameFault, case_line};
+use engine::{Case, Finding, GameFault};
 use game_board::{Laying, lay_plays, place_of_line};
 use game_turns::play_events;
-use gcg_read::{Event, EventKind, ReadFault};
+use gcg_read::{Event, EventKind};
 use lex_list::WordList;
 use ref_tiles::Rules;
 use std::alloc::{AllocError, Global};
@@ -21,6 +23,7 @@ use std::alloc::{AllocError, Global};
 /// wrong with it; the words of a play with what each square adds; and the board before it.
 ///
 /// It fails only where memory runs out.
+#[tactic(auto, using(crate::proofs::GoingOn::goes_on))]
 pub fn push_explanation(
     alloc: Global,
     text: &mut Vec<u8>,
@@ -28,21 +31,44 @@ pub fn push_explanation(
     list: &WordList,
     case: &Case,
     line: Option<u32>,
-) -> Result<(), AllocError> {
-    let sheet = match Sheet::of(alloc, rules, list, case) {
-        Ok(sheet) => sheet,
-        Err(fault) => return push_bad_record(alloc, text, case, fault),
-    };
-    match what_is_asked(&sheet, line) {
-        Asked::Missing => text.extend_from_slice(b"bad line: no event is on it or after it\n"),
-        Asked::Whole => {
-            push_verdict(alloc, text, case)?;
-            push_whole(text, &sheet)
-        }
-        Asked::At(place) => {
-            push_verdict(alloc, text, case)?;
-            push_place(text, &sheet, place)
-        }
+) -> Result<(), AllocError>
+    ensures { OnOk result (GoesOn (opening case.now.text.items case.now.read line) text.old.items text.new.items) }
+{
+    let sentences = sentences_of(alloc, rules, list, case, line)?;
+    push_opening(alloc, text, case, line)?;
+    push_all(text, sentences.as_slice())
+}
+
+/// Appends all of a text.
+fn push_all(text: &mut Vec<u8>, more: &[u8]) -> Result<(), AllocError>
+    ensures { OnOk result (text.new.items ≡ text.old.items ++ more.now) }
+{
+    text.extend_from_slice(more)
+}
+
+/// What an explanation says behind its opening.
+fn sentences_of(
+    alloc: Global,
+    rules: &Rules,
+    list: &WordList,
+    case: &Case,
+    line: Option<u32>,
+) -> Result<Vec<u8>, AllocError> {
+    let mut text = Vec::new(alloc);
+    let bytes = case.text.as_slice();
+    match Sheet::of(alloc, rules, list, case) {
+        Ok(sheet) => push_asked(&mut text, &sheet, line)?,
+        Err(fault) => push_record_fault(alloc, &mut text, bytes, fault.line, fault.why)?,
+    }
+    Ok(text)
+}
+
+/// Appends what is said of the event that is asked for, or of the record as a whole.
+fn push_asked(text: &mut Vec<u8>, sheet: &Sheet<'_>, line: Option<u32>) -> Result<(), AllocError> {
+    match what_is_asked(sheet, line) {
+        Asked::Missing => Ok(()),
+        Asked::Whole => push_whole(text, sheet),
+        Asked::At(place) => push_place(text, sheet, place),
     }
 }
 
@@ -71,24 +97,6 @@ pub fn push_reason(
     }
 }
 
-/// Appends the verdict line.
-fn push_verdict(alloc: Global, text: &mut Vec<u8>, case: &Case) -> Result<(), AllocError> {
-    let line = case_line(alloc, case)?;
-    text.extend_from_slice(line.as_slice())
-}
-
-/// Appends what is wrong with a text that is no record.
-fn push_bad_record(
-    alloc: Global,
-    text: &mut Vec<u8>,
-    case: &Case,
-    fault: &ReadFault,
-) -> Result<(), AllocError> {
-    push_verdict(alloc, text, case)?;
-    push_line(text, case.text.as_slice(), fault.line)?;
-    push_record_fault(alloc, text, case.text.as_slice(), fault.line, fault.why)
-}
-
 /// What is to be explained.
 enum Asked {
     /// The event at a place.
@@ -107,12 +115,9 @@ fn what_is_asked(sheet: &Sheet<'_>, line: Option<u32>) -> Asked {
             Some(place) => Asked::At(place),
         };
     }
-    match sheet.finding {
-        Finding::Illegal { line, .. } => match place_of_line(sheet.events(), *line) {
-            None => Asked::Whole,
-            Some(place) => Asked::At(place),
-        },
-        Finding::NoGame | Finding::Legal { .. } | Finding::Unsettled => Asked::Whole,
+    match place_of_fault(sheet.events(), sheet.finding) {
+        None => Asked::Whole,
+        Some(place) => Asked::At(place),
     }
 }
 
@@ -138,7 +143,6 @@ fn push_place(text: &mut Vec<u8>, sheet: &Sheet<'_>, place: usize) -> Result<(),
     let Some(event) = events.get(place) else {
         return Ok(());
     };
-    push_line(text, sheet.text, event.line)?;
     push_judged(text, sheet, event, place)?;
     let laying = lay_plays(events, place.min(events.len()));
     if laying.end < place {

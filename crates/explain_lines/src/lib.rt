@@ -12,6 +12,7 @@ mod challenges;
 mod exits;
 mod fields;
 mod lines;
+mod openings;
 mod parts;
 mod play_faults;
 mod racks;

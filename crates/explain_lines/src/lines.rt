@@ -1,16 +1,31 @@
 //! A line as it stands in the file.
+ghost use Rattle.std.specs.Prelude.{◌≡◌, ◌++◌, OnOk, codes, decimal};
+ghost use Rattle.explain_lines.specs.Openings.{shown_line};
 
-use crate::parts::{Part, say, say_of_line};
 use game_facts::line_of;
+use itoa::Buffer;
 use std::alloc::AllocError;
 
-/// Appends a line of a record as it stands in the file, behind its number.
-pub fn push_line(text: &mut Vec<u8>, bytes: &[u8], line: u32) -> Result<(), AllocError> {
-    match line_of(bytes, line) {
-        Some(written) => {
-            say_of_line(text, "line ", line, ": ")?;
-            say(text, &[Part::Raw(written), Part::Say("\n")])
-        }
-        None => Ok(()),
-    }
+/// Appends the number of a line and what stands between it and the line.
+fn push_number(text: &mut Vec<u8>, line: u32) -> Result<(), AllocError>
+    ensures { OnOk result (text.new.items ≡ text.old.items ++ (codes "line " ++ decimal line ++ codes ": ")) }
+{
+    let mut buffer = Buffer::new();
+    text.extend_from_slice(b"line ")?;
+    text.extend_from_slice(buffer.format(line as usize).as_bytes())?;
+    text.extend_from_slice(b": ")?;
+    Ok(())
+}
+
+/// Appends a line of a record as it stands in the file, behind its number; nothing where the file has fewer lines.
+pub fn push_line(text: &mut Vec<u8>, bytes: &[u8], line: u32) -> Result<(), AllocError>
+    ensures { OnOk result (text.new.items ≡ text.old.items ++ shown_line bytes.now line) }
+{
+    let Some(written) = line_of(bytes, line) else {
+        return Ok(());
+    };
+    push_number(text, line)?;
+    text.extend_from_slice(written)?;
+    text.push(b'\n')?;
+    Ok(())
 }

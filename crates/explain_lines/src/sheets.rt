@@ -19,8 +19,6 @@ pub struct Sheet<'a> {
     pub record: &'a Record,
     /// What is found of it.
     pub finding: &'a Finding,
-    /// The bytes that it was read from.
-    pub text: &'a [u8],
 }
 
 impl<'a> Sheet<'a> {
@@ -38,7 +36,6 @@ impl<'a> Sheet<'a> {
                 list,
                 record: &entry.record,
                 finding: &entry.finding,
-                text: case.text.as_slice(),
             }),
             Err(fault) => Err(fault),
         }
