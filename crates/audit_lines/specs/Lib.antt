@@ -1,2 +1,3 @@
+pub mod Corrected
 pub mod Exits
 pub mod Lines

@@ -14,3 +14,4 @@ pub mod BuiltFiles
 pub mod ConvertedFiles
 pub mod Toppings
 pub mod ShownBoards
+pub mod AuditedRecords

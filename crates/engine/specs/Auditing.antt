@@ -4,6 +4,7 @@ use Rattle.ref_tiles.specs.declared.rulebook.Rules.{Rules}
 use Rattle.gcg_read.specs.declared.records.Record.{Record}
 use Rattle.gcg_read.specs.Records.{record_of}
 use Rattle.game_sheets.specs.Auditing.{IsAudited}
+use Rattle.game_sheets.specs.Corrections.{HavePoints}
 use Rattle.engine.specs.declared.audits.Audit.{Audit}
 use Rattle.engine.specs.declared.decisions.Decision.{Decision}
 use Rattle.engine.specs.Archiving.{IsEntry}
@@ -16,11 +17,12 @@ pub record IsAudit (rules : Rules) (list : List (List ℕ)) (written : Record) (
   pub audited : IsAudited rules list written.events a.entry.record.events a.wrong.items
   pub entry : IsEntry rules list a.entry
 
--- the audit of the record that a text means
+-- the audit of the record that a text means: its corrected record has scores and totals that a record can write
 pub record IsAuditOfRecord (rules : Rules) (list : List (List ℕ)) (text : List ℕ) (a : Audit) : Type 0 where
   pub written : Record
   pub means : record_of text ≡ Ok written
   pub audit : IsAudit rules list written a
+  pub points : HavePoints a.entry.record.events
 
 -- or the verdict that tells its first fault
 abbrev pub IsAuditOf : Rules → (list : List (List ℕ)) → (text : List ℕ) → Result Audit Decision → Type 0

@@ -2,6 +2,7 @@
 ghost use Rattle.std.specs.Prelude.{◌≡◌, IfOk};
 ghost use Rattle.devices.specs.Devices.{HasRoom};
 ghost use Rattle.gcg_read.specs.Records.{most_bytes};
+ghost use Rattle.game_sheets.specs.Corrections.{KeepPoints};
 ghost use Rattle.lex_check.specs.Pairs as pairs;
 ghost use Rattle.engine.specs.Auditing.{IsAudit, IsAuditOf};
 ghost use Rattle.engine.specs.Stages.{IsRead};
@@ -14,6 +15,7 @@ use crate::transfers::read_text;
 use devices::Input;
 use game_sheets::{WrongNumber, audit};
 use gcg_read::{MAX_BYTES, Record};
+use gcg_write::law_of_other_points;
 use lex_check::Checked;
 use ref_tiles::Rules;
 use std::alloc::{AllocError, Global};
@@ -36,7 +38,8 @@ fn audit_record(
     game: Record,
 ) -> Result<Audit, AllocError>
     requires { game ≡ written.now }
-    ensures { IfOk result (IsAudit rules.now (pairs.list_in pair.now) written.now) }
+    ensures audit { IfOk result (IsAudit rules.now (pairs.list_in pair.now) written.now) }
+    ensures points { IfOk result (λ a. KeepPoints written.now.events a.entry.record.events) }
 {
     let mut right = game;
     let wrong = audit(
@@ -59,6 +62,7 @@ fn audit_from(
 ) -> Result<Result<Audit, Decision>, AllocError>
     ensures { IfOk result (IsAuditOf rules.now (pairs.list_in pair.now) text.now) }
 {
+    law_of_other_points();
     let written = match record_from(alloc, text)? {
         Ok(record) => record,
         Err(decision) => return Ok(Err(decision)),

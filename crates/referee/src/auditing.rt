@@ -2,11 +2,10 @@
 
 use crate::files::create;
 use crate::inputs::write;
-use audit_lines::{exit_of, is_corrected, push_audit};
+use audit_lines::{corrected_text, exit_of, is_corrected, push_audit};
 use devices::{FromWrite, write_whole};
 use engine::Audit;
 use exit_statuses::{Exit, Trouble};
-use gcg_read::Record;
 use std::alloc::{AllocError, Global};
 use std::rt::{Files, Runtime};
 
@@ -21,7 +20,7 @@ pub fn tell_audit<'a, R: Runtime + AllocGlobal>(
         return Err(Trouble::NoMemory);
     };
     match out {
-        Some(out) if is_corrected(audit) => keep(rt, out, &audit.entry.record)?,
+        Some(out) if is_corrected(audit) => keep(rt, out, audit)?,
         _ => {}
     }
     write(rt, told.as_slice())?;
@@ -35,16 +34,15 @@ fn lines_of(alloc: Global, audit: &Audit) -> Result<Vec<u8>, AllocError> {
     Ok(told)
 }
 
-/// Writes the normal form of a record to the file `out`, which is made once its text is.
+/// Writes the corrected record of an audit to the file `out`, which is made once its text is.
 fn keep<'a, R: Runtime + AllocGlobal>(
     rt: &R,
     out: &'a str,
-    record: &Record,
+    audit: &Audit,
 ) -> Result<(), Trouble<'a>> {
-    let mut text = Vec::new(rt.alloc());
-    if gcg_write::write(record, &mut text).is_err() {
+    let Ok(text) = corrected_text(rt.alloc(), audit) else {
         return Err(Trouble::NoMemory);
-    }
+    };
     let mut file = FromWrite::new(create(rt, out)?);
     match write_whole(&mut file, text.as_slice()) {
         Ok(()) => Ok(()),
