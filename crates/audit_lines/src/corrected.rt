@@ -9,11 +9,11 @@ use gcg_write::{law_of_other_points, write};
 use std::alloc::{AllocError, Global};
 
 /// The normal form of a record.
-fn normal_text(alloc: Global, record: &Record) -> Result<Vec<u8>, AllocError>
-    ensures { IfOk result (λ text. text.items ≡ normal_of record.now) }
+fn normal_text(alloc: Global, game: &Record) -> Result<Vec<u8>, AllocError>
+    ensures { IfOk result (λ text. text.items ≡ normal_of game.now) }
 {
     let mut text = Vec::new(alloc);
-    write(record, &mut text)?;
+    write(game, &mut text)?;
     Ok(text)
 }
 
