@@ -40,7 +40,7 @@ fn top_record(alloc: Global, asked: &AskedGame<'_>, rack: &Counts) -> Result<Dec
 {
     match play_through(asked.rules, asked.record, asked.pair.list()) {
         Ok(passed) => tell_top(alloc, &passed, asked.pair, rack),
-        Err(refusal) => illegal(alloc, refusal.line, GameFault::Rule(refusal.fault)),
+        Err((line, fault)) => illegal(alloc, line, GameFault::Rule(fault)),
     }
 }
 

@@ -123,7 +123,7 @@ fn find(
 {
     match play_through(rules, game, pair.list()) {
         Ok(passed) => allowed(alloc, &passed),
-        Err(refusal) => Ok(refused(refusal.line, refusal.fault)),
+        Err((line, fault)) => Ok(refused(line, fault)),
     }
 }
 

@@ -126,7 +126,7 @@ fn judge_record(
 {
     match play_through(asked.rules, asked.record, asked.pair.list()) {
         Ok(passed) => judge_passed(alloc, &passed, asked.pair, question),
-        Err(refusal) => illegal(alloc, refusal.line, GameFault::Rule(refusal.fault)),
+        Err((line, fault)) => illegal(alloc, line, GameFault::Rule(fault)),
     }
 }
 

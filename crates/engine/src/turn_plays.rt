@@ -107,7 +107,7 @@ fn tell_before(
     let events = asked.record.events.as_slice();
     match board_before(asked.rules, events, asked.pair.list(), place) {
         Ok(board) => tell_first(alloc, asked, &board, rack, number),
-        Err(refusal) => illegal(alloc, refusal.line, GameFault::Rule(refusal.fault)),
+        Err((line, fault)) => illegal(alloc, line, GameFault::Rule(fault)),
     }
 }
 

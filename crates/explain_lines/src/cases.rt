@@ -161,11 +161,11 @@ fn push_judged<'a>(
     let events = sheet.events();
     let machine = match play_events(sheet.rules, events, sheet.list, place.min(events.len())) {
         Ok(machine) => machine,
-        Err(refusal) => {
+        Err((line, _)) => {
             return say_of_line(
                 text,
                 "The rules do not allow line ",
-                refusal.line,
+                line,
                 ", so this line was not judged.\n",
             );
         }

@@ -4,7 +4,7 @@ ghost use Rattle.gcg_read.specs.declared.events.Event.{Event};
 ghost use Rattle.game_sheets.specs.Corrections.{IsCorrection, HavePoints, KeepPoints, StopsAt};
 
 use crate::mending::mend;
-use game_turns::{Machine, Refusal, law_of_tallies};
+use game_turns::{Machine, RuleFault, law_of_tallies};
 use gcg_read::Events;
 use lex_list::WordList;
 use ref_tiles::Rules;
@@ -16,10 +16,10 @@ use ref_tiles::Rules;
 /// # Errors
 ///
 /// The first event that is refused with any numbers that a record can write, and why.
-pub fn correct(rules: &Rules, events: &mut Events, list: &WordList) -> Result<(), Refusal>
+pub fn correct(rules: &Rules, events: &mut Events, list: &WordList) -> Result<(), (u32, RuleFault)>
     ensures correction { OnOk result (IsCorrection rules.now list.now events.old events.new) }
     ensures none { OnErr result ((other : List Event) → HavePoints other → IsCorrection rules.now list.now events.old other → ⊥) }
-    ensures stops { IfErr result (λ r. StopsAt rules.now list.now events.old events.new r.line r.fault) }
+    ensures stops { IfErr result (λ r. StopsAt rules.now list.now events.old events.new r.0 r.1) }
     ensures points { KeepPoints events.old events.new }
 {
     law_of_tallies();
@@ -27,7 +27,7 @@ pub fn correct(rules: &Rules, events: &mut Events, list: &WordList) -> Result<()
     for place in 0..events.len() {
         if let Err(fault) = mend(&mut machine, events, place, list) {
             let line = events.as_slice()[place].line;
-            return Err(Refusal { line, fault });
+            return Err((line, fault));
         }
     }
     Ok(())

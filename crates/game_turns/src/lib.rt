@@ -25,5 +25,5 @@ pub use laws::law_of_tallies;
 pub use listing::all_listed;
 pub use machine::Machine;
 pub use passed::Passed;
-pub use playing::{Refusal, board_before, play_events, play_through};
+pub use playing::{board_before, play_events, play_through};
 pub use turns::Turn;

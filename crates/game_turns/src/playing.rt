@@ -15,25 +15,12 @@ use lex_list::WordList;
 use ref_board::Board;
 use ref_tiles::Rules;
 
-/// The first event that the rules do not allow.
-#[derive(Clone, Copy, Debug, PartialEq, Eq)]
-pub struct Refusal {
-    /// Its line.
-    pub line: u32,
-    /// The first check that fails.
-    pub fault: RuleFault,
-}
-
-impl Refusal {
-    /// The refusal of an event by this check.
-    fn of(event: &Event, fault: RuleFault) -> Refusal
-        ensures { result ≡ record { line = event.now.line; fault = fault } }
-    {
-        Refusal {
-            line: event.line,
-            fault,
-        }
-    }
+/// The refusal of an event: its line, and the first check that fails.
+fn refusal_of(event: &Event, fault: RuleFault) -> (u32, RuleFault)
+    ensures line { result.0 ≡ event.now.line }
+    ensures fault { result.1 ≡ fault }
+{
+    (event.line, fault)
 }
 
 /// The event behind a place of a record, where there is one.
@@ -56,18 +43,18 @@ pub fn play_events(
     events: &[Event],
     list: &WordList,
     end: usize,
-) -> Result<Machine, Refusal>
+) -> Result<Machine, (u32, RuleFault)>
     requires { end ≤ length events.now }
     ensures state { IfOk result (λ machine. state_of machine ≡ tally_at rules.now events.now end) }
     ensures allowed { OnOk result (AreAllowedTo rules.now list.now events.now end) }
-    ensures refused { IfErr result (λ r. IsRefusedBefore rules.now list.now events.now end r.line r.fault) }
+    ensures refused { IfErr result (λ r. IsRefusedBefore rules.now list.now events.now end r.0 r.1) }
 {
     law_of_tallies();
     let mut machine = Machine::new(rules);
     for place in 0..end {
         let event = &events[place];
         if let Err(fault) = machine.step(event, event_behind(events, place), list) {
-            return Err(Refusal::of(event, fault));
+            return Err(refusal_of(event, fault));
         }
     }
     Ok(machine)
@@ -85,11 +72,11 @@ pub fn board_before(
     events: &[Event],
     list: &WordList,
     place: usize,
-) -> Result<Board, Refusal>
+) -> Result<Board, (u32, RuleFault)>
     requires { place ≤ length events.now }
     ensures board { IfOk result (λ board. board ≡ (tally_at rules.now events.now place).board) }
     ensures allowed { OnOk result (AreAllowedTo rules.now list.now events.now place) }
-    ensures refused { IfErr result (λ r. IsRefusedBefore rules.now list.now events.now place r.line r.fault) }
+    ensures refused { IfErr result (λ r. IsRefusedBefore rules.now list.now events.now place r.0 r.1) }
 {
     let machine = play_events(rules, events, list, place)?;
     Ok(*machine.board())
@@ -103,12 +90,12 @@ pub fn play_through<'a>(
     rules: &'a Rules,
     game: &'a Record,
     list: &'a WordList,
-) -> Result<Passed<'a>, Refusal>
+) -> Result<Passed<'a>, (u32, RuleFault)>
     ensures passed { IsOk result ↔ AreAllowed rules.now list.now game.now.events }
     ensures rules { IfOk result (λ passed. rules_in passed ≡ rules.now) }
     ensures record { IfOk result (λ passed. record_in passed ≡ game.now) }
     ensures list { IfOk result (λ passed. list_in passed ≡ list.now) }
-    ensures refused { IfErr result (λ r. IsFirstRefusal rules.now list.now game.now.events r.line r.fault) }
+    ensures refused { IfErr result (λ r. IsFirstRefusal rules.now list.now game.now.events r.0 r.1) }
 {
     let events = game.events.as_slice();
     let machine = play_events(rules, events, list, events.len())?;

@@ -344,7 +344,7 @@ fn answer_of(
             );
             Legal(passed.complete())
         }
-        Err(refusal) => Illegal(refusal.line, refusal.fault),
+        Err((line, fault)) => Illegal(line, fault),
     }
 }
 

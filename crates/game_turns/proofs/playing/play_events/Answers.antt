@@ -1,7 +1,6 @@
 use Rattle.std.proofs.Common.{◌≡◌, length, refl, sym, ap, ◌∙◌, arith, Some, None}
 use Rattle.std.specs.Option.{option_copied}
 use Rattle.std.proofs.lemmas.Option.{slice_get_read}
-use Rattle.game_turns.specs.declared.playing.Refusal.{Refusal}
 use Rattle.game_turns.specs.Machines.{state_of}
 use Rattle.game_turns.specs.Places.{fault_at}
 use Rattle.game_turns.proofs.PlaceLaws.{start_tally, allowed_more, fault_told, state_left}
@@ -21,11 +20,11 @@ returns-in-Err-clause-refused c =
         place = place;
         event = event;
         stands = slice_get_read events (length events) place event refl (omega arith) c.index-events-place.is;
-        on_line = sym (ap (λ (r : Refusal). r.line) c.of.ensures);
+        on_line = sym c.refusal_of.ensures.line;
         fails =
             fault_told c.args.rules.now c.args.list.now events place event c.loop-place.machine (Some c.in-Err.fault) (omega arith) c.index-events-place.is
             c.loop-place.invariant.rules c.loop-place.invariant.state c.in-Err.ensures.told
-            ∙ sym (ap (λ (r : Refusal). Some r.fault) c.of.ensures);
+            ∙ sym (ap Some c.refusal_of.ensures.fault);
         earlier = c.loop-place.invariant.allowed;
       };
       before = c.loop-place-test.true;
