@@ -109,7 +109,8 @@ def made_up(tiles):
 
 def small_records(probe, cases):
     """Small records that were dealt for real, with a rack spoiled, and made up: all deals are tried. Cuts for more than the
-    first steps without a deal are counted; none may be for fewer."""
+    first steps without a deal are counted; none may be for fewer, and where the steps before the last one are told to have a deal, they
+    have to be those first steps."""
     seen = Counter()
     while seen.total() < cases:
         tiles = Counter(random.choices("AEIRT?", [4, 4, 2, 2, 2, 1], k=random.choice([14, 15, 16])))
@@ -132,8 +133,11 @@ def small_records(probe, cases):
             assert told[0] == "dealt", ("a deal is there", told, text, tiles)
         assert exceeded or told[0] != "unknown", ("not settled", text, tiles)
         if told[0] == "cut":
-            assert len(told[1][1]) >= first, ("a cut before the first line", told, text, tiles)
-            seen["of which for more steps"] += len(told[1][1]) > first
+            _, dealt, rows = told[1]
+            assert len(rows) >= first, ("a cut before the first line", told, text, tiles)
+            assert not dealt or len(rows) == first, ("no deal for the places before", told, text, tiles)
+            seen["of which for more steps"] += len(rows) > first
+            seen["of which the steps before are left open"] += not dealt
         seen[f"{told[0]}, {'some deal' if first is None else 'no deal'}{', by a bound' if exceeded else ''}"] += 1
     print(f"small records, all deals tried: {', '.join(f'{answer} {times}' for answer, times in sorted(seen.items()))}", flush=True)
 

@@ -114,6 +114,9 @@ TEXTS = {
     "blanks": ">A: ?? - +0 0\n>B: ? - +0 0\n",
     "big-rack": ">A: AEINRST 8H AT +4 4\n>B: - +0 0\n>A: AAABCDE - +0 4\n",
     "one-q": ">A: Q -Q +0 0\n>B: - +0 0\n>A: Q - +0 0\n",
+    "one-q-earlier": ">A: Q -Q +0 0\n>B: - +0 0\n>A: Q - +0 0\n>B: - +0 0\n>A: Q - +0 0\n",
+    "one-q-of-another": ">A: Q -Q +0 0\n>B: - +0 0\n>A: - +0 0\n>B: Q - +0 0\n>A: - +0 0\n>B: Q - +0 0\n",
+    "one-of-seven-earlier": ">A: AEINRST -1 +0 0\n>B: - +0 0\n>A: BCDFGHJ - +0 0\n>B: - +0 0\n>A: - +0 0\n",
     "one-of-seven": ">A: AEINRST -1 +0 0\n>B: - +0 0\n>A: BCDFGHJ - +0 0\n",
     "two-of-seven": ">A: AEIN -2 +0 0\n>B: - +0 0\n>A: STUV - +0 0\n",
     "unknown": ">A: AEI -5 +0 0\n>B: QU - +0 0\n>A: SX - +0 0\n",
@@ -356,6 +359,9 @@ def settled(run):
         by_word(*row)
     by_word("one-q", 1, "illegal line 3: NoDeal\n")
     by_word("one-of-seven", 1, "illegal line 3: NoDeal\n")
+    by_word("one-q-earlier", 1, "illegal line 3: NoDeal\n")
+    by_word("one-q-of-another", 1, "illegal line 4: NoDeal\n")
+    by_word("one-of-seven-earlier", 1, "illegal line 3: NoDeal\n")
     lines = "1 A -2 +0 0 best -\n2 B - +0 0 best -\n3 A - +0 0 best -\n"
     by_word("two-of-seven", 0, f"legal unfinished\n{lines}")
     run.row(["judge", "word", "word.gad", "one-of-seven"], 2, "unsettled\n", error=SETTLE)

@@ -13,14 +13,14 @@ def letters(text):
 
 
 def read_told(lines):
-    """What a probe told of a record: `dealt` and a deal, `cut`, its kinds and of each place its line and where tiles are counted,
-    or a word alone."""
+    """What a probe told of a record: `dealt` and a deal, `cut`, its kinds, whether the places before the last one have a deal, and of
+    each place its line and where tiles are counted, or a word alone."""
     word, *rest = lines[0].split(" ")
     if word == "dealt":
         rows = [[letters(part) for part in line.split(" ")] for line in lines[1:]]
         return word, [((first, second), thrown) for first, second, thrown in rows]
     if word == "cut":
-        return word, (letters(rest[0]), [line.split(" ") for line in lines[1:]])
+        return word, (letters(rest[0]), rest[1] == "dealt", [line.split(" ") for line in lines[1:]])
     return word, None
 
 
@@ -95,6 +95,6 @@ def is_right(told, places, tiles):
     if word == "dealt":
         return fits(places, tiles, what)
     if word == "cut":
-        kinds, rows = what
+        kinds, _, rows = what
         return 0 < len(rows) <= len(places) and shows_none(places[: len(rows)], tiles, kinds)
     return word == "unknown"

@@ -11,7 +11,7 @@ use Rattle.ref_tiles.specs.declared.kinds.Kind.TheVariants as kind
 use Rattle.gcg_read.specs.Racks.{kind_of}
 use Rattle.gcg_read.specs.declared.events.Seat.{Seat}
 use Rattle.gcg_read.specs.declared.events.Seat.TheVariants.{First, Second}
-use Rattle.deal_steps.specs.declared.faults.DealFault.TheVariants as fault
+use Rattle.deal_steps.specs.declared.faults.DealBound.TheVariants as fault
 use Rattle.deal_steps.specs.declared.steps.Motion.{Motion}
 use Rattle.deal_steps.specs.declared.steps.Motion.TheVariants as motion
 use Rattle.deal_steps.specs.declared.steps.Act.TheVariants as act

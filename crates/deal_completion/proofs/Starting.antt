@@ -13,8 +13,8 @@ use Rattle.deal_steps.specs.declared.steps.Motion.TheVariants as motion
 use Rattle.deal_steps.specs.declared.steps.Act.{Act}
 use Rattle.deal_steps.specs.declared.steps.Act.TheVariants as act
 use Rattle.deal_steps.specs.declared.steps.Step.{Step}
-use Rattle.deal_steps.specs.declared.faults.DealFault.{DealFault}
-use Rattle.deal_steps.specs.declared.faults.DealFault.TheVariants as fault
+use Rattle.deal_steps.specs.declared.faults.DealBound.{DealBound}
+use Rattle.deal_steps.specs.declared.faults.DealBound.TheVariants as fault
 use Rattle.deal_steps.specs.Piles.{kinds, joined}
 use Rattle.deal_steps.specs.Steps.{thrown_by, of_act, is_by, is_unknown, throws_unknown, left_in, thrown_in, ends_epoch, needed, needed_of, size_of, swaps_by, swaps}
 use Rattle.deal_steps.specs.Bounds.{gone, raised, low, low_at, laid_earlier, thrown, held, is_too_big, short_kind, kind_at, bound_of, bound_for, bound_at, first_bound_after, first_bound}
@@ -82,7 +82,7 @@ low_at_start seat steps k known h =
 
 -- ---- no bound is exceeded
 
-none_or : (a b : Option DealFault) → option_or a b ≡ None → (a ≡ None) × (b ≡ None)
+none_or : (a b : Option DealBound) → option_or a b ≡ None → (a ≡ None) × (b ≡ None)
 none_or None b e = (refl, e)
 none_or (Some x) b e = (e, absurd (cc))
 

@@ -4,7 +4,10 @@ use Rattle.std.proofs.lemmas.List.{take-take, length-take}
 use Rattle.ref_tiles.specs.declared.rulebook.Rules.{Rules}
 use Rattle.deal_steps.specs.declared.steps.Step.{Step}
 use Rattle.deal_cuts.specs.Cutting.{HasNoDeal}
-use Rattle.deal_search.specs.Settling.{EndsDeals}
+use Rattle.deal_steps.specs.declared.deals.Held.{Held}
+use Rattle.deal_steps.specs.Fitting.{Fits}
+use Rattle.deal_search.specs.declared.settling.Earlier.TheVariants as known
+use Rattle.deal_search.specs.Settling.{EndsDeals, IsKnownOf}
 
 pub ends_in_front : (rules : Rules) (steps front : List Step) (m n : ℕ) → front ≡ take m steps → EndsDeals rules front n → EndsDeals rules steps n
 ends_in_front rules steps front m n is ends =
@@ -18,3 +21,7 @@ ends_in_front rules steps front m n is ends =
       within = omega (arith, long, same, within);
       none = subst (λ (xs : List Step). HasNoDeal rules xs) fronts ends.none;
     }
+
+-- racks that fit a front are known of the first so many steps
+pub deals_in_front : (rules : Rules) (steps front : List Step) (n : ℕ) (deal : List Held) → front ≡ take n steps → Fits rules front deal → IsKnownOf rules steps n known.Dealt
+deals_in_front rules steps front n deal is fit = record { racks = deal; fit = subst (λ (xs : List Step). Fits rules xs deal) is fit }

@@ -1,6 +1,8 @@
 //! Whether racks fit the steps of a game.
-ghost use Rattle.std.specs.Prelude.{◌≡◌, true, vec_len, IfOk};
-ghost use Rattle.deal_search.specs.Settling.{EndsDeals, IsSettled};
+ghost use Rattle.std.specs.Prelude.{◌≡◌, ◌+◌, ◌<◌, ◌≤◌, ◌==◌, true, length, vec_len, IfOk, OnOk, if◌then◌else◌};
+ghost use Rattle.deal_search.specs.declared.settling.Earlier.TheVariants as known;
+ghost use Rattle.deal_search.specs.declared.settling.Settling.TheVariants as settling;
+ghost use Rattle.deal_search.specs.Settling.{EndsDeals, IsKnownOf, IsSettled};
 
 use crate::handing::deal_of;
 use crate::mending::{Mended, mend};
@@ -10,13 +12,27 @@ use deal_steps::{Deal, Step, fits};
 use ref_tiles::Rules;
 use std::alloc::{AllocError, Global};
 
+/// What is known of the steps before the last one of those for which there is no deal.
+#[derive(Clone, Copy, Debug, PartialEq, Eq)]
+pub enum Earlier {
+    /// Some racks fit them.
+    Dealt,
+    /// Nothing: they were not looked at, or neither a deal nor a cut was found for them within the budget.
+    Unsettled,
+}
+
 /// What is known of the deals of a game.
 #[derive(Debug, Drop)]
 pub enum Settling {
     /// This deal fits.
     Dealt(Deal),
     /// No racks fit the steps for which the cut has places, and so there is no deal for the game.
-    NoDeal(Cut),
+    NoDeal {
+        /// What shows it.
+        cut: Cut,
+        /// What is known of these steps without the last one.
+        earlier: Earlier,
+    },
     /// Neither was found within the budget.
     Unknown,
 }
@@ -52,43 +68,105 @@ fn seek(alloc: Global, rules: &Rules, steps: &[Step], budget: usize) -> Result<S
             }
             Ok(Settling::Unknown)
         }
-        Mended::Cut(cut) if is_shown(rules, steps, &cut) => Ok(Settling::NoDeal(cut)),
+        Mended::Cut(cut) if is_shown(rules, steps, &cut) => Ok(Settling::NoDeal {
+            cut,
+            earlier: Earlier::Unsettled,
+        }),
         Mended::Cut(_) | Mended::Open => Ok(Settling::Unknown),
     }
 }
 
+/// What is known of the fronts of some steps: no racks fit as many first steps as the cut has places, and of so many other ones,
+/// which are fewer, this is known.
+#[derive(Drop)]
+struct Fronts {
+    cut: Cut,
+    low: usize,
+    earlier: Earlier,
+}
+
+impl Fronts {
+    /// Looks for a deal of so many first steps, or for a cut.
+    #[tactic(auto, using(crate::proofs::Fronts::ends_in_front, crate::proofs::Fronts::deals_in_front))]
+    fn look(
+        &mut self,
+        alloc: Global,
+        rules: &Rules,
+        steps: &[Step],
+        count: usize,
+        budget: usize,
+    ) -> Result<(), AllocError>
+        requires within { count ≤ length steps.now }
+        requires ends { EndsDeals rules.now steps.now (vec_len self.old.cut.places) }
+        requires earlier { IsKnownOf rules.now steps.now self.old.low self.old.earlier }
+        ensures ends { OnOk result (EndsDeals rules.now steps.now (vec_len self.new.cut.places)) }
+        ensures earlier { OnOk result (IsKnownOf rules.now steps.now self.new.low self.new.earlier) }
+    {
+        let (front, _) = steps.split_at(count);
+        match seek(alloc, rules, front, budget)? {
+            Settling::NoDeal { cut, .. } => self.cut = cut,
+            Settling::Dealt(_) => self.keep(count, Earlier::Dealt),
+            Settling::Unknown => self.keep(count, Earlier::Unsettled),
+        }
+        Ok(())
+    }
+
+    /// Keeps what is known of so many first steps.
+    fn keep(&mut self, count: usize, earlier: Earlier)
+        ensures { self.new ≡ record self.old { low = count; earlier = earlier } }
+    {
+        self.low = count;
+        self.earlier = earlier;
+    }
+
+    /// The answer: where all but the last of the steps without a deal were looked at, what is known of them is told.
+    fn answer(self) -> Settling
+        requires ends { 0 < vec_len self.cut.places }
+        ensures { result ≡ settling.NoDeal self.cut (if vec_len self.cut.places == self.low + 1 then self.earlier else known.Unsettled) }
+    {
+        let earlier = if self.cut.places.len() - 1 == self.low {
+            self.earlier
+        } else {
+            Earlier::Unsettled
+        };
+        Settling::NoDeal {
+            cut: self.cut,
+            earlier,
+        }
+    }
+}
+
 /// The first steps for which a cut is found, where one was found for all. They are sought by halves.
-#[tactic(auto, using(crate::proofs::Fronts::ends_in_front))]
 fn first_cut(
     alloc: Global,
     rules: &Rules,
     steps: &[Step],
     whole: Cut,
     budget: usize,
-) -> Result<Cut, AllocError>
+) -> Result<Settling, AllocError>
     requires { EndsDeals rules.now steps.now (vec_len whole.places) }
-    ensures { IfOk result (λ cut. EndsDeals rules.now steps.now (vec_len cut.places)) }
+    ensures { IfOk result (IsSettled rules.now steps.now) }
 {
-    let mut cut = whole;
-    let mut low = 0usize;
+    let mut fronts = Fronts {
+        cut: whole,
+        low: 0,
+        earlier: Earlier::Dealt,
+    };
     for _ in 0..usize::BITS {
-        let shown = cut.places.len();
-        if shown <= low.saturating_add(1) || shown > steps.len() {
-            return Ok(cut);
+        let shown = fronts.cut.places.len();
+        if shown <= fronts.low.saturating_add(1) || shown > steps.len() {
+            return Ok(fronts.answer());
         }
-        let middle = low + (shown - low) / 2;
-        let (front, _) = steps.split_at(middle);
-        match seek(alloc, rules, front, budget)? {
-            Settling::NoDeal(found) => cut = found,
-            Settling::Dealt(_) | Settling::Unknown => low = middle,
-        }
+        let middle = fronts.low + (shown - fronts.low) / 2;
+        fronts.look(alloc, rules, steps, middle, budget)?;
     }
-    Ok(cut)
+    Ok(fronts.answer())
 }
 
 /// Settles whether racks fit the steps of a game, within a budget of looks for each search.
 ///
-/// Where they do not, the cut is for the first steps for which one is found. It fails only where memory runs out.
+/// Where they do not, the cut is for the first steps for which one is found, and the answer tells whether racks fit the steps
+/// before the last of them. It fails only where memory runs out.
 pub fn settle_within(
     alloc: Global,
     rules: &Rules,
@@ -98,10 +176,7 @@ pub fn settle_within(
     ensures { IfOk result (IsSettled rules.now steps.now) }
 {
     match seek(alloc, rules, steps, budget)? {
-        Settling::NoDeal(whole) => {
-            let cut = first_cut(alloc, rules, steps, whole, budget)?;
-            Ok(Settling::NoDeal(cut))
-        }
+        Settling::NoDeal { cut, .. } => first_cut(alloc, rules, steps, cut, budget),
         Settling::Dealt(deal) => Ok(Settling::Dealt(deal)),
         Settling::Unknown => Ok(Settling::Unknown),
     }

@@ -13,7 +13,7 @@ use Rattle.deal_steps.specs.declared.steps.Motion.TheVariants as motion
 use Rattle.deal_steps.specs.declared.steps.Act.{Act}
 use Rattle.deal_steps.specs.declared.steps.Act.TheVariants as act
 use Rattle.deal_steps.specs.declared.steps.Step.{Step}
-use Rattle.deal_steps.specs.declared.faults.DealFault.TheVariants as fault
+use Rattle.deal_steps.specs.declared.faults.DealBound.TheVariants as fault
 use Rattle.deal_steps.specs.Piles.{kinds, joined, without, greater}
 use Rattle.deal_steps.specs.Bounds.{gone, low, held, kind_at, bound_at, first_bound}
 

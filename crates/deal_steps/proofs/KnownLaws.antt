@@ -17,8 +17,8 @@ use Rattle.deal_steps.specs.declared.steps.Motion.TheVariants as motion
 use Rattle.deal_steps.specs.declared.steps.Act.{Act}
 use Rattle.deal_steps.specs.declared.steps.Act.TheVariants as act
 use Rattle.deal_steps.specs.declared.steps.Step.{Step}
-use Rattle.deal_steps.specs.declared.faults.DealFault.{DealFault}
-use Rattle.deal_steps.specs.declared.faults.DealFault.TheVariants as fault
+use Rattle.deal_steps.specs.declared.faults.DealBound.{DealBound}
+use Rattle.deal_steps.specs.declared.faults.DealBound.TheVariants as fault
 use Rattle.deal_steps.specs.declared.known.Known.{Known}
 use Rattle.deal_steps.specs.Piles.{kinds, joined, without, greater}
 use Rattle.deal_steps.specs.Steps.{used_by, left_by, laid_by, thrown_by, of_act, is_unknown, throws_unknown, needed_of, size_of}
@@ -440,7 +440,7 @@ same_size First s past known shown = size_test (low_at First s past) known.first
 same_size Second s past known shown = size_test (low_at Second s past) known.second (gone Second past) s.second shown.second shown.second_long (length-gone Second past)
 
 -- the answer of both tests
-fault_of : Step → Bool → Option ℕ → Option DealFault
+fault_of : Step → Bool → Option ℕ → Option DealBound
 fault_of s big short = if big then Some (fault.RackTooBig s.line) else option_map (λ k. fault.TilesShort s.line (kind_at k)) short
 
 same_bound : (rules : Rules) (seat : Seat) (s : Step) (past : List Step) (known : Known) → IsShown s past known → excess_of rules seat s known ≡ bound_of rules seat s past
@@ -604,7 +604,7 @@ past_more steps i s inside is =
     ap reverse (take_more steps i s inside) ∙ reverse-append (take i steps) (get_or steps i s ∷ []) ∙ ap (λ (x : Step). x ∷ past_at steps i) (sym is)
 
 -- the first bound from a place on
-abbrev pub bound_from : Rules → List Step → ℕ → Option DealFault
+abbrev pub bound_from : Rules → List Step → ℕ → Option DealBound
 bound_from rules steps i = first_bound_after rules (past_at steps i) (drop i steps)
 
 pub bound_more : (rules : Rules) (steps : List Step) (i : ℕ) (s : Step) → i < length steps → s ≡ get_or steps i s

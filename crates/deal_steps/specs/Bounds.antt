@@ -14,8 +14,8 @@ use Rattle.gcg_read.specs.declared.events.Seat.{Seat}
 use Rattle.deal_steps.specs.declared.steps.Act.{Act}
 use Rattle.deal_steps.specs.declared.steps.Act.TheVariants as act
 use Rattle.deal_steps.specs.declared.steps.Step.{Step}
-use Rattle.deal_steps.specs.declared.faults.DealFault.{DealFault}
-use Rattle.deal_steps.specs.declared.faults.DealFault.TheVariants as fault
+use Rattle.deal_steps.specs.declared.faults.DealBound.{DealBound}
+use Rattle.deal_steps.specs.declared.faults.DealBound.TheVariants as fault
 use Rattle.deal_steps.specs.Piles.{kinds, joined, without, greater}
 use Rattle.deal_steps.specs.Steps.{laid_in, thrown_in, left_in, ends_epoch, needed, size_of}
 
@@ -78,25 +78,25 @@ abbrev pub kind_at : ℕ → Kind
 kind_at k = kind_or_blank (letter_at k)
 
 -- the first bound that a moment of this player exceeds
-abbrev pub bound_of : Rules → Seat → Step → (past : List Step) → Option DealFault
+abbrev pub bound_of : Rules → Seat → Step → (past : List Step) → Option DealBound
 bound_of rules seat s past =
     if is_too_big seat s past then Some (fault.RackTooBig s.line)
     else option_map (λ k. fault.TilesShort s.line (kind_at k)) (short_kind rules seat s past)
 
-abbrev pub bound_for : Rules → Step → (past : List Step) → Act → Option DealFault
+abbrev pub bound_for : Rules → Step → (past : List Step) → Act → Option DealBound
 bound_for rules s past (act.Turns shown what) = bound_of rules s.player s past
 bound_for rules s past (act.TakesBack used) = None
 bound_for rules s past (act.Ends holder tiles) = bound_of rules holder s past
 bound_for rules s past act.Rests = None
 
 -- the first bound that a step exceeds, where it is a moment
-unfoldable pub bound_at : Rules → Step → (past : List Step) → Option DealFault
+unfoldable pub bound_at : Rules → Step → (past : List Step) → Option DealBound
 bound_at rules s past = bound_for rules s past s.act
 
 -- the first bound that the steps behind a past exceed
-abbrev pub first_bound_after : Rules → (past : List Step) → List Step → Option DealFault
+abbrev pub first_bound_after : Rules → (past : List Step) → List Step → Option DealBound
 first_bound_after rules past [] = None
 first_bound_after rules past (s ∷ steps) = option_or (bound_at rules s past) (first_bound_after rules (s ∷ past) steps)
 
-abbrev pub first_bound : Rules → List Step → Option DealFault
+abbrev pub first_bound : Rules → List Step → Option DealBound
 first_bound rules steps = first_bound_after rules [] steps

@@ -12,8 +12,8 @@ use Rattle.deal_steps.specs.declared.steps.Motion.TheVariants as motion
 use Rattle.deal_steps.specs.declared.steps.Act.{Act}
 use Rattle.deal_steps.specs.declared.steps.Act.TheVariants as act
 use Rattle.deal_steps.specs.declared.steps.Step.{Step}
-use Rattle.deal_steps.specs.declared.faults.DealFault.{DealFault}
-use Rattle.deal_steps.specs.declared.faults.DealFault.TheVariants as fault
+use Rattle.deal_steps.specs.declared.faults.DealBound.{DealBound}
+use Rattle.deal_steps.specs.declared.faults.DealBound.TheVariants as fault
 use Rattle.deal_steps.specs.declared.known.Known.{Known}
 use Rattle.deal_steps.specs.Piles.{kinds, joined, without, greater}
 use Rattle.deal_steps.specs.Steps.{used_by, of_seat, size_of}
@@ -57,7 +57,7 @@ short_of rules known =
     find (λ k. nat_lt (slice_index rules.counts k) (slice_index known.laid k + slice_index known.first k + slice_index known.second k)) kinds
 
 -- the bound that what is known of a player exceeds
-unfoldable pub excess_of : Rules → Seat → Step → Known → Option DealFault
+unfoldable pub excess_of : Rules → Seat → Step → Known → Option DealBound
 excess_of rules seat s known =
     if nat_lt (size_of s seat) (sum (known_of known seat)) then Some (fault.RackTooBig s.line)
     else option_map (λ k. fault.TilesShort s.line (kind_at k)) (short_of rules known)
@@ -69,7 +69,7 @@ shown_by player (act.TakesBack used) known = known
 shown_by player (act.Ends holder tiles) known = raised_by holder tiles known
 shown_by player act.Rests known = known
 
-abbrev pub excess : Rules → Step → Act → Known → Option DealFault
+abbrev pub excess : Rules → Step → Act → Known → Option DealBound
 excess rules s (act.Turns shown what) known = excess_of rules s.player s known
 excess rules s (act.TakesBack used) known = None
 excess rules s (act.Ends holder tiles) known = excess_of rules holder s known

@@ -3,13 +3,13 @@ ghost use Rattle.std.specs.Prelude.{◌≡◌, ◌⊎◌, ◌≤◌, Some, None,
 ghost use Rattle.deal_steps.specs.Bounds.{first_bound};
 ghost use Rattle.deal_steps.specs.Knowing.{IsKnown, IsShownAt};
 
-use crate::faults::DealFault;
+use crate::faults::DealBound;
 use crate::known::Known;
 use crate::steps::Step;
 use ref_tiles::Rules;
 
 /// What is known of the racks behind the steps of a game, or the first bound that they exceed.
-fn known_behind(rules: &Rules, steps: &[Step]) -> Result<Known, DealFault>
+fn known_behind(rules: &Rules, steps: &[Step]) -> Result<Known, DealBound>
     ensures fault { IfErr result (λ fault. first_bound rules.now steps.now ≡ Some fault) }
     ensures none { OnOk result (first_bound rules.now steps.now ≡ None) }
     ensures known { IfOk result (IsKnown (reverse steps.now)) }
@@ -28,7 +28,7 @@ fn known_behind(rules: &Rules, steps: &[Step]) -> Result<Known, DealFault>
 /// A player's moments are the turns and the last rack. By a moment a rack has too many tiles where what the moments
 /// so far show needs more than came to it, and a kind is short where the players together have shown more of it than
 /// the game has. Both are necessary: where racks fit, neither comes ([`law_of_fitting`](crate::law_of_fitting)).
-pub fn first_bound(rules: &Rules, steps: &[Step]) -> Option<DealFault>
+pub fn first_bound(rules: &Rules, steps: &[Step]) -> Option<DealBound>
     ensures { result ≡ first_bound rules.now steps.now }
 {
     known_behind(rules, steps).err()

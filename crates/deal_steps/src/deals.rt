@@ -25,7 +25,8 @@ pub struct Held {
 /// The racks of a whole game, event by event. Contracts see the list of them.
 #[derive(Debug, Drop)]
 pub struct Deal {
-    held: Vec<Held>,
+    /// What the players hold before each event, and what it throws.
+    pub held: Vec<Held>,
 }
 
 impl Model for Deal {

@@ -2,9 +2,9 @@
 
 use ref_tiles::Kind;
 
-/// Why no racks can be dealt for a record.
+/// A bound that the racks of a record exceed: so none can be dealt for it.
 #[derive(Clone, Copy, Debug, PartialEq, Eq)]
-pub enum DealFault {
+pub enum DealBound {
     /// By this line a player has shown more tiles than came to the rack.
     RackTooBig {
         /// The line, counted from 1.

@@ -4,7 +4,7 @@ ghost use Rattle.deal_steps.specs.declared.steps.Step.{Step};
 ghost use Rattle.deal_steps.specs.Bounds.{kind_at, bound_at};
 ghost use Rattle.deal_steps.specs.Knowing.{known_of, with_known, raised_by, IsKnown, short_of, excess_of, excess, shown_by, turned_by, moved_by, HasRoomFor, HasRoom};
 
-use crate::faults::DealFault;
+use crate::faults::DealBound;
 use crate::fitting::used_by;
 use crate::piles::{are_small, greater, joined, without};
 use crate::steps::{Act, Motion, Step};
@@ -94,16 +94,16 @@ impl Known {
 
     /// The bound that what is known of a player exceeds at a step.
     #[tactic(auto, unfolding(crate::specs::Knowing::excess_of))]
-    fn excess_of(&self, rules: &Rules, seat: Seat, step: &Step) -> Option<DealFault>
+    fn excess_of(&self, rules: &Rules, seat: Seat, step: &Step) -> Option<DealBound>
         ensures { result ≡ excess_of rules.now seat step.now self.now }
     {
         let line = step.line;
         if self.of(seat).total() > step.size_of(seat) {
-            return Some(DealFault::RackTooBig { line });
+            return Some(DealBound::RackTooBig { line });
         }
         match self.short_kind(rules) {
             None => None,
-            Some(number) => Some(DealFault::TilesShort {
+            Some(number) => Some(DealBound::TilesShort {
                 line,
                 kind: kind_at(number),
             }),
@@ -126,7 +126,7 @@ impl Known {
     }
 
     /// The bound that is exceeded at a step whose tiles are known.
-    fn excess(&self, rules: &Rules, step: &Step) -> Option<DealFault>
+    fn excess(&self, rules: &Rules, step: &Step) -> Option<DealBound>
         ensures { result ≡ excess rules.now step.now step.now.act self.now }
     {
         match &step.act {
@@ -167,7 +167,7 @@ impl Known {
     }
 
     /// Takes a step: the bound that it exceeds, or what is known behind it.
-    pub fn take(&mut self, rules: &Rules, step: &Step) -> Option<DealFault>
+    pub fn take(&mut self, rules: &Rules, step: &Step) -> Option<DealBound>
         ensures told { (past : List Step) → IsKnown past self.old → result ≡ bound_at rules.now step.now past }
         ensures known { (past : List Step) → IsKnown past self.old → result ≡ None → IsKnown (step.now ∷ past) self.new }
     {

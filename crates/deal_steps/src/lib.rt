@@ -15,7 +15,7 @@ mod steps;
 
 pub use bounding::{first_bound, shown_at};
 pub use deals::{Deal, Held, Racks};
-pub use faults::DealFault;
+pub use faults::DealBound;
 pub use fitting::{fits, fits_at, follows, follows_to, used_by};
 pub use known::{Known, kind_at};
 pub use laws::{law_of_epochs, law_of_fitting};

@@ -6,7 +6,7 @@ use Rattle.ref_tiles.specs.declared.rulebook.Rules.{Rules}
 use Rattle.gcg_read.specs.declared.events.Event.{Event}
 use Rattle.game_turns.specs.Places.{AreAllowed}
 use Rattle.deal_steps.specs.declared.deals.Held.{Held}
-use Rattle.deal_steps.specs.declared.faults.DealFault.{DealFault}
+use Rattle.deal_steps.specs.declared.faults.DealBound.{DealBound}
 use Rattle.deal_steps.specs.Bounds.{first_bound}
 use Rattle.deal_steps.specs.Fitting.{Fits}
 use Rattle.deal_completion.specs.Completion.{dealt}
@@ -16,7 +16,7 @@ use Rattle.game_deal.specs.Recorded.{steps_of}
 use Rattle.engine.specs.Verdicts.{IsDealt, Exceeds}
 
 -- a bound that is exceeded: then no deal fits
-pub exceeds : FittingIsBounded → (rules : Rules) (words : List (List ℕ)) (events : List Event) (bound : DealFault) → AreAllowed rules words events → first_bound rules (steps_of rules events) ≡ Some bound
+pub exceeds : FittingIsBounded → (rules : Rules) (words : List (List ℕ)) (events : List Event) (bound : DealBound) → AreAllowed rules words events → first_bound rules (steps_of rules events) ≡ Some bound
     → Exceeds rules words events bound
 exceeds law rules words events bound allowed is =
     record {
@@ -43,7 +43,6 @@ no_deal_fits rules events given is none =
 
 -- without an exchange it does
 pub plain_fits : (rules : Rules) (events : List Event) (given : Option (List Held)) (b : Bool) → given ≡ dealt rules (steps_of rules events)
-    → (first_bound rules (steps_of rules events) ≡ None → HaveNoExchange events → IsSomeAnd given (Fits rules (steps_of rules events))) → IsTrue b ↔ IsDealt rules events
-    → first_bound rules (steps_of rules events) ≡ None → HaveNoExchange events → IsTrue b
-plain_fits rules events given b is plain same bounded none =
-    same.1 (subst (λ (d : Option (List Held)). IsSomeAnd d (Fits rules (steps_of rules events))) is (plain bounded none))
+    → (HaveNoExchange events → IsSomeAnd given (Fits rules (steps_of rules events))) → IsTrue b ↔ IsDealt rules events → HaveNoExchange events → IsTrue b
+plain_fits rules events given b is plain same none =
+    same.1 (subst (λ (d : Option (List Held)). IsSomeAnd d (Fits rules (steps_of rules events))) is (plain none))

@@ -7,9 +7,10 @@ use Rattle.game_turns.specs.declared.passed.Passed.{Passed}
 use Rattle.game_turns.specs.declared.faults.RuleFault.{RuleFault}
 use Rattle.game_turns.specs.Passing.{rules_in, record_in}
 use Rattle.game_turns.specs.Places.{AreAllowed, IsFirstRefusal, is_finished}
-use Rattle.deal_steps.specs.declared.faults.DealFault.{DealFault}
-use Rattle.deal_steps.specs.declared.faults.DealFault.TheVariants as deal
+use Rattle.deal_steps.specs.declared.faults.DealBound.{DealBound}
+use Rattle.deal_steps.specs.declared.faults.DealBound.TheVariants as deal
 use Rattle.deal_cuts.specs.Laws.{FrontsDecide}
+use Rattle.deal_search.specs.declared.settling.Earlier.{Earlier}
 use Rattle.game_deal.specs.Laws.{FittingIsBounded}
 use Rattle.game_deal.specs.Recorded.{steps_of}
 use Rattle.engine.specs.declared.findings.Finding.{Finding}
@@ -32,18 +33,18 @@ pub by_deal : (passed : Passed) (words : List (List ℕ)) (complete : Bool) → 
     → AreFound passed rack.Dealt → complete ≡ is_finished (rules_in passed) (record_in passed).events → IsFinding (rules_in passed) words (record_in passed) (finding.Legal complete)
 by_deal passed words complete has allowed deal is = (has, record { allowed = allowed; racks = deal.racks; dealt = deal.fits }, is)
 
-past_of : FittingIsBounded → (passed : Passed) (words : List (List ℕ)) (bound : DealFault) → HasEvents (record_in passed) → AreAllowed (rules_in passed) words (record_in passed).events
+past_of : FittingIsBounded → (passed : Passed) (words : List (List ℕ)) (bound : DealBound) → HasEvents (record_in passed) → AreAllowed (rules_in passed) words (record_in passed).events
     → AreFound passed (rack.PastBound bound) → IsFinding (rules_in passed) words (record_in passed) (past_bound bound)
 past_of law passed words (deal.RackTooBig line) has allowed found = (has, exceeds law (rules_in passed) words (record_in passed).events (deal.RackTooBig line) allowed found)
 past_of law passed words (deal.TilesShort line kind) has allowed found = (has, exceeds law (rules_in passed) words (record_in passed).events (deal.TilesShort line kind) allowed found)
 
-pub past : FittingIsBounded → (passed : Passed) (words : List (List ℕ)) (bound : DealFault) (f : Finding) → HasEvents (record_in passed) → AreAllowed (rules_in passed) words (record_in passed).events
+pub past : FittingIsBounded → (passed : Passed) (words : List (List ℕ)) (bound : DealBound) (f : Finding) → HasEvents (record_in passed) → AreAllowed (rules_in passed) words (record_in passed).events
     → AreFound passed (rack.PastBound bound) → f ≡ past_bound bound → IsFinding (rules_in passed) words (record_in passed) f
 past law passed words bound f has allowed found is = subst (λ (g : Finding). IsFinding (rules_in passed) words (record_in passed) g) (sym is) (past_of law passed words bound has allowed found)
 
-pub out : (passed : Passed) (words : List (List ℕ)) (line : ℕ) → HasEvents (record_in passed) → AreAllowed (rules_in passed) words (record_in passed).events
-    → AreFound passed (rack.NoDeal line) → IsFinding (rules_in passed) words (record_in passed) (finding.Illegal line game.NoDeal)
-out passed words line has allowed found = (has, ends_on passed words line allowed found)
+pub out : (passed : Passed) (words : List (List ℕ)) (line : ℕ) (earlier : Earlier) → HasEvents (record_in passed) → AreAllowed (rules_in passed) words (record_in passed).events
+    → AreFound passed (rack.NoDeal line earlier) → IsFinding (rules_in passed) words (record_in passed) (finding.Illegal line (game.NoDeal earlier))
+out passed words line earlier has allowed found = (has, ends_on passed words line earlier allowed found)
 
 pub unknown : (passed : Passed) (words : List (List ℕ)) → HasEvents (record_in passed) → AreAllowed (rules_in passed) words (record_in passed).events → AreFound passed rack.Unknown
     → IsFinding (rules_in passed) words (record_in passed) finding.Unsettled
@@ -67,7 +68,7 @@ faulty_no_game : FrontsDecide → (rules : Rules) (words : List (List ℕ)) (r :
 faulty_no_game fronts rules words r line (game.Rule why) is there = first_not_allowed rules words r.events line why is there.allowed
 faulty_no_game fronts rules words r line game.RackTooBig is there = is.undealt there.racks there.dealt
 faulty_no_game fronts rules words r line (game.TilesShort kind) is there = is.undealt there.racks there.dealt
-faulty_no_game fronts rules words r line game.NoDeal is there = fronts rules (steps_of rules r.events) (is.place + 1) is.undealt there.racks there.dealt
+faulty_no_game fronts rules words r line (game.NoDeal earlier) is there = fronts rules (steps_of rules r.events) (is.place + 1) is.undealt there.racks there.dealt
 
 -- ---- what the deal of the rule makes legal
 

@@ -23,8 +23,8 @@ use Rattle.deal_steps.specs.Fitting.{Fits}
 use Rattle.game_deal.specs.Recorded.{steps_of}
 use Rattle.devices.specs.Devices.{Device}
 use Rattle.std.specs.Io.KnownBytes.{Appends}
-use Rattle.deal_steps.specs.declared.faults.DealFault.{DealFault}
-use Rattle.deal_steps.specs.declared.faults.DealFault.TheVariants as deal
+use Rattle.deal_steps.specs.declared.faults.DealBound.{DealBound}
+use Rattle.deal_steps.specs.declared.faults.DealBound.TheVariants as deal
 use Rattle.game_turns.specs.declared.faults.RuleFault.{RuleFault}
 use Rattle.game_turns.specs.Places.{AreAllowed, IsFirstRefusal, fault_at, is_finished}
 use Rattle.gcg_read.specs.declared.events.Event.{Event}
@@ -139,7 +139,7 @@ on_game IsAnswer texts v report own is =
 
 -- ---- which of the four answers a verdict is
 
-bound_line : (bound : DealFault) (complete : Bool) (report : List ℕ) → IsToldBound bound (verdict.Legal complete) report → ⊥
+bound_line : (bound : DealBound) (complete : Bool) (report : List ℕ) → IsToldBound bound (verdict.Legal complete) report → ⊥
 bound_line (deal.RackTooBig line) complete report told = let both = told.verdict_is in cc
 bound_line (deal.TilesShort line kind) complete report told = let both = told.verdict_is in cc
 

@@ -1,5 +1,5 @@
 -- Verdicts on records, by what is found of their racks.
-use Rattle.std.proofs.Common.{◌≡◌, ℕ, Bool, true, false, List, Some, None, IsTrue, ◌↔◌, sym, ◌∙◌, inl, inr}
+use Rattle.std.proofs.Common.{◌≡◌, ℕ, Bool, true, false, List, Option, Some, None, IfSome, IsTrue, ◌↔◌, sym, subst, ◌∙◌, inl, inr}
 use Rattle.ref_tiles.specs.declared.rulebook.Rules.{Rules}
 use Rattle.gcg_read.specs.declared.records.Record.{Record}
 use Rattle.game_turns.specs.declared.faults.RuleFault.{RuleFault}
@@ -7,11 +7,14 @@ use Rattle.game_turns.specs.declared.passed.Passed.{Passed}
 use Rattle.game_turns.specs.Passing.{rules_in, record_in}
 use Rattle.game_turns.specs.Places.{AreAllowed, IsFirstRefusal}
 use Rattle.deal_steps.specs.declared.deals.Held.{Held}
-use Rattle.deal_steps.specs.declared.faults.DealFault.{DealFault}
+use Rattle.deal_steps.specs.declared.faults.DealBound.{DealBound}
 use Rattle.deal_steps.specs.Bounds.{first_bound}
 use Rattle.deal_steps.specs.Fitting.{Fits}
 use Rattle.deal_completion.specs.Completion.{dealt}
-use Rattle.game_deal.specs.Bounded.{FitsRecord}
+use Rattle.deal_search.specs.declared.settling.Earlier.{Earlier}
+use Rattle.game_deal.specs.declared.faults.DealFault.{DealFault}
+use Rattle.game_deal.specs.Bounded.{bound_in, IsBounded, FitsRecord}
+use Rattle.game_deal.specs.Faulty.{bound_told, IsFaultOf}
 use Rattle.game_deal.specs.Laws.{FittingIsBounded}
 use Rattle.game_deal.specs.Plain.{HaveNoExchange}
 use Rattle.game_deal.specs.Recorded.{steps_of}
@@ -33,9 +36,9 @@ use Rattle.engine.proofs.Headlines.{some_of}
 
 -- ---- what is found of racks
 
-pub ends_on : (passed : Passed) (words : List (List ℕ)) (line : ℕ) → AreAllowed (rules_in passed) words (record_in passed).events → AreFound passed (rack.NoDeal line)
-    → HasNoDealBy (rules_in passed) words (record_in passed).events line
-ends_on passed words line allowed found =
+pub ends_on : (passed : Passed) (words : List (List ℕ)) (line : ℕ) (earlier : Earlier) → AreAllowed (rules_in passed) words (record_in passed).events → AreFound passed (rack.NoDeal line earlier)
+    → HasNoDealBy (rules_in passed) words (record_in passed).events line earlier
+ends_on passed words line earlier allowed found =
     record {
       allowed = allowed;
       bounded = found.0;
@@ -44,6 +47,7 @@ ends_on passed words line allowed found =
       stands = found.1.stands;
       on_line = found.1.on_line;
       undealt = found.1.undealt;
+      known = found.1.known;
     }
 
 pub left_open : (passed : Passed) (words : List (List ℕ)) → AreAllowed (rules_in passed) words (record_in passed).events → IsUndealtByRule passed
@@ -55,15 +59,18 @@ left_open passed words allowed left = record { allowed = allowed; bounded = left
 pub tried_dealt : (passed : Passed) (b : Bool) → b ≡ true → IsTrue b ↔ IsDealt (rules_in passed) (record_in passed).events → AreTried passed trial.Dealt
 tried_dealt passed b holds same = same.0 holds
 
-pub tried_open : (passed : Passed) (b : Bool) → first_bound (rules_in passed) (steps_of (rules_in passed) (record_in passed).events) ≡ None → b ≡ false
-    → IsTrue b ↔ IsDealt (rules_in passed) (record_in passed).events
-    → (first_bound (rules_in passed) (steps_of (rules_in passed) (record_in passed).events) ≡ None → HaveNoExchange (record_in passed).events → IsTrue b) → AreTried passed trial.Open
+pub tried_open : (passed : Passed) (b : Bool) → IsBounded passed → b ≡ false → IsTrue b ↔ IsDealt (rules_in passed) (record_in passed).events
+    → (HaveNoExchange (record_in passed).events → IsTrue b) → AreTried passed trial.Open
 tried_open passed b bounded fails same plain =
     record {
       bounded = bounded;
       undealt = λ is. let both : false ≡ true = sym fails ∙ same.1 is in cc;
-      exchanged = λ none. let both : false ≡ true = sym fails ∙ plain bounded none in cc;
+      exchanged = λ none. let both : false ≡ true = sym fails ∙ plain none in cc;
     }
+
+-- a fault tells the first bound that is exceeded, which both a trial and a finding tell
+pub tried_past : (passed : Passed) (why : DealFault) (bound : DealBound) → IsFaultOf passed why → bound_told why ≡ Some bound → bound_in passed ≡ Some bound
+tried_past passed why bound fault told = subst (λ (o : Option DealBound). IfSome o (λ b. bound_in passed ≡ Some b)) told fault
 
 -- where the deal of the rule fits, some deal does
 pub dealt_found : (passed : Passed) → AreTried passed trial.Dealt → AreFound passed rack.Dealt
@@ -81,7 +88,7 @@ pub judged_refused : (question : Judging) (rules : Rules) (words : List (List �
 judged_refused judging.ByRule rules words r line why v report first told = inr (inl (record { line = line; why = why; first = first; told = told }))
 judged_refused judging.BySearch rules words r line why v report first told = inr (inl (record { line = line; why = why; first = first; told = told }))
 
-past_bound : FittingIsBounded → (rules : Rules) (words : List (List ℕ)) (r : Record) (bound : DealFault) (v : Verdict) (report : List ℕ) → AreAllowed rules words r.events
+past_bound : FittingIsBounded → (rules : Rules) (words : List (List ℕ)) (r : Record) (bound : DealBound) (v : Verdict) (report : List ℕ) → AreAllowed rules words r.events
     → first_bound rules (steps_of rules r.events) ≡ Some bound → IsToldBound bound v report → IsPastBound rules words r v report
 past_bound law rules words r bound v report allowed is told = record { bound = bound; exceeded = exceeds law rules words r.events bound allowed is; told = told }
 
@@ -91,7 +98,7 @@ pub judged_dealt : (passed : Passed) (words : List (List ℕ)) (v : Verdict) (re
     → AreTried passed trial.Dealt → IsToldLegal (rules_in passed) words (record_in passed) v report → IsJudged (rules_in passed) words (record_in passed) v report
 judged_dealt passed words v report allowed dealt told = inl (record { allowed = allowed; is_dealt = dealt; told = told })
 
-pub judged_past : FittingIsBounded → (passed : Passed) (words : List (List ℕ)) (bound : DealFault) (v : Verdict) (report : List ℕ) → AreAllowed (rules_in passed) words (record_in passed).events
+pub judged_past : FittingIsBounded → (passed : Passed) (words : List (List ℕ)) (bound : DealBound) (v : Verdict) (report : List ℕ) → AreAllowed (rules_in passed) words (record_in passed).events
     → AreTried passed (trial.PastBound bound) → IsToldBound bound v report → IsJudged (rules_in passed) words (record_in passed) v report
 judged_past law passed words bound v report allowed is told = inr (inr (inl (past_bound law (rules_in passed) words (record_in passed) bound v report allowed is told)))
 
@@ -106,14 +113,15 @@ pub settled_dealt : (passed : Passed) (words : List (List ℕ)) (v : Verdict) (r
     → AreFound passed rack.Dealt → IsToldLegal (rules_in passed) words (record_in passed) v report → IsSettled (rules_in passed) words (record_in passed) v report
 settled_dealt passed words v report allowed deal told = inl (record { game = record { allowed = allowed; racks = deal.racks; dealt = deal.fits }; told = told })
 
-pub settled_past : FittingIsBounded → (passed : Passed) (words : List (List ℕ)) (bound : DealFault) (v : Verdict) (report : List ℕ) → AreAllowed (rules_in passed) words (record_in passed).events
+pub settled_past : FittingIsBounded → (passed : Passed) (words : List (List ℕ)) (bound : DealBound) (v : Verdict) (report : List ℕ) → AreAllowed (rules_in passed) words (record_in passed).events
     → AreFound passed (rack.PastBound bound) → IsToldBound bound v report → IsSettled (rules_in passed) words (record_in passed) v report
 settled_past law passed words bound v report allowed is told = inr (inr (inl (past_bound law (rules_in passed) words (record_in passed) bound v report allowed is told)))
 
-pub settled_out : (passed : Passed) (words : List (List ℕ)) (line : ℕ) (v : Verdict) (report : List ℕ) → AreAllowed (rules_in passed) words (record_in passed).events
-    → AreFound passed (rack.NoDeal line) → IsTold (verdict.Illegal line game.NoDeal) (illegal_line line game.NoDeal) v report
+pub settled_out : (passed : Passed) (words : List (List ℕ)) (line : ℕ) (earlier : Earlier) (v : Verdict) (report : List ℕ) → AreAllowed (rules_in passed) words (record_in passed).events
+    → AreFound passed (rack.NoDeal line earlier) → IsTold (verdict.Illegal line (game.NoDeal earlier)) (illegal_line line (game.NoDeal earlier)) v report
     → IsSettled (rules_in passed) words (record_in passed) v report
-settled_out passed words line v report allowed found told = inr (inr (inr (inl (record { line = line; ends = ends_on passed words line allowed found; told = told }))))
+settled_out passed words line earlier v report allowed found told =
+    inr (inr (inr (inl (record { line = line; earlier = earlier; ends = ends_on passed words line earlier allowed found; told = told }))))
 
 pub settled_open : (passed : Passed) (words : List (List ℕ)) (v : Verdict) (report : List ℕ) → AreAllowed (rules_in passed) words (record_in passed).events
     → AreFound passed rack.Unknown → IsTold verdict.Unsettled unsettled_line v report → IsSettled (rules_in passed) words (record_in passed) v report

@@ -10,8 +10,8 @@ use Rattle.lex_list.specs.Words.{is_listed}
 use Rattle.game_turns.specs.LatestEvents.{standing_words}
 use Rattle.game_turns.specs.Places.{AreAllowed, IsFirstRefusal, is_finished}
 use Rattle.game_turns.specs.Tallies.{tally_at}
-use Rattle.deal_steps.specs.declared.faults.DealFault.{DealFault}
-use Rattle.deal_steps.specs.declared.faults.DealFault.TheVariants as deal
+use Rattle.deal_steps.specs.declared.faults.DealBound.{DealBound}
+use Rattle.deal_steps.specs.declared.faults.DealBound.TheVariants as deal
 use Rattle.game_deal.specs.Plain.{HaveNoExchange}
 use Rattle.engine.specs.declared.entries.Entry.{Entry}
 use Rattle.engine.specs.declared.findings.Finding.{Finding}
@@ -23,7 +23,7 @@ use Rattle.engine.specs.Judging.{IsJudged}
 use Rattle.engine.specs.Verdicts.{IsGame, Exceeds, IsUnsettled, HasNoDealBy}
 
 -- what is found of a game whose racks exceed a bound
-abbrev pub past_bound : DealFault → Finding
+abbrev pub past_bound : DealBound → Finding
 past_bound (deal.RackTooBig line) = finding.Illegal line game.RackTooBig
 past_bound (deal.TilesShort line kind) = finding.Illegal line (game.TilesShort kind)
 
@@ -32,7 +32,7 @@ abbrev pub IsFaulty : Rules → (list : List (List ℕ)) → List Event → (lin
 IsFaulty rules list events line (game.Rule why) = IsFirstRefusal rules list events line why
 IsFaulty rules list events line game.RackTooBig = Exceeds rules list events (deal.RackTooBig line)
 IsFaulty rules list events line (game.TilesShort kind) = Exceeds rules list events (deal.TilesShort line kind)
-IsFaulty rules list events line game.NoDeal = HasNoDealBy rules list events line
+IsFaulty rules list events line (game.NoDeal earlier) = HasNoDealBy rules list events line earlier
 
 -- some event stands in a record
 abbrev pub HasEvents : Record → Type 0

@@ -4,8 +4,8 @@ use Rattle.ref_tiles.specs.declared.rulebook.Rules.{Rules}
 use Rattle.gcg_read.specs.declared.records.Record.{Record}
 use Rattle.game_turns.specs.declared.faults.RuleFault.{RuleFault}
 use Rattle.game_turns.specs.Places.{AreAllowed, IsFirstRefusal, is_finished}
-use Rattle.deal_steps.specs.declared.faults.DealFault.{DealFault}
-use Rattle.deal_steps.specs.declared.faults.DealFault.TheVariants as deal
+use Rattle.deal_steps.specs.declared.faults.DealBound.{DealBound}
+use Rattle.deal_steps.specs.declared.faults.DealBound.TheVariants as deal
 use Rattle.engine.specs.declared.verdicts.GameFault.TheVariants as game
 use Rattle.engine.specs.declared.verdicts.Verdict.{Verdict}
 use Rattle.engine.specs.declared.verdicts.Verdict.TheVariants as verdict
@@ -33,13 +33,13 @@ pub record IsRefused (rules : Rules) (words : List (List ℕ)) (r : Record) (v :
   pub told : IsTold (verdict.Illegal line (game.Rule why)) (illegal_line line (game.Rule why)) v report
 
 -- that a bound is exceeded is told
-abbrev pub IsToldBound : DealFault → Verdict → List ℕ → Type 0
+abbrev pub IsToldBound : DealBound → Verdict → List ℕ → Type 0
 IsToldBound (deal.RackTooBig line) v report = IsTold (verdict.Illegal line game.RackTooBig) (illegal_line line game.RackTooBig) v report
 IsToldBound (deal.TilesShort line kind) v report = IsTold (verdict.Illegal line (game.TilesShort kind)) (illegal_line line (game.TilesShort kind)) v report
 
 -- every event is allowed, and the first bound that is exceeded is told
 pub record IsPastBound (rules : Rules) (words : List (List ℕ)) (r : Record) (v : Verdict) (report : List ℕ) : Type 0 where
-  pub bound : DealFault
+  pub bound : DealBound
   pub exceeded : Exceeds rules words r.events bound
   pub told : IsToldBound bound v report
 

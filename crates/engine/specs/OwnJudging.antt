@@ -3,8 +3,8 @@ use Rattle.std.proofs.Common.{◌⊎◌, ℕ, Bool, List, ⊎_elim}
 use Rattle.ref_tiles.specs.declared.rulebook.Rules.{Rules}
 use Rattle.gcg_read.specs.declared.records.Record.{Record}
 use Rattle.game_turns.specs.Places.{is_finished}
-use Rattle.deal_steps.specs.declared.faults.DealFault.{DealFault}
-use Rattle.deal_steps.specs.declared.faults.DealFault.TheVariants as deal
+use Rattle.deal_steps.specs.declared.faults.DealBound.{DealBound}
+use Rattle.deal_steps.specs.declared.faults.DealBound.TheVariants as deal
 use Rattle.engine.specs.declared.judging.Judging.{Judging}
 use Rattle.engine.specs.declared.judging.Judging.TheVariants as judging
 use Rattle.engine.specs.declared.verdicts.GameFault.TheVariants as game
@@ -21,7 +21,7 @@ legal_own complete = record { rules = λ bad. cc; words = λ bad. cc; lexicon = 
 unsettled_own : IsOwn verdict.Unsettled
 unsettled_own = record { rules = λ bad. cc; words = λ bad. cc; lexicon = λ bad. cc; game = λ bad. cc }
 
-bound_own : (bound : DealFault) (v : Verdict) (report : List ℕ) → IsToldBound bound v report → IsOwn v
+bound_own : (bound : DealBound) (v : Verdict) (report : List ℕ) → IsToldBound bound v report → IsOwn v
 bound_own (deal.RackTooBig line) v report is = own_as v (verdict.Illegal line game.RackTooBig) is.verdict_is (illegal_own line game.RackTooBig)
 bound_own (deal.TilesShort line kind) v report is = own_as v (verdict.Illegal line (game.TilesShort kind)) is.verdict_is (illegal_own line (game.TilesShort kind))
 
@@ -52,7 +52,7 @@ settled_own rules words r v report is =
     (λ (past : IsPastBound rules words r v report). bound_own past.bound v report past.told)
     (λ (last : IsUndealt rules words r v report ⊎ IsLeftOpen rules words r v report).
     ⊎_elim
-    (λ (none : IsUndealt rules words r v report). own_as v (verdict.Illegal none.line game.NoDeal) none.told.verdict_is (illegal_own none.line game.NoDeal))
+    (λ (none : IsUndealt rules words r v report). own_as v (verdict.Illegal none.line (game.NoDeal none.earlier)) none.told.verdict_is (illegal_own none.line (game.NoDeal none.earlier)))
     (λ (left : IsLeftOpen rules words r v report). own_as v verdict.Unsettled left.told.verdict_is unsettled_own)
     last)
     others)

@@ -34,5 +34,5 @@ AreTried passed trial.Open = IsUndealtByRule passed
 abbrev pub AreFound : Passed → RackFinding → Type 0
 AreFound passed rack.Dealt = HasDeal passed
 AreFound passed (rack.PastBound bound) = bound_in passed ≡ Some bound
-AreFound passed (rack.NoDeal line) = IsBounded passed × EndsOnLine passed line
+AreFound passed (rack.NoDeal line earlier) = IsBounded passed × EndsOnLine passed line earlier
 AreFound passed rack.Unknown = IsUndealtByRule passed

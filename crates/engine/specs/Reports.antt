@@ -50,7 +50,7 @@ abbrev pub fault_text : GameFault → List ℕ
 fault_text (game.Rule why) = rule_text why
 fault_text game.RackTooBig = codes "RackTooBig"
 fault_text (game.TilesShort k) = codes "TilesShort " ++ kind_byte k ∷ []
-fault_text game.NoDeal = codes "NoDeal"
+fault_text (game.NoDeal earlier) = codes "NoDeal"
 
 -- the line of a fault, missing where it is 0
 abbrev pub line_text : ℕ → List ℕ

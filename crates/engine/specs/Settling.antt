@@ -2,6 +2,7 @@
 use Rattle.std.specs.Prelude.{◌≡◌, ◌⊎◌, ℕ, Bool, List}
 use Rattle.ref_tiles.specs.declared.rulebook.Rules.{Rules}
 use Rattle.gcg_read.specs.declared.records.Record.{Record}
+use Rattle.deal_search.specs.declared.settling.Earlier.{Earlier}
 use Rattle.engine.specs.declared.judging.Judging.{Judging}
 use Rattle.engine.specs.declared.judging.Judging.TheVariants as judging
 use Rattle.engine.specs.declared.verdicts.GameFault.TheVariants as game
@@ -19,11 +20,12 @@ pub record IsSettledLegal (rules : Rules) (words : List (List ℕ)) (r : Record)
   pub game : IsGame rules words r.events
   pub told : IsToldLegal rules words r v report
 
--- no racks fit the steps up to the event on a line, and that is told
+-- no racks fit the steps up to and with the event on a line, and of those before it this is known, and that is told
 pub record IsUndealt (rules : Rules) (words : List (List ℕ)) (r : Record) (v : Verdict) (report : List ℕ) : Type 0 where
   pub line : ℕ
-  pub ends : HasNoDealBy rules words r.events line
-  pub told : IsTold (verdict.Illegal line game.NoDeal) (illegal_line line game.NoDeal) v report
+  pub earlier : Earlier
+  pub ends : HasNoDealBy rules words r.events line earlier
+  pub told : IsTold (verdict.Illegal line (game.NoDeal earlier)) (illegal_line line (game.NoDeal earlier)) v report
 
 -- What is answered on a record, by the words of a list. A record is left open only where the deal of the rule does not fit, and
 -- no bound is exceeded.

@@ -4,12 +4,14 @@ use Rattle.std.specs.Option.{IsSomeAnd}
 use Rattle.ref_tiles.specs.declared.rulebook.Rules.{Rules}
 use Rattle.gcg_read.specs.declared.events.Event.{Event}
 use Rattle.game_turns.specs.Places.{AreAllowed}
-use Rattle.deal_steps.specs.declared.faults.DealFault.{DealFault}
+use Rattle.deal_steps.specs.declared.faults.DealBound.{DealBound}
 use Rattle.deal_steps.specs.declared.deals.Held.{Held}
 use Rattle.deal_steps.specs.Bounds.{first_bound}
 use Rattle.deal_steps.specs.Fitting.{Fits}
 use Rattle.deal_completion.specs.Completion.{dealt}
 use Rattle.deal_cuts.specs.Cutting.{HasNoDeal}
+use Rattle.deal_search.specs.declared.settling.Earlier.{Earlier}
+use Rattle.deal_search.specs.Settling.{IsKnownOf}
 use Rattle.game_deal.specs.Recorded.{steps_of}
 use Rattle.game_deal.specs.Plain.{HaveNoExchange}
 
@@ -20,7 +22,7 @@ pub record IsGame (rules : Rules) (list : List (List ℕ)) (events : List Event)
   pub dealt : Fits rules (steps_of rules events) racks
 
 -- Every event is allowed, and this is the first bound that is exceeded: so no deal fits.
-pub record Exceeds (rules : Rules) (list : List (List ℕ)) (events : List Event) (bound : DealFault) : Type 0 where
+pub record Exceeds (rules : Rules) (list : List (List ℕ)) (events : List Event) (bound : DealBound) : Type 0 where
   pub allowed : AreAllowed rules list events
   pub exceeded : first_bound rules (steps_of rules events) ≡ Some bound
   pub undealt : (racks : List Held) → Fits rules (steps_of rules events) racks → ⊥
@@ -37,8 +39,9 @@ pub record IsUnsettled (rules : Rules) (list : List (List ℕ)) (events : List E
   pub undealt : IsDealt rules events → ⊥
   pub exchanged : HaveNoExchange events → ⊥
 
--- Every event is allowed and no bound is exceeded, but no racks fit the steps up to the event on a line: so no deal fits.
-pub record HasNoDealBy (rules : Rules) (list : List (List ℕ)) (events : List Event) (line : ℕ) : Type 0 where
+-- Every event is allowed and no bound is exceeded, but no racks fit the steps up to and with the event on a line: so no deal fits.
+-- Of the steps before it this is known: that some racks fit them, or nothing.
+pub record HasNoDealBy (rules : Rules) (list : List (List ℕ)) (events : List Event) (line : ℕ) (earlier : Earlier) : Type 0 where
   pub allowed : AreAllowed rules list events
   pub bounded : first_bound rules (steps_of rules events) ≡ None
   pub place : ℕ
@@ -46,3 +49,4 @@ pub record HasNoDealBy (rules : Rules) (list : List (List ℕ)) (events : List E
   pub stands : slice_get events place ≡ Some event
   pub on_line : event.line ≡ line
   pub undealt : HasNoDeal rules (take (place + 1) (steps_of rules events))
+  pub known : IsKnownOf rules (steps_of rules events) place earlier

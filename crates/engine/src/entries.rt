@@ -18,7 +18,7 @@ use crate::transfers::read_text;
 use crate::unlisted::unlisted_plays;
 use crate::verdicts::GameFault;
 use devices::Input;
-use game_deal::{DealFault, law_of_bounds};
+use game_deal::{DealBound, law_of_bounds};
 use game_turns::{Passed, RuleFault, play_through};
 use gcg_read::{MAX_BYTES, ReadFault, Record};
 use lex_check::Checked;
@@ -37,15 +37,15 @@ pub struct Entry {
 }
 
 /// What is found of a game whose racks exceed a bound.
-fn past_bound(bound: &DealFault) -> Finding
+fn past_bound(bound: &DealBound) -> Finding
     ensures { result ≡ past_bound bound.now }
 {
     match bound {
-        DealFault::RackTooBig { line } => Finding::Illegal {
+        DealBound::RackTooBig { line } => Finding::Illegal {
             line: *line,
             fault: GameFault::RackTooBig,
         },
-        DealFault::TilesShort { line, kind } => Finding::Illegal {
+        DealBound::TilesShort { line, kind } => Finding::Illegal {
             line: *line,
             fault: GameFault::TilesShort(*kind),
         },
@@ -67,9 +67,9 @@ fn find_passed(alloc: Global, passed: &Passed<'_>) -> Result<Finding, AllocError
             complete: passed.complete(),
         }),
         RackFinding::PastBound(bound) => Ok(past_bound(&bound)),
-        RackFinding::NoDeal { line } => Ok(Finding::Illegal {
+        RackFinding::NoDeal { line, earlier } => Ok(Finding::Illegal {
             line,
-            fault: GameFault::NoDeal,
+            fault: GameFault::NoDeal { earlier },
         }),
         RackFinding::Unknown => Ok(Finding::Unsettled),
     }

@@ -11,7 +11,7 @@ use crate::questions::{AskedGame, Question};
 use crate::racks::{RackFinding, RackTrial, settle_racks, try_racks};
 use crate::reports::{illegal_line, legal_report, unsettled_line};
 use crate::verdicts::{GameFault, Verdict};
-use game_deal::{DealFault, law_of_bounds};
+use game_deal::{DealBound, law_of_bounds};
 use game_turns::{Passed, play_through};
 use lex_check::Checked;
 use std::alloc::{AllocError, Global};
@@ -51,12 +51,12 @@ fn unsettled(alloc: Global) -> Result<Decision, AllocError>
 }
 
 /// The verdict that a bound is exceeded.
-fn past_bound(alloc: Global, bound: &DealFault) -> Result<Decision, AllocError>
+fn past_bound(alloc: Global, bound: &DealBound) -> Result<Decision, AllocError>
     ensures { IfOk result (λ d. IsToldBound bound.now d.verdict d.report.items) }
 {
     match bound {
-        DealFault::RackTooBig { line } => illegal(alloc, *line, GameFault::RackTooBig),
-        DealFault::TilesShort { line, kind } => {
+        DealBound::RackTooBig { line } => illegal(alloc, *line, GameFault::RackTooBig),
+        DealBound::TilesShort { line, kind } => {
             illegal(alloc, *line, GameFault::TilesShort(*kind))
         }
     }
@@ -94,7 +94,9 @@ fn judge_by_search(
     match settle_racks(alloc, passed)? {
         RackFinding::Dealt => legal(alloc, passed, pair),
         RackFinding::PastBound(bound) => past_bound(alloc, &bound),
-        RackFinding::NoDeal { line } => illegal(alloc, line, GameFault::NoDeal),
+        RackFinding::NoDeal { line, earlier } => {
+            illegal(alloc, line, GameFault::NoDeal { earlier })
+        }
         RackFinding::Unknown => unsettled(alloc),
     }
 }

@@ -54,6 +54,7 @@ pub use entries::{Entry, archive_entry};
 pub use explains::{Case, case_line, case_verdict, finding_line, open_case};
 pub use faults::RunFault;
 pub use findings::Finding;
+pub use game_deal::Earlier;
 pub use game_report::MOST_PLAYS;
 pub use game_turns::{Passed, play_through};
 pub use games::{decide_by_pair, decide_by_rules, decide_game};

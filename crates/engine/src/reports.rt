@@ -86,7 +86,7 @@ fn push_fault(text: &mut Vec<u8>, fault: &GameFault) -> Result<(), AllocError>
         GameFault::Rule(rule) => push_rule(text, rule),
         GameFault::RackTooBig => text.extend_from_slice(b"RackTooBig"),
         GameFault::TilesShort(kind) => push_short(text, kind),
-        GameFault::NoDeal => text.extend_from_slice(b"NoDeal"),
+        GameFault::NoDeal { .. } => text.extend_from_slice(b"NoDeal"),
     }
 }
 

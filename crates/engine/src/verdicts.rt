@@ -1,4 +1,5 @@
 //! What the referee answers.
+use game_deal::Earlier;
 use game_turns::RuleFault;
 use ref_tiles::Kind;
 
@@ -11,8 +12,11 @@ pub enum GameFault {
     RackTooBig,
     /// By this line the players have shown more tiles of this kind than the game has.
     TilesShort(Kind),
-    /// No deal of the tiles yields the racks up to this line.
-    NoDeal,
+    /// No deal of the tiles yields the racks up to and with the event on this line.
+    NoDeal {
+        /// What is known of the racks before this event.
+        earlier: Earlier,
+    },
 }
 
 /// What the referee answers.

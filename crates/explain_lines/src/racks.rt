@@ -36,7 +36,7 @@ pub fn push_rack_fault(
             None => Ok(()),
             Some(known) => push_short(text, sheet, front, *kind, &known),
         },
-        GameFault::NoDeal => push_no_deal(text, sheet, front),
+        GameFault::NoDeal { .. } => push_no_deal(text, sheet, front),
     }
 }
 

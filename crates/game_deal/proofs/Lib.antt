@@ -6,6 +6,7 @@ pub mod RecordRuns
 pub mod AllTiles
 pub mod StepLaws
 pub mod RecordWalks
+pub mod FitWalks
 pub mod CountedTiles
 pub mod PlainRecords
 pub mod SettledRecords

@@ -4,7 +4,7 @@ use Rattle.game_turns.specs.declared.passed.Passed.{Passed}
 use Rattle.game_turns.specs.Passing.{rules_in, record_in}
 use Rattle.deal_steps.specs.declared.steps.Step.{Step}
 use Rattle.deal_steps.specs.declared.deals.Held.{Held}
-use Rattle.deal_steps.specs.declared.faults.DealFault.{DealFault}
+use Rattle.deal_steps.specs.declared.faults.DealBound.{DealBound}
 use Rattle.deal_steps.specs.Bounds.{first_bound}
 use Rattle.deal_steps.specs.Fitting.{Fits}
 use Rattle.game_deal.specs.Recorded.{steps_of}
@@ -13,7 +13,7 @@ abbrev pub steps_in : Passed → List Step
 steps_in passed = steps_of (rules_in passed) (record_in passed).events
 
 -- the first bound that a line exceeds
-abbrev pub bound_in : Passed → Option DealFault
+abbrev pub bound_in : Passed → Option DealBound
 bound_in passed = first_bound (rules_in passed) (steps_in passed)
 
 -- no bound is exceeded

@@ -1,7 +1,9 @@
 pub mod Recorded
 pub mod Plain
 pub mod Bounded
+pub mod Faulty
 pub mod Stepping
+pub mod Needing
 pub mod Walking
 pub mod Settling
 pub mod Laws

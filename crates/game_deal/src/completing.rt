@@ -3,11 +3,11 @@ ghost use Rattle.std.specs.Prelude.{◌≡◌, IfOk, IsSomeAnd};
 ghost use Rattle.game_turns.specs.Passing.{rules_in, record_in};
 ghost use Rattle.deal_completion.specs.Completion.{dealt};
 ghost use Rattle.game_deal.specs.Plain.{HaveNoExchange};
-ghost use Rattle.game_deal.specs.Bounded.{steps_in, IsBounded, FitsRecord};
-ghost use Rattle.game_deal.specs.Stepping.{passed_in};
+ghost use Rattle.game_deal.specs.Bounded.{steps_in, FitsRecord};
+ghost use Rattle.game_deal.specs.Needing.{passed_of};
 
 use crate::laws::law_of_runs;
-use crate::steps::Steps;
+use crate::needs::Needs;
 use deal_completion::complete_steps;
 use deal_steps::Deal;
 use std::alloc::Global;
@@ -18,12 +18,12 @@ pub use std::alloc::AllocError as NoMemory;
 /// The deal that a record is tried with, by a fixed rule: each draw gives a player what the player's later lines ask
 /// for, and then tiles that the other player's lines do not ask for. None where a rack then lacks what a line asks for.
 ///
-/// Where no event is an exchange of either kind and no bound is exceeded there is a deal, and it fits.
-pub fn complete_deal(alloc: Global, steps: &Steps<'_>) -> Result<Option<Deal>, NoMemory>
-    ensures dealt { IfOk result (λ deal. deal ≡ dealt (rules_in (passed_in steps.now)) (steps_in (passed_in steps.now))) }
-    ensures plain { IfOk result (λ deal. IsBounded (passed_in steps.now) → HaveNoExchange (record_in (passed_in steps.now)).events
-        → IsSomeAnd deal (FitsRecord (passed_in steps.now))) }
+/// Where no event is an exchange of either kind there is a deal, and it fits.
+pub fn complete(alloc: Global, needs: &Needs<'_>) -> Result<Option<Deal>, NoMemory>
+    ensures dealt { IfOk result (λ deal. deal ≡ dealt (rules_in (passed_of needs.now)) (steps_in (passed_of needs.now))) }
+    ensures plain { IfOk result (λ deal. HaveNoExchange (record_in (passed_of needs.now)).events
+        → IsSomeAnd deal (FitsRecord (passed_of needs.now))) }
 {
     law_of_runs();
-    complete_steps(alloc, steps.passed().rules(), steps.as_slice())
+    complete_steps(alloc, needs.passed().rules(), needs.as_slice())
 }

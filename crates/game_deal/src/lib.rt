@@ -4,17 +4,22 @@
 
 mod bounding;
 mod completing;
+mod faults;
 mod fitting;
 mod laws;
+mod needs;
 mod recording;
 mod settling;
 mod steps;
 mod walking;
 
 pub use bounding::bounds;
-pub use completing::{NoMemory, complete_deal};
-pub use deal_steps::{Deal, DealFault, Held, Racks};
+pub use completing::{NoMemory, complete};
+pub use deal_search::Earlier;
+pub use deal_steps::{Deal, DealBound, Held, Racks};
+pub use faults::{DealFault, exceeded_bound};
 pub use fitting::fits;
 pub use laws::{law_of_bounds, law_of_runs, law_of_tiles};
+pub use needs::Needs;
 pub use settling::{Settled, settle};
-pub use steps::{Steps, all_steps};
+pub use steps::all_steps;

@@ -1,14 +1,14 @@
 //! Whether some deal fits a record, by a search whose answer is checked.
-ghost use Rattle.std.specs.Prelude.{◌≡◌, ◌<◌, vec_len, IfOk};
+ghost use Rattle.std.specs.Prelude.{◌≡◌, ◌+◌, ◌-◌, ◌<◌, vec_len, IfOk};
 ghost use Rattle.game_turns.specs.Passing.{rules_in};
-ghost use Rattle.deal_search.specs.Settling.{EndsDeals};
+ghost use Rattle.deal_search.specs.Settling.{EndsDeals, IsKnownOf};
 ghost use Rattle.game_deal.specs.Bounded.{steps_in};
-ghost use Rattle.game_deal.specs.Settling.{EndsOnLine, IsSettledOf};
-ghost use Rattle.game_deal.specs.Stepping.{passed_in};
+ghost use Rattle.game_deal.specs.Needing.{passed_of};
+ghost use Rattle.game_deal.specs.Settling.{IsSettledOf};
 
-use crate::steps::Steps;
+use crate::needs::Needs;
 use deal_cuts::Cut;
-use deal_search::{Settling, settle as settle_steps};
+use deal_search::{Earlier, Settling, settle as settle_steps};
 use deal_steps::Deal;
 use std::alloc::{AllocError, Global};
 
@@ -17,36 +17,48 @@ use std::alloc::{AllocError, Global};
 pub enum Settled {
     /// This deal fits.
     Dealt(Deal),
-    /// No racks fit the steps up to the event on this line, and so there is no deal for the record.
+    /// No racks fit the steps up to and with the event on this line, and so there is no deal for the record.
     NoDeal {
         /// The line, counted from 1.
         line: u32,
+        /// What is known of the steps before this event.
+        earlier: Earlier,
     },
     /// Neither was found within the budget.
     Unknown,
 }
 
-/// The line of the last event up to which a cut shows that no racks fit.
-#[tactic(auto, using(crate::proofs::SettledRecords::place_within))]
-fn line_of(steps: &Steps<'_>, cut: &Cut) -> u32
-    requires { EndsDeals (rules_in (passed_in steps.now)) (steps_in (passed_in steps.now)) (vec_len cut.now.places) }
-    ensures { EndsOnLine (passed_in steps.now) result }
+/// The place of the last event for which a cut has places, from 0.
+fn last_place(cut: &Cut) -> usize
+    requires { 0 < vec_len cut.now.places }
+    ensures { result + 1 ≡ vec_len cut.now.places }
 {
-    let events = steps.passed().record().events.as_slice();
-    events[cut.places.len() - 1].line
+    cut.places.len() - 1
 }
 
-/// Settles whether some deal fits a record. Where none does, the line is the first up to which the search finds a proof of it.
-/// It fails only where memory runs out.
-pub fn settle(alloc: Global, steps: &Steps<'_>) -> Result<Settled, AllocError>
-    ensures { IfOk result (IsSettledOf (passed_in steps.now)) }
+/// That there is no deal, by a cut, with the line of the last event for which it has places.
+#[tactic(auto, using(crate::proofs::SettledRecords::place_within))]
+fn no_deal(needs: &Needs<'_>, cut: &Cut, earlier: Earlier) -> Settled
+    requires ends { EndsDeals (rules_in (passed_of needs.now)) (steps_in (passed_of needs.now)) (vec_len cut.now.places) }
+    requires known { IsKnownOf (rules_in (passed_of needs.now)) (steps_in (passed_of needs.now)) (vec_len cut.now.places - 1) earlier }
+    ensures { IsSettledOf (passed_of needs.now) result }
 {
-    match settle_steps(alloc, steps.passed().rules(), steps.as_slice())? {
+    let events = needs.passed().record().events.as_slice();
+    let place = last_place(cut);
+    Settled::NoDeal {
+        line: events[place].line,
+        earlier,
+    }
+}
+
+/// Settles whether some deal fits a record. Where none does, the line is the first up to which the search finds a proof of it,
+/// and the answer tells whether racks fit the steps before it. It fails only where memory runs out.
+pub fn settle(alloc: Global, needs: &Needs<'_>) -> Result<Settled, AllocError>
+    ensures { IfOk result (IsSettledOf (passed_of needs.now)) }
+{
+    match settle_steps(alloc, needs.passed().rules(), needs.as_slice())? {
         Settling::Dealt(deal) => Ok(Settled::Dealt(deal)),
-        Settling::NoDeal(cut) => {
-            let line = line_of(steps, &cut);
-            Ok(Settled::NoDeal { line })
-        }
+        Settling::NoDeal { cut, earlier } => Ok(no_deal(needs, &cut, earlier)),
         Settling::Unknown => Ok(Settled::Unknown),
     }
 }

@@ -1,15 +1,15 @@
 //! Settles records and shows what was found, for a judge who checks it: `settle_probe WORDS RULES BUDGET RECORD..`. `-` stands
 //! for the rules of the English game, and for the budget that is always given. Of each record it prints its name; then
-//! `dealt`, and of each step both racks and what is thrown; or `cut`, the kinds that are counted, and of each of the first steps
-//! the places where they are; or `unknown`; or `refused`, where the events are not allowed. Last stands the processor
+//! `dealt`, and of each step both racks and what is thrown; or `cut`, the kinds that are counted, whether the steps before the last of
+//! these have a deal, `dealt` or `unsettled`, and of each of the first steps the places where they are; or `unknown`; or `refused`, where the events are not allowed. Last stands the processor
 //! time in nanoseconds.
 #![tactic(auto)]
 
 use deal_cuts::Cut;
-use deal_search::{Settling, settle, settle_within};
+use deal_search::{Earlier, Settling, settle, settle_within};
 use deal_steps::{Held, Step};
 use devices::{FromRead, read_within};
-use game_deal::Steps;
+use game_deal::all_steps;
 use game_turns::play_through;
 use gcg_read::read;
 use lex_list::WordList;
@@ -72,8 +72,8 @@ fn settle_record<R: Runtime + AllocGlobal + CpuClock>(
     let Ok(passed) = play_through(rules, &record, list) else {
         return println!(rt; "refused").ok();
     };
-    let record_steps = Steps::of(rt.alloc(), &passed).ok()?;
-    let steps = record_steps.as_slice();
+    let all = all_steps(rt.alloc(), &passed).ok()?;
+    let steps = all.as_slice();
     let start = rt.process_cpu_time().ok()?;
     let settled = match budget {
         Some(looks) => settle_within(rt.alloc(), rules, steps, looks).ok()?,
@@ -82,7 +82,7 @@ fn settle_record<R: Runtime + AllocGlobal + CpuClock>(
     let spent = rt.process_cpu_time().ok()?.saturating_sub(start);
     match &settled {
         Settling::Dealt(deal) => show_deal(rt, deal.as_slice())?,
-        Settling::NoDeal(cut) => show_cut(rt, steps, cut)?,
+        Settling::NoDeal { cut, earlier } => show_cut(rt, steps, cut, *earlier)?,
         Settling::Unknown => println!(rt; "unknown").ok()?,
     }
     let time = spent.as_nanos();
@@ -101,14 +101,23 @@ fn show_deal<R: Runtime + AllocGlobal>(rt: &R, deal: &[Held]) -> Option<()> {
     Some(())
 }
 
-/// Shows a cut, step by step, with the line of each.
-fn show_cut<R: Runtime + AllocGlobal>(rt: &R, steps: &[Step], cut: &Cut) -> Option<()> {
+/// Shows a cut, step by step, with the line of each, and whether the steps before the last one have a deal.
+fn show_cut<R: Runtime + AllocGlobal>(
+    rt: &R,
+    steps: &[Step],
+    cut: &Cut,
+    earlier: Earlier,
+) -> Option<()> {
     let mut kinds = [0u8; KINDS];
     for kind in 0..KINDS {
         kinds[kind] = u8::from(cut.kinds[kind]);
     }
     let names = letters(rt, &Counts::of(kinds))?;
-    println!(rt; "cut {names}").ok()?;
+    let told = match earlier {
+        Earlier::Dealt => "dealt",
+        Earlier::Unsettled => "unsettled",
+    };
+    println!(rt; "cut {names} {told}").ok()?;
     for number in 0..cut.places.len() {
         let places = cut.places.get(number)?;
         let line = steps.get(number)?.line;

@@ -4,9 +4,7 @@ use super::steps::short_rules;
 use Answer::{Exceeds, Fits, NoDeal};
 use Game::{English, Short};
 use game_deal::DealFault::{RackTooBig, TilesShort};
-use game_deal::{
-    DealFault, Steps, bounds, complete_deal, fits, law_of_bounds, law_of_runs, law_of_tiles,
-};
+use game_deal::{DealFault, bounds, complete, fits, law_of_bounds, law_of_runs, law_of_tiles};
 use game_turns::{Passed, play_through};
 use gcg_read::{EventKind, read};
 use lex_list::WordList;
@@ -108,14 +106,15 @@ fn rules_of(rt: &impl Abort, game: Game) -> Rules {
 
 /// What becomes of the deal of a record that passed.
 fn answer_of(rt: &impl Abort, alloc: Global, passed: &Passed<'_>) -> Answer {
-    let steps = Steps::of(alloc, passed).expect(rt, "memory");
-    if let Some(fault) = bounds(&steps) {
-        return Exceeds(fault);
-    }
-    match complete_deal(alloc, &steps).expect(rt, "memory") {
+    let needs = match bounds(alloc, passed) {
+        Ok(needs) => needs,
+        Err(fault) => return Exceeds(fault),
+    };
+    match complete(alloc, &needs).expect(rt, "memory") {
         Some(deal) => {
-            assert!(rt; fits(&steps, &deal));
-            assert_eq!(rt; deal.as_slice().len(), passed.record().events.len());
+            assert!(rt; fits(passed, &deal));
+            assert!(rt; needs.is_fitted_by(&deal));
+            assert_eq!(rt; deal.held.len(), passed.record().events.len());
             Fits
         }
         None => NoDeal,

@@ -1,7 +1,7 @@
 //! Records, and what settles them: a deal, a proof that there is none, or nothing within the budget.
 use Answer::{Dealt, NoDeal, Unknown};
 use deal_cuts::rules_out;
-use deal_search::{Settling, settle, settle_within};
+use deal_search::{Earlier, Settling, settle, settle_within};
 use deal_steps::{Step, fits};
 use game_deal::all_steps;
 use game_turns::play_through;
@@ -16,14 +16,14 @@ use std::process::Abort;
 pub enum Answer {
     /// A deal that fits.
     Dealt,
-    /// No racks fit so many first steps.
+    /// No racks fit so many first steps, and some fit those before the last of them.
     NoDeal(usize),
     /// Nothing was found within the budget.
     Unknown,
 }
 
 /// Records, and what settles them.
-pub const ROWS: [(&[u8], Answer); 8] = [
+pub const ROWS: [(&[u8], Answer); 10] = [
     (b"", Dealt),
     (
         b">A: AEINRST -7 +0 0\n>B: - +0 0\n>A: BCDFGHJ - +0 0\n",
@@ -50,6 +50,14 @@ pub const ROWS: [(&[u8], Answer); 8] = [
         b">A: Q -Q +0 0\n>B: - +0 0\n>A: - +0 0\n>B: Q - +0 0\n",
         NoDeal(4),
     ),
+    (
+        b">A: Q -Q +0 0\n>B: - +0 0\n>A: Q - +0 0\n>B: - +0 0\n>A: Q - +0 0\n",
+        NoDeal(3),
+    ),
+    (
+        b">A: Q -Q +0 0\n>B: - +0 0\n>A: - +0 0\n>B: Q - +0 0\n>A: - +0 0\n>B: Q - +0 0\n",
+        NoDeal(4),
+    ),
 ];
 
 /// The steps of a record whose events are allowed.
@@ -72,8 +80,9 @@ fn answer_of(
             assert!(rt; fits(rules, steps, deal.as_slice()));
             Some(Dealt)
         }
-        Ok(Settling::NoDeal(cut)) => {
+        Ok(Settling::NoDeal { cut, earlier }) => {
             assert!(rt; rules_out(rules, steps, &cut));
+            assert_eq!(rt; earlier, Earlier::Dealt);
             Some(NoDeal(cut.places.len()))
         }
         Ok(Settling::Unknown) => Some(Unknown),

@@ -1,5 +1,5 @@
 //! Racks that fit steps, and the bounds that steps exceed.
-use deal_steps::{Act, DealFault, Held, Motion, Racks, Step, first_bound, fits};
+use deal_steps::{Act, DealBound, Held, Motion, Racks, Step, first_bound, fits};
 use gcg_read::Seat;
 use ref_tiles::{Counts, KINDS, Kind, Letter, Rules, english_rules};
 use std::process::Abort;
@@ -107,11 +107,11 @@ fn bounds_of_games(rt: HostRuntime) {
     let rules = short_rules(&rt);
     assert_eq!(rt; first_bound(&rules, &short_game("ADEORTW")), None);
     let t = Kind::Letter(Letter::new(19).expect(&rt, "T"));
-    let short = DealFault::TilesShort { line: 2, kind: t };
+    let short = DealBound::TilesShort { line: 2, kind: t };
     assert_eq!(rt; first_bound(&rules, &short_game("ADEORTT")), Some(short));
     let english = english_rules();
     let blanks = [shows(1, Seat::First, "??"), shows(2, Seat::Second, "?")];
-    let no_blank = DealFault::TilesShort {
+    let no_blank = DealBound::TilesShort {
         line: 2,
         kind: Kind::Blank,
     };
@@ -130,7 +130,7 @@ fn bounds_of_games(rt: HostRuntime) {
     ];
     assert_eq!(rt;
         first_bound(&english, &big),
-        Some(DealFault::RackTooBig { line: 3 })
+        Some(DealBound::RackTooBig { line: 3 })
     );
 }
 

@@ -1,10 +1,10 @@
 //! Deals: records that are right line by line, and whether some deal of the tile set yields their racks. That a record without an
 //! exchange is never unsettled is asserted of each record that is judged (`games`).
-use super::games::{Row, report_all, report_with};
+use super::games::{Row, report_all, report_with, told_by};
 use super::turns::SHORT;
-use engine::{GameFault, Verdict};
+use engine::{Earlier, GameFault, Verdict};
 use ref_tiles::Kind;
-use test_calls::GameRules;
+use test_calls::{Call, GameRules};
 
 /// No player has shown more tiles than came to the rack, and both together no more of a kind than the game has.
 const BOUNDS: [Row; 3] = [
@@ -35,6 +35,45 @@ const UNSETTLED: [Row; 1] = [Row {
 #[test]
 fn deals(rt: HostRuntime) {
     report_all(&rt, rt.alloc(), GameRules::English, &[&BOUNDS, &UNSETTLED]);
+}
+
+/// Records with events behind the line up to which there is no deal, and this line. The Q goes back and cannot be drawn before
+/// its next line; the other player has it too early; and six of seven tiles stayed.
+const UNDEALT: [(&str, u32, &str); 3] = [
+    (
+        ">A: Q -Q +0 0\n>B: - +0 0\n>A: Q - +0 0\n>B: - +0 0\n>A: Q - +0 0\n",
+        3,
+        "illegal line 3: NoDeal\n",
+    ),
+    (
+        ">A: Q -Q +0 0\n>B: - +0 0\n>A: - +0 0\n>B: Q - +0 0\n>A: - +0 0\n>B: Q - +0 0\n",
+        4,
+        "illegal line 4: NoDeal\n",
+    ),
+    (
+        ">A: AEINRST -1 +0 0\n>B: - +0 0\n>A: BCDFGHJ - +0 0\n>B: - +0 0\n>A: - +0 0\n",
+        3,
+        "illegal line 3: NoDeal\n",
+    ),
+];
+
+/// The line is the first up to which there is no deal: some racks fit the events before it.
+#[test]
+fn undealt(rt: HostRuntime) {
+    let earlier = Earlier::Dealt;
+    for (game, line, want) in UNDEALT {
+        let (verdict, report) = told_by(
+            &rt,
+            rt.alloc(),
+            Call::Settle,
+            GameRules::English,
+            b"WORD",
+            game.as_bytes(),
+        );
+        let fault = GameFault::NoDeal { earlier };
+        assert_eq!(rt; verdict, Verdict::Illegal { line, fault });
+        assert_eq!(rt; report.as_slice(), want.as_bytes(), "{}", game);
+    }
 }
 
 /// With 14 tiles both racks are all of them.

@@ -1,5 +1,5 @@
 //! Worked rows, asked of the calls of the engine.
-use engine::{GameFault, RunFault, Verdict};
+use engine::{Earlier, GameFault, RunFault, Verdict};
 use lex_file::Format;
 use ref_tiles::ENGLISH_TEXT;
 use std::alloc::Global;
@@ -107,7 +107,9 @@ pub const NO_DEAL: Job<'static> = Job {
     call: Call::Settle,
     verdict: Verdict::Illegal {
         line: 3,
-        fault: GameFault::NoDeal,
+        fault: GameFault::NoDeal {
+            earlier: Earlier::Dealt,
+        },
     },
     wrote: b"illegal line 3: NoDeal\n",
     ..UNSETTLED

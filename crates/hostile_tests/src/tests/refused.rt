@@ -7,7 +7,7 @@ use super::jobs::{
 };
 use engine::{RunFault, open_case, pair_file};
 use explain_lines::push_explanation;
-use game_deal::{DealFault, Steps, bounds, complete_deal};
+use game_deal::{DealFault, bounds, complete};
 use game_turns::play_through;
 use gcg_read::{Record, read};
 use gcg_write::{NoMemory, event_text, write};
@@ -211,12 +211,11 @@ fn dealt(alloc: Global, game: &[u8]) -> Option<(Record, WordList)> {
     Some((record, list))
 }
 
-/// The bound that a record exceeds.
+/// The fault of the deals of a record.
 fn exceeded(rt: &impl Abort, alloc: Global, record: &Record, list: &WordList) -> Option<DealFault> {
     let rules = english_rules();
     let passed = play_through(&rules, record, list).expect(rt, "a record that passed");
-    let steps = Steps::of(alloc, &passed).ok()?;
-    Some(bounds(&steps).expect(rt, "a fault"))
+    bounds(alloc, &passed).err()
 }
 
 /// A third blank is shown.
@@ -229,25 +228,21 @@ fn bounds_exceeded(rt: HostRuntime) {
         line: 2,
         kind: Kind::Blank,
     };
-    if let Some(fault) = exceeded(&rt, rt.alloc(), &record, &list) {
-        assert_eq!(rt; fault, short);
-    }
+    let fault = exceeded(&rt, rt.alloc(), &record, &list).expect(&rt, "a fault");
+    assert!(rt; fault == short || fault == DealFault::NoMemory);
 }
 
-/// Asserts that a deal of three steps is found, or memory refused.
-fn assert_complete(rt: &impl Abort, alloc: Global, steps: &Steps<'_>) {
-    assert_eq!(rt; bounds(steps), None);
-    if let Ok(deal) = complete_deal(alloc, steps) {
-        assert_eq!(rt; deal.expect(rt, "a deal").as_slice().len(), 3);
-    }
-}
-
-/// The same of a record that exceeds no bound.
+/// Asserts that a deal of three steps is found for a record that exceeds no bound, or memory refused.
 fn assert_deal(rt: &impl Abort, alloc: Global, record: &Record, list: &WordList) {
     let rules = english_rules();
     let passed = play_through(&rules, record, list).expect(rt, "a record that passed");
-    if let Ok(steps) = Steps::of(alloc, &passed) {
-        assert_complete(rt, alloc, &steps);
+    match bounds(alloc, &passed) {
+        Ok(needs) => {
+            if let Ok(deal) = complete(alloc, &needs) {
+                assert_eq!(rt; deal.expect(rt, "a deal").as_slice().len(), 3);
+            }
+        }
+        Err(fault) => assert_eq!(rt; fault, DealFault::NoMemory),
     }
 }
 

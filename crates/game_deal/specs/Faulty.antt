@@ -1,0 +1,18 @@
+-- What a fault of the deals of a record tells.
+use Rattle.std.specs.Prelude.{◌≡◌, Option, Some, None, IfSome}
+use Rattle.game_turns.specs.declared.passed.Passed.{Passed}
+use Rattle.deal_steps.specs.declared.faults.DealBound.{DealBound}
+use Rattle.deal_steps.specs.declared.faults.DealBound.TheVariants as bound
+use Rattle.game_deal.specs.declared.faults.DealFault.{DealFault}
+use Rattle.game_deal.specs.declared.faults.DealFault.TheVariants as fault
+use Rattle.game_deal.specs.Bounded.{bound_in}
+
+-- the bound that is exceeded; none where memory ran out
+abbrev pub bound_told : DealFault → Option DealBound
+bound_told (fault.RackTooBig line) = Some (bound.RackTooBig line)
+bound_told (fault.TilesShort line kind) = Some (bound.TilesShort line kind)
+bound_told fault.NoMemory = None
+
+-- a fault of a record: the first bound that a line exceeds, or that memory ran out
+abbrev pub IsFaultOf : Passed → DealFault → Type 0
+IsFaultOf passed why = IfSome (bound_told why) (λ bound. bound_in passed ≡ Some bound)
