@@ -39,7 +39,7 @@ pub fn next_letter<L: PathLex>(
     rest: L::Node,
     free: &Open,
     tiles: &Tiles,
-) -> Option<Onward<L::Node>>
+) -> Option<Onward<L::Node, L::Node>>
     requires node { L.is_node lex.now node }
     requires low { 0 < from }
     requires high { from ≤ LABELS }

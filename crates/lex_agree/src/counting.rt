@@ -46,8 +46,8 @@ fn count_node(file: &LexFile<'_>, counts: &CountTable, node: Node) -> u32
 {
     let mut count = 0;
     let mut from = 0;
-    let mut rest = node;
-    while let Some(on) = file.branch_on(node, from, rest) {
+    let mut rest = file.place(node) as usize;
+    while let Some(on) = file.walk_on(node, from, rest) {
         let branch = on.branch;
         law_of_labels(file, node, branch);
         let more = count_behind(file, counts, branch.step.next);

@@ -52,8 +52,8 @@ fn turn_over(
     }
     let mut left = fronts - 1;
     let mut from = 0;
-    let mut rest = node;
-    while let Some(on) = file.branch_on(node, from, rest) {
+    let mut rest = file.place(node) as usize;
+    while let Some(on) = file.walk_on(node, from, rest) {
         let branch = on.branch;
         law_of_labels(file, node, branch);
         match branch.step.next {
@@ -88,8 +88,8 @@ fn turn_over_at(
     ensures kept { OnTrue result (AreKept (bytes_of file.now) kept.new) }
 {
     let mut from = 0;
-    let mut rest = behind;
-    while let Some(on) = file.branch_on(behind, from, rest) {
+    let mut rest = file.place(behind) as usize;
+    while let Some(on) = file.walk_on(behind, from, rest) {
         let branch = on.branch;
         law_of_labels(file, behind, branch);
         let turned = walk_on(file, branch.label, front, &mut kept[branch.label as usize]);

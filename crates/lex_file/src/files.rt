@@ -26,11 +26,11 @@ pub struct LexFile<'a> {
 }
 
 impl<'a> LexFile<'a> {
-    ghost use Rattle.std.specs.Prelude.{◌≡◌, ℕ, List, [], ◌∷◌, ◌+◌, ◌^◌, ◌<◌, false, Some, None, IfOk, IfSome, IfNone, IsSome, IsTrue, drop};
+    ghost use Rattle.std.specs.Prelude.{◌≡◌, ℕ, List, [], ◌∷◌, ◌+◌, ◌^◌, ◌<◌, ◌≤◌, false, Some, None, IfOk, IfSome, IfNone, IsSome, IsTrue, drop};
     ghost use Rattle.lex_file.specs.Arcs.{arc_with, arc_from};
     ghost use Rattle.first_faults.specs.Checks.{Refuses};
     ghost use Rattle.lex_file.specs.Languages.{file_tail};
-    ghost use Rattle.lex_file.specs.Lexicons.{NextGives};
+    ghost use Rattle.lex_file.specs.Lexicons.{NextGives, NoTail};
     ghost use Rattle.lex_file.specs.Shapes.{format_of, word_count_of, arc_count_of, file_node, is_file_node};
     ghost use Rattle.lex_file.specs.Files.{bytes_of, number_of, IsNextNode, IsRest};
     ghost use Rattle.lex_file.specs.Formats.{header_bytes};
@@ -181,6 +181,36 @@ impl<'a> LexFile<'a> {
         }
     }
 
+    /// The first label from `from` on with which some tail of one of the file's nodes begins, what stands behind it, and where the node
+    /// goes on behind that label; or None where there is no such label. `branch_on` does the same with a node for what is left; this
+    /// one is for walks over whole files. The rest is the place of the node, or what was given of it for the labels from `from` on.
+    #[tactic(auto, using(crate::proofs::Walks::branch_none, crate::proofs::Walks::branch_reached, crate::proofs::Walks::first_itself))]
+    #[inline(always)]
+    pub fn walk_on(&self, node: Node, from: u8, rest: usize) -> Option<Onward<Node, usize>>
+        requires node { IsTrue (is_file_node (bytes_of self.now) (number_of node)) }
+        requires rest { IsRest (bytes_of self.now) (number_of node) from rest }
+        ensures none { IfNone result ((label : ℕ) → from ≤ label → NoTail (λ (n : Node) (string : List ℕ). file_tail (bytes_of self.now) n.first string) node label) }
+        ensures reached { IfSome result (λ on. from ≤ on.branch.label) }
+        ensures passed { IfSome result (λ on. (label : ℕ) → from ≤ label → label < on.branch.label → NoTail (λ (n : Node) (string : List ℕ). file_tail (bytes_of self.now) n.first string) node label) }
+        ensures accepts { IfSome result (λ on. on.branch.step.accepts ≡ file_tail (bytes_of self.now) node.first (on.branch.label ∷ [])) }
+        ensures next { IfSome result (λ on. NextGives (λ (n : Node). IsTrue (is_file_node (bytes_of self.now) n.first)) (λ (n : Node) (string : List ℕ). file_tail (bytes_of self.now) n.first string) (λ (n : Node). n.first) node on.branch.label on.branch.step.next) }
+        ensures alive { IfSome result (λ on. on.branch.step.accepts ≡ false → IsSome on.branch.step.next) }
+        ensures rest { IfSome result (λ on. IsRest (bytes_of self.now) (number_of node) (on.branch.label + 1) on.rest) }
+        ensures low { IfSome result (λ on. on.rest < 2 ^ 32) }
+    {
+        let Some(on) = self.arc_on(node, from, rest) else {
+            return None;
+        };
+        let branch = Branch {
+            label: on.arc.label,
+            step: self.step_over(node, on.arc),
+        };
+        Some(Onward {
+            branch,
+            rest: on.rest,
+        })
+    }
+
     /// What stands behind an arc of a node.
     #[tactic(auto, using(crate::proofs::Walks::step_accepts, crate::proofs::Walks::step_ends))]
     #[inline(always)]
@@ -250,18 +280,13 @@ impl<'a> PathLex for LexFile<'a> {
         })
     }
 
-    #[tactic(auto, using(crate::proofs::Walks::branch_none, crate::proofs::Walks::branch_reached, crate::proofs::Walks::first_itself))]
     #[inline(always)]
-    fn branch_on(&self, node: Node, from: u8, rest: Node) -> Option<Onward<Node>> {
-        let Some(on) = self.arc_on(node, from, rest.first as usize) else {
+    fn branch_on(&self, node: Node, from: u8, rest: Node) -> Option<Onward<Node, Node>> {
+        let Some(on) = self.walk_on(node, from, rest.first as usize) else {
             return None;
         };
-        let branch = Branch {
-            label: on.arc.label,
-            step: self.step_over(node, on.arc),
-        };
         Some(Onward {
-            branch,
+            branch: on.branch,
             rest: Node {
                 first: on.rest as u32,
             },

@@ -29,11 +29,11 @@ pub struct Branch<N> {
 
 /// A branch of a node, and where to go on from behind its label.
 #[derive(Clone, Copy, Debug, PartialEq, Eq)]
-pub struct Onward<N> {
+pub struct Onward<N, R> {
     /// The branch.
     pub branch: Branch<N>,
     /// What is left of the node behind the branch's label, or the whole node.
-    pub rest: N,
+    pub rest: R,
 }
 
 /// A finite set of strings of labels, none of them empty, that is walked label by label.
@@ -100,7 +100,12 @@ pub trait PathLex {
     /// The first label from `from` on with which some tail of the node begins, what stands behind it, and what is left of
     /// the node behind that label; or None where there is no such label. The node is one that this lexicon gave. The rest is
     /// the node itself, or what the lexicon gave as left of it for the labels from `from` on.
-    fn branch_on(&self, node: Self::Node, from: u8, rest: Self::Node) -> Option<Onward<Self::Node>>
+    fn branch_on(
+        &self,
+        node: Self::Node,
+        from: u8,
+        rest: Self::Node,
+    ) -> Option<Onward<Self::Node, Self::Node>>
         requires node { is_node self.now node }
         requires rest { IsLeft (is_rest self.now) node from rest }
         ensures none { IfNone result ((label : ℕ) → from ≤ label → NoTail (tail self.now) node label) }

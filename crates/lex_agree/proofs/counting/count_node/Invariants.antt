@@ -1,4 +1,4 @@
-use Rattle.std.proofs.Common.{◌≡◌, ◌-◌, ◌≤◌, ◌⊎◌}
+use Rattle.std.proofs.Common.{◌-◌, ◌≤◌}
 use Rattle.lex_file.specs.Files.{number_of, IsRest}
 use Rattle.lex_file.specs.Languages.{file_tail}
 use Rattle.lex_agree.specs.Counts.{IsCount}
@@ -9,7 +9,7 @@ abbrev pub invariant-loop-on : goal.invariant-loop-on
 invariant-loop-on l =
     record {
       low : l.from ≤ 27;
-      rest : (l.rest ≡ l.node) ⊎ IsRest l.file.bytes.now (number_of l.node) l.from (number_of l.rest);
+      rest : IsRest l.file.bytes.now (number_of l.node) l.from l.rest;
       below : IsCount (has_below (file_tail l.file.bytes.now (number_of l.node)) l.from) l.count;
     }
 

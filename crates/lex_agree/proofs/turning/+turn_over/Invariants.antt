@@ -1,4 +1,4 @@
-use Rattle.std.proofs.Common.{◌≡◌, ◌-◌, ◌≤◌, length, take, ◌⊎◌}
+use Rattle.std.proofs.Common.{◌≡◌, ◌-◌, ◌≤◌, length, take}
 use Rattle.lex_file.specs.Files.{number_of, IsRest}
 use Rattle.lex_file.specs.Languages.{language_of}
 use Rattle.lex_agree.specs.Walks.{AreKept}
@@ -14,7 +14,7 @@ invariant-loop-on l =
       low : l.from ≤ 27;
       room : length l.front ≡ 15;
       front : take l.len l.front ≡ take l.len l.fn.front;
-      rest : (l.rest ≡ l.node) ⊎ IsRest l.file.bytes.now (number_of l.node) l.from (number_of l.rest);
+      rest : IsRest l.file.bytes.now (number_of l.node) l.from l.rest;
       kept : AreKept l.file.bytes.now l.kept;
       below : TurnsSoFar (language_of l.file.bytes.now) (take l.len l.fn.front) l.from;
     }

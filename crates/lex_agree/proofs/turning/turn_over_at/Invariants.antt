@@ -1,4 +1,4 @@
-use Rattle.std.proofs.Common.{◌≡◌, ◌-◌, ◌≤◌, ◌⊎◌}
+use Rattle.std.proofs.Common.{◌-◌, ◌≤◌}
 use Rattle.lex_file.specs.Files.{number_of, IsRest}
 use Rattle.lex_agree.specs.Walks.{AreKept}
 use Rattle.lex_agree.proofs.Walking.{TurnsBelow}
@@ -8,7 +8,7 @@ abbrev pub invariant-loop-on : goal.invariant-loop-on
 invariant-loop-on l =
     record {
       low : l.from ≤ 27;
-      rest : (l.rest ≡ l.behind) ⊎ IsRest l.file.bytes.now (number_of l.behind) l.from (number_of l.rest);
+      rest : IsRest l.file.bytes.now (number_of l.behind) l.from l.rest;
       kept : AreKept l.file.bytes.now l.kept;
       below : TurnsBelow l.file.bytes.now l.front l.behind l.from;
     }

@@ -1,5 +1,5 @@
 use Rattle.lex_file.proofs.Walks.{branch_passed}
-use Rattle.lex_file.proofs.files.LexFilePathLex.branch_on.Goals as goal
+use Rattle.lex_file.proofs.files.LexFile.walk_on.Goals as goal
 
 pub returns-clause-passed : goal.returns-clause-passed
 returns-clause-passed c =
