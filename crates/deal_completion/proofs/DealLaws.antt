@@ -22,7 +22,8 @@ use Rattle.deal_steps.specs.declared.deals.Held.{Held}
 use Rattle.deal_steps.proofs.PileLaws.{get-joined, get-without, get-greater, get-no_tiles, length-joined, length-without}
 use Rattle.deal_completion.specs.declared.picking.Pick.{Pick}
 use Rattle.deal_completion.specs.declared.hands.Hands.{Hands}
-use Rattle.deal_completion.specs.Completion.{want_list, pick, take_off, put_on, put_drawn, drawn, draw, back_to_bag, exchange, chosen, throws, acted, is_within, is_met, held_at, dealt_from, opener, undealt, start, dealt}
+use Rattle.deal_steps.specs.Steps.{opener}
+use Rattle.deal_completion.specs.Completion.{want_list, pick, take_off, put_on, put_drawn, drawn, draw, back_to_bag, exchange, chosen, throws, acted, is_within, is_met, held_at, dealt_from, undealt, start, dealt}
 use Rattle.deal_completion.specs.Taking.{HasRoomToDraw, MayMove}
 use Rattle.deal_completion.proofs.PickLaws.{IsOf, pick_of}
 use Rattle.deal_completion.proofs.DealStates.{IsWhole, IsDealing}

@@ -18,7 +18,8 @@ use Rattle.deal_steps.specs.declared.steps.Act.TheVariants as act
 use Rattle.deal_steps.specs.declared.steps.Step.{Step}
 use Rattle.deal_steps.specs.declared.deals.Held.{Held}
 use Rattle.deal_steps.specs.Piles.{kinds, joined, without, greater}
-use Rattle.deal_steps.specs.Bounds.{kind_at, bound_at, first_bound}
+use Rattle.ref_tiles.specs.Kinds.{kind_at}
+use Rattle.deal_steps.specs.Bounds.{bound_at, first_bound}
 use Rattle.deal_steps.specs.Runs.{IsRun}
 use Rattle.deal_steps.proofs.Examples.{short, line}
 use Rattle.deal_completion.specs.Completion.{lacking, with_one, pick, draw, exchange, chosen, start, dealt}

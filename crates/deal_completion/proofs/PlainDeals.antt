@@ -17,7 +17,7 @@ use Rattle.deal_steps.specs.declared.steps.Step.{Step}
 use Rattle.deal_steps.specs.declared.deals.Racks.{Racks}
 use Rattle.deal_steps.specs.declared.deals.Held.{Held}
 use Rattle.deal_steps.specs.Piles.{kinds, joined, without, greater}
-use Rattle.deal_steps.specs.Steps.{used_by, left_by, of_act, left_in, needed, needed_of, size_of, swaps_by, swaps}
+use Rattle.deal_steps.specs.Steps.{used_by, left_by, of_act, left_in, needed, needed_of, size_of, swaps_by, swaps, opener}
 use Rattle.deal_steps.specs.Fitting.{rack_of, in_bag, AddsUp, IsThrownBy, HasTurn, AllowsAct, FitsAt, ActsTo, Follows, FollowsTo, Fits}
 use Rattle.deal_steps.specs.Bounds.{gone, first_bound}
 use Rattle.deal_steps.specs.Runs.{Course, none_waiting, size_in, MayAct, turn_course, act_course, IsOnCourse, IsRunFrom, first_course, IsRun, HasKindsBy, HasKinds, HaveKinds}
@@ -25,7 +25,7 @@ use Rattle.deal_steps.proofs.PileLaws.{get-joined, get-without, get-no_tiles, le
 use Rattle.deal_steps.proofs.Refills.{refilled_from}
 use Rattle.deal_completion.specs.declared.picking.Pick.{Pick}
 use Rattle.deal_completion.specs.declared.hands.Hands.{Hands}
-use Rattle.deal_completion.specs.Completion.{want_list, pick, take_off, put_on, draw, throws, acted, is_within, is_met, held_at, dealt_from, opener, undealt, start, dealt}
+use Rattle.deal_completion.specs.Completion.{want_list, pick, take_off, put_on, draw, throws, acted, is_within, is_met, held_at, dealt_from, undealt, start, dealt}
 use Rattle.deal_completion.specs.Plain.{IsPlain}
 use Rattle.deal_completion.proofs.Demand.{demand}
 use Rattle.deal_completion.proofs.DealStates.{IsWhole, IsDealtFitting}

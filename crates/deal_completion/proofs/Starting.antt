@@ -17,7 +17,8 @@ use Rattle.deal_steps.specs.declared.faults.DealBound.{DealBound}
 use Rattle.deal_steps.specs.declared.faults.DealBound.TheVariants as fault
 use Rattle.deal_steps.specs.Piles.{kinds, joined}
 use Rattle.deal_steps.specs.Steps.{thrown_by, of_act, is_by, is_unknown, throws_unknown, left_in, thrown_in, ends_epoch, needed, needed_of, size_of, swaps_by, swaps}
-use Rattle.deal_steps.specs.Bounds.{gone, raised, low, low_at, laid_earlier, thrown, held, is_too_big, short_kind, kind_at, bound_of, bound_for, bound_at, first_bound_after, first_bound}
+use Rattle.ref_tiles.specs.Kinds.{kind_at}
+use Rattle.deal_steps.specs.Bounds.{gone, raised, low, low_at, laid_earlier, thrown, held, is_too_big, short_kind, bound_of, bound_for, bound_at, first_bound_after, first_bound}
 use Rattle.deal_steps.proofs.PileLaws.{get-joined, get-without, get-greater, get-no_tiles, length-no_tiles, length-greater, sum_is, sum_kinds_same}
 use Rattle.deal_completion.specs.Plain.{IsPlain}
 use Rattle.deal_completion.proofs.WantLaws.{asked_or_none, left_asked}

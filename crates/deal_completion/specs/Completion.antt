@@ -8,7 +8,7 @@ use Rattle.gcg_read.specs.Players.{other_seat}
 use Rattle.gcg_read.specs.declared.events.Seat.{Seat}
 use Rattle.gcg_read.specs.declared.events.Seat.TheVariants.{First}
 use Rattle.deal_steps.specs.Piles.{kinds, joined, without, greater}
-use Rattle.deal_steps.specs.Steps.{used_by, needed, left_in, ends_epoch}
+use Rattle.deal_steps.specs.Steps.{used_by, needed, left_in, ends_epoch, opener}
 use Rattle.deal_steps.specs.Fitting.{rack_of, with_rack}
 use Rattle.deal_steps.specs.declared.steps.Motion.{Motion}
 use Rattle.deal_steps.specs.declared.steps.Motion.TheVariants as motion
@@ -161,11 +161,6 @@ dealt_from (s ∷ steps) h =
     if is_met s.player s.act h.racks
     then option_map (λ rest. held_at s steps h.racks ∷ rest) (dealt_from steps (acted s.player s.act (throws s.player s.act steps h.racks) steps h))
     else None
-
--- who draws first: the player of the first turn, else the first player
-abbrev pub opener : List Step → Seat
-opener [] = First
-opener (s ∷ steps) = if s.counted then s.player else opener steps
 
 -- before any draw
 abbrev pub undealt : Rules → Hands

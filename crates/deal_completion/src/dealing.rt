@@ -3,13 +3,13 @@ ghost use Rattle.std.specs.Prelude.{◌≡◌, true, ◌∷◌, [], ◌++◌, If
 ghost use Rattle.deal_steps.specs.Fitting.{Fits};
 ghost use Rattle.deal_steps.specs.Bounds.{first_bound};
 ghost use Rattle.deal_steps.specs.Runs.{IsRun, HasKindsBy, HasKinds, HaveKinds};
-ghost use Rattle.deal_completion.specs.Completion.{turn_throws, throws, turned, acted, is_within, is_met, held_at, opener, start, dealt};
+ghost use Rattle.deal_completion.specs.Completion.{turn_throws, throws, turned, acted, is_within, is_met, held_at, start, dealt};
 ghost use Rattle.deal_completion.specs.Plain.{IsPlain};
 ghost use Rattle.deal_completion.specs.Taking.{MayThrow, MayMove};
 
 use crate::drawing::{chosen, draw, exchange};
 use crate::hands::Hands;
-use deal_steps::{Act, Deal, Held, Motion, Racks, Step, are_small, greater, used_by};
+use deal_steps::{Act, Deal, Held, Motion, Racks, Step, greater, opener, used_by};
 use gcg_read::Seat;
 use ref_tiles::{Counts, Rules};
 use std::alloc::{AllocError, Global};
@@ -88,8 +88,7 @@ fn acted(
 fn is_within(tiles: &Counts, others: &Counts) -> bool
     ensures { result ≡ is_within tiles.now others.now }
 {
-    // What reads the numbers of tiles knows how many kinds there are.
-    let _numbers = tiles.numbers();
+    tiles.law_of_numbers();
     tiles.fits(others)
 }
 
@@ -109,25 +108,12 @@ fn is_met(step: &Step, racks: &Racks) -> bool
     }
 }
 
-/// Who draws first: the player of the first turn.
-#[tactic(auto, using(crate::proofs::DealLoops::opener_here, crate::proofs::DealLoops::opener_later))]
-fn opener(steps: &[Step]) -> Seat
-    ensures { result ≡ opener steps.now }
-{
-    for step in steps {
-        if step.counted {
-            return step.player;
-        }
-    }
-    Seat::First
-}
-
 /// The hands once both players have drawn their first tiles.
 #[tactic(auto, using(crate::proofs::DealLaws::first_room, crate::proofs::DealLaws::second_room), unfolding(crate::specs::Completion::start))]
 fn start(alloc: Global, rules: &Rules, steps: &[Step]) -> Result<Hands, AllocError>
     ensures { IfOk result (λ hands. hands ≡ start rules.now steps.now) }
 {
-    are_small(&rules.counts);
+    rules.counts.law_of_numbers();
     let first = opener(steps);
     let hands = draw(alloc, first, 7, steps, &Hands::new(rules))?;
     draw(alloc, first.other(), 7, steps, &hands)
@@ -138,9 +124,9 @@ fn turn_has_kinds(motion: &Motion)
     ensures { HasKindsBy motion.now }
 {
     match motion {
-        Motion::Lays { used, .. } => are_small(used),
-        Motion::Tries(used) => are_small(used),
-        Motion::Throws(tiles) => are_small(tiles),
+        Motion::Lays { used, .. } => used.law_of_numbers(),
+        Motion::Tries(used) => used.law_of_numbers(),
+        Motion::Throws(tiles) => tiles.law_of_numbers(),
         Motion::Keeps | Motion::ThrowsUnknown(_) => {}
     }
 }
@@ -151,11 +137,11 @@ fn step_has_kinds(step: &Step)
 {
     match &step.act {
         Act::Turns { shown, motion } => {
-            are_small(shown);
+            shown.law_of_numbers();
             turn_has_kinds(motion);
         }
-        Act::TakesBack(used) => are_small(used),
-        Act::Ends { tiles, .. } => are_small(tiles),
+        Act::TakesBack(used) => used.law_of_numbers(),
+        Act::Ends { tiles, .. } => tiles.law_of_numbers(),
         Act::Rests => {}
     }
 }
@@ -200,7 +186,7 @@ fn deal_of(alloc: Global, rules: &Rules, steps: &[Step]) -> Result<Option<Deal>,
     requires { IsRun rules.now steps.now }
     ensures { IfOk result (λ deal. deal ≡ dealt rules.now steps.now) }
 {
-    are_small(&rules.counts);
+    rules.counts.law_of_numbers();
     let mut hands = start(alloc, rules, steps)?;
     let mut held = Vec::new(alloc);
     for (place, step) in steps.iter().enumerate() {
@@ -229,6 +215,6 @@ pub fn complete_steps(
         → IsSomeAnd deal (Fits rules.now steps.now)) }
 {
     steps_have_kinds(steps);
-    are_small(&rules.counts);
+    rules.counts.law_of_numbers();
     deal_of(alloc, rules, steps)
 }

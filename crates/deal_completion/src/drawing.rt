@@ -6,7 +6,7 @@ ghost use Rattle.deal_completion.specs.Taking.{HasRoomToDraw, MayThrow};
 use crate::hands::Hands;
 use crate::picking::pick_tiles;
 use crate::wanting::want_list;
-use deal_steps::{Step, are_small, joined};
+use deal_steps::{Step, joined};
 use gcg_read::Seat;
 use ref_tiles::Counts;
 use std::alloc::{AllocError, Global};
@@ -23,7 +23,7 @@ pub fn draw(
     requires { HasRoomToDraw seat hands.now }
     ensures { IfOk result (λ after. after ≡ draw seat number steps.now hands.now) }
 {
-    are_small(&hands.bag);
+    hands.bag.law_of_numbers();
     let other = seat.other();
     let list = want_list(alloc, seat, steps, hands.racks.of(seat))?;
     let reserved = want_list(alloc, other, steps, hands.racks.of(other))?;
@@ -47,7 +47,7 @@ pub fn exchange(
     requires { MayThrow seat thrown.now hands.now }
     ensures { IfOk result (λ after. after ≡ exchange seat thrown.now steps.now hands.now) }
 {
-    are_small(&hands.bag);
+    hands.bag.law_of_numbers();
     let off = hands.without_tiles(seat, thrown);
     let after = draw(alloc, seat, thrown.total(), steps, &off)?;
     Ok(Hands {

@@ -4,7 +4,6 @@ ghost use Rattle.deal_steps.specs.Piles.{kinds};
 ghost use Rattle.deal_completion.specs.Completion.{with_one, with_next, pick_listed, pick};
 ghost use Rattle.deal_completion.specs.Taking.{HasRoomIn, next_spare, pick_spare, times_of};
 
-use deal_steps::are_small;
 use ref_tiles::{Counts, KINDS};
 
 /// Tiles that are taken from others.
@@ -162,7 +161,7 @@ impl Pick {
 pub fn pick_tiles(list: &[u8], reserved: &[u8], number: usize, tiles: &Counts) -> Pick
     ensures { result ≡ pick list.now reserved.now number tiles.now }
 {
-    are_small(tiles);
+    tiles.law_of_numbers();
     let mut pick = Pick {
         taken: Counts::new(),
         left: *tiles,

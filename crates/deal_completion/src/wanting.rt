@@ -3,7 +3,7 @@ ghost use Rattle.std.specs.Prelude.{◌≡◌, ◌++◌, replicate, OnOk, IfOk};
 ghost use Rattle.deal_steps.specs.Steps.{needed, left_by, left_in, ends_epoch};
 ghost use Rattle.deal_completion.specs.Completion.{lacking, want_list};
 
-use deal_steps::{Act, Motion, Step, are_small, greater, used_by, without};
+use deal_steps::{Act, Motion, Step, greater, used_by, without};
 use gcg_read::{Seat, same_seat};
 use ref_tiles::{Counts, KINDS};
 use std::alloc::{AllocError, Global};
@@ -98,7 +98,7 @@ pub fn want_list(
 ) -> Result<Vec<u8>, AllocError>
     ensures { IfOk result (λ list. list.items ≡ want_list seat steps.now rack.now) }
 {
-    are_small(rack);
+    rack.law_of_numbers();
     let mut list = Vec::new(alloc);
     let mut rest = *rack;
     for step in steps {

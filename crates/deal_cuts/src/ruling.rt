@@ -7,7 +7,7 @@ use crate::cuts::{Cut, Places};
 use crate::flows::{board_follows, flow_of, gained_by, is_small, lost_by};
 use crate::splits::{split_by, where_out, where_so};
 use crate::told::known_at;
-use deal_steps::{Step, are_small};
+use deal_steps::Step;
 use gcg_read::Seat;
 use ref_tiles::{KINDS, Rules};
 
@@ -53,7 +53,7 @@ fn carried(
     if !board_follows(chosen, step, next, &first, &second) {
         return 0;
     }
-    are_small(&step.board);
+    step.board.law_of_numbers();
     let gained = gained_by(&first, from.first, to.first, to.bag)
         + gained_by(&second, from.second, to.second, to.bag);
     let lost = lost_by(&first, from.bag, from.first, to.first, to.bag)
@@ -101,7 +101,7 @@ fn shows_too_many(rules: &Rules, steps: &[Step], cut: &Cut) -> bool
     ensures none { result ≡ true → HasNoDeal rules.now steps.now }
     ensures found { IsCut rules.now steps.now cut.now.kinds cut.now.places.items → result ≡ true }
 {
-    are_small(&rules.counts);
+    rules.counts.law_of_numbers();
     let count = cut.places.len();
     if count == 0 {
         return false;

@@ -1,6 +1,6 @@
 //! What each step does with tiles, as far as a deal has to know it.
 use crate::piles::{Pile, pile_of, sum_of};
-use deal_steps::{Act, Motion, Step, greater, used_by};
+use deal_steps::{Act, Motion, Step, greater, opener, used_by};
 use gcg_read::Seat;
 use ref_tiles::{Counts, KINDS, Rules};
 use std::alloc::{AllocError, Global};
@@ -84,16 +84,6 @@ impl Move {
             Act::TakesBack(_) | Act::Rests => Move::drawing(step.player, 0),
         }
     }
-}
-
-/// Who draws first: the player of the first turn.
-fn opener(steps: &[Step]) -> Seat {
-    for step in steps {
-        if step.counted {
-            return step.player;
-        }
-    }
-    Seat::First
 }
 
 /// How many tiles a player draws before the first step.

@@ -15,7 +15,8 @@ use Rattle.deal_steps.specs.declared.steps.Act.TheVariants as act
 use Rattle.deal_steps.specs.declared.steps.Step.{Step}
 use Rattle.deal_steps.specs.declared.faults.DealBound.TheVariants as fault
 use Rattle.deal_steps.specs.Piles.{kinds, joined, without, greater}
-use Rattle.deal_steps.specs.Bounds.{gone, low, held, kind_at, bound_at, first_bound}
+use Rattle.ref_tiles.specs.Kinds.{kind_at}
+use Rattle.deal_steps.specs.Bounds.{gone, low, held, bound_at, first_bound}
 
 -- a tile set of 14: two each of A, E, R and T, one each of D, I, N, O, S and W
 unfoldable pub short : Rules

@@ -22,7 +22,8 @@ use Rattle.deal_steps.specs.declared.faults.DealBound.TheVariants as fault
 use Rattle.deal_steps.specs.declared.known.Known.{Known}
 use Rattle.deal_steps.specs.Piles.{kinds, joined, without, greater}
 use Rattle.deal_steps.specs.Steps.{used_by, left_by, laid_by, thrown_by, of_act, is_unknown, throws_unknown, needed_of, size_of}
-use Rattle.deal_steps.specs.Bounds.{gone, low, low_at, laid, laid_earlier, thrown, held, raised, is_too_big, short_kind, kind_at, bound_of, bound_for, bound_at, first_bound_after}
+use Rattle.ref_tiles.specs.Kinds.{kind_at}
+use Rattle.deal_steps.specs.Bounds.{gone, low, low_at, laid, laid_earlier, thrown, held, raised, is_too_big, short_kind, bound_of, bound_for, bound_at, first_bound_after}
 use Rattle.deal_steps.specs.Knowing.{known_of, with_known, raised_by, IsKnown, IsShown, short_of, excess_of, excess, shown_by, turned_by, moved_by, HasRoom}
 use Rattle.deal_steps.proofs.PileLaws.{joined_is, get-joined, get-without, get-greater, get-no_tiles, length-joined, length-without, length-greater, length-no_tiles, sum-joined, sum_is, part_of_kinds}
 

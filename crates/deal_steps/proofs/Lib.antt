@@ -1,4 +1,5 @@
 pub mod PileLaws
+pub mod OpenerLaws
 pub mod Refills
 pub mod EpochLaws
 pub mod KnownLaws

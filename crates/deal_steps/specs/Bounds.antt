@@ -3,10 +3,7 @@
 use Rattle.std.specs.Prelude.{ℕ, ◌+◌, nat_lt, Bool, List, [], ◌∷◌, sum, slice_index, Option, Some, None, if◌then◌else◌}
 use Rattle.std.specs.List.{find}
 use Rattle.std.specs.Option.{option_map, option_or}
-use Rattle.ref_tiles.specs.Letters.{letter_at}
-use Rattle.ref_tiles.specs.declared.letters.Letter.{Letter}
-use Rattle.ref_tiles.specs.declared.kinds.Kind.{Kind}
-use Rattle.ref_tiles.specs.declared.kinds.Kind.TheVariants as kind
+use Rattle.ref_tiles.specs.Kinds.{kind_at}
 use Rattle.ref_tiles.specs.declared.rulebook.Rules.{Rules}
 use Rattle.ref_tiles.specs.Counting.{no_tiles}
 use Rattle.gcg_read.specs.Players.{other_seat}
@@ -68,14 +65,6 @@ is_too_big seat s past = nat_lt (sum (gone seat past) + size_of s seat) (sum (lo
 abbrev pub short_kind : Rules → Seat → Step → (past : List Step) → Option ℕ
 short_kind rules seat s past =
     find (λ k. nat_lt (slice_index rules.counts k) (slice_index (held seat s past) k + slice_index (held (other_seat seat) s past) k)) kinds
-
--- the kind with this number
-abbrev pub kind_or_blank : Option Letter → Kind
-kind_or_blank None = kind.Blank
-kind_or_blank (Some l) = kind.Letter l
-
-abbrev pub kind_at : ℕ → Kind
-kind_at k = kind_or_blank (letter_at k)
 
 -- the first bound that a moment of this player exceeds
 abbrev pub bound_of : Rules → Seat → Step → (past : List Step) → Option DealBound

@@ -17,7 +17,8 @@ use Rattle.deal_steps.specs.declared.faults.DealBound.TheVariants as fault
 use Rattle.deal_steps.specs.declared.known.Known.{Known}
 use Rattle.deal_steps.specs.Piles.{kinds, joined, without, greater}
 use Rattle.deal_steps.specs.Steps.{used_by, of_seat, size_of}
-use Rattle.deal_steps.specs.Bounds.{low, low_at, gone, laid, kind_at}
+use Rattle.ref_tiles.specs.Kinds.{kind_at}
+use Rattle.deal_steps.specs.Bounds.{low, low_at, gone, laid}
 
 abbrev pub known_of : Known → Seat → List ℕ
 known_of known seat = of_seat seat known.first known.second

@@ -1,5 +1,5 @@
 -- What the steps of a record say.
-use Rattle.std.specs.Prelude.{ℕ, ◌&&◌, Bool, true, false, List, Option, Some, None, if◌then◌else◌}
+use Rattle.std.specs.Prelude.{ℕ, ◌&&◌, Bool, true, false, List, [], ◌∷◌, Option, Some, None, if◌then◌else◌}
 use Rattle.ref_tiles.specs.Counting.{no_tiles}
 use Rattle.gcg_read.specs.Players.{same_seat}
 use Rattle.gcg_read.specs.declared.events.Seat.{Seat}
@@ -101,3 +101,8 @@ of_seat Second first second = second
 -- how many tiles a player has before a step
 abbrev pub size_of : Step → Seat → ℕ
 size_of s seat = of_seat seat s.first s.second
+
+-- who draws first: the player of the first turn, else the first player
+abbrev pub opener : List Step → Seat
+opener [] = First
+opener (s ∷ steps) = if s.counted then s.player else opener steps

@@ -1,15 +1,15 @@
 //! What must be on the racks now, kept step by step. In it the bounds are looked up with no number past a byte.
 ghost use Rattle.std.specs.Prelude.{◌≡◌, ◌<◌, List, [], ◌∷◌, None, IfSome};
 ghost use Rattle.deal_steps.specs.declared.steps.Step.{Step};
-ghost use Rattle.deal_steps.specs.Bounds.{kind_at, bound_at};
+ghost use Rattle.deal_steps.specs.Bounds.{bound_at};
 ghost use Rattle.deal_steps.specs.Knowing.{known_of, with_known, raised_by, IsKnown, short_of, excess_of, excess, shown_by, turned_by, moved_by, HasRoomFor, HasRoom};
 
 use crate::faults::DealBound;
 use crate::fitting::used_by;
-use crate::piles::{are_small, greater, joined, without};
+use crate::piles::{greater, joined, without};
 use crate::steps::{Act, Motion, Step};
 use gcg_read::Seat;
-use ref_tiles::{Counts, KINDS, Kind, Letter, Rules};
+use ref_tiles::{Counts, KINDS, Kind, Rules};
 
 /// What the lines so far show of the racks.
 #[derive(Clone, Copy)]
@@ -20,17 +20,6 @@ pub struct Known {
     pub second: Counts,
     /// The tiles of the plays that stand.
     pub laid: Counts,
-}
-
-/// The kind with a number, 0 to 25 for A to Z and else a blank.
-pub fn kind_at(number: usize) -> Kind
-    requires { number < 27 }
-    ensures { result ≡ kind_at number }
-{
-    match Letter::new(number as u8) {
-        Some(letter) => Kind::Letter(letter),
-        None => Kind::Blank,
-    }
 }
 
 impl Known {
@@ -105,7 +94,7 @@ impl Known {
             None => None,
             Some(number) => Some(DealBound::TilesShort {
                 line,
-                kind: kind_at(number),
+                kind: Kind::at(number),
             }),
         }
     }
@@ -171,7 +160,7 @@ impl Known {
         ensures told { (past : List Step) → IsKnown past self.old → result ≡ bound_at rules.now step.now past }
         ensures known { (past : List Step) → IsKnown past self.old → result ≡ None → IsKnown (step.now ∷ past) self.new }
     {
-        are_small(&rules.counts);
+        rules.counts.law_of_numbers();
         self.show(step);
         match self.excess(rules, step) {
             Some(fault) => Some(fault),

@@ -1,5 +1,5 @@
 //! Tiles by kind: both together, the first without the others, and of each kind the greater number.
-ghost use Rattle.std.specs.Prelude.{◌≡◌, ◌+◌, ◌<◌, ℕ, length, slice_index};
+ghost use Rattle.std.specs.Prelude.{◌≡◌, ◌+◌, ◌<◌, ℕ, slice_index};
 ghost use Rattle.deal_steps.specs.Piles.{joined, without, greater};
 
 use ref_tiles::{Counts, KINDS};
@@ -42,13 +42,4 @@ pub fn greater(tiles: &Counts, others: &Counts) -> Counts
         numbers[kind] = numbers[kind].max(other[kind]);
     }
     Counts::of(numbers)
-}
-
-/// There is a number for each kind, and each is below 256.
-pub fn are_small(tiles: &Counts)
-    ensures kinds { length tiles.now ≡ 27 }
-    ensures small { (k : ℕ) → k < 27 → slice_index tiles.now k < 256 }
-{
-    // The array tells that there are 27 numbers, each a byte.
-    let _numbers = tiles.numbers();
 }

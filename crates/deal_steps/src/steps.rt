@@ -1,6 +1,6 @@
 //! The steps of a game: what each event is to the racks.
 ghost use Rattle.std.specs.Prelude.{◌≡◌};
-ghost use Rattle.deal_steps.specs.Steps.{size_of};
+ghost use Rattle.deal_steps.specs.Steps.{size_of, opener};
 
 use gcg_read::Seat;
 use ref_tiles::Counts;
@@ -79,4 +79,17 @@ impl Step {
             Seat::Second => self.second,
         }
     }
+}
+
+/// Who draws first: the player of the first turn, and the first player where there is none.
+#[tactic(auto, using(crate::proofs::OpenerLaws::opener_here, crate::proofs::OpenerLaws::opener_later))]
+pub fn opener(steps: &[Step]) -> Seat
+    ensures { result ≡ opener steps.now }
+{
+    for step in steps {
+        if step.counted {
+            return step.player;
+        }
+    }
+    Seat::First
 }

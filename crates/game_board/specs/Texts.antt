@@ -2,6 +2,7 @@
 use Rattle.std.specs.Prelude.{ℕ, ◌+◌, ◌*◌, List, [], ◌∷◌, ◌++◌, Option, Some, None, codes, decimal, slice_get, take, nat_lt, if◌then◌else◌}
 use Rattle.std.specs.Fmt.{signed_decimal}
 use Rattle.std.specs.List.{flat_map, range_with_len}
+use Rattle.ref_tiles.specs.Kinds.{kind_at, kind_byte}
 use Rattle.ref_tiles.specs.declared.tiles.Tile.{Tile}
 use Rattle.ref_tiles.specs.declared.rulebook.Rules.{Rules}
 use Rattle.ref_play.specs.declared.faults.PlayFault.{PlayFault}
@@ -93,13 +94,9 @@ players_text r place =
 
 -- ---- the tiles that are not on the board
 
--- the byte of a kind: a capital, or '?' (63) for a blank
-abbrev pub kind_mark : (number : ℕ) → ℕ
-kind_mark number = if nat_lt number 26 then 65 + number else 63
-
 -- a kind and a number of its tiles
 abbrev pub counted_kind : (number tiles : ℕ) → List ℕ
-counted_kind number tiles = 32 ∷ 32 ∷ kind_mark number ∷ 32 ∷ decimal tiles
+counted_kind number tiles = 32 ∷ 32 ∷ kind_byte (kind_at number) ∷ 32 ∷ decimal tiles
 
 -- a kind and how many of its tiles are not on the board; nine kinds stand on a line
 abbrev pub kind_text : Rules → List (Option Tile) → (number : ℕ) → List ℕ

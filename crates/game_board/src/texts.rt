@@ -1,25 +1,34 @@
 //! The board of a record as a text.
-ghost use Rattle.std.specs.Prelude.{◌≡◌, ◌<◌, ◌≤◌, ◌+◌, ◌∷◌, ◌++◌, [], OnOk, IfOk, length, slice_get, decimal};
+ghost use Rattle.std.specs.Prelude.{◌≡◌, ◌<◌, ◌≤◌, ◌+◌, ◌∷◌, ◌++◌, [], OnOk, IfOk, length, slice_get, codes, decimal};
 ghost use Rattle.std.specs.Fmt.{signed_decimal};
 ghost use Rattle.std.specs.Option.{option_copied};
 ghost use Rattle.ref_play.specs.Faults.{name_of};
 ghost use Rattle.game_board.specs.Laying.{board_before};
-ghost use Rattle.game_board.specs.Texts.{place_text, refusal_text, end_text, row_name, cell_text, row_line, rows_text, columns_line, marks_lines, squares_text, count_line, player_line, short_nick, rack_text, players_text, kind_mark, counted_kind, kinds_line, off_text, board_text};
+ghost use Rattle.game_board.specs.Texts.{place_text, refusal_text, end_text, row_name, cell_text, row_line, rows_text, columns_line, marks_lines, squares_text, count_line, player_line, short_nick, rack_text, players_text, counted_kind, kinds_line, off_text, board_text};
 
 use crate::laying::Laying;
 use crate::marks::square_mark;
 use crate::tiles::{off_board, tiles_off};
+use decimal_text::push_number;
 use game_sheets::had_before;
 use gcg_read::{Event, Record, Seat};
 use gcg_write::tiles_text;
-use itoa::Buffer;
 use ref_board::{Board, Dir, SIDE, Square};
 use ref_play::PlayFault;
-use ref_tiles::Rules;
+use ref_tiles::{Kind, Rules};
 use std::alloc::{AllocError, Global};
 
 /// How many bytes of a nickname are written at the most.
 const NICK: usize = 60;
+
+/// Appends that it is the board before a line.
+fn push_before(text: &mut Vec<u8>, line: u32) -> Result<(), AllocError>
+    ensures { OnOk result (text.new.items ≡ text.old.items ++ (codes "board before line " ++ decimal line)) }
+{
+    text.extend_from_slice(b"board before line ")?;
+    push_number(text, line)?;
+    Ok(())
+}
 
 /// Appends which board it is.
 #[tactic(auto, unfolding(crate::specs::Texts::place_text))]
@@ -30,10 +39,7 @@ fn push_place(text: &mut Vec<u8>, event: Option<&Event>) -> Result<(), AllocErro
         text.extend_from_slice(b"board after the last event")?;
         return Ok(());
     };
-    let mut buffer = Buffer::new();
-    text.extend_from_slice(b"board before line ")?;
-    text.extend_from_slice(buffer.format(event.line).as_bytes())?;
-    Ok(())
+    push_before(text, event.line)
 }
 
 /// Appends the name of a fault.
@@ -80,11 +86,10 @@ fn push_row_name(text: &mut Vec<u8>, row: usize) -> Result<(), AllocError>
     requires { row < 15 }
     ensures { OnOk result (text.new.items ≡ text.old.items ++ row_name row) }
 {
-    let mut buffer = Buffer::new();
     if row < 9 {
         text.push(b' ')?;
     }
-    text.extend_from_slice(buffer.format(row + 1).as_bytes())
+    push_number(text, row + 1)
 }
 
 /// Appends the mark of a square behind a space.
@@ -180,11 +185,10 @@ fn push_player(
     requires { place ≤ length game.now.events }
     ensures { OnOk result (text.new.items ≡ text.old.items ++ player_line game.now place player) }
 {
-    let mut buffer = Buffer::new();
     text.extend_from_slice(short_nick(game.players.of(player).nick.as_bytes()))?;
     text.push(b' ')?;
     let total = had_before(game.events.as_slice(), player, place);
-    text.extend_from_slice(buffer.format(total).as_bytes())?;
+    push_number(text, total)?;
     text.push(b'\n')?;
     Ok(())
 }
@@ -211,23 +215,10 @@ fn push_kind(text: &mut Vec<u8>, number: usize, off: usize) -> Result<(), AllocE
     requires { number < 27 }
     ensures { OnOk result (text.new.items ≡ text.old.items ++ counted_kind number off) }
 {
-    let mut buffer = Buffer::new();
     text.extend_from_slice(b"  ")?;
-    text.push(kind_mark(number))?;
+    text.push(Kind::at(number).byte())?;
     text.push(b' ')?;
-    text.extend_from_slice(buffer.format(off).as_bytes())
-}
-
-/// The byte of a kind: a capital, or `?` for a blank.
-fn kind_mark(number: usize) -> u8
-    requires { number < 27 }
-    ensures { result ≡ kind_mark number }
-{
-    if number < 26 {
-        b'A' + number as u8
-    } else {
-        b'?'
-    }
+    push_number(text, off)
 }
 
 /// Appends the line of nine kinds.
@@ -247,14 +238,6 @@ fn push_kinds(
     }
     text.push(b'\n')?;
     Ok(())
-}
-
-/// Appends a number.
-fn push_number(text: &mut Vec<u8>, number: usize) -> Result<(), AllocError>
-    ensures { OnOk result (text.new.items ≡ text.old.items ++ decimal number) }
-{
-    let mut buffer = Buffer::new();
-    text.extend_from_slice(buffer.format(number).as_bytes())
 }
 
 /// Appends how many tiles are not on the board.

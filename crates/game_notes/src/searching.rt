@@ -33,7 +33,7 @@ fn first_plays<L: PathLex, const N: usize>(
     ensures first { AreFirstPlays N rules.now words board.old rack.now (⟦<Top<N> as Sink>⟧.items result) }
     ensures board { board.new ≡ board.old }
 {
-    let _squares = board.len();
+    board.law_of_squares();
     let mut top = Top::new(board);
     if generate(rules, board, cross, rack, lex, &mut top).is_err() {
         unreachable!()

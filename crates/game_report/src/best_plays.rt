@@ -6,11 +6,11 @@ ghost use Rattle.lex_check.specs.Pairs.{list_in};
 ghost use Rattle.game_report.specs.{Beside.{StandsBeside}, BestPlays.{is_judged, full_rack, notation_text, best_text, TellsByRack, TellsBest, Appends}};
 ghost use Rattle.game_notes.specs.Following.{board_of, Follows};
 
+use decimal_text::push_number;
 use game_notes::Follow;
 use game_turns::{Machine, Passed};
 use gcg_read::{Event, EventKind, Seat};
 use gcg_write::play_text;
-use itoa::Buffer;
 use lex_check::Checked;
 use ref_board::Board;
 use ref_play::{Play, notation};
@@ -52,11 +52,10 @@ pub fn push_scored(
     ensures { OnOk result (text.new.items ≡ text.old.items
         ++ (notation_text (notation_of board.now play.now.tiles.items) ++ 32 ∷ signed_decimal score)) }
 {
-    let mut buffer = Buffer::new();
     let written = notation(board, play);
     play_text(written.at, written.dir, written.word.as_slice(), text)?;
     text.push(b' ')?;
-    text.extend_from_slice(buffer.format(score).as_bytes())
+    push_number(text, score)
 }
 
 /// Appends the best play by a rack on the board, or that there is none.

@@ -9,10 +9,10 @@ ghost use Rattle.game_report.specs.EventLines.{unlisted_word, unlisted_text, Are
 
 use crate::best_plays::push_best;
 use crate::replaying::follow_event;
+use decimal_text::push_number;
 use game_notes::Follow;
 use game_turns::{Machine, Passed, all_listed};
 use gcg_write::event_text;
-use itoa::Buffer;
 use lex_check::Checked;
 use lex_list::WordList;
 use ref_play::Word;
@@ -22,8 +22,7 @@ use std::alloc::AllocError;
 fn push_heading(text: &mut Vec<u8>, line: u32, nick: &[u8]) -> Result<(), AllocError>
     ensures { OnOk result (text.new.items ≡ text.old.items ++ (decimal line ++ 32 ∷ nick.now ++ 32 ∷ [])) }
 {
-    let mut buffer = Buffer::new();
-    text.extend_from_slice(buffer.format(line).as_bytes())?;
+    push_number(text, line)?;
     text.push(b' ')?;
     text.extend_from_slice(nick)?;
     text.push(b' ')?;

@@ -21,7 +21,7 @@ pub fn follow_event(
     requires stand { StandAt (rules_in passed.now) (list_in pair.now) (record_in passed.now).events place machine.old follow.old }
     ensures { StandAt (rules_in passed.now) (list_in pair.now) (record_in passed.now).events (place + 1) machine.new follow.new }
 {
-    let _squares = follow.board().len();
+    follow.board().law_of_squares();
     let event = &passed.record().events.as_slice()[place];
     passed.take_event(machine, place);
     let Some(play) = machine.last_play() else {

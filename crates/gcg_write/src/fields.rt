@@ -4,8 +4,8 @@ ghost use Rattle.std.specs.Fmt.{signed_decimal};
 ghost use Rattle.gcg_write.specs.Fields.{letters_text, tiles_text, position_text, word_text, play_text, score_text, points_text};
 ghost use Rattle.text_lines.specs.Fronts.{IsFront};
 
+use decimal_text::push_number;
 use gcg_read::Points;
-use itoa::Buffer;
 use ref_board::{Dir, Square};
 use ref_tiles::{Counts, Kind, Letter, Symbol};
 use std::alloc::AllocError;
@@ -39,7 +39,7 @@ pub fn push_tiles(tiles: &Counts, out: &mut Vec<u8>) -> Result<(), AllocError>
     ensures kept { IsFront out.old.items out.new.items }
 {
     push_letters(tiles, out)?;
-    push_times(b'?', tiles.count(Kind::Blank), out)
+    push_times(Kind::Blank.byte(), tiles.count(Kind::Blank), out)
 }
 
 /// Appends where a play begins: row and column of one across, column and row of one down.
@@ -47,17 +47,16 @@ fn push_position(at: Square, dir: Dir, out: &mut Vec<u8>) -> Result<(), AllocErr
     ensures done { OnOk result (out.new.items ≡ out.old.items ++ position_text at dir) }
     ensures kept { IsFront out.old.items out.new.items }
 {
-    let mut buffer = Buffer::new();
-    let row = buffer.format(at.row() + 1).as_bytes();
+    let row = at.row() + 1;
     let column = b'A' + at.column() as u8;
     match dir {
         Dir::Across => {
-            out.extend_from_slice(row)?;
+            push_number(out, row)?;
             out.push(column)?;
         }
         Dir::Down => {
             out.push(column)?;
-            out.extend_from_slice(row)?;
+            push_number(out, row)?;
         }
     }
     Ok(())
@@ -89,12 +88,11 @@ fn push_signed(points: Points, out: &mut Vec<u8>) -> Result<(), AllocError>
     ensures done { OnOk result (out.new.items ≡ out.old.items ++ score_text points) }
     ensures kept { IsFront out.old.items out.new.items }
 {
-    let mut buffer = Buffer::new();
     let value = points.value();
     if value >= 0 {
         out.push(b'+')?;
     }
-    out.extend_from_slice(buffer.format(value).as_bytes())
+    push_number(out, value)
 }
 
 /// Appends a score and a total.
@@ -102,8 +100,7 @@ pub fn push_points(score: Points, total: Points, out: &mut Vec<u8>) -> Result<()
     ensures done { OnOk result (out.new.items ≡ out.old.items ++ points_text score total) }
     ensures kept { IsFront out.old.items out.new.items }
 {
-    let mut buffer = Buffer::new();
     push_signed(score, out)?;
     out.push(b' ')?;
-    out.extend_from_slice(buffer.format(total.value()).as_bytes())
+    push_number(out, total.value())
 }

@@ -5,8 +5,8 @@ ghost use Rattle.gcg_write.specs.Normal.{event_text_of, rack_text, head_text, ev
 ghost use Rattle.text_lines.specs.Fronts.{IsFront};
 
 use crate::fields::{push_play, push_points, push_tiles};
+use decimal_text::push_number;
 use gcg_read::{Event, EventKind, Player, Players, Record};
-use itoa::Buffer;
 use ref_tiles::Counts;
 use std::alloc::AllocError;
 
@@ -42,9 +42,8 @@ fn push_unknown(number: u8, out: &mut Vec<u8>) -> Result<(), AllocError>
     ensures done { OnOk result (out.new.items ≡ out.old.items ++ 45 ∷ decimal number) }
     ensures kept { IsFront out.old.items out.new.items }
 {
-    let mut buffer = Buffer::new();
     out.push(b'-')?;
-    out.extend_from_slice(buffer.format(number).as_bytes())
+    push_number(out, number)
 }
 
 /// Appends the code of a last rack, its tiles in round brackets.

@@ -30,7 +30,7 @@ fn renew_tiles<L: PathLex>(
         → DifferOn tiles.now before board.now
         → AreValues rules.now words dir before values.old → AreValues rules.now words dir board.now values.new }
 {
-    let _squares = board.len();
+    board.law_of_squares();
     for placed in tiles {
         renew_beside(rules, board, lex, dir, placed.square, values);
     }
@@ -94,7 +94,7 @@ fn renew_stretch<L: PathLex>(
         → IsValue rules.now words dir before other (slice_index_or values.old other no_value)
         → IsValue rules.now words dir board.now other (slice_index_or values.new other no_value) }
 {
-    let _squares = board.len();
+    board.law_of_squares();
     let line = stretch.line;
     let low = board
         .first_of_run(stretch.dir, line, stretch.first)
@@ -125,7 +125,7 @@ pub fn renew_beside<L: PathLex>(
     ensures far { (other : ℕ) → (line_of (other_dir dir) other ≡ line_of (other_dir dir) square → ⊥)
         → slice_index_or values.new other no_value ≡ slice_index_or values.old other no_value }
 {
-    let _squares = board.len();
+    board.law_of_squares();
     let across = dir.other();
     let line = square.line(across);
     let place = square.place(across);

@@ -56,7 +56,7 @@ fn run_with(board: &Board, dir: Dir, square: Square) -> Run
     ensures run { IsRunWith board.now square result }
     ensures dir { result.dir ≡ dir }
 {
-    let _squares = board.len();
+    board.law_of_squares();
     let line = square.line(dir);
     let place = square.place(dir);
     let first = board.first_of_run(dir, line, place);

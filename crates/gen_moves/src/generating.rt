@@ -140,7 +140,7 @@ pub fn generate<L: PathLex, S: Sink>(
     ensures steady { S.grows ≡ false → IsOk result }
     ensures board { board.new ≡ board.old }
 {
-    let _size = board.len();
+    board.law_of_squares();
     let across = all_cells(board, cross, Dir::Across);
     let down = all_cells(board, cross, Dir::Down);
     let numbers = rack.numbers();

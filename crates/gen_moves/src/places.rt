@@ -34,7 +34,7 @@ fn cross_factor(board: &Board, dir: Dir, square: Square, premiums: u64) -> u64
     ensures limit { result ≤ premiums }
     ensures factor { (result ≡ premiums) ⊎ ((rules : Rules) (t : Tile) → cross_score rules (other_dir dir) board.now square t ≡ 0) }
 {
-    let _squares = board.len();
+    board.law_of_squares();
     if follows_tile(board, dir.other(), square) || precedes_tile(board, dir.other(), square, 1) {
         return premiums;
     }

@@ -43,7 +43,7 @@ impl Spot<'_> {
         requires runs { RunsAlong self.now.dir self.now.board.now play.now.tiles.items }
         ensures { result ≡ is_wanted self.now.board.now self.now.dir play.now.tiles.items }
     {
-        let _size = self.board.len();
+        self.board.law_of_squares();
         play.tiles.len() > 1 || notation(self.board, play).dir == self.dir
     }
 

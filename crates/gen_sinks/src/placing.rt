@@ -30,7 +30,7 @@ fn comes_last(board: &Board, kept: &[(Play, i32)], play: &Play, score: i32) -> b
     ensures { IsTrue result → (place : ℕ) (d : Play × ℤ) → place < length kept.now
         → ranks_before board.now (seen play.now score) (seen_pair (slice_index_or kept.now place d)) ≡ false }
 {
-    let _size = board.len();
+    board.law_of_squares();
     let many = kept.len();
     if many == 0 {
         return true;
@@ -47,7 +47,7 @@ pub fn place_of(board: &Board, kept: &[(Play, i32)], play: &Play, score: i32) ->
     ensures place { put_in (ranks_before board.now) (seen play.now score) (map seen_pair kept.now)
         ≡ insert (map seen_pair kept.now) result (seen play.now score) }
 {
-    let _size = board.len();
+    board.law_of_squares();
     if comes_last(board, kept, play, score) {
         return kept.len();
     }
@@ -96,7 +96,7 @@ pub fn all_before_down(board: &Board, kept: &[(Play, i32)], bound: i32) -> bool
     requires kept { IsTrue (are_legal board.now kept.now) }
     ensures { IsTrue result → AllBeforeDown board.now bound kept.now }
 {
-    let _size = board.len();
+    board.law_of_squares();
     for place in 0..kept.len() {
         if !is_before_down(board, &kept[place], bound) {
             return false;

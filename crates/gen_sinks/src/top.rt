@@ -63,12 +63,12 @@ impl<const N: usize> Sink for Top<N> {
     }
 
     fn skips_down(&self, bound: i32) -> bool {
-        let _size = self.board.len();
+        self.board.law_of_squares();
         self.kept.is_full() && all_before_down(&self.board, &self.kept, bound)
     }
 
     fn take(&mut self, play: &Play, score: i32) -> Result<(), NoMemory> {
-        let _size = self.board.len();
+        self.board.law_of_squares();
         let place = place_of(&self.board, &self.kept, play, score);
         put_at(&mut self.kept, place, (play.copy(), score));
         Ok(())

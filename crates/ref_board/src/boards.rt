@@ -82,6 +82,13 @@ impl Board {
         cells.len()
     }
 
+    /// The board has 225 squares. The call does nothing: its contract is the law.
+    pub fn law_of_squares(&self)
+        ensures { length self.now ≡ 225 }
+    {
+        let _ = &self.cells;
+    }
+
     /// The contents of the squares, in the order of their numbers.
     pub fn cells(&self) -> &[Option<Tile>]
         ensures cells { result.now ≡ self.now }

@@ -62,6 +62,13 @@ impl Square {
         self.number as usize
     }
 
+    /// The number of a square is below 225. The call does nothing: its contract is the law.
+    pub fn law_of_number(&self)
+        ensures { self.now < 225 }
+    {
+        let _ = &self.number;
+    }
+
     /// The row, from 0 at the top.
     pub fn row(&self) -> usize
         ensures row { result ≡ self.now / 15 }

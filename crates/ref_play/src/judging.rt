@@ -36,7 +36,7 @@ fn is_too_short(after: &Board, dir: Dir, tiles: &[Placed]) -> bool
 fn try_play(board: &Board, play: &Play) -> Result<(), PlayFault>
     ensures { Refuses result (fault_of play.now.dir board.now play.now.tiles.items) }
 {
-    let _size = board.len();
+    board.law_of_squares();
     if overlaps(board, &play.tiles) {
         return Err(PlayFault::Mismatch);
     }
@@ -65,7 +65,7 @@ pub fn judge(board: &Board, play: &Play) -> Result<(), PlayFault>
     ensures fault { Refuses result (fault_of play.now.dir board.now play.now.tiles.items) }
     ensures legal { IsOk result ↔ IsLegal board.now play.now.tiles.items }
 {
-    let _size = board.len();
+    board.law_of_squares();
     try_play(board, play)
 }
 
@@ -76,7 +76,7 @@ pub fn apply(board: &mut Board, play: &Play)
     ensures board { board.new ≡ with_tiles board.old play.now.tiles.items }
     ensures there { HasTiles board.new play.now.tiles.items }
 {
-    let _size = board.len();
+    board.law_of_squares();
     *board = laid(board, play);
 }
 
@@ -110,7 +110,7 @@ pub fn formed(board: &Board, play: &Play) -> (Board, ArrayVec<Run, RUNS>)
         ≡ runs_formed play.now.dir (with_tiles board.now play.now.tiles.items) play.now.tiles.items }
     ensures within { All IsWithin result.1.items }
 {
-    let _size = board.len();
+    board.law_of_squares();
     let after = laid(board, play);
     let runs = runs_of(&after, play.dir, &play.tiles);
     (after, runs)

@@ -44,7 +44,7 @@ fn push_run(runs: &mut ArrayVec<Run, RUNS>, after: &Board, square: Square, dir: 
     ensures run { runs.new.items ≡ runs.old.items ++ runs_through dir after.now square }
     ensures few { length runs.new.items ≤ length runs.old.items + 1 }
 {
-    let _number = square.number();
+    square.law_of_number();
     let (start, len) = after.run(square, dir);
     if len > 1 {
         runs.push(Run { start, dir, len });

@@ -119,7 +119,7 @@ pub fn from_text(board: &Board, at: Square, dir: Dir, word: &[Symbol]) -> Result
     ensures whole { IfOk result (λ play.
         IsWhole (occupied_on dir (with_tiles board.now play.tiles.items) (line_of dir at)) (place_of dir at) (length word.now)) }
 {
-    let _size = board.len();
+    board.law_of_squares();
     if word.len() > SIDE - at.place(dir) {
         return Err(PlayFault::OffBoard);
     }

@@ -84,7 +84,7 @@ fn run_written(board: &Board, play: &Play) -> Run
         (with_tiles board.now play.now.tiles.items) play.now.tiles.items ≡ result ∷ [] }
     ensures within { IsWithin result }
 {
-    let _size = board.len();
+    board.law_of_squares();
     let after = laid(board, play);
     let first = play.tiles[0].square;
     let across = run_through(&after, first, Dir::Across);

@@ -1,5 +1,6 @@
 pub mod LetterLemmas
 pub mod SymbolLemmas
+pub mod KindLemmas
 pub mod Counted
 pub mod Tallies
 pub mod FieldCounts

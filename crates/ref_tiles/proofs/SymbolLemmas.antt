@@ -12,7 +12,7 @@ sub_front : (m n : ℕ) → m + n - m ≡ n
 sub_front m n = omega arith
 
 -- the letter counted from any first byte
-letter_from-letter : (first : ℕ) (l : Letter) → letter_from first (first + l.index) ≡ Some l
+pub letter_from-letter : (first : ℕ) (l : Letter) → letter_from first (first + l.index) ≡ Some l
 letter_from-letter first l = grind (arith, nat_tests, sub_front first l.index, letter_at_letter l)
 
 pub read_again : (symbol : Symbol) → symbol_of (byte_of symbol) ≡ Some symbol
@@ -29,7 +29,7 @@ letter_if-place : (n : ℕ) (b : Bool) (e : nat_lt n 26 ≡ b) → IfSome (lette
 letter_if-place n true e = refl
 letter_if-place n false e = tt
 
-letter_at-place : (n : ℕ) → IfSome (letter_at n) (λ l. l.index ≡ n)
+pub letter_at-place : (n : ℕ) → IfSome (letter_at n) (λ l. l.index ≡ n)
 unfolding letter_at
 letter_at-place n = letter_if-place n (nat_lt n 26) refl
 

@@ -30,8 +30,7 @@ impl Model for Counts {
 fn are_bytes(numbers: &[u8])
     ensures { (k : ℕ) → k < length numbers.now → slice_index numbers.now k < 256 }
 {
-    // A body that reads the slice knows that its numbers are bytes.
-    let _count = numbers.len();
+    let _ = numbers;
 }
 
 impl Counts {
@@ -68,6 +67,14 @@ impl Counts {
         are_bytes(&self.numbers);
         let numbers = self.numbers;
         numbers
+    }
+
+    /// There is a number for each kind, and each is below 256. The call does nothing: its contract is the law.
+    pub fn law_of_numbers(&self)
+        ensures kinds { length self.now ≡ 27 }
+        ensures small { (k : ℕ) → k < 27 → slice_index self.now k < 256 }
+    {
+        are_bytes(&self.numbers);
     }
 
     /// How many tiles of a kind there are.

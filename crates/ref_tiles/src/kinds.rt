@@ -1,6 +1,6 @@
 //! Kinds of tiles: letters and the blank.
-ghost use Rattle.std.specs.Prelude.{◌≡◌};
-ghost use Rattle.ref_tiles.specs.Kinds.{number_of, kind_of};
+ghost use Rattle.std.specs.Prelude.{◌≡◌, ◌<◌};
+ghost use Rattle.ref_tiles.specs.Kinds.{number_of, kind_at, kind_of, kind_byte};
 
 use crate::letters::Letter;
 
@@ -22,6 +22,27 @@ impl Kind {
             Some(Kind::Blank)
         } else {
             Letter::counted_from(b'A', byte).map(Kind::Letter)
+        }
+    }
+
+    /// The byte that writes the kind: a capital, or `?` for a blank.
+    pub fn byte(&self) -> u8
+        ensures { result ≡ kind_byte self.now }
+    {
+        match self {
+            Kind::Letter(letter) => letter.capital(),
+            Kind::Blank => b'?',
+        }
+    }
+
+    /// The kind with a number, 0 to 25 for A to Z and else a blank.
+    pub fn at(number: usize) -> Kind
+        requires { number < 27 }
+        ensures { result ≡ kind_at number }
+    {
+        match Letter::new(number as u8) {
+            Some(letter) => Kind::Letter(letter),
+            None => Kind::Blank,
         }
     }
 

@@ -22,7 +22,7 @@ pub use counting::{Counts, KINDS};
 pub use english::{ENGLISH, english_rules};
 pub use english_text::ENGLISH_TEXT;
 pub use kinds::Kind;
-pub use laws::law_of_symbols;
+pub use laws::{law_of_kinds, law_of_symbols};
 pub use letters::Letter;
 pub use parts::RuleParts;
 pub use premiums::Premium;

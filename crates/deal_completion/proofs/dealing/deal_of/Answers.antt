@@ -9,7 +9,7 @@ loop-place-init c =
     let rules = c.args.rules.now in
     let steps = c.args.steps.now in
     dealing_is rules steps steps steps (start rules steps) c.in_ok-hands.hands [] c.new-held.result.items refl c.in_ok-hands.ensures c.new-held.ensures.items
-    (dealing_starts rules steps c.requires c.are_small.ensures.kinds)
+    (dealing_starts rules steps c.requires c.law_of_numbers.ensures.kinds)
 
 pub deal_step-requires : goal.deal_step-requires
 deal_step-requires c =
@@ -17,7 +17,7 @@ deal_step-requires c =
     let s = c.index-steps-place.result in
     let rest = c.split_at.result.1.now in
     let here = dealing_here c.args.rules.now steps c.loop-place.place s rest c.loop-place.hands c.loop-place.held.items (omega arith) c.index-steps-place.is c.split_at.ensures.back c.loop-place.invariant in
-    may_move c.args.rules.now steps s rest c.loop-place.hands c.loop-place.held.items here c.are_small.ensures.small
+    may_move c.args.rules.now steps s rest c.loop-place.hands c.loop-place.held.items here c.law_of_numbers.ensures.small
 
 pub loop-place-preserved : goal.loop-place-preserved
 loop-place-preserved c =

@@ -11,7 +11,7 @@ take_listed-requires c =
     record {
       room = λ k below.
           let none = ap (λ (xs : List ℕ). get_or xs k 0) c.new.ensures ∙ get-no_tiles k below in
-          let few = c.are_small.ensures.small k below in
+          let few = c.law_of_numbers.ensures.small k below in
           omega arith;
     }
 

@@ -11,8 +11,8 @@ pub loop-step-init : goal.loop-step-init
 loop-step-init c =
     record {
       so_far = ap (λ (xs : List ℕ). xs ++ wanted_by c.args.seat c.args.steps.now c.args.rack.now) c.new-list.ensures.items
-          ∙ sym (want_list_by c.args.seat c.args.steps.now c.args.rack.now c.are_small.ensures.kinds);
-      long = c.are_small.ensures.kinds;
+          ∙ sym (want_list_by c.args.seat c.args.steps.now c.args.rack.now c.law_of_numbers.ensures.kinds);
+      long = c.law_of_numbers.ensures.kinds;
     }
 
 pub loop-step-preserved : goal.loop-step-preserved

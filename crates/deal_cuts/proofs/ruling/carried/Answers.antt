@@ -15,4 +15,4 @@ returns-clause-carries c =
     c.flow_of-first.ensures.is c.flow_of-second.ensures.is c.gained_by.ensures.is c.gained_by-2.ensures.is c.lost_by.ensures.is c.lost_by-2.ensures.is
     c.saturating_sub-rest.ensures c.where_out.ensures.is c.saturating_sub.ensures c.min.ensures in
     subst (λ (n : ℕ). Carries c.args.chosen.now c.args.step.now c.args.next.now c.args.from.now c.args.to.now c.args.inside n) (sym is)
-    (carries_on c.args.chosen.now c.args.step.now c.args.next.now c.args.from.now c.args.to.now c.args.inside c.are_small.ensures.kinds (c.board_follows.ensures.0 c.if-not-board_follows.false))
+    (carries_on c.args.chosen.now c.args.step.now c.args.next.now c.args.from.now c.args.to.now c.args.inside c.law_of_numbers.ensures.kinds (c.board_follows.ensures.0 c.if-not-board_follows.false))

@@ -36,7 +36,7 @@ loop-place-preserved c =
     let is = get_or_read cut.places.items i from there3 c.index-in-loop-place.ensures no_places in
     let is2 = get_or_read cut.places.items (i + 1) to there2 c.index-in-loop-place-2.ensures no_places in (
       reached_more cut.kinds c.args.rules.now before after steps cut.places.items i s next from to there there2 c.index-steps-place.is c.index-steps-place-in-loop-place.is is is2
-          c.are_small.ensures.kinds c.carried-inside.ensures.carries c.loop-place.invariant.0,
+          c.law_of_numbers.ensures.kinds c.carried-inside.ensures.carries c.loop-place.invariant.0,
       (λ is_cut. shown_more c.args.rules.now cut.kinds before after steps cut.places.items i s next from to there there2 c.index-steps-place.is c.index-steps-place-in-loop-place.is is is2
           c.carried-inside.ensures.is (c.loop-place.invariant.1 is_cut)),
       c.carried-inside.ensures.small,

@@ -9,4 +9,4 @@ pub returns : goal.returns
 unfolding count_line
 returns c =
     three c.args.text.now.items (codes "tiles not on the board: ") (decimal (all_off c.args.rules.now c.args.board.now 27)) (10 ∷ []) c.extend_from_slice.new.self.items c.push_number.new.text.items c.push.new.self.items
-    c.in_ok-extend_from_slice.ensures.items (c.in_ok-push_number.ensures ∙ ap (λ n. c.extend_from_slice.new.self.items ++ decimal n) c.tiles_off.ensures) c.in_ok-push.ensures.items
+    c.in_ok-extend_from_slice.ensures.items (c.in_ok-push_number.ensures.written ∙ ap (λ n. c.extend_from_slice.new.self.items ++ decimal n) c.tiles_off.ensures) c.in_ok-push.ensures.items

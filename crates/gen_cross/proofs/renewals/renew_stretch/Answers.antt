@@ -16,7 +16,7 @@ returns g c =
     λ words before s stands size below same is.
     let stretch = c.args.stretch.now in
     c.loop-place.invariant words s stands below
-    (λ off. value_off c.args.rules.now words c.args.dir before c.args.board.now (size ∙ c.len-squares.ensures.size) c.len-squares.ensures.size
+    (λ off. value_off c.args.rules.now words c.args.dir before c.args.board.now (size ∙ c.law_of_squares.ensures) c.law_of_squares.ensures
     stretch.dir stretch.line stretch.first stretch.end (stretch.end - 1) c.first_of_run.result c.end_of_run-end.result c.saturating_sub-low.result c.loop-place.place
     c.requires.across (omega arith) (omega arith) c.first_of_run.ensures c.end_of_run-end.ensures (omega arith) (λ more. omega arith) (λ edge. omega arith)
     s below same off (get_or c.args.values.now s no_value) is)

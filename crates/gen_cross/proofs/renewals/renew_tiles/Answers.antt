@@ -6,7 +6,7 @@ use Rattle.gen_cross.proofs.renewals.renew_tiles.Goals as goal
 pub loop-placed-init : goal.loop-placed-init
 loop-placed-init g c =
     λ words before stands differ right s below.
-    first_renewed c.args.rules.now words c.args.dir before c.args.board.now c.args.tiles.now differ s c.len-squares.ensures.size below
+    first_renewed c.args.rules.now words c.args.dir before c.args.board.now c.args.tiles.now differ s c.law_of_squares.ensures below
     (get_or c.args.values.now s no_value) (right s below)
 
 pub loop-placed-preserved : goal.loop-placed-preserved

@@ -9,5 +9,5 @@ is_before_down-requires c =
     let scored = c.index-kept-place.result in
     record {
       legal = subst (λ (p : Play × ℤ). IsLegal c.args.board.now p.0.tiles.items) (sym c.index-kept-place.is)
-          (legal_at c.args.board.now c.args.kept.now c.loop-place.place scored c.len-size.ensures.size c.requires.kept c.loop-place-test.true);
+          (legal_at c.args.board.now c.args.kept.now c.loop-place.place scored c.law_of_squares.ensures c.requires.kept c.loop-place-test.true);
     }

@@ -13,7 +13,7 @@ ranks_before-requires-clause-other c =
     let last = c.index-kept-many.result in
     let inside : length kept - 1 < length kept = omega arith in
     subst (λ (p : Play × ℤ). IsLegal c.args.board.now p.0.tiles.items) (sym c.index-kept-many.is)
-    (legal_at c.args.board.now kept (length kept - 1) last c.len-size.ensures.size c.requires.kept inside)
+    (legal_at c.args.board.now kept (length kept - 1) last c.law_of_squares.ensures c.requires.kept inside)
 
 pub returns : goal.returns
 returns c told place d inside =

@@ -12,7 +12,7 @@ pub ranks_before-requires-clause-other : goal.ranks_before-requires-clause-other
 ranks_before-requires-clause-other c =
     let scored = c.index-kept-place.result in
     subst (λ (p : Play × ℤ). IsLegal c.args.board.now p.0.tiles.items) (sym c.index-kept-place.is)
-    (legal_at c.args.board.now c.args.kept.now c.loop-place.place scored c.len-size.ensures.size c.requires.kept c.loop-place-test.true)
+    (legal_at c.args.board.now c.args.kept.now c.loop-place.place scored c.law_of_squares.ensures c.requires.kept c.loop-place-test.true)
 
 pub returns-then-comes_last-clause-place : goal.returns-then-comes_last-clause-place
 returns-then-comes_last-clause-place c =

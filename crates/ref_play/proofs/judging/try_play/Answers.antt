@@ -12,4 +12,4 @@ is_too_short-requires c =
     let after = with_tiles c.args.board.now ps in
     let parts = is_play-parts play.dir ps play.proper in
     let gap = rw (c.laid-after.ensures, c.deref-2.ensures.0) at (sym c.has_gap.ensures ∙ c.if-has_gap.false) in
-    rw (c.laid-after.ensures, c.deref-4.ensures.0) (laid_from play.dir c.args.board.now ps c.len-size.ensures.size play.proper (has_gap-false play.dir after ps parts.2 parts.3 gap))
+    rw (c.laid-after.ensures, c.deref-4.ensures.0) (laid_from play.dir c.args.board.now ps c.law_of_squares.ensures play.proper (has_gap-false play.dir after ps parts.2 parts.3 gap))

@@ -6,7 +6,7 @@ pub returns-then-len-gt1-clause-run : goal.returns-then-len-gt1-clause-run
 returns-then-len-gt1-clause-run c =
     c.push.ensures.items
     ∙ ap (λ rs. c.args.runs.now.items ++ rs)
-    (sym (run_through c.args.dir c.args.after.now c.args.square c.run-start.result.0 c.run-start.result.1 c.number-number.ensures.in_range c.run-start.ensures c.if-len-gt1.true))
+    (sym (run_through c.args.dir c.args.after.now c.args.square c.run-start.result.0 c.run-start.result.1 c.law_of_number.ensures c.run-start.ensures c.if-len-gt1.true))
 
 pub returns-else-len-gt1-clause-run : goal.returns-else-len-gt1-clause-run
 returns-else-len-gt1-clause-run c =

@@ -29,4 +29,4 @@ returns-clause-whole c =
     let fits : list_all (fits_board board) (text_cells d at word) ≡ true = search rules in
     let closed : is_open_ended board d at word ≡ false = sym c.is_open_ended.ensures ∙ c.if-is_open_ended.false in
     subst (λ ps. IsWhole (occupied_on d (with_tiles board ps) (line_of d at)) (place_of d at) (length word)) (sym same)
-    (whole_text board d at word c.len-size.ensures.size c.place.ensures.on_board (omega arith) fits closed)
+    (whole_text board d at word c.law_of_squares.ensures c.place.ensures.on_board (omega arith) fits closed)

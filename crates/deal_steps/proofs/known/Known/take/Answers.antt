@@ -3,7 +3,7 @@ use Rattle.deal_steps.proofs.KnownLaws.{room_taken, bound_taken, known_taken}
 use Rattle.deal_steps.proofs.known.Known.take.Goals as goal
 
 pub settle-requires : goal.settle-requires
-settle-requires c = room_taken c.args.rules.now c.args.step.now c.args.self.now c.show.new.self c.are_small.ensures.kinds c.show.ensures (sym c.in-None.ensures)
+settle-requires c = room_taken c.args.rules.now c.args.step.now c.args.self.now c.show.new.self c.law_of_numbers.ensures.kinds c.show.ensures (sym c.in-None.ensures)
 
 pub returns-in-Some-clause-told : goal.returns-in-Some-clause-told
 returns-in-Some-clause-told c past is = c.in-Some.ensures ∙ bound_taken c.args.rules.now c.args.step.now c.args.self.now c.show.new.self past is c.show.ensures

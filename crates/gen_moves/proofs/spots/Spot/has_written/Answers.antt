@@ -17,4 +17,4 @@ returns-else-len-gt1 c =
     let tiles = c.args.play.now.tiles.items in
     let few = is_play-few spot.dir tiles c.requires.runs.play in
     same_dir-is c.notation.result.dir spot.dir c.eq.result (λ t. search rules, λ e. search rules)
-    ∙ sym (wanted_as_written spot.dir spot.board.now tiles (written c.notation.result) c.len-size.ensures.size c.requires.legal c.requires.runs few c.notation.ensures)
+    ∙ sym (wanted_as_written spot.dir spot.board.now tiles (written c.notation.result) c.law_of_squares.ensures c.requires.legal c.requires.runs few c.notation.ensures)

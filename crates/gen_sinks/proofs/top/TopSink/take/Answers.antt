@@ -33,7 +33,7 @@ invariant_of-self g c =
     c.place_of-place.ensures.place in
     record {
       legal = subst (λ (items : List (Play × ℤ)). IsTrue (are_legal board items)) (sym c.put_at.ensures)
-          (legal_insert board g.row.N kept place (c.copy.result, score) c.len-size.ensures.size c.args.self.now.legal new);
+          (legal_insert board g.row.N kept place (c.copy.result, score) c.law_of_squares.ensures c.args.self.now.legal new);
       turn = subst (λ (items : List Given). IsTrue (in_turn before items)) (sym (shown g.row.N before kept _ play c.copy.result place score c.copy.ensures c.put_at.ensures there))
           (top_turn board g.row.N (seen play score) (map seen_pair kept) c.args.self.now.turn);
     }

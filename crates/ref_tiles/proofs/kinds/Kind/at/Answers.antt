@@ -1,5 +1,5 @@
 use Rattle.std.proofs.Common.{rules}
-use Rattle.deal_steps.proofs.known.kind_at.Goals as goal
+use Rattle.ref_tiles.proofs.kinds.Kind.at.Goals as goal
 
 pub returns-in-Some : goal.returns-in-Some
 returns-in-Some c = search rules
