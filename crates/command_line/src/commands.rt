@@ -1,8 +1,9 @@
-//! The commands that the program knows: what help says of each, and its arguments. A command is added by its text and its arguments
-//! here, and by its case and its row in `requests.rt`.
+//! The commands that the program knows: what help says of each, and its arguments. A command is added by its row here, and by its case
+//! and its row in `requests.rt`.
 
+use crate::arguments::{Argument, Form};
+use clap::Command;
 use clap::builder::ValueParser;
-use clap::{Arg, ArgAction, Command, value_parser};
 use std::alloc::{AllocError, Global};
 
 /// What `--version` prints behind the program's name.
@@ -17,23 +18,118 @@ pub const SHORT_VERSION: &str = "1.0.0";
 /// The name and the version of the program.
 pub const PROGRAM: &str = "referee 1.0.0";
 
-/// What help says of a command.
+/// The name of the option by which the first field of each line of a word list is read.
+pub const FIRST_FIELD: &str = "first-field";
+
+/// How many best plays may be asked for.
+pub const MOST_PLAYS: u32 = 100;
+
+/// A command.
 #[derive(Clone, Copy)]
-pub struct CommandText {
+struct CommandRow {
     name: &'static str,
+    /// What help says of it.
     about: &'static str,
-    /// An example, and the exit statuses.
+    /// What help says behind its arguments: an example, and the exit statuses.
     behind: &'static str,
+    /// Its arguments, in the order in which help shows them.
+    arguments: &'static [Argument],
 }
 
-impl CommandText {
-    /// The command of this name without its arguments, with what help says of it.
-    pub fn command<'a>(&self, alloc: Global) -> Command<'a> {
-        Command::new(alloc, self.name)
+impl CommandRow {
+    /// The command as `clap` has it.
+    fn build<'a>(&self, alloc: Global) -> Result<Command<'a>, AllocError> {
+        let mut command = Command::new(alloc, self.name)
             .about(self.about)
-            .after_help(self.behind)
+            .after_help(self.behind);
+        for argument in self.arguments {
+            command = command.arg(argument.build(alloc)?)?;
+        }
+        Ok(command)
     }
 }
+
+/// The program with its commands.
+pub fn command<'a>(alloc: Global) -> Result<Command<'a>, AllocError> {
+    let mut command = Command::new(alloc, "referee")
+        .about("Judges a game of Scrabble from its GCG record")
+        .version(SHORT_VERSION)
+        .long_version(VERSION)
+        .subcommand_required(true);
+    for row in COMMANDS {
+        command = command.subcommand(row.build(alloc)?)?;
+    }
+    Ok(command)
+}
+
+/// An argument whose value may be any text.
+macro_rules! argument {
+    ($form:expr, $id:expr, $help:literal) => {
+        Argument {
+            id: $id,
+            help: $help,
+            form: $form,
+            value: ValueParser::String,
+            unless: None,
+            against: None,
+        }
+    };
+}
+
+/// An option without a value.
+macro_rules! flag {
+    ($id:expr, $help:literal, $against:expr) => {
+        Argument {
+            id: $id,
+            help: $help,
+            form: Form::Flag,
+            value: ValueParser::Bool,
+            unless: None,
+            against: $against,
+        }
+    };
+}
+
+const WORDS: Argument = argument!(Form::Needed, "WORDS", "the word list; - is standard input");
+
+const LEXICON: Argument = argument!(Form::Needed, "LEXICON", "the lexicon file of the words");
+
+/// The lexicon where the command has no words.
+const LEXICON_FILE: Argument = argument!(Form::Needed, "LEXICON", "the lexicon file");
+
+const GAME: Argument = argument!(Form::Needed, "GAME", "the GCG record; - is standard input");
+
+/// A line of a record, in place of text.
+const LINE_NUMBER: ValueParser<'static> = ValueParser::Signed(0, 4_294_967_295);
+
+/// The lexicon file that a command writes.
+const LEXICON_OUT: Argument = argument!(
+    Form::Needed,
+    "OUT",
+    "the lexicon file to be written, or emptied first"
+);
+
+/// The line before which a board is taken.
+const BEFORE: Argument = Argument {
+    value: LINE_NUMBER,
+    ..argument!(
+        Form::Option("LINE"),
+        "before",
+        "the line of the record before which the board is taken, counted from 1"
+    )
+};
+
+const RULES: Argument = argument!(
+    Form::Option("FILE"),
+    "rules",
+    "the rules text; without it the rules are the English ones"
+);
+
+const FIRST_FIELD_OPTION: Argument = flag!(
+    FIRST_FIELD,
+    "read the first field of each line of WORDS, and ignore lines that begin with #",
+    None
+);
 
 /// What help says behind the arguments of a command: an example, and the exit statuses, of which every command has the last two.
 macro_rules! behind {
@@ -50,8 +146,13 @@ macro_rules! behind {
     };
 }
 
-/// `judge`.
-pub const JUDGE: CommandText = CommandText {
+/// The commands, in the order in which help shows them.
+const COMMANDS: [CommandRow; 11] = [
+    JUDGE, ARCHIVE, AUDIT, EXPLAIN, PAGE, BUILD, CHECK, CONVERT, TOP, TIDY, BOARD,
+];
+
+/// `judge [--first-field] [--settle] [--rules FILE] WORDS LEXICON GAME`.
+const JUDGE: CommandRow = CommandRow {
     name: "judge",
     about: "Judges a game, and prints the best play of each turn",
     behind: behind!(
@@ -62,10 +163,22 @@ pub const JUDGE: CommandText = CommandText {
         "2   unsettled: every event stands, but no deal was found",
         "3   the rules text, the word list, the lexicon or the record is bad"
     ),
+    arguments: &[
+        WORDS,
+        LEXICON,
+        GAME,
+        flag!(
+            "settle",
+            "search for a deal, or a proof that there is none, where the game would be unsettled",
+            None
+        ),
+        FIRST_FIELD_OPTION,
+        RULES,
+    ],
 };
 
-/// `archive`.
-pub const ARCHIVE: CommandText = CommandText {
+/// `archive [--first-field] [--rules FILE] [--names FILE] [--json] [--pages FOLDER] [--progress|--quiet] WORDS LEXICON [GAME...]`.
+const ARCHIVE: CommandRow = CommandRow {
     name: "archive",
     about: "Judges many games as judge --settle does, one line for each",
     behind: behind!(
@@ -76,10 +189,42 @@ pub const ARCHIVE: CommandText = CommandText {
         "2   unsettled",
         "3   a record is bad or has no event; or the rules text, the word list or the lexicon is bad"
     ),
+    arguments: &[
+        WORDS,
+        LEXICON,
+        Argument {
+            unless: Some("names"),
+            against: Some("names"),
+            ..argument!(
+                Form::Several,
+                "GAME",
+                "the GCG records; - is standard input"
+            )
+        },
+        argument!(
+            Form::Option("FILE"),
+            "names",
+            "the names of the records, one a line; - is standard input"
+        ),
+        flag!("json", "write each line as a JSON object", None),
+        argument!(
+            Form::Option("FOLDER"),
+            "pages",
+            "write a page of each game, and their index, to this folder"
+        ),
+        flag!(
+            "progress",
+            "show on standard error how many games are done",
+            Some("quiet")
+        ),
+        flag!("quiet", "do not show how many games are done", None),
+        FIRST_FIELD_OPTION,
+        RULES,
+    ],
 };
 
-/// `audit`.
-pub const AUDIT: CommandText = CommandText {
+/// `audit [--first-field] [--rules FILE] [--corrected OUT] WORDS LEXICON GAME`.
+const AUDIT: CommandRow = CommandRow {
     name: "audit",
     about: "Prints every wrong score and sum of a sheet, and can write the corrected record",
     behind: behind!(
@@ -90,10 +235,22 @@ pub const AUDIT: CommandText = CommandText {
         "2   the corrected game is unsettled: every event stands, but no deal was found",
         "3   the rules text, the word list, the lexicon or the record is bad"
     ),
+    arguments: &[
+        WORDS,
+        LEXICON,
+        GAME,
+        argument!(
+            Form::Option("OUT"),
+            "corrected",
+            "write the corrected record to this file, where nothing else is wrong"
+        ),
+        FIRST_FIELD_OPTION,
+        RULES,
+    ],
 };
 
-/// `explain`.
-pub const EXPLAIN: CommandText = CommandText {
+/// `explain [--first-field] [--rules FILE] WORDS LEXICON GAME [LINE]`.
+const EXPLAIN: CommandRow = CommandRow {
     name: "explain",
     about: "Explains the verdict on a game, or one of its lines, in plain words",
     behind: behind!(
@@ -104,10 +261,25 @@ pub const EXPLAIN: CommandText = CommandText {
         "2   unsettled: every event stands, but no deal was found",
         "3   the rules text, the word list, the lexicon or the record is bad, or no event is on the line or after it"
     ),
+    arguments: &[
+        WORDS,
+        LEXICON,
+        GAME,
+        Argument {
+            value: LINE_NUMBER,
+            ..argument!(
+                Form::Last,
+                "LINE",
+                "the line of the record to be explained, counted from 1; without it the one that the verdict names"
+            )
+        },
+        FIRST_FIELD_OPTION,
+        RULES,
+    ],
 };
 
-/// `page`.
-pub const PAGE: CommandText = CommandText {
+/// `page [--first-field] [--rules FILE] WORDS LEXICON GAME OUT`.
+const PAGE: CommandRow = CommandRow {
     name: "page",
     about: "Writes a game as a web page: its verdict, its board and its sheet",
     behind: behind!(
@@ -118,22 +290,22 @@ pub const PAGE: CommandText = CommandText {
         "2   unsettled: every event stands, but no deal was found",
         "3   the rules text, the word list, the lexicon or the record is bad; then OUT is not touched"
     ),
+    arguments: &[
+        WORDS,
+        LEXICON,
+        GAME,
+        argument!(
+            Form::Needed,
+            "OUT",
+            "the page to be written, or emptied first"
+        ),
+        FIRST_FIELD_OPTION,
+        RULES,
+    ],
 };
 
-/// `board`.
-pub const BOARD: CommandText = CommandText {
-    name: "board",
-    about: "Shows the board after the last event of a record, or before one of its lines",
-    behind: behind!(
-        "referee board --before 12 game.gcg",
-        "Exit status:",
-        "0   the board is printed",
-        "3   the rules text or the record is bad, or no event is on the line or after it"
-    ),
-};
-
-/// `build`.
-pub const BUILD: CommandText = CommandText {
+/// `build [--first-field] WORDS OUT`.
+const BUILD: CommandRow = CommandRow {
     name: "build",
     about: "Writes the compiled lexicon of a word list",
     behind: behind!(
@@ -142,10 +314,11 @@ pub const BUILD: CommandText = CommandText {
         "0   OUT has the lexicon",
         "3   the word list is bad; the line that says so is in OUT"
     ),
+    arguments: &[WORDS, LEXICON_OUT, FIRST_FIELD_OPTION],
 };
 
-/// `check`.
-pub const CHECK: CommandText = CommandText {
+/// `check [--first-field] WORDS LEXICON`.
+const CHECK: CommandRow = CommandRow {
     name: "check",
     about: "Says whether a file is exactly the lexicon of a word list",
     behind: behind!(
@@ -154,10 +327,11 @@ pub const CHECK: CommandText = CommandText {
         "0   it is, and ok is printed with the number of words",
         "3   it is not, or the word list is bad"
     ),
+    arguments: &[WORDS, LEXICON_FILE, FIRST_FIELD_OPTION],
 };
 
-/// `convert`.
-pub const CONVERT: CommandText = CommandText {
+/// `convert FORMAT LEXICON OUT`.
+const CONVERT: CommandRow = CommandRow {
     name: "convert",
     about: "Writes a lexicon in the format gad1 or gad2",
     behind: behind!(
@@ -166,10 +340,18 @@ pub const CONVERT: CommandText = CommandText {
         "0   OUT has the lexicon",
         "3   the lexicon is bad; the line that says so is in OUT"
     ),
+    arguments: &[
+        Argument {
+            value: ValueParser::Names(&["gad1", "gad2"]),
+            ..argument!(Form::Needed, "FORMAT", "the format")
+        },
+        LEXICON_FILE,
+        LEXICON_OUT,
+    ],
 };
 
-/// `top`.
-pub const TOP: CommandText = CommandText {
+/// `top [--first-field] [--rules FILE] [--number N] [--before LINE] WORDS LEXICON GAME [RACK]`.
+const TOP: CommandRow = CommandRow {
     name: "top",
     about: "Prints the best plays with RACK after the last event of a record, or before one of its lines",
     behind: behind!(
@@ -179,10 +361,34 @@ pub const TOP: CommandText = CommandText {
         "1   illegal: the report names the first line that does not stand, and why",
         "3   the rack, the line, the rules text, the word list, the lexicon or the record is bad"
     ),
+    arguments: &[
+        WORDS,
+        LEXICON,
+        GAME,
+        Argument {
+            unless: Some("before"),
+            ..argument!(
+                Form::Last,
+                "RACK",
+                "1 to 7 tiles: A to Z, and ? for a blank; without it, the rack of LINE"
+            )
+        },
+        Argument {
+            value: ValueParser::Unsigned(1, MOST_PLAYS as u64),
+            ..argument!(
+                Form::Option("N"),
+                "number",
+                "how many plays are printed at the most, 1 to 100; 10 without it"
+            )
+        },
+        BEFORE,
+        FIRST_FIELD_OPTION,
+        RULES,
+    ],
 };
 
-/// `tidy`.
-pub const TIDY: CommandText = CommandText {
+/// `tidy GAME`.
+const TIDY: CommandRow = CommandRow {
     name: "tidy",
     about: "Prints the players and events of a record in one normal form",
     behind: behind!(
@@ -191,251 +397,18 @@ pub const TIDY: CommandText = CommandText {
         "0   the record is printed",
         "3   the record is bad"
     ),
+    arguments: &[GAME],
 };
 
-/// The name of the option by which the first field of each line of a word list is read.
-pub const FIRST_FIELD: &str = "first-field";
-
-/// The names of the formats of a lexicon.
-const FORMATS: [&str; 2] = ["gad1", "gad2"];
-
-/// How many best plays may be asked for.
-pub const MOST_PLAYS: u32 = 100;
-
-/// The commands that the program knows.
-pub fn command<'a>(alloc: Global) -> Result<Command<'a>, AllocError> {
-    Command::new(alloc, "referee")
-        .about("Judges a game of Scrabble from its GCG record")
-        .version(SHORT_VERSION)
-        .long_version(VERSION)
-        .subcommand_required(true)
-        .subcommand(judge_command(alloc)?)?
-        .subcommand(archive_command(alloc)?)?
-        .subcommand(audit_command(alloc)?)?
-        .subcommand(explain_command(alloc)?)?
-        .subcommand(page_command(alloc)?)?
-        .subcommand(build_command(alloc)?)?
-        .subcommand(check_command(alloc)?)?
-        .subcommand(convert_command(alloc)?)?
-        .subcommand(top_command(alloc)?)?
-        .subcommand(tidy_command(alloc)?)?
-        .subcommand(board_command(alloc)?)
-}
-
-/// A command that reads a word list, with its name.
-fn words_command<'a>(alloc: Global, text: &CommandText) -> Result<Command<'a>, AllocError> {
-    text.command(alloc)
-        .arg(name(alloc, "WORDS", "the word list; - is standard input"))
-}
-
-/// A command about one game, with the names of its files.
-fn game_command<'a>(alloc: Global, text: &CommandText) -> Result<Command<'a>, AllocError> {
-    words_command(alloc, text)?
-        .arg(name(alloc, "LEXICON", "the lexicon file of the words"))?
-        .arg(name(alloc, "GAME", "the GCG record; - is standard input"))
-}
-
-/// A command about one game with one more argument, and the options by which its words and its rules are read.
-fn judging_command<'a>(
-    alloc: Global,
-    text: &CommandText,
-    more: Arg<'a>,
-) -> Result<Command<'a>, AllocError> {
-    with_input_options(alloc, game_command(alloc, text)?.arg(more)?)
-}
-
-/// A command with the options by which its words and its rules are read.
-fn with_input_options<'a>(alloc: Global, command: Command<'a>) -> Result<Command<'a>, AllocError> {
-    command
-        .arg(first_field_option(alloc))?
-        .arg(rules_option(alloc))
-}
-
-/// `judge [--first-field] [--settle] [--rules FILE] WORDS LEXICON GAME`.
-fn judge_command<'a>(alloc: Global) -> Result<Command<'a>, AllocError> {
-    let settle = flag(
-        alloc,
-        "settle",
-        "search for a deal, or a proof that there is none, where the game would be unsettled",
-    );
-    judging_command(alloc, &JUDGE, settle)
-}
-
-/// `archive [--first-field] [--rules FILE] [--names FILE] [--json] [--pages FOLDER] [--progress|--quiet] WORDS LEXICON [GAME...]`.
-fn archive_command<'a>(alloc: Global) -> Result<Command<'a>, AllocError> {
-    let command = words_command(alloc, &ARCHIVE)?
-        .arg(name(alloc, "LEXICON", "the lexicon file of the words"))?
-        .arg(
-            Arg::new(alloc, "GAME")
-                .action(ArgAction::Append)
-                .num_args(1..)
-                .required_unless_present("names")?
-                .conflicts_with("names")?
-                .help("the GCG records; - is standard input"),
-        )?
-        .arg(option(
-            alloc,
-            "names",
-            "FILE",
-            "the names of the records, one a line; - is standard input",
-        ))?
-        .arg(flag(alloc, "json", "write each line as a JSON object"))?
-        .arg(option(
-            alloc,
-            "pages",
-            "FOLDER",
-            "write a page of each game, and their index, to this folder",
-        ))?
-        .arg(flag(
-            alloc,
-            "progress",
-            "show on standard error how many games are done",
-        )
-        .conflicts_with("quiet")?)?
-        .arg(flag(alloc, "quiet", "do not show how many games are done"))?;
-    with_input_options(alloc, command)
-}
-
-/// `audit [--first-field] [--rules FILE] [--corrected OUT] WORDS LEXICON GAME`.
-fn audit_command<'a>(alloc: Global) -> Result<Command<'a>, AllocError> {
-    let corrected = option(
-        alloc,
-        "corrected",
-        "OUT",
-        "write the corrected record to this file, where nothing else is wrong",
-    );
-    judging_command(alloc, &AUDIT, corrected)
-}
-
-/// `explain [--first-field] [--rules FILE] WORDS LEXICON GAME [LINE]`.
-fn explain_command<'a>(alloc: Global) -> Result<Command<'a>, AllocError> {
-    let line = Arg::new(alloc, "LINE")
-        .value_parser(value_parser!(u32))
-        .help(
-            "the line of the record to be explained, counted from 1; without it the one that the verdict names",
-        );
-    judging_command(alloc, &EXPLAIN, line)
-}
-
-/// `page [--first-field] [--rules FILE] WORDS LEXICON GAME OUT`.
-fn page_command<'a>(alloc: Global) -> Result<Command<'a>, AllocError> {
-    let out = name(alloc, "OUT", "the page to be written, or emptied first");
-    judging_command(alloc, &PAGE, out)
-}
-
-/// The name of the lexicon file that a command writes.
-fn lexicon_out<'a>(alloc: Global) -> Arg<'a> {
-    name(
-        alloc,
-        "OUT",
-        "the lexicon file to be written, or emptied first",
-    )
-}
-
-/// `build [--first-field] WORDS OUT`.
-fn build_command<'a>(alloc: Global) -> Result<Command<'a>, AllocError> {
-    words_command(alloc, &BUILD)?
-        .arg(lexicon_out(alloc))?
-        .arg(first_field_option(alloc))
-}
-
-/// `check [--first-field] WORDS LEXICON`.
-fn check_command<'a>(alloc: Global) -> Result<Command<'a>, AllocError> {
-    words_command(alloc, &CHECK)?
-        .arg(name(alloc, "LEXICON", "the lexicon file"))?
-        .arg(first_field_option(alloc))
-}
-
-/// `convert FORMAT LEXICON OUT`.
-fn convert_command<'a>(alloc: Global) -> Result<Command<'a>, AllocError> {
-    CONVERT
-        .command(alloc)
-        .arg(name(alloc, "FORMAT", "the format").value_parser(FORMATS.as_slice()))?
-        .arg(name(alloc, "LEXICON", "the lexicon file"))?
-        .arg(lexicon_out(alloc))
-}
-
-/// `top [--first-field] [--rules FILE] [--number N] [--before LINE] WORDS LEXICON GAME [RACK]`.
-fn top_command<'a>(alloc: Global) -> Result<Command<'a>, AllocError> {
-    let command = game_command(alloc, &TOP)?
-        .arg(
-            Arg::new(alloc, "RACK")
-                .required_unless_present("before")?
-                .help("1 to 7 tiles: A to Z, and ? for a blank; without it, the rack of LINE"),
-        )?
-        .arg(option(
-            alloc,
-            "number",
-            "N",
-            "how many plays are printed at the most, 1 to 100; 10 without it",
-        )
-        .value_parser(ValueParser::Unsigned(1, u64::from(MOST_PLAYS))))?
-        .arg(before_option(alloc))?;
-    with_input_options(alloc, command)
-}
-
-/// `tidy GAME`.
-fn tidy_command<'a>(alloc: Global) -> Result<Command<'a>, AllocError> {
-    TIDY.command(alloc)
-        .arg(name(alloc, "GAME", "the GCG record; - is standard input"))
-}
-
 /// `board [--rules FILE] [--before LINE] GAME`.
-fn board_command<'a>(alloc: Global) -> Result<Command<'a>, AllocError> {
-    BOARD
-        .command(alloc)
-        .arg(name(alloc, "GAME", "the GCG record; - is standard input"))?
-        .arg(before_option(alloc))?
-        .arg(rules_option(alloc))
-}
-
-/// The option that names a line of the record.
-fn before_option<'a>(alloc: Global) -> Arg<'a> {
-    option(
-        alloc,
-        "before",
-        "LINE",
-        "the line of the record before which the board is taken, counted from 1",
-    )
-    .value_parser(value_parser!(u32))
-}
-
-/// An argument that the command needs.
-fn name<'a>(alloc: Global, name: &'a str, help: &'a str) -> Arg<'a> {
-    Arg::new(alloc, name).required(true).help(help)
-}
-
-/// An option without a value.
-fn flag<'a>(alloc: Global, name: &'a str, help: &'a str) -> Arg<'a> {
-    Arg::new(alloc, name)
-        .long(name)
-        .action(ArgAction::SetTrue)
-        .help(help)
-}
-
-/// An option with a value, which help calls by the name `value`.
-fn option<'a>(alloc: Global, name: &'a str, value: &'a str, help: &'a str) -> Arg<'a> {
-    Arg::new(alloc, name)
-        .long(name)
-        .value_name(value)
-        .help(help)
-}
-
-/// The option that names a rules text.
-fn rules_option<'a>(alloc: Global) -> Arg<'a> {
-    option(
-        alloc,
-        "rules",
-        "FILE",
-        "the rules text; without it the rules are the English ones",
-    )
-}
-
-/// The option by which the first field of each line of a word list is read.
-fn first_field_option<'a>(alloc: Global) -> Arg<'a> {
-    flag(
-        alloc,
-        FIRST_FIELD,
-        "read the first field of each line of WORDS, and ignore lines that begin with #",
-    )
-}
+const BOARD: CommandRow = CommandRow {
+    name: "board",
+    about: "Shows the board after the last event of a record, or before one of its lines",
+    behind: behind!(
+        "referee board --before 12 game.gcg",
+        "Exit status:",
+        "0   the board is printed",
+        "3   the rules text or the record is bad, or no event is on the line or after it"
+    ),
+    arguments: &[GAME, BEFORE, RULES],
+};

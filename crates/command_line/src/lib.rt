@@ -1,6 +1,7 @@
 //! The command line of the program: the commands that it knows, what help says of each, and what a line of arguments asks for.
 #![tactic(auto)]
 
+mod arguments;
 mod commands;
 mod requests;
 
