@@ -1,6 +1,6 @@
 #!/bin/sh
 # Measures the program beside cat and sort, on inputs that it makes: sh bench/run.sh [PROGRAM [CROSSES]]
-# The program is crates/referee/out/referee, which `rt run` makes, unless another is named. So is what measures cross-sets,
+# The program is crates/referee/out/referee, which `extra/prove.sh` leaves, unless another is named. So is what measures cross-sets,
 # crates/cross_bench/out/cross_bench.
 set -e
 here=$(cd "$(dirname "$0")" && pwd)

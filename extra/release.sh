@@ -3,7 +3,7 @@
 #
 # Writes FOLDER/referee-VERSION.tar.gz, with the program, its manual page, the completions for bash, README and what it links to, and
 # SHA256SUMS, which has the sums of all of them; and beside it the sum of the archive. Without PROGRAM the program is proved and built first,
-# which takes no time where nothing has changed since. PROGRAM is a program that was proved already, as the gate leaves it in crates/referee/out/referee.
+# by extra/prove.sh, which takes no time where nothing has changed since. PROGRAM is a program that was proved already, as the gate leaves it in crates/referee/out/referee.
 set -eu
 if [ $# != 1 ] && [ $# != 2 ]; then
     echo "usage: extra/release.sh FOLDER [PROGRAM]" >&2
@@ -15,7 +15,7 @@ folder=$(realpath "$1")
 if [ $# = 2 ]; then
     program=$(realpath "$2")
 else
-    (cd "$root/crates/referee" && rt run -- --version > /dev/null)
+    "$root/extra/prove.sh" >&2
     program=$root/crates/referee/out/referee
 fi
 version=$("$program" -V | cut -d ' ' -f 2)

@@ -8,8 +8,8 @@ Blocks of a page are run from its top to its end in one copy of examples/, which
 - A block with `->` shows records of one line each, judged by a list that stands below, and the answer of each.
 - Commands within the text have to end with status 0, where they name files and none in capitals; else they have to be known.
 
-A block whose first line begins with `# not run:` is left out, and so is one that needs a program that is not installed. The toolchain's `rt run`
-is taken for the program itself. The picture of README.md is drawn again (`picture.py`). A page has no command of the program in a block of another kind, except its usage, with names in capitals.
+A block whose first line begins with `# not run:` is left out, and so is one that needs a program that is not installed. The program stands where
+`extra/prove.sh` leaves it, too. The picture of README.md is drawn again (`picture.py`). A page has no command of the program in a block of another kind, except its usage, with names in capitals.
 """
 import os
 import re
@@ -24,7 +24,6 @@ from picture import PICTURE, picture_of
 ROOT = Path(__file__).resolve().parent.parent
 PAGES = [ROOT / "README.md", *sorted((ROOT / "docs").glob("*.md"))]
 LISTS = {"README.md": ["WORD"], "PLAYER.md": ["QI", "RETAINS", "WORD"]}
-RT = '#!/bin/sh\nwhile [ "$1" != -- ]; do shift; done\nshift\nexec referee "$@"\n'
 
 
 def blocks_of(text):
@@ -87,16 +86,16 @@ class Pages:
         self.page, self.folder = page.name, Path(folder, "room")
         shutil.copytree(ROOT / "examples", self.folder)
         Path(self.folder, "examples").symlink_to(".")
-        Path(self.folder, "crates", "referee").mkdir(parents=True)
+        left = Path(self.folder, "crates", "referee", "out")
+        left.mkdir(parents=True)
         Path(self.folder, "games").mkdir()
         for name in ("final.gcg", "round3.gcg"):
             shutil.copy(ROOT / "examples" / "game.gcg", self.folder / "games" / name)
         Path(self.folder, "machines.txt").write_text("4/:\n")
         programs = Path(folder, "bin")
         programs.mkdir()
-        (programs / "referee").symlink_to(self.program)
-        (programs / "rt").write_text(RT)
-        (programs / "rt").chmod(0o755)
+        for at in (programs, left):
+            (at / "referee").symlink_to(self.program)
         self.env = {**os.environ, "PATH": f"{programs}:{os.environ['PATH']}", "LC_ALL": "C"}
         for kind, self.line, lines in blocks_of(page.read_text()):
             self.take_block(kind, lines)
