@@ -6,9 +6,10 @@ use gcg_read::{
     Event, EventKind, Events, MAX_BYTES, MAX_EVENTS, Name, Player, Players, Points, ReadFault,
     Record, Seat, Text, Why, law_of_faults, law_of_lines, read,
 };
-use ref_tiles::{Counts, Kind, Letter, Symbol};
+use ref_tiles::{Counts, Symbol};
 use std::alloc::Global;
 use std::process::Abort;
+use test_samples::tiles_of;
 
 /// The faults of records: texts, with the line of the fault.
 const FAULTS: [(Why, &[(&[u8], u32)]); 8] = [
@@ -208,13 +209,12 @@ const PLAYS: [Row; 12] = [
     ),
 ];
 
-fn writes(text: &Text, bytes: &[u8]) -> bool {
-    let symbols = text.as_slice();
-    symbols.len() == bytes.len()
-        && symbols
-            .iter()
-            .zip(bytes)
-            .all(|(symbol, byte)| symbol.byte() == *byte)
+fn assert_word(rt: &impl Abort, word: &Text, bytes: &[u8]) {
+    let symbols = word.as_slice();
+    assert_eq!(rt; symbols.len(), bytes.len());
+    for (symbol, byte) in symbols.iter().zip(bytes) {
+        assert_eq!(rt; symbol.byte(), *byte);
+    }
 }
 
 fn last_event<'a>(rt: &impl Abort, record: &'a Record) -> &'a Event {
@@ -238,7 +238,7 @@ fn assert_event(rt: &impl Abort, row: Row, event: &Event) {
         EventKind::Play { at, dir, word } => {
             assert_eq!(rt; *at, play.at, "{:?}", text);
             assert!(rt; *dir == play.dir, "{:?}", text);
-            assert!(rt; writes(word, play.symbols), "{:?}", text);
+            assert_word(rt, word, play.symbols);
         }
         _ => assert!(rt; false, "no play"),
     }
@@ -311,22 +311,11 @@ const CODES: [CodeRow; 13] = [
     ),
 ];
 
-fn count_of(rack: &Counts, tile: u8) -> usize {
-    match Letter::counted_from(b'A', tile) {
-        Some(letter) => rack.count(Kind::Letter(letter)) as usize,
-        None => rack.count(Kind::Blank) as usize,
-    }
-}
-
-fn times(tiles: &[u8], tile: u8) -> usize {
-    tiles.iter().filter(|other| **other == tile).count()
-}
-
 fn has_tiles(rack: &Counts, tiles: &[u8]) -> bool {
-    rack.total() == tiles.len()
-        && tiles
-            .iter()
-            .all(|tile| count_of(rack, *tile) == times(tiles, *tile))
+    match tiles_of(tiles) {
+        Some(counts) => counts == *rack,
+        None => false,
+    }
 }
 
 fn is_code(kind: &EventKind, code: &Code) -> bool {

@@ -36,11 +36,13 @@ const ENGLISH_LETTERS: [(u8, u8, u8); 26] = [
 
 /// How many squares have a premium.
 fn premiums(rules: &Rules, premium: Premium) -> usize {
-    rules
-        .premiums
-        .iter()
-        .filter(|other| **other == premium)
-        .count()
+    let mut squares: usize = 0;
+    for other in &rules.premiums {
+        if *other == premium {
+            squares = squares.wrapping_add(1);
+        }
+    }
+    squares
 }
 
 /// The tiles and the points of a letter by its byte.

@@ -16,7 +16,7 @@ use std::process::Abort;
 use test_samples::tiles_of;
 
 /// Which rules a row is judged by.
-#[derive(Clone, Copy, Debug)]
+#[derive(Clone, Copy)]
 enum Game {
     /// The English game.
     English,
@@ -366,39 +366,22 @@ fn assert_answers(rt: &impl Abort, alloc: Global, tables: &[Table]) {
     }
 }
 
-#[test]
-fn plays(rt: HostRuntime) {
-    assert_answers(&rt, rt.alloc(), &PLAYS);
-}
+/// All tables: each test function costs a proof of its own, and a row costs none.
+const TABLES: [&[Table]; 7] = [
+    &PLAYS,
+    &EXCHANGES,
+    &WITHDRAWALS,
+    &CHALLENGES,
+    &OUT,
+    &STALE,
+    &VARIED,
+];
 
 #[test]
-fn exchanges(rt: HostRuntime) {
-    assert_answers(&rt, rt.alloc(), &EXCHANGES);
-}
-
-#[test]
-fn withdrawals(rt: HostRuntime) {
-    assert_answers(&rt, rt.alloc(), &WITHDRAWALS);
-}
-
-#[test]
-fn challenges(rt: HostRuntime) {
-    assert_answers(&rt, rt.alloc(), &CHALLENGES);
-}
-
-#[test]
-fn games_with_a_player_out(rt: HostRuntime) {
-    assert_answers(&rt, rt.alloc(), &OUT);
-}
-
-#[test]
-fn stale_games(rt: HostRuntime) {
-    assert_answers(&rt, rt.alloc(), &STALE);
-}
-
-#[test]
-fn games_by_other_numbers(rt: HostRuntime) {
-    assert_answers(&rt, rt.alloc(), &VARIED);
+fn tables(rt: HostRuntime) {
+    for tables in TABLES {
+        assert_answers(&rt, rt.alloc(), tables);
+    }
 }
 
 /// The event at a place of a record.
