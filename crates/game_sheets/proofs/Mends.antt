@@ -23,12 +23,12 @@ use Rattle.game_sheets.proofs.Numbers.{score_cures, wrong_not_given, total_cures
 
 -- ---- a list with another item
 
-set_there : (events : List Event) (place : ℕ) (e x : Event) → slice_get events place ≡ Some e → slice_get (set events place x) place ≡ Some x
+pub set_there : (events : List Event) (place : ℕ) (e x : Event) → slice_get events place ≡ Some e → slice_get (set events place x) place ≡ Some x
 set_there [] place e x is = cc
 set_there (d ∷ rest) zero e x is = refl
 set_there (d ∷ rest) (suc place) e x is = set_there rest place e x is
 
-set_elsewhere : (events : List Event) (place k : ℕ) (x : Event) → (k ≡ place → ⊥) → slice_get (set events place x) k ≡ slice_get events k
+pub set_elsewhere : (events : List Event) (place k : ℕ) (x : Event) → (k ≡ place → ⊥) → slice_get (set events place x) k ≡ slice_get events k
 set_elsewhere [] place k x other = refl
 set_elsewhere (d ∷ rest) zero zero x other = absurd (other refl)
 set_elsewhere (d ∷ rest) zero (suc k) x other = refl

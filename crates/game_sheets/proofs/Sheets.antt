@@ -35,10 +35,10 @@ front_kept : (a b : List Event) (place k : ℕ) → IsMendedAt a b place → k �
 front_kept a b place k is within = same_take b a k (λ j below. is.others j (λ same. absurd (omega (arith, same))))
 
 -- and so is the tally up to it
-tally_kept : (rules : Rules) (a b : List Event) (place k : ℕ) → IsMendedAt a b place → k ≤ place → tally_at rules b k ≡ tally_at rules a k
+pub tally_kept : (rules : Rules) (a b : List Event) (place k : ℕ) → IsMendedAt a b place → k ≤ place → tally_at rules b k ≡ tally_at rules a k
 tally_kept rules a b place k is within = same_tally rules a b k is.renumbered (front_kept a b place k is within)
 
-fault_kept : (rules : Rules) (list : List (List ℕ)) (a b : List Event) (place k : ℕ) → IsMendedAt a b place → k < place → fault_at rules list b k ≡ fault_at rules list a k
+pub fault_kept : (rules : Rules) (list : List (List ℕ)) (a b : List Event) (place k : ℕ) → IsMendedAt a b place → k < place → fault_at rules list b k ≡ fault_at rules list a k
 unfolding fault_at
 fault_kept rules list a b place k is below =
     ap (λ s. fault_of_event rules list s (slice_get b k)) (tally_kept rules a b place k is (omega arith))
@@ -63,7 +63,7 @@ pub record IsUpTo (rules : Rules) (list : List (List ℕ)) (written events : Lis
 pub at_start : (rules : Rules) (list : List (List ℕ)) (events : List Event) → IsUpTo rules list events events 0
 at_start rules list events = record { renumbered = all_themselves events; allowed = λ place below. absurd (omega arith); untouched = λ k from. refl }
 
-before_kept : (rules : Rules) (list : List (List ℕ)) (written a b : List Event) (place : ℕ) → IsUpTo rules list written a place → IsMendedAt a b place → AreAllowedTo rules list b place
+pub before_kept : (rules : Rules) (list : List (List ℕ)) (written a b : List Event) (place : ℕ) → IsUpTo rules list written a place → IsMendedAt a b place → AreAllowedTo rules list b place
 before_kept rules list written a b place up is k below = fault_kept rules list a b place k is below ∙ up.allowed k below
 
 pub one_more : (rules : Rules) (list : List (List ℕ)) (written a b : List Event) (place : ℕ) → IsUpTo rules list written a place → IsMendedAt a b place
@@ -125,7 +125,7 @@ pub record IsThere (events : List Event) (place : ℕ) : Type 0 where
   pub event : Event
   pub stands : slice_get events place ≡ Some event
 
-some_event : (events : List Event) (place : ℕ) → place < length events → IsThere events place
+pub some_event : (events : List Event) (place : ℕ) → place < length events → IsThere events place
 some_event [] place within = absurd (omega arith)
 some_event (e ∷ rest) place within = record { event = get_or (e ∷ rest) place e; stands = slice_get-get_or (e ∷ rest) place e within }
 
@@ -139,7 +139,7 @@ item_there rules list written a b items place e up is within same read =
     slice_get_read b (length b) place e refl (subst (λ n. place < n) (sym (is.renumbered.as_many ∙ up.renumbered.as_many)) within) (read ∙ ap (λ es. get_or es place e) same)
 
 -- the numbers that it is refused with, by the tally there
-numbers_there : (rules own_rules : Rules) (list : List (List ℕ)) (a b : List Event) (place : ℕ) (s : State) (own e : Event) → IsMendedAt a b place → own_rules ≡ rules
+pub numbers_there : (rules own_rules : Rules) (list : List (List ℕ)) (a b : List Event) (place : ℕ) (s : State) (own e : Event) → IsMendedAt a b place → own_rules ≡ rules
     → s ≡ tally_at rules a place → IsRefusedAt own_rules list s a b place → slice_get a place ≡ Some own → slice_get b place ≡ Some e
     → HasRefusedNumbers rules list (tally_at rules b place) own e
 numbers_there rules own_rules list a b place s own e is same_rules same_state refused stood stands =

@@ -12,4 +12,5 @@ pub use auditing::audit;
 pub use correcting::correct;
 pub use last_totals::last_total;
 pub use laws::law_of_corrections;
+pub use mending::{mend, take};
 pub use wrong_numbers::{WrongNumber, had_before, push_totals, wrong_lines};

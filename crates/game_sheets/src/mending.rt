@@ -32,8 +32,12 @@ fn right_total(fault: &RuleFault) -> Option<i32>
     }
 }
 
-/// Takes the event at a place as it is written.
-fn take(
+/// Takes the event at a place as it is written; nothing where there is no event.
+///
+/// # Errors
+///
+/// The first check that fails. A refused event leaves the machine as it was.
+pub fn take(
     machine: &mut Machine,
     events: &Events,
     place: usize,
@@ -105,7 +109,11 @@ fn take_with_score(
 
 /// Takes the event at a place, with the score and the total that the rules give where its own are wrong. Where it is refused,
 /// no other number of it would be taken; it then has its own total, and its own score where that is not the wrong number.
-pub(crate) fn mend(
+///
+/// # Errors
+///
+/// The first check that fails with the numbers that the event has then.
+pub fn mend(
     machine: &mut Machine,
     events: &mut Events,
     place: usize,

@@ -28,6 +28,12 @@ latest_tiles (played p) = Some p.tiles
 latest_tiles (taken_back tiles) = Some tiles
 latest_tiles other = None
 
+-- the words of the latest event, where it is a play
+abbrev pub latest_words : Latest → List (List ℕ)
+latest_words (played p) = p.words
+latest_words (taken_back tiles) = []
+latest_words other = []
+
 -- the words of the latest event, where it is a play that stands
 abbrev pub standing_words : Latest → List (List ℕ)
 standing_words (played p) = if p.stands then p.words else []

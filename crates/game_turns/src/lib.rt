@@ -4,6 +4,7 @@
 mod amounts;
 mod changes;
 mod checks;
+mod copying;
 mod faults;
 mod kinds;
 mod latest;

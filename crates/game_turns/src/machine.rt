@@ -3,7 +3,7 @@ ghost use Rattle.std.specs.Prelude.{◌≡◌, [], false, option_map};
 ghost use Rattle.ref_play.specs.Words.{items_of};
 ghost use Rattle.game_turns.specs.Seats.{side_of};
 ghost use Rattle.game_turns.specs.Tallies.{tally};
-ghost use Rattle.game_turns.specs.LatestEvents.{FitRacks, HoldsLatest, latest_tiles, standing_words};
+ghost use Rattle.game_turns.specs.LatestEvents.{FitRacks, HoldsLatest, latest_tiles, latest_words, standing_words};
 
 use crate::latest::LatestEvent;
 use crate::sides::{Side, Sides};
@@ -124,6 +124,16 @@ impl Machine {
             LatestEvent::Played(laid) => Some(&laid.play),
             LatestEvent::TakenBack(play) => Some(play),
             LatestEvent::Other => None,
+        }
+    }
+
+    /// The words that the latest event forms where it is a play, in the order of `words`; else none.
+    pub fn latest_words(&self) -> &[Word]
+        ensures { items_of result.now ≡ latest_words (state_of self.now).latest }
+    {
+        match &self.latest {
+            LatestEvent::Played(laid) => &laid.words,
+            LatestEvent::TakenBack(_) | LatestEvent::Other => &[],
         }
     }
 

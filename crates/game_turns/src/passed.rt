@@ -20,6 +20,27 @@ pub struct Passed<'a> {
 impl<'a> Passed<'a> {
     ghost use Rattle.game_turns.specs.Passing.{rules_in, record_in, list_in};
 
+    /// A record whose events were judged before, one by one: the rules allow each.
+    pub fn of_allowed(
+        rules: &'a Rules,
+        game: &'a Record,
+        list: &'a WordList,
+        complete: bool,
+    ) -> Passed<'a>
+        requires allowed { AreAllowed rules.now list.now game.now.events }
+        requires finished { complete ≡ is_finished rules.now game.now.events }
+        ensures rules { rules_in result ≡ rules.now }
+        ensures game { record_in result ≡ game.now }
+        ensures list { list_in result ≡ list.now }
+    {
+        Passed {
+            rules,
+            record: game,
+            list,
+            complete,
+        }
+    }
+
     /// The rules.
     pub fn rules(&self) -> &'a Rules
         ensures { result.now ≡ rules_in self.now }

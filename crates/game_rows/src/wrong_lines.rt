@@ -1,0 +1,134 @@
+//! The wrong numbers of a sheet, by the numbers that are written and the events with the right ones.
+ghost use Rattle.std.specs.Prelude.{◌≡◌, ◌+◌, ◌++◌, ◌<◌, List, length, OnOk, None, take};
+ghost use Rattle.gcg_read.specs.Numerals.{IsPoints};
+ghost use Rattle.game_sheets.specs.WrongNumbers.{wrong_score, wrong_sum, wrong_at, wrong_lines, wrong_total_of, wrong_totals};
+ghost use Rattle.gcg_read.specs.declared.events.Event.{Event};
+ghost use Rattle.game_rows.specs.Numbers.{with_numbers, renumbered};
+ghost use Rattle.game_rows.specs.Totals.{HasTotals};
+
+use crate::numbers::Numbers;
+use crate::totals::Totals;
+use game_sheets::{WrongNumber, last_total};
+use gcg_read::{Event, Points, Seat};
+use std::alloc::AllocError;
+
+/// Adds the score of an event, where it is not the right one.
+fn push_score(wrong: &mut Vec<WrongNumber>, own: &Numbers, right: &Event) -> Result<(), AllocError>
+    ensures { OnOk result (wrong.new.items ≡ wrong.old.items ++ wrong_score (with_numbers right.now own.now) right.now) }
+{
+    if own.score.value() != right.score.value() {
+        wrong.push(WrongNumber::Score {
+            line: right.line,
+            written: own.score.value(),
+            right: right.score.value(),
+        })?;
+    }
+    Ok(())
+}
+
+/// Adds the total of an event, where it is not what the player had and the score.
+fn push_sum(
+    wrong: &mut Vec<WrongNumber>,
+    own: &Numbers,
+    right: &Event,
+    had: i32,
+) -> Result<(), AllocError>
+    requires { IsPoints had }
+    ensures { OnOk result (wrong.new.items ≡ wrong.old.items ++ wrong_sum had (with_numbers right.now own.now)) }
+{
+    let sum = had + own.score.value();
+    if own.total.value() != sum {
+        wrong.push(WrongNumber::Sum {
+            line: right.line,
+            written: own.total.value(),
+            right: sum,
+        })?;
+    }
+    Ok(())
+}
+
+/// Adds what is wrong at a place, and notes the total that is written there.
+#[tactic(auto, using(crate::proofs::WrongRows::both_wrong))]
+fn push_wrong(
+    wrong: &mut Vec<WrongNumber>,
+    totals: &mut Totals,
+    numbers: &[Numbers],
+    right: &[Event],
+    place: usize,
+) -> Result<(), AllocError>
+    requires numbers { place < length numbers.now }
+    requires right { place < length right.now }
+    requires totals { HasTotals (take place (renumbered right.now numbers.now)) totals.old }
+    ensures wrong { OnOk result (wrong.new.items ≡ wrong.old.items ++ wrong_at (renumbered right.now numbers.now) right.now place) }
+    ensures totals { OnOk result (HasTotals (take (place + 1) (renumbered right.now numbers.now)) totals.new) }
+{
+    let own = &numbers[place];
+    let event = &right[place];
+    push_score(wrong, own, event)?;
+    push_sum(wrong, own, event, totals.had(event.player))?;
+    totals.note(event, own);
+    Ok(())
+}
+
+/// Adds the wrong scores and sums, in the order of the sheet, and gives the last totals that are written.
+pub fn push_lines(
+    wrong: &mut Vec<WrongNumber>,
+    totals: &mut Totals,
+    numbers: &[Numbers],
+    right: &[Event],
+) -> Result<(), AllocError>
+    requires many { length numbers.now ≡ length right.now }
+    requires first { totals.old.first ≡ None }
+    requires second { totals.old.second ≡ None }
+    ensures wrong { OnOk result (wrong.new.items ≡ wrong.old.items ++ wrong_lines (renumbered right.now numbers.now) right.now) }
+    ensures totals { OnOk result (HasTotals (renumbered right.now numbers.now) totals.new) }
+{
+    for place in 0..right.len() {
+        push_wrong(wrong, totals, numbers, right, place)?;
+    }
+    Ok(())
+}
+
+/// Adds the last total of a player, where it is not the right one.
+fn push_total(
+    wrong: &mut Vec<WrongNumber>,
+    player: Seat,
+    written: Option<Points>,
+    right: Option<Points>,
+) -> Result<(), AllocError>
+    ensures { OnOk result (wrong.new.items ≡ wrong.old.items ++ wrong_total_of player written right) }
+{
+    let (Some(written), Some(right)) = (written, right) else {
+        return Ok(());
+    };
+    if written.value() != right.value() {
+        wrong.push(WrongNumber::Total {
+            player,
+            written: written.value(),
+            right: right.value(),
+        })?;
+    }
+    Ok(())
+}
+
+/// Adds the last totals that are not the right ones.
+pub fn push_totals(
+    wrong: &mut Vec<WrongNumber>,
+    totals: &Totals,
+    right: &[Event],
+) -> Result<(), AllocError>
+    ensures { OnOk result ((written : List Event) → HasTotals written totals.now → wrong.new.items ≡ wrong.old.items ++ wrong_totals written right.now) }
+{
+    push_total(
+        wrong,
+        Seat::First,
+        totals.of(Seat::First),
+        last_total(right, Seat::First),
+    )?;
+    push_total(
+        wrong,
+        Seat::Second,
+        totals.of(Seat::Second),
+        last_total(right, Seat::Second),
+    )
+}
