@@ -2,8 +2,9 @@
 
 use crate::answers::{Answer, Ending, Unread};
 use crate::pages::PageField;
-use engine::{Entry, Finding, fault_text, last_total};
+use engine::{Entry, Finding, fault_text};
 use exit_statuses::Exit;
+use game_sheets::last_total;
 use gcg_read::{Player, ReadFault, Record, Seat};
 use serde::Serialize;
 use std::alloc::{AllocError, Global};
@@ -107,9 +108,9 @@ impl<'a> Fields<'a> {
         let events = record.events.as_slice();
         self.events = Some(events.len());
         self.player1 = nick_of(alloc, &record.players.first)?;
-        self.total1 = last_total(events, Seat::First);
+        self.total1 = last_total(events, Seat::First).map(|total| total.value());
         self.player2 = nick_of(alloc, &record.players.second)?;
-        self.total2 = last_total(events, Seat::Second);
+        self.total2 = last_total(events, Seat::Second).map(|total| total.value());
         Ok(())
     }
 

@@ -3,7 +3,8 @@
 use crate::escapes::push_escaped;
 use crate::fields::Fields;
 use crate::pages::PageField;
-use itoa::{Buffer, Integer};
+use decimal_text::push_number;
+use itoa::Integer;
 use std::alloc::AllocError;
 
 /// Appends a line: its fields in their order with a tab between two, `-` for what is none, and an LF. It has the field of the page only
@@ -12,14 +13,14 @@ pub fn push_tab_line(line: &mut Vec<u8>, fields: &Fields<'_>) -> Result<(), Allo
     push_escaped(line, fields.name.as_bytes())?;
     push_text(line, Some(fields.verdict.name()))?;
     push_text(line, fields.ending.map(|ending| ending.name()))?;
-    push_number(line, fields.line)?;
+    push_known(line, fields.line)?;
     push_text(line, fields.fault.as_ref().map(|fault| fault.as_str()))?;
-    push_number(line, fields.events)?;
+    push_known(line, fields.events)?;
     push_text(line, fields.player1.as_ref().map(|nick| nick.as_str()))?;
-    push_number(line, fields.total1)?;
+    push_known(line, fields.total1)?;
     push_text(line, fields.player2.as_ref().map(|nick| nick.as_str()))?;
-    push_number(line, fields.total2)?;
-    push_number(line, fields.unlisted)?;
+    push_known(line, fields.total2)?;
+    push_known(line, fields.unlisted)?;
     if let Some(page) = &fields.page {
         push_page(line, page)?;
     }
@@ -40,10 +41,10 @@ fn push_text(line: &mut Vec<u8>, text: Option<&str>) -> Result<(), AllocError> {
 }
 
 /// Appends a tab, and behind it a number or `-`.
-fn push_number<I: Integer>(line: &mut Vec<u8>, number: Option<I>) -> Result<(), AllocError> {
+fn push_known<I: Integer>(line: &mut Vec<u8>, number: Option<I>) -> Result<(), AllocError> {
     let Some(number) = number else {
         return push_text(line, None);
     };
-    let mut buffer = Buffer::new();
-    push_text(line, Some(buffer.format(number)))
+    line.push(b'\t')?;
+    push_number(line, number)
 }

@@ -1,13 +1,12 @@
 //! The lines of an audit.
 ghost use Rattle.std.specs.Prelude.{◌≡◌, ◌++◌, OnOk};
-ghost use Rattle.std.specs.Fmt.{signed_decimal};
 ghost use Rattle.audit_lines.specs.Lines.{should_be, right_text, both_text, line_text, on_line_text, wrong_text, wrong_texts, audit_text};
 ghost use Rattle.engine.specs.Explaining.{finding_line};
 
+use decimal_text::push_number;
 use engine::{Audit, Finding, finding_line};
 use game_sheets::WrongNumber;
 use gcg_read::Players;
-use itoa::Buffer;
 use std::alloc::{AllocError, Global};
 
 /// Appends the lines of an audit: one for each wrong number, and the verdict line of the corrected record.
@@ -82,7 +81,7 @@ fn push_on_line(
 fn push_both(text: &mut Vec<u8>, written: i32, right: i32) -> Result<(), AllocError>
     ensures { OnOk result (text.new.items ≡ text.old.items ++ both_text written right) }
 {
-    push_points(text, written)?;
+    push_number(text, written)?;
     push_right(text, right)
 }
 
@@ -100,7 +99,7 @@ fn push_right(text: &mut Vec<u8>, right: i32) -> Result<(), AllocError>
     ensures { OnOk result (text.new.items ≡ text.old.items ++ right_text right) }
 {
     push_should_be(text)?;
-    push_points(text, right)?;
+    push_number(text, right)?;
     text.push(b'\n')?;
     Ok(())
 }
@@ -110,19 +109,9 @@ fn push_right(text: &mut Vec<u8>, right: i32) -> Result<(), AllocError>
 fn push_line(text: &mut Vec<u8>, line: u32) -> Result<(), AllocError>
     ensures { OnOk result (text.new.items ≡ text.old.items ++ line_text line) }
 {
-    let mut buffer = Buffer::new();
     text.extend_from_slice(b"line ")?;
-    text.extend_from_slice(buffer.format(line as usize).as_bytes())?;
+    push_number(text, line)?;
     text.extend_from_slice(b": ")?;
-    Ok(())
-}
-
-/// Appends a number of points.
-fn push_points(text: &mut Vec<u8>, points: i32) -> Result<(), AllocError>
-    ensures { OnOk result (text.new.items ≡ text.old.items ++ signed_decimal points) }
-{
-    let mut buffer = Buffer::new();
-    text.extend_from_slice(buffer.format(points).as_bytes())?;
     Ok(())
 }
 

@@ -2,8 +2,7 @@
 use Rattle.std.specs.Prelude.{ℕ, ◌+◌, ◌==◌, Bool, true, false, List, [], ◌∷◌, ◌++◌, length, codes, decimal, if◌then◌else◌, map}
 use Rattle.std.specs.Fmt.{signed_decimal}
 use Rattle.ref_tiles.specs.declared.rulebook.Rules.{Rules}
-use Rattle.ref_tiles.specs.declared.kinds.Kind.{Kind}
-use Rattle.ref_tiles.specs.declared.kinds.Kind.TheVariants as kind
+use Rattle.ref_tiles.specs.Kinds.{kind_byte}
 use Rattle.ref_tiles.specs.declared.rules_faults.RulesFault.{RulesFault}
 use Rattle.ref_tiles.specs.RulesFaults as stating
 use Rattle.ref_play.specs.Faults as play
@@ -40,11 +39,6 @@ rule_text rule.NotOver = codes "NotOver"
 rule_text rule.LastRackSize = codes "LastRackSize"
 rule_text rule.BadTime = codes "BadTime"
 rule_text rule.TooManyUsed = codes "TooManyUsed"
-
--- the byte of a kind in a text: a capital, or '?' (63) for a blank
-abbrev pub kind_byte : Kind → ℕ
-kind_byte (kind.Letter l) = 65 + l.index
-kind_byte kind.Blank = 63
 
 abbrev pub fault_text : GameFault → List ℕ
 fault_text (game.Rule why) = rule_text why

@@ -1,38 +1,30 @@
 //! The lines of reports, as bytes.
 ghost use Rattle.std.specs.Prelude.{◌≡◌, ◌++◌, ◌∷◌, [], OnOk, IfOk, codes, decimal, map};
 ghost use Rattle.std.specs.Fmt.{signed_decimal};
+ghost use Rattle.ref_tiles.specs.Kinds.{kind_byte};
 ghost use Rattle.lex_check.specs.Checks.{symbol_of};
 ghost use Rattle.game_turns.specs.Passing.{rules_in, record_in};
 ghost use Rattle.lex_check.specs.Pairs as pairs;
 ghost use Rattle.game_turns.specs.Places.{is_finished};
-ghost use Rattle.engine.specs.Reports.{rule_text, kind_byte, fault_text, line_text, illegal_line, unsettled_line, bad_record_line, bad_rules_line, bad_list_line, lexicon_text, bad_file_line, ok_line, legal_line, IsLegalReport};
+ghost use Rattle.engine.specs.Reports.{rule_text, fault_text, line_text, illegal_line, unsettled_line, bad_record_line, bad_rules_line, bad_list_line, lexicon_text, bad_file_line, ok_line, legal_line, IsLegalReport};
 
 use crate::lexicons::LexiconFault;
 use crate::verdicts::GameFault;
+use decimal_text::push_number;
 use game_report::push_event_lines;
 use game_turns::{Passed, RuleFault};
 use gcg_read::ReadFault;
-use itoa::Buffer;
 use lex_check::{Checked, Path, text_of};
 use lex_list::ListFault;
 use ref_tiles::{Kind, RulesFault};
 use std::alloc::{AllocError, Global};
 
-/// Appends a number.
-fn push_number(text: &mut Vec<u8>, number: usize) -> Result<(), AllocError>
-    ensures { OnOk result (text.new.items ≡ text.old.items ++ decimal number) }
-{
-    let mut buffer = Buffer::new();
-    text.extend_from_slice(buffer.format(number).as_bytes())
-}
-
 /// Appends a name and a number.
 fn push_expected(text: &mut Vec<u8>, name: &[u8], expected: i32) -> Result<(), AllocError>
     ensures { OnOk result (text.new.items ≡ text.old.items ++ (name.now ++ signed_decimal expected)) }
 {
-    let mut buffer = Buffer::new();
     text.extend_from_slice(name)?;
-    text.extend_from_slice(buffer.format(expected).as_bytes())?;
+    push_number(text, expected)?;
     Ok(())
 }
 
@@ -59,22 +51,12 @@ fn push_rule(text: &mut Vec<u8>, fault: &RuleFault) -> Result<(), AllocError>
     }
 }
 
-/// The byte of a kind: a capital, or `?` for a blank.
-fn kind_byte(kind: &Kind) -> u8
-    ensures { result ≡ kind_byte kind.now }
-{
-    match kind {
-        Kind::Letter(letter) => letter.capital(),
-        Kind::Blank => b'?',
-    }
-}
-
 /// Appends the name of a fault and the kind that is short.
 fn push_short(text: &mut Vec<u8>, kind: &Kind) -> Result<(), AllocError>
     ensures { OnOk result (text.new.items ≡ text.old.items ++ (codes "TilesShort " ++ kind_byte kind.now ∷ [])) }
 {
     text.extend_from_slice(b"TilesShort ")?;
-    text.push(kind_byte(kind))?;
+    text.push(kind.byte())?;
     Ok(())
 }
 

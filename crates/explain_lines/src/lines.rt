@@ -2,17 +2,16 @@
 ghost use Rattle.std.specs.Prelude.{◌≡◌, ◌++◌, OnOk, codes, decimal};
 ghost use Rattle.explain_lines.specs.Openings.{shown_line};
 
+use decimal_text::push_number;
 use game_facts::line_of;
-use itoa::Buffer;
 use std::alloc::AllocError;
 
 /// Appends the number of a line and what stands between it and the line.
-fn push_number(text: &mut Vec<u8>, line: u32) -> Result<(), AllocError>
+fn push_opening(text: &mut Vec<u8>, line: u32) -> Result<(), AllocError>
     ensures { OnOk result (text.new.items ≡ text.old.items ++ (codes "line " ++ decimal line ++ codes ": ")) }
 {
-    let mut buffer = Buffer::new();
     text.extend_from_slice(b"line ")?;
-    text.extend_from_slice(buffer.format(line as usize).as_bytes())?;
+    push_number(text, line)?;
     text.extend_from_slice(b": ")?;
     Ok(())
 }
@@ -24,7 +23,7 @@ pub fn push_line(text: &mut Vec<u8>, bytes: &[u8], line: u32) -> Result<(), Allo
     let Some(written) = line_of(bytes, line) else {
         return Ok(());
     };
-    push_number(text, line)?;
+    push_opening(text, line)?;
     text.extend_from_slice(written)?;
     text.push(b'\n')?;
     Ok(())

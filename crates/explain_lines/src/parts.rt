@@ -1,7 +1,7 @@
 //! The parts of a sentence.
 
+use decimal_text::push_number;
 use gcg_write::tiles_text;
-use itoa::{Buffer, Integer};
 use ref_board::{Dir, Square};
 use ref_tiles::{Counts, Kind};
 use std::alloc::AllocError;
@@ -63,15 +63,9 @@ fn push_part(text: &mut Vec<u8>, part: &Part<'_>) -> Result<(), AllocError> {
         Part::At(square) => push_square(text, *square),
         Part::Spot(square, dir) => push_spot(text, *square, *dir),
         Part::Letter(byte) => push_byte(text, *byte),
-        Part::Kind(kind) => push_kind(text, kind),
+        Part::Kind(kind) => push_byte(text, kind.byte()),
         Part::Tiles(tiles) => push_tiles(text, tiles),
     }
-}
-
-/// Appends a number.
-fn push_number<I: Integer>(text: &mut Vec<u8>, number: I) -> Result<(), AllocError> {
-    let mut buffer = Buffer::new();
-    text.extend_from_slice(buffer.format(number).as_bytes())
 }
 
 /// Appends how many things there are, with an s behind the word where there is not one.
@@ -112,14 +106,6 @@ fn push_spot(text: &mut Vec<u8>, square: Square, dir: Dir) -> Result<(), AllocEr
             push_number(text, square.row() + 1)?;
             text.extend_from_slice(b" down")
         }
-    }
-}
-
-/// Appends a kind of tile.
-fn push_kind(text: &mut Vec<u8>, kind: &Kind) -> Result<(), AllocError> {
-    match kind {
-        Kind::Letter(letter) => push_byte(text, letter.capital()),
-        Kind::Blank => push_byte(text, b'?'),
     }
 }
 

@@ -1,8 +1,8 @@
 //! The pieces of a page.
 
+use decimal_text::push_number;
 use gcg_write::tiles_text;
 use html_text::push_text;
-use itoa::{Buffer, Integer};
 use ref_tiles::Counts;
 use std::alloc::{AllocError, Global};
 
@@ -41,12 +41,6 @@ fn push_piece(alloc: Global, page: &mut Vec<u8>, piece: &Piece<'_>) -> Result<()
         Piece::Many(many) => push_number(page, *many),
         Piece::Tiles(tiles) => push_tiles(page, tiles),
     }
-}
-
-/// Appends a number.
-fn push_number<I: Integer>(page: &mut Vec<u8>, number: I) -> Result<(), AllocError> {
-    let mut buffer = Buffer::new();
-    page.extend_from_slice(buffer.format(number).as_bytes())
 }
 
 /// Appends tiles.

@@ -1,23 +1,20 @@
 //! Racks that fit steps, and the bounds that steps exceed.
 use deal_steps::{Act, DealBound, Held, Motion, Racks, Step, first_bound, fits};
 use gcg_read::Seat;
-use ref_tiles::{Counts, KINDS, Kind, Letter, Rules, english_rules};
+use ref_tiles::{Counts, Kind, Letter, Rules, english_rules};
 use std::process::Abort;
 
 /// The tiles of a rack; a blank is written `?`.
 fn tiles(letters: &str) -> Counts {
-    let mut numbers = [0u8; KINDS];
+    let mut tiles = Counts::new();
     for letter in letters.bytes() {
-        let kind = if letter == b'?' {
-            26
-        } else {
-            letter.wrapping_sub(b'A') as usize
-        };
-        if kind < KINDS {
-            numbers[kind] = numbers[kind].wrapping_add(1);
+        if let Some(kind) = Kind::of_byte(letter) {
+            if tiles.count(kind) < u8::MAX {
+                tiles.add(kind);
+            }
         }
     }
-    Counts::of(numbers)
+    tiles
 }
 
 /// A step of the first player's with the whole tile set but two racks of seven in the bag.
