@@ -1,7 +1,5 @@
--- The words of a line, and how the program ends after it.
+-- The words of a line.
 use Rattle.std.specs.Prelude.{ℕ, List, codes}
-use Rattle.exit_statuses.specs.declared.exits.Exit.{Exit}
-use Rattle.exit_statuses.specs.declared.exits.Exit.TheVariants as exit
 use Rattle.archive_lines.specs.declared.answers.Answer.{Answer}
 use Rattle.archive_lines.specs.declared.answers.Answer.TheVariants.{Legal, Illegal, Unsettled, BadRecord, NoGame, Unread}
 use Rattle.archive_lines.specs.declared.answers.Ending.{Ending}
@@ -16,15 +14,6 @@ answer_text Unsettled = codes "unsettled"
 answer_text BadRecord = codes "bad record"
 answer_text NoGame = codes "no game"
 answer_text Unread = codes "unread"
-
--- how the program ends after a line with this answer
-abbrev pub exit_of : Answer → Exit
-exit_of Legal = exit.Fine
-exit_of Illegal = exit.Illegal
-exit_of Unsettled = exit.Unsettled
-exit_of BadRecord = exit.BadInput
-exit_of NoGame = exit.BadInput
-exit_of Unread = exit.Broken
 
 -- whether a legal game has ended
 abbrev pub ending_text : Ending → List ℕ

@@ -1,7 +1,6 @@
-//! What a line answers of a game, and how the program ends after it.
+//! What a line answers of a game.
 ghost use Rattle.std.specs.Prelude.{◌≡◌};
 
-use exit_statuses::Exit;
 use serde::{Described, Serialize, Serializer};
 
 /// What a line answers of a game.
@@ -22,7 +21,7 @@ pub enum Answer {
 }
 
 impl Answer {
-    ghost use Rattle.archive_lines.specs.Answers.{answer_text, exit_of};
+    ghost use Rattle.archive_lines.specs.Answers.{answer_text};
 
     /// The answer as a line has it.
     pub fn name(self) -> &'static str
@@ -35,19 +34,6 @@ impl Answer {
             Answer::BadRecord => "bad record",
             Answer::NoGame => "no game",
             Answer::Unread => "unread",
-        }
-    }
-
-    /// How the program ends where no other game has a greater status.
-    pub fn exit(self) -> Exit
-        ensures { result ≡ exit_of self }
-    {
-        match self {
-            Answer::Legal => Exit::Fine,
-            Answer::Illegal => Exit::Illegal,
-            Answer::Unsettled => Exit::Unsettled,
-            Answer::BadRecord | Answer::NoGame => Exit::BadInput,
-            Answer::Unread => Exit::Broken,
         }
     }
 }

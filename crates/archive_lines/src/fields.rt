@@ -3,7 +3,6 @@
 use crate::answers::{Answer, Ending, Unread};
 use crate::pages::PageField;
 use engine::{Entry, Finding, fault_text};
-use exit_statuses::Exit;
 use game_sheets::last_total;
 use gcg_read::{Player, ReadFault, Record, Seat};
 use serde::Serialize;
@@ -112,15 +111,6 @@ impl<'a> Fields<'a> {
         self.player2 = nick_of(alloc, &record.players.second)?;
         self.total2 = last_total(events, Seat::Second).map(|total| total.value());
         Ok(())
-    }
-
-    /// How the program ends where no other game has a greater status.
-    pub fn exit(&self) -> Exit {
-        let exit = self.verdict.exit();
-        match &self.page {
-            None => exit,
-            Some(page) => exit.worse(page.exit()),
-        }
     }
 }
 

@@ -1,6 +1,5 @@
 //! What a line says of the page of a game.
 
-use exit_statuses::Exit;
 use serde::{Described, Serialize, Serializer};
 
 /// What a line says of the page of a game, where pages are made.
@@ -32,14 +31,6 @@ impl PageField {
         match self {
             PageField::Written(name) => Some(name.as_str()),
             PageField::Missing | PageField::CannotWrite | PageField::NoMemory => None,
-        }
-    }
-
-    /// How the program ends where nothing else has a greater status.
-    pub fn exit(&self) -> Exit {
-        match self {
-            PageField::Missing | PageField::Written(_) => Exit::Fine,
-            PageField::CannotWrite | PageField::NoMemory => Exit::Broken,
         }
     }
 }

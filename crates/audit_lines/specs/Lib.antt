@@ -1,3 +1,3 @@
 pub mod Corrected
-pub mod Exits
+pub mod Standing
 pub mod Lines

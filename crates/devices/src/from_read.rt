@@ -30,6 +30,13 @@ impl<R: Read + Drop> FromRead<R> {
         self.failures
     }
 
+    /// The reader.
+    pub fn inner(&self) -> &R
+        ensures { R.remaining result.now ≡ (⟦<FromRead<R> as Input>⟧.device self.now).bytes }
+    {
+        &self.inner
+    }
+
     /// The reader, with what is left of it.
     pub fn into_inner(self) -> R
         ensures { R.remaining result ≡ (⟦<FromRead<R> as Input>⟧.device self).bytes }

@@ -6,7 +6,8 @@ ghost use Rattle.sha2.specs.Sha256.{sha256};
 ghost use Rattle.digesting.specs.Reading.{HasHandedOut};
 
 use sha2::{Digest, Sha256};
-use std::io::{Read, Result};
+use std::alloc::AllocError;
+use std::io::{self, Read};
 
 /// A reader that hands out the bytes of another one, and digests them on the way.
 #[derive(Drop)]
@@ -27,19 +28,19 @@ impl<R: Read + Drop> Digesting<R> {
         }
     }
 
-    /// The SHA-256 of the bytes that were handed out, as FIPS 180-4 has it.
-    pub fn into_digest(self) -> [u8; 32]
-        ensures { (bytes : List ℕ) → HasHandedOut self.hasher bytes → result ≡ sha256 bytes }
+    /// The SHA-256 of the bytes that were handed out so far, as FIPS 180-4 has it.
+    pub fn digest(&self) -> Result<[u8; 32], AllocError>
+        ensures { IfOk result (λ digest. (bytes : List ℕ) → HasHandedOut self.now.hasher bytes → digest ≡ sha256 bytes) }
     {
-        let Digesting { hasher, .. } = self;
-        hasher.finalize()
+        let hasher = self.hasher.clone()?;
+        Ok(hasher.finalize())
     }
 }
 
 impl<R: Read + Drop> Read for Digesting<R> {
     ghost remaining = { λ s. R.remaining s.inner };
 
-    fn read(&mut self, buf: &mut [u8]) -> Result<usize>
+    fn read(&mut self, buf: &mut [u8]) -> io::Result<usize>
         ensures bound { ReadsAtMost result buf.new }
         ensures bytes { ReadConsumes (R.remaining self.old.inner) (R.remaining self.new.inner) result buf.new }
         ensures digested { IfOk result (λ n. (bytes : List ℕ) → HasHandedOut self.old.hasher bytes

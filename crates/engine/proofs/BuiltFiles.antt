@@ -1,11 +1,11 @@
 -- Answers of a build, by the words of a list.
 use Rattle.std.proofs.Common.{ℕ, List, Result, Ok, Err, IfOk, refl, inl, inr}
 use Rattle.lex_build.specs.Builds.{IsBuiltOf, HasManyLabels}
-use Rattle.engine.specs.declared.decisions.Decision.{Decision}
-use Rattle.engine.specs.declared.verdicts.Verdict.TheVariants as verdict
+use Rattle.call_stages.specs.declared.decisions.Decision.{Decision}
+use Rattle.call_stages.specs.declared.verdicts.Verdict.TheVariants as verdict
 use Rattle.engine.specs.Building.{IsBuiltBy}
-use Rattle.engine.specs.Reports.{too_many_arcs_line}
-use Rattle.engine.specs.Telling.{IsTold}
+use Rattle.call_stages.specs.Reports.{too_many_arcs_line}
+use Rattle.call_stages.specs.Telling.{IsTold}
 
 pub built : (words : List (List ℕ)) (bytes : List ℕ) → IsBuiltOf words bytes → IsBuiltBy words verdict.Done bytes
 built words bytes is = inl (record { verdict_is = refl; built = is })

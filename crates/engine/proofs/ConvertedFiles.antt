@@ -4,13 +4,13 @@ use Rattle.lex_file.specs.declared.faults.FileFault.{FileFault}
 use Rattle.lex_file.specs.declared.formats.Format.{Format}
 use Rattle.lex_build.specs.Converts.{IsConverted, words_in_format}
 use Rattle.lex_build.specs.Stores.{limit_of}
-use Rattle.engine.specs.declared.decisions.Decision.{Decision}
-use Rattle.engine.specs.declared.lexicons.LexiconFault.TheVariants as fault
-use Rattle.engine.specs.declared.verdicts.Verdict.TheVariants as verdict
+use Rattle.call_stages.specs.declared.decisions.Decision.{Decision}
+use Rattle.call_stages.specs.declared.lexicons.LexiconFault.TheVariants as fault
+use Rattle.call_stages.specs.declared.verdicts.Verdict.TheVariants as verdict
 use Rattle.engine.specs.Converting.{IsNewFormat, IsMalformed, IsPastLimit, IsConvertedBy, StaysLexicon}
-use Rattle.engine.specs.Lexicons.{file_fault, IsRefusedFile}
-use Rattle.engine.specs.Reports.{too_many_arcs_line}
-use Rattle.engine.specs.Telling.{IsTold}
+use Rattle.call_stages.specs.Lexicons.{file_fault, IsRefusedFile}
+use Rattle.call_stages.specs.Reports.{too_many_arcs_line}
+use Rattle.call_stages.specs.Telling.{IsTold}
 
 pub converted : (format : Format) (bytes shown report : List ℕ) → file_fault bytes ≡ None → shown ≡ bytes → IsConverted format shown report
     → IsConvertedBy format bytes verdict.Done report

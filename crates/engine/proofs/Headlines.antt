@@ -30,21 +30,22 @@ use Rattle.game_turns.specs.Places.{AreAllowed, IsFirstRefusal, fault_at, is_fin
 use Rattle.gcg_read.specs.declared.events.Event.{Event}
 use Rattle.game_deal.specs.Plain.{HaveNoExchange}
 use Rattle.game_turns.specs.Tallies.{tally_at}
-use Rattle.engine.specs.declared.faults.RunFault.{RunFault}
+use Rattle.call_stages.specs.declared.faults.RunFault.{RunFault}
 use Rattle.game_report.specs.BestPlays.{full_rack, notation_text, best_text, TellsByRack}
-use Rattle.engine.specs.Lexicons.{file_fault, most_lexicon_bytes}
-use Rattle.engine.specs.declared.verdicts.Verdict.TheVariants as verdict
-use Rattle.engine.specs.declared.verdicts.GameFault.{GameFault}
-use Rattle.engine.specs.declared.verdicts.Verdict.{Verdict}
+use Rattle.call_stages.specs.Lexicons.{file_fault, most_lexicon_bytes}
+use Rattle.call_stages.specs.declared.verdicts.Verdict.TheVariants as verdict
+use Rattle.call_stages.specs.declared.verdicts.GameFault.{GameFault}
+use Rattle.call_stages.specs.declared.verdicts.Verdict.{Verdict}
 use Rattle.engine.specs.Judging.{IsToldLegal, IsLegal, IsRefused, IsPastBound, IsLeftOpen, IsToldBound, IsJudged, IsDecided}
-use Rattle.engine.specs.Lexicons.{IsLexicon}
-use Rattle.engine.specs.Reading.{ReadsNoMore, ReadsList, ByMeaning, ByParts, ReadsRecord, ByLexicon, ReadsLexicon, IsToldFile}
-use Rattle.engine.specs.Reports.{IsLegalReport, legal_line, bad_list_line, bad_record_line, bad_rules_line}
-use Rattle.engine.specs.Runs.{IsRun}
+use Rattle.call_stages.specs.Lexicons.{IsLexicon}
+use Rattle.call_stages.specs.Reading.{ReadsNoMore, ReadsList, ByMeaning, ByParts, ReadsRecord, ByLexicon, ReadsLexicon, IsToldFile}
+use Rattle.call_stages.specs.Reports.{legal_line, bad_list_line, bad_record_line, bad_rules_line}
+use Rattle.engine.specs.LegalReports.{IsLegalReport}
+use Rattle.call_stages.specs.Runs.{IsRun}
 use Rattle.deal_cuts.specs.Laws.{FrontsDecide}
 use Rattle.engine.specs.Settling.{IsSettledLegal, IsUndealt, IsSettled, IsSettledBy, SettledLegalMeansLegal, SettledIllegalMeansNoGame}
-use Rattle.engine.specs.Sources.{Source, AreGiven}
-use Rattle.engine.specs.Telling.{IsOwn}
+use Rattle.call_stages.specs.Sources.{Source, AreGiven}
+use Rattle.call_stages.specs.Telling.{IsOwn}
 use Rattle.engine.specs.Verdicts.{IsGame}
 use Rattle.engine.specs.Headlines.{Texts, in_order, IsBestPrinted, IsLegalGame, IsLegalRun, LegalMeansLegal, LegalMeansLegalByText, IllegalMeansNoGame, PlainGamesAreDecided}
 use Rattle.engine.specs.OwnJudging.{legal_own}

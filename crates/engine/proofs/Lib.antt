@@ -1,15 +1,8 @@
 pub mod Deals
-pub mod Readings
-pub mod Deciding
-pub mod Sparing
-pub mod Stages
-pub mod Runs
-pub mod Pairings
 pub mod Headlines
 pub mod Settled
 pub mod StayingLegal
 pub mod FoundGames
-pub mod Examples
 pub mod BuiltFiles
 pub mod ConvertedFiles
 pub mod Toppings

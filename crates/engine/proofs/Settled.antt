@@ -20,13 +20,13 @@ use Rattle.game_deal.specs.Plain.{HaveNoExchange}
 use Rattle.game_deal.specs.Recorded.{steps_of}
 use Rattle.engine.specs.declared.judging.Judging.{Judging}
 use Rattle.engine.specs.declared.judging.Judging.TheVariants as judging
-use Rattle.engine.specs.declared.verdicts.GameFault.TheVariants as game
-use Rattle.engine.specs.declared.verdicts.Verdict.{Verdict}
-use Rattle.engine.specs.declared.verdicts.Verdict.TheVariants as verdict
+use Rattle.call_stages.specs.declared.verdicts.GameFault.TheVariants as game
+use Rattle.call_stages.specs.declared.verdicts.Verdict.{Verdict}
+use Rattle.call_stages.specs.declared.verdicts.Verdict.TheVariants as verdict
 use Rattle.engine.specs.Judging.{IsToldBound, IsToldLegal, IsPastBound, IsJudged}
-use Rattle.engine.specs.Reports.{illegal_line, unsettled_line}
+use Rattle.call_stages.specs.Reports.{illegal_line, unsettled_line}
 use Rattle.engine.specs.Settling.{IsSettled, IsJudgedBy}
-use Rattle.engine.specs.Telling.{IsTold}
+use Rattle.call_stages.specs.Telling.{IsTold}
 use Rattle.engine.specs.Racks.{IsUndealtByRule, AreTried, AreFound}
 use Rattle.engine.specs.declared.racks.RackFinding.TheVariants as rack
 use Rattle.engine.specs.declared.racks.RackTrial.TheVariants as trial

@@ -5,13 +5,13 @@ use Rattle.ref_play.specs.declared.faults.PlayFault.{PlayFault}
 use Rattle.gcg_read.specs.declared.records.Record.{Record}
 use Rattle.game_board.specs.Laying.{AreLaid}
 use Rattle.game_board.specs.Texts.{board_text}
-use Rattle.engine.specs.declared.verdicts.Verdict.{Verdict}
-use Rattle.engine.specs.declared.verdicts.Verdict.TheVariants as verdict
+use Rattle.call_stages.specs.declared.verdicts.Verdict.{Verdict}
+use Rattle.call_stages.specs.declared.verdicts.Verdict.TheVariants as verdict
 use Rattle.engine.specs.Boards.{place_asked, IsShown, IsShownAt, IsBoarded}
-use Rattle.engine.specs.Reading.{ReadsNoMore}
-use Rattle.engine.specs.Reports.{bad_line_line}
-use Rattle.engine.specs.Telling.{IsTold}
-use Rattle.engine.proofs.Sparing.{Spares, more_spares, record_spares}
+use Rattle.call_stages.specs.Reading.{ReadsNoMore}
+use Rattle.call_stages.specs.Reports.{bad_line_line}
+use Rattle.call_stages.specs.Telling.{IsTold}
+use Rattle.call_stages.specs.Sparing.{Spares, more_spares, record_spares}
 
 pub shown : (rules : Rules) (r : Record) (asked end : ℕ) (why : Option PlayFault) (report : List ℕ) → AreLaid r.events asked end why → report ≡ board_text rules r end why → IsShown rules r asked verdict.Done report
 shown rules r asked end why report laid told = record { verdict_is = refl; end = end; why = why; laid = laid; shown = told }

@@ -6,19 +6,19 @@ use Rattle.game_turns.specs.declared.faults.RuleFault.{RuleFault}
 use Rattle.game_turns.specs.Places.{AreAllowed, IsFirstRefusal}
 use Rattle.game_report.specs.TopPlays.{board_after, TellsTop}
 use Rattle.devices.specs.Devices.{Device}
-use Rattle.engine.specs.declared.decisions.Decision.{Decision}
-use Rattle.engine.specs.declared.faults.RunFault.{RunFault}
-use Rattle.engine.specs.declared.faults.RunFault.TheVariants as run
-use Rattle.engine.specs.declared.verdicts.GameFault.TheVariants as game
-use Rattle.engine.specs.declared.verdicts.Verdict.{Verdict}
-use Rattle.engine.specs.declared.verdicts.Verdict.TheVariants as verdict
-use Rattle.engine.specs.Reports.{illegal_line, bad_rack_line}
-use Rattle.engine.specs.Runs.{Decides, IsSent, IsRun}
-use Rattle.engine.specs.Sources.{Source, AreUntouched}
-use Rattle.engine.specs.Telling.{IsTold}
+use Rattle.call_stages.specs.declared.decisions.Decision.{Decision}
+use Rattle.call_stages.specs.declared.faults.RunFault.{RunFault}
+use Rattle.call_stages.specs.declared.faults.RunFault.TheVariants as run
+use Rattle.call_stages.specs.declared.verdicts.GameFault.TheVariants as game
+use Rattle.call_stages.specs.declared.verdicts.Verdict.{Verdict}
+use Rattle.call_stages.specs.declared.verdicts.Verdict.TheVariants as verdict
+use Rattle.call_stages.specs.Reports.{illegal_line, bad_rack_line}
+use Rattle.call_stages.specs.Runs.{Decides, IsSent, IsRun}
+use Rattle.call_stages.specs.Sources.{Source, AreUntouched}
+use Rattle.call_stages.specs.Telling.{IsTold}
 use Rattle.engine.specs.Topping.{IsToppedOn, ByRack, RefusesRack}
-use Rattle.engine.proofs.Deciding.{decided_unread, stopped_unread}
-use Rattle.engine.proofs.Runs.{runs}
+use Rattle.call_stages.proofs.Deciding.{decided_unread, stopped_unread}
+use Rattle.call_stages.proofs.Runs.{runs}
 
 pub topped : (rules : Rules) (words : List (List ℕ)) (rack : List ℕ) (r : Record) (report : List ℕ) → AreAllowed rules words r.events
     → TellsTop rules words (board_after rules r.events) rack report → IsToppedOn rules words rack r verdict.Done report
@@ -50,16 +50,15 @@ runs_without sources IsAnswer rack old new result none still refuses =
 
 -- ---- one that is some
 
-pub runs_by_rack : {A : Type 0} (sources : List Source) (IsAnswer : A → List (List ℕ) → Verdict → List ℕ → Type 0) (rack : Option A) (tiles : A) (old new : Device) (decided : Result Decision RunFault)
-    (result : Result Verdict RunFault) → rack ≡ Some tiles → Decides sources (IsAnswer tiles) decided → IsSent decided old new result → IsRun sources (ByRack IsAnswer rack) old new result
-runs_by_rack {A = A} sources IsAnswer rack tiles old new decided result some decides sent =
-    subst (λ (o : Option A). IsRun sources (ByRack IsAnswer o) old new result) (sym some)
-    (runs decides sent)
+pub runs_by_rack : {A : Type 0} (sources : List Source) (IsAnswer : A → List (List ℕ) → Verdict → List ℕ → Type 0) (rack : Option A) (tiles : A) (old new : Device)
+    (result : Result Verdict RunFault) → rack ≡ Some tiles → IsRun sources (IsAnswer tiles) old new result → IsRun sources (ByRack IsAnswer rack) old new result
+runs_by_rack {A = A} sources IsAnswer rack tiles old new result some ran =
+    subst (λ (o : Option A). IsRun sources (ByRack IsAnswer o) old new result) (sym some) ran
 
 -- the same by a question that was made of a number and a line
 pub runs_as_asked : {A : Type 0} (sources : List Source) (IsAnswer : ℕ → Option ℕ → A → List (List ℕ) → Verdict → List ℕ → Type 0) (number own_number : ℕ) (before own_before : Option ℕ) (rack : Option A) (tiles : A)
-    (old new : Device) (decided : Result Decision RunFault) (result : Result Verdict RunFault) → own_number ≡ number → own_before ≡ before → rack ≡ Some tiles
-    → Decides sources (IsAnswer own_number own_before tiles) decided → IsSent decided old new result → IsRun sources (ByRack (IsAnswer number before) rack) old new result
-runs_as_asked sources IsAnswer number own_number before own_before rack tiles old new decided result same_number same_before some decides sent =
-    runs_by_rack sources (IsAnswer number before) rack tiles old new decided result some
-    (subst (λ (b : Option ℕ). Decides sources (IsAnswer number b tiles) decided) same_before (subst (λ (n : ℕ). Decides sources (IsAnswer n own_before tiles) decided) same_number decides)) sent
+    (old new : Device) (result : Result Verdict RunFault) → own_number ≡ number → own_before ≡ before → rack ≡ Some tiles
+    → IsRun sources (IsAnswer own_number own_before tiles) old new result → IsRun sources (ByRack (IsAnswer number before) rack) old new result
+runs_as_asked sources IsAnswer number own_number before own_before rack tiles old new result same_number same_before some ran =
+    runs_by_rack sources (IsAnswer number before) rack tiles old new result some
+    (subst (λ (b : Option ℕ). IsRun sources (IsAnswer number b tiles) old new result) same_before (subst (λ (n : ℕ). IsRun sources (IsAnswer n own_before tiles) old new result) same_number ran))

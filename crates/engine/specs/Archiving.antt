@@ -16,9 +16,9 @@ use Rattle.game_deal.specs.Plain.{HaveNoExchange}
 use Rattle.engine.specs.declared.entries.Entry.{Entry}
 use Rattle.engine.specs.declared.findings.Finding.{Finding}
 use Rattle.engine.specs.declared.findings.Finding.TheVariants as finding
-use Rattle.engine.specs.declared.verdicts.GameFault.{GameFault}
-use Rattle.engine.specs.declared.verdicts.GameFault.TheVariants as game
-use Rattle.engine.specs.declared.verdicts.Verdict.TheVariants as verdict
+use Rattle.call_stages.specs.declared.verdicts.GameFault.{GameFault}
+use Rattle.call_stages.specs.declared.verdicts.GameFault.TheVariants as game
+use Rattle.call_stages.specs.declared.verdicts.Verdict.TheVariants as verdict
 use Rattle.engine.specs.Judging.{IsJudged}
 use Rattle.engine.specs.Verdicts.{IsGame, Exceeds, IsUnsettled, HasNoDealBy}
 

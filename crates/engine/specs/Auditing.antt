@@ -6,9 +6,9 @@ use Rattle.gcg_read.specs.Records.{record_of}
 use Rattle.game_sheets.specs.Auditing.{IsAudited}
 use Rattle.game_sheets.specs.Corrections.{HavePoints}
 use Rattle.engine.specs.declared.audits.Audit.{Audit}
-use Rattle.engine.specs.declared.decisions.Decision.{Decision}
+use Rattle.call_stages.specs.declared.decisions.Decision.{Decision}
 use Rattle.engine.specs.Archiving.{IsEntry}
-use Rattle.engine.specs.Stages.{IsRecordOf}
+use Rattle.call_stages.specs.Stages.{IsRecordOf}
 
 -- what an audit says of a record as it is written: the entry is of a record with the same players, and with the events of the
 -- record, corrected as far as they can be; and the wrong numbers are told

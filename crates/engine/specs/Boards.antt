@@ -7,11 +7,11 @@ use Rattle.gcg_read.specs.declared.records.Record.{Record}
 use Rattle.game_board.specs.Places.{place_of_line}
 use Rattle.game_board.specs.Laying.{AreLaid}
 use Rattle.game_board.specs.Texts.{board_text}
-use Rattle.engine.specs.declared.verdicts.Verdict.{Verdict}
-use Rattle.engine.specs.declared.verdicts.Verdict.TheVariants as verdict
-use Rattle.engine.specs.Reading.{ReadsNoMore, ReadsRecord, ReadsRules}
-use Rattle.engine.specs.Reports.{bad_line_line}
-use Rattle.engine.specs.Telling.{IsTold}
+use Rattle.call_stages.specs.declared.verdicts.Verdict.{Verdict}
+use Rattle.call_stages.specs.declared.verdicts.Verdict.TheVariants as verdict
+use Rattle.call_stages.specs.Reading.{ReadsNoMore, ReadsRecord, ReadsRules}
+use Rattle.call_stages.specs.Reports.{bad_line_line}
+use Rattle.call_stages.specs.Telling.{IsTold}
 
 -- the place that is asked for: that of the first event on a line or behind it; without a line, behind the last event
 abbrev pub place_asked : List Event → (before : Option ℕ) → Option ℕ

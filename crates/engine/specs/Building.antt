@@ -1,11 +1,11 @@
 -- What building the lexicon file of a word list answers.
 use Rattle.std.specs.Prelude.{◌≡◌, ◌⊎◌, ℕ, List}
 use Rattle.lex_build.specs.Builds.{IsBuiltOf, HasManyLabels}
-use Rattle.engine.specs.declared.verdicts.Verdict.{Verdict}
-use Rattle.engine.specs.declared.verdicts.Verdict.TheVariants as verdict
-use Rattle.engine.specs.Reading.{ReadsNoMore, ReadsList}
-use Rattle.engine.specs.Reports.{too_many_arcs_line}
-use Rattle.engine.specs.Telling.{IsTold}
+use Rattle.call_stages.specs.declared.verdicts.Verdict.{Verdict}
+use Rattle.call_stages.specs.declared.verdicts.Verdict.TheVariants as verdict
+use Rattle.call_stages.specs.Reading.{ReadsNoMore, ReadsList}
+use Rattle.call_stages.specs.Reports.{too_many_arcs_line}
+use Rattle.call_stages.specs.Telling.{IsTold}
 
 -- it is done, and these bytes are a lexicon of the words, in the first format
 pub record IsNewFile (words : List (List ℕ)) (v : Verdict) (bytes : List ℕ) : Type 0 where

@@ -1,10 +1,10 @@
 -- What checking a lexicon file by a word list answers.
 use Rattle.std.specs.Prelude.{ℕ, List, length}
-use Rattle.engine.specs.declared.verdicts.Verdict.{Verdict}
-use Rattle.engine.specs.declared.verdicts.Verdict.TheVariants as verdict
-use Rattle.engine.specs.Reading.{ReadsNoMore, ReadsList, ReadsLexicon}
-use Rattle.engine.specs.Reports.{ok_line}
-use Rattle.engine.specs.Telling.{IsTold}
+use Rattle.call_stages.specs.declared.verdicts.Verdict.{Verdict}
+use Rattle.call_stages.specs.declared.verdicts.Verdict.TheVariants as verdict
+use Rattle.call_stages.specs.Reading.{ReadsNoMore, ReadsList, ReadsLexicon}
+use Rattle.call_stages.specs.Reports.{ok_line}
+use Rattle.call_stages.specs.Telling.{IsTold}
 
 -- What is answered on the bytes of a word list and of a lexicon file: that it is done and the number of the words, exactly
 -- where the words are a list and the file is its lexicon; else the line of the first fault.

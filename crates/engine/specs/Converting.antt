@@ -5,13 +5,13 @@ use Rattle.lex_file.specs.declared.formats.Format.{Format}
 use Rattle.lex_check.specs.Checks.{IsLexiconOf}
 use Rattle.lex_build.specs.Converts.{IsConverted, words_in_format}
 use Rattle.lex_build.specs.Stores.{limit_of}
-use Rattle.engine.specs.declared.lexicons.LexiconFault.TheVariants as fault
-use Rattle.engine.specs.declared.verdicts.Verdict.{Verdict}
-use Rattle.engine.specs.declared.verdicts.Verdict.TheVariants as verdict
-use Rattle.engine.specs.Lexicons.{file_fault}
-use Rattle.engine.specs.Reading.{ReadsNoMore, ReadsNext}
-use Rattle.engine.specs.Reports.{bad_file_line, too_many_arcs_line}
-use Rattle.engine.specs.Telling.{IsTold}
+use Rattle.call_stages.specs.declared.lexicons.LexiconFault.TheVariants as fault
+use Rattle.call_stages.specs.declared.verdicts.Verdict.{Verdict}
+use Rattle.call_stages.specs.declared.verdicts.Verdict.TheVariants as verdict
+use Rattle.call_stages.specs.Lexicons.{file_fault}
+use Rattle.call_stages.specs.Reading.{ReadsNoMore, ReadsNext}
+use Rattle.call_stages.specs.Reports.{bad_file_line, too_many_arcs_line}
+use Rattle.call_stages.specs.Telling.{IsTold}
 
 -- the file has the form of a lexicon, and these bytes are it in the format: the same nodes, language and number of words
 pub record IsNewFormat (format : Format) (lexicon : List ℕ) (v : Verdict) (bytes : List ℕ) : Type 0 where

@@ -6,10 +6,10 @@ use Rattle.engine.specs.declared.entries.Entry.{Entry}
 use Rattle.engine.specs.declared.explains.Case.{Case}
 use Rattle.engine.specs.declared.findings.Finding.{Finding}
 use Rattle.engine.specs.declared.findings.Finding.TheVariants as finding
-use Rattle.engine.specs.declared.verdicts.Verdict.{Verdict}
-use Rattle.engine.specs.declared.verdicts.Verdict.TheVariants as verdict
+use Rattle.call_stages.specs.declared.verdicts.Verdict.{Verdict}
+use Rattle.call_stages.specs.declared.verdicts.Verdict.TheVariants as verdict
 use Rattle.engine.specs.Archiving.{IsEntryOf}
-use Rattle.engine.specs.Reports.{legal_line, illegal_line, unsettled_line, bad_record_line}
+use Rattle.call_stages.specs.Reports.{legal_line, illegal_line, unsettled_line, bad_record_line}
 
 -- the settled verdict of what is found of a record: a record without an event is a legal game that is not finished
 abbrev pub verdict_in : Finding → Verdict

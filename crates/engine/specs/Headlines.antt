@@ -24,13 +24,13 @@ use Rattle.game_deal.specs.Plain.{HaveNoExchange}
 use Rattle.game_deal.specs.Recorded.{steps_of}
 use Rattle.game_report.specs.BestPlays.{is_judged, full_rack, notation_text}
 use Rattle.game_report.specs.EventLines.{lines_from}
-use Rattle.engine.specs.declared.verdicts.Verdict.TheVariants as verdict
-use Rattle.engine.specs.declared.verdicts.Verdict.{Verdict}
-use Rattle.engine.specs.declared.verdicts.GameFault.{GameFault}
+use Rattle.call_stages.specs.declared.verdicts.Verdict.TheVariants as verdict
+use Rattle.call_stages.specs.declared.verdicts.Verdict.{Verdict}
+use Rattle.call_stages.specs.declared.verdicts.GameFault.{GameFault}
 use Rattle.engine.specs.Judging.{IsDecided, IsDecidedByText}
-use Rattle.engine.specs.Lexicons.{IsLexicon}
-use Rattle.engine.specs.Reports.{legal_line}
-use Rattle.engine.specs.Sources.{Source, AreGiven}
+use Rattle.call_stages.specs.Lexicons.{IsLexicon}
+use Rattle.call_stages.specs.Reports.{legal_line}
+use Rattle.call_stages.specs.Sources.{Source, AreGiven}
 use Rattle.engine.specs.Verdicts.{IsGame}
 
 -- What is printed of a full rack: a play that is legal, with words of the list and tiles of the rack, and that none such

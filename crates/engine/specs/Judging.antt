@@ -6,12 +6,13 @@ use Rattle.game_turns.specs.declared.faults.RuleFault.{RuleFault}
 use Rattle.game_turns.specs.Places.{AreAllowed, IsFirstRefusal, is_finished}
 use Rattle.deal_steps.specs.declared.faults.DealBound.{DealBound}
 use Rattle.deal_steps.specs.declared.faults.DealBound.TheVariants as deal
-use Rattle.engine.specs.declared.verdicts.GameFault.TheVariants as game
-use Rattle.engine.specs.declared.verdicts.Verdict.{Verdict}
-use Rattle.engine.specs.declared.verdicts.Verdict.TheVariants as verdict
-use Rattle.engine.specs.Reading.{ReadsNoMore, ReadsList, ReadsLexicon, ReadsRecord, ReadsRules}
-use Rattle.engine.specs.Reports.{IsLegalReport, illegal_line, unsettled_line}
-use Rattle.engine.specs.Telling.{IsTold}
+use Rattle.call_stages.specs.declared.verdicts.GameFault.TheVariants as game
+use Rattle.call_stages.specs.declared.verdicts.Verdict.{Verdict}
+use Rattle.call_stages.specs.declared.verdicts.Verdict.TheVariants as verdict
+use Rattle.call_stages.specs.Reading.{ReadsNoMore, ReadsList, ReadsLexicon, ReadsRecord, ReadsRules}
+use Rattle.call_stages.specs.Reports.{illegal_line, unsettled_line}
+use Rattle.engine.specs.LegalReports.{IsLegalReport}
+use Rattle.call_stages.specs.Telling.{IsTold}
 use Rattle.engine.specs.Verdicts.{IsDealt, Exceeds, IsUnsettled}
 
 -- that a game is legal is told: the verdict says whether it has ended, and the report has a line for each event

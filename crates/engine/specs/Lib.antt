@@ -1,10 +1,4 @@
-pub mod Telling
-pub mod Reports
-pub mod Lexicons
-pub mod Reading
-pub mod Stages
-pub mod Sources
-pub mod Runs
+pub mod LegalReports
 pub mod Verdicts
 pub mod Racks
 pub mod Judging

@@ -2,11 +2,11 @@
 use Rattle.std.proofs.Common.{ℕ, List, ⊎_elim}
 use Rattle.ref_tiles.specs.declared.rulebook.Rules.{Rules}
 use Rattle.gcg_read.specs.declared.records.Record.{Record}
-use Rattle.engine.specs.declared.verdicts.Verdict.{Verdict}
-use Rattle.engine.specs.declared.verdicts.Verdict.TheVariants as verdict
+use Rattle.call_stages.specs.declared.verdicts.Verdict.{Verdict}
+use Rattle.call_stages.specs.declared.verdicts.Verdict.TheVariants as verdict
 use Rattle.engine.specs.Judging.{IsRefused}
 use Rattle.engine.specs.OwnVerdicts.{own_as, done_own, refused_own}
-use Rattle.engine.specs.Telling.{IsOwn}
+use Rattle.call_stages.specs.Telling.{IsOwn}
 use Rattle.engine.specs.Topping.{AreTold, IsToppedOn}
 
 pub topped_own : (rules : Rules) (words : List (List ℕ)) (rack : List ℕ) (r : Record) (v : Verdict) (report : List ℕ) → IsToppedOn rules words rack r v report → IsOwn v

@@ -7,13 +7,13 @@ use Rattle.deal_steps.specs.declared.faults.DealBound.{DealBound}
 use Rattle.deal_steps.specs.declared.faults.DealBound.TheVariants as deal
 use Rattle.engine.specs.declared.judging.Judging.{Judging}
 use Rattle.engine.specs.declared.judging.Judging.TheVariants as judging
-use Rattle.engine.specs.declared.verdicts.GameFault.TheVariants as game
-use Rattle.engine.specs.declared.verdicts.Verdict.{Verdict}
-use Rattle.engine.specs.declared.verdicts.Verdict.TheVariants as verdict
+use Rattle.call_stages.specs.declared.verdicts.GameFault.TheVariants as game
+use Rattle.call_stages.specs.declared.verdicts.Verdict.{Verdict}
+use Rattle.call_stages.specs.declared.verdicts.Verdict.TheVariants as verdict
 use Rattle.engine.specs.Judging.{IsLegal, IsRefused, IsPastBound, IsLeftOpen, IsToldBound, IsJudged}
 use Rattle.engine.specs.OwnVerdicts.{own_as, illegal_own, refused_own}
 use Rattle.engine.specs.Settling.{IsSettledLegal, IsUndealt, IsSettled, IsJudgedBy}
-use Rattle.engine.specs.Telling.{IsOwn}
+use Rattle.call_stages.specs.Telling.{IsOwn}
 
 pub legal_own : (complete : Bool) → IsOwn (verdict.Legal complete)
 legal_own complete = record { rules = λ bad. cc; words = λ bad. cc; lexicon = λ bad. cc; game = λ bad. cc }

@@ -2,12 +2,12 @@
 use Rattle.std.proofs.Common.{ℕ, List, Option, Some, None, slice_get, ⊎_elim}
 use Rattle.ref_tiles.specs.declared.rulebook.Rules.{Rules}
 use Rattle.gcg_read.specs.declared.records.Record.{Record}
-use Rattle.engine.specs.declared.verdicts.GameFault.TheVariants as game
-use Rattle.engine.specs.declared.verdicts.Verdict.{Verdict}
-use Rattle.engine.specs.declared.verdicts.Verdict.TheVariants as verdict
+use Rattle.call_stages.specs.declared.verdicts.GameFault.TheVariants as game
+use Rattle.call_stages.specs.declared.verdicts.Verdict.{Verdict}
+use Rattle.call_stages.specs.declared.verdicts.Verdict.TheVariants as verdict
 use Rattle.engine.specs.Boards.{place_asked}
 use Rattle.engine.specs.OwnVerdicts.{own_as, done_own, illegal_own}
-use Rattle.engine.specs.Telling.{IsOwn}
+use Rattle.call_stages.specs.Telling.{IsOwn}
 use Rattle.engine.specs.TopBefore.{rack_asked, AreToldBefore, IsToldRefusal, ByRackAsked, ByPlaceAsked, IsToppedBefore}
 
 none_own : IsOwn verdict.BadRack

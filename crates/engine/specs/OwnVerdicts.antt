@@ -2,12 +2,12 @@
 use Rattle.std.proofs.Common.{◌≡◌, ℕ, List, sym, subst}
 use Rattle.ref_tiles.specs.declared.rulebook.Rules.{Rules}
 use Rattle.gcg_read.specs.declared.records.Record.{Record}
-use Rattle.engine.specs.declared.verdicts.GameFault.{GameFault}
-use Rattle.engine.specs.declared.verdicts.GameFault.TheVariants as game
-use Rattle.engine.specs.declared.verdicts.Verdict.{Verdict}
-use Rattle.engine.specs.declared.verdicts.Verdict.TheVariants as verdict
+use Rattle.call_stages.specs.declared.verdicts.GameFault.{GameFault}
+use Rattle.call_stages.specs.declared.verdicts.GameFault.TheVariants as game
+use Rattle.call_stages.specs.declared.verdicts.Verdict.{Verdict}
+use Rattle.call_stages.specs.declared.verdicts.Verdict.TheVariants as verdict
 use Rattle.engine.specs.Judging.{IsRefused}
-use Rattle.engine.specs.Telling.{IsOwn}
+use Rattle.call_stages.specs.Telling.{IsOwn}
 
 pub own_as : (v what : Verdict) → v ≡ what → IsOwn what → IsOwn v
 own_as v what is own = subst IsOwn (sym is) own

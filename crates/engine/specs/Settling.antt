@@ -5,14 +5,14 @@ use Rattle.gcg_read.specs.declared.records.Record.{Record}
 use Rattle.deal_search.specs.declared.settling.Earlier.{Earlier}
 use Rattle.engine.specs.declared.judging.Judging.{Judging}
 use Rattle.engine.specs.declared.judging.Judging.TheVariants as judging
-use Rattle.engine.specs.declared.verdicts.GameFault.TheVariants as game
-use Rattle.engine.specs.declared.verdicts.Verdict.{Verdict}
-use Rattle.engine.specs.declared.verdicts.Verdict.TheVariants as verdict
+use Rattle.call_stages.specs.declared.verdicts.GameFault.TheVariants as game
+use Rattle.call_stages.specs.declared.verdicts.Verdict.{Verdict}
+use Rattle.call_stages.specs.declared.verdicts.Verdict.TheVariants as verdict
 use Rattle.engine.specs.Headlines.{MeansLegal, MeansNoGame}
 use Rattle.engine.specs.Judging.{IsToldLegal, IsRefused, IsPastBound, IsLeftOpen, IsJudged}
-use Rattle.engine.specs.Reading.{ReadsNoMore, ReadsList, ReadsLexicon, ReadsRecord, ReadsRules}
-use Rattle.engine.specs.Reports.{illegal_line}
-use Rattle.engine.specs.Telling.{IsTold}
+use Rattle.call_stages.specs.Reading.{ReadsNoMore, ReadsList, ReadsLexicon, ReadsRecord, ReadsRules}
+use Rattle.call_stages.specs.Reports.{illegal_line}
+use Rattle.call_stages.specs.Telling.{IsTold}
 use Rattle.engine.specs.Verdicts.{IsGame, HasNoDealBy}
 
 -- the record is a game, and that it is legal is told

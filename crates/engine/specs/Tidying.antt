@@ -1,10 +1,10 @@
 -- What tidying a record answers.
 use Rattle.std.specs.Prelude.{ℕ, List}
 use Rattle.gcg_write.specs.Normal.{normal_of}
-use Rattle.engine.specs.declared.verdicts.Verdict.{Verdict}
-use Rattle.engine.specs.declared.verdicts.Verdict.TheVariants as verdict
-use Rattle.engine.specs.Reading.{ReadsNoMore, ReadsRecord}
-use Rattle.engine.specs.Telling.{IsTold}
+use Rattle.call_stages.specs.declared.verdicts.Verdict.{Verdict}
+use Rattle.call_stages.specs.declared.verdicts.Verdict.TheVariants as verdict
+use Rattle.call_stages.specs.Reading.{ReadsNoMore, ReadsRecord}
+use Rattle.call_stages.specs.Telling.{IsTold}
 
 -- What is answered on the bytes of a record: that it is done and its normal form, exactly where the text is that of a
 -- record; else the line of the first fault.

@@ -9,13 +9,13 @@ use Rattle.game_turns.specs.declared.faults.RuleFault.{RuleFault}
 use Rattle.game_turns.specs.Places.{AreAllowedTo, IsRefusedBefore}
 use Rattle.game_turns.specs.Tallies.{tally_at}
 use Rattle.game_report.specs.TopPlays.{TellsFirst}
-use Rattle.engine.specs.declared.verdicts.GameFault.TheVariants as game
-use Rattle.engine.specs.declared.verdicts.Verdict.{Verdict}
-use Rattle.engine.specs.declared.verdicts.Verdict.TheVariants as verdict
+use Rattle.call_stages.specs.declared.verdicts.GameFault.TheVariants as game
+use Rattle.call_stages.specs.declared.verdicts.Verdict.{Verdict}
+use Rattle.call_stages.specs.declared.verdicts.Verdict.TheVariants as verdict
 use Rattle.engine.specs.Boards.{place_asked}
-use Rattle.engine.specs.Reading.{ReadsNoMore, ReadsList, ReadsLexicon, ReadsRecord, ReadsRules}
-use Rattle.engine.specs.Reports.{bad_rack_line, bad_line_line, illegal_line}
-use Rattle.engine.specs.Telling.{IsTold}
+use Rattle.call_stages.specs.Reading.{ReadsNoMore, ReadsList, ReadsLexicon, ReadsRecord, ReadsRules}
+use Rattle.call_stages.specs.Reports.{bad_rack_line, bad_line_line, illegal_line}
+use Rattle.call_stages.specs.Telling.{IsTold}
 use Rattle.engine.specs.Topping.{ByRack}
 
 -- the rack of an event, where it shows one

@@ -6,16 +6,16 @@ use Rattle.gcg_read.specs.declared.records.Record.{Record}
 use Rattle.gcg_read.specs.Racks.{rack_of}
 use Rattle.game_turns.specs.Places.{AreAllowed}
 use Rattle.game_report.specs.TopPlays.{board_after, TellsTop}
-use Rattle.engine.specs.declared.decisions.Decision.{Decision}
-use Rattle.engine.specs.declared.faults.RunFault.{RunFault}
-use Rattle.engine.specs.declared.faults.RunFault.TheVariants as run
-use Rattle.engine.specs.declared.verdicts.Verdict.{Verdict}
-use Rattle.engine.specs.declared.verdicts.Verdict.TheVariants as verdict
+use Rattle.call_stages.specs.declared.decisions.Decision.{Decision}
+use Rattle.call_stages.specs.declared.faults.RunFault.{RunFault}
+use Rattle.call_stages.specs.declared.faults.RunFault.TheVariants as run
+use Rattle.call_stages.specs.declared.verdicts.Verdict.{Verdict}
+use Rattle.call_stages.specs.declared.verdicts.Verdict.TheVariants as verdict
 use Rattle.engine.specs.Judging.{IsRefused}
-use Rattle.engine.specs.Reading.{ReadsNoMore, ReadsList, ReadsLexicon, ReadsRecord, ReadsRules}
-use Rattle.engine.specs.Reports.{bad_rack_line}
-use Rattle.engine.specs.Runs.{IsSent}
-use Rattle.engine.specs.Telling.{IsTold}
+use Rattle.call_stages.specs.Reading.{ReadsNoMore, ReadsList, ReadsLexicon, ReadsRecord, ReadsRules}
+use Rattle.call_stages.specs.Reports.{bad_rack_line}
+use Rattle.call_stages.specs.Runs.{IsSent}
+use Rattle.call_stages.specs.Telling.{IsTold}
 
 -- the rules allow each event, and the ten best candidates by a rack on the board after the last event are told
 pub record AreTold (rules : Rules) (words : List (List ℕ)) (rack : List ℕ) (r : Record) (v : Verdict) (report : List ℕ) : Type 0 where

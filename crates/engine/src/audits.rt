@@ -5,13 +5,10 @@ ghost use Rattle.gcg_read.specs.Records.{most_bytes};
 ghost use Rattle.game_sheets.specs.Corrections.{KeepPoints};
 ghost use Rattle.lex_check.specs.Pairs as pairs;
 ghost use Rattle.engine.specs.Auditing.{IsAudit, IsAuditOf};
-ghost use Rattle.engine.specs.Stages.{IsRead};
+ghost use Rattle.call_stages.specs.Stages.{IsRead};
 
-use crate::decisions::Decision;
 use crate::entries::{Entry, entry_of};
-use crate::faults::RunFault;
-use crate::meanings::record_from;
-use crate::transfers::read_text;
+use call_stages::{Decision, RunFault, read_text, record_from};
 use devices::Input;
 use game_sheets::{WrongNumber, audit};
 use gcg_read::{MAX_BYTES, Record};

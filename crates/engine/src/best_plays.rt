@@ -5,10 +5,8 @@ ghost use Rattle.game_turns.specs.Places.{AreAllowed};
 ghost use Rattle.lex_check.specs.Pairs.{list_in};
 ghost use Rattle.engine.specs.Topping.{IsToppedOn};
 
-use crate::decisions::Decision;
 use crate::judging::illegal;
-use crate::questions::{AskedGame, Question};
-use crate::verdicts::{GameFault, Verdict};
+use call_stages::{AskedGame, Decision, GameFault, GameQuestion, Verdict};
 use game_report::top_report;
 use game_turns::{Passed, play_through};
 use lex_check::Checked;
@@ -51,13 +49,13 @@ pub struct BestPlays {
     pub rack: Counts,
 }
 
-impl Question for BestPlays {
+impl GameQuestion for BestPlays {
     ghost use Rattle.engine.specs.Topping.{IsToppedOn};
     ghost use Rattle.engine.specs.OwnBestPlays.{topped_own};
 
-    ghost is_answer = { λ question rules words game v report. IsToppedOn rules words question.rack game v report };
+    ghost is_decided = { λ question rules words game v report. IsToppedOn rules words question.rack game v report };
 
-    fn answer(&self, alloc: Global, asked: &AskedGame<'_>) -> Result<Decision, AllocError> {
+    fn decide(&self, alloc: Global, asked: &AskedGame<'_>) -> Result<Decision, AllocError> {
         top_record(alloc, asked, &self.rack)
     }
 

@@ -1,18 +1,14 @@
 //! The board of a record as a text, by the bytes of its inputs.
 ghost use Rattle.std.specs.Prelude.{◌≡◌, ◌≤◌, ◌∷◌, [], length, IfOk, IfSome};
 ghost use Rattle.devices.specs.Devices.{HasRoom};
-ghost use Rattle.engine.specs.declared.verdicts.Verdict.TheVariants as verdict;
+ghost use Rattle.call_stages.specs.declared.verdicts.Verdict.TheVariants as verdict;
 ghost use Rattle.engine.specs.Boards.{place_asked, IsShown, IsShownAt, IsBoarded, IsBoardedByText};
-ghost use Rattle.engine.specs.Reports as reports;
-ghost use Rattle.engine.specs.Runs.{Decides, IsRun};
-ghost use Rattle.engine.specs.Sources.{rules_source, game_source};
-ghost use Rattle.engine.specs.Telling.{IsTold};
+ghost use Rattle.call_stages.specs.Reports as reports;
+ghost use Rattle.call_stages.specs.Runs.{Decides, IsRun};
+ghost use Rattle.call_stages.specs.Sources.{rules_source, game_source};
+ghost use Rattle.call_stages.specs.Telling.{IsTold};
 
-use crate::decisions::Decision;
-use crate::faults::RunFault;
-use crate::meanings::{read_record, read_rules};
-use crate::transfers::finish;
-use crate::verdicts::Verdict;
+use call_stages::{Decision, RunFault, Verdict, finish, read_record, read_rules};
 use devices::{Input, Output};
 use game_board::{board_text, lay_plays, place_of_line};
 use gcg_read::{Event, Record};
@@ -20,7 +16,7 @@ use ref_tiles::Rules;
 use std::alloc::{AllocError, Global};
 
 /// The verdict that no event stands on the line or behind it.
-#[tactic(auto, unfolding(crate::specs::Reports::bad_line_line))]
+#[tactic(auto, unfolding(call_stages::specs::Reports::bad_line_line))]
 pub(crate) fn bad_line(alloc: Global) -> Result<Decision, AllocError>
     ensures { IfOk result (λ d. IsTold verdict.BadLine reports.bad_line_line d.verdict d.report.items) }
 {

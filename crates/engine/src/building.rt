@@ -1,25 +1,21 @@
 //! The lexicon of a word list, by the bytes of its input.
 ghost use Rattle.std.specs.Prelude.{◌∷◌, [], IfOk};
 ghost use Rattle.devices.specs.Devices.{HasRoom};
-ghost use Rattle.engine.specs.declared.verdicts.Verdict.TheVariants as verdict;
+ghost use Rattle.call_stages.specs.declared.verdicts.Verdict.TheVariants as verdict;
 ghost use Rattle.engine.specs.Building.{IsBuilt, IsBuiltBy};
-ghost use Rattle.engine.specs.Reports as reports;
-ghost use Rattle.engine.specs.Runs.{Decides, IsRun};
-ghost use Rattle.engine.specs.Sources.{words_source};
-ghost use Rattle.engine.specs.Telling.{IsTold};
+ghost use Rattle.call_stages.specs.Reports as reports;
+ghost use Rattle.call_stages.specs.Runs.{Decides, IsRun};
+ghost use Rattle.call_stages.specs.Sources.{words_source};
+ghost use Rattle.call_stages.specs.Telling.{IsTold};
 
-use crate::decisions::Decision;
-use crate::faults::RunFault;
-use crate::meanings::read_list;
-use crate::transfers::finish;
-use crate::verdicts::Verdict;
+use call_stages::{Decision, RunFault, Verdict, finish, read_list};
 use devices::{Input, Output};
 use lex_build::{BuildFault, build};
 use lex_list::WordList;
 use std::alloc::{AllocError, Global};
 
 /// The verdict that the file which is asked for would have more arcs, or words, than its format can number.
-#[tactic(auto, unfolding(crate::specs::Reports::too_many_arcs_line))]
+#[tactic(auto, unfolding(call_stages::specs::Reports::too_many_arcs_line))]
 pub(crate) fn too_many_arcs(alloc: Global) -> Result<Decision, AllocError>
     ensures { IfOk result (λ d. IsTold verdict.BadFile reports.too_many_arcs_line d.verdict d.report.items) }
 {

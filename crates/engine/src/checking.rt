@@ -3,20 +3,16 @@ ghost use Rattle.std.specs.Prelude.{◌∷◌, [], length, IfOk};
 ghost use Rattle.devices.specs.Devices.{HasRoom};
 ghost use Rattle.lex_check.specs.Pairs.{list_in};
 ghost use Rattle.engine.specs.Checking.{IsChecked};
-ghost use Rattle.engine.specs.declared.verdicts.Verdict.TheVariants as verdict;
-ghost use Rattle.engine.specs.Reading.{ReadsNoMore, ReadsLexicon, ByLexicon};
-ghost use Rattle.engine.specs.Reports as reports;
-ghost use Rattle.engine.specs.Runs.{Decides, IsRun};
-ghost use Rattle.engine.specs.Sources.{words_source, lexicon_source};
-ghost use Rattle.engine.specs.Telling.{IsTold};
+ghost use Rattle.call_stages.specs.declared.verdicts.Verdict.TheVariants as verdict;
+ghost use Rattle.call_stages.specs.Reading.{ReadsNoMore, ReadsLexicon, ByLexicon};
+ghost use Rattle.call_stages.specs.Reports as reports;
+ghost use Rattle.call_stages.specs.Runs.{Decides, IsRun};
+ghost use Rattle.call_stages.specs.Sources.{words_source, lexicon_source};
+ghost use Rattle.call_stages.specs.Telling.{IsTold};
 
-use crate::decisions::Decision;
-use crate::faults::RunFault;
-use crate::lexicons::{pair_file, read_lexicon};
-use crate::meanings::read_list;
-use crate::reports::ok_line;
-use crate::transfers::finish;
-use crate::verdicts::Verdict;
+use call_stages::{
+    Decision, RunFault, Verdict, finish, ok_line, pair_file, read_lexicon, read_list,
+};
 use devices::{Input, Output};
 use lex_check::Checked;
 use lex_list::WordList;

@@ -2,15 +2,13 @@
 ghost use Rattle.std.specs.Prelude.{◌∷◌, [], IfOk};
 ghost use Rattle.devices.specs.Devices.{HasRoom};
 ghost use Rattle.engine.specs.Converting.{IsConvertedBy, IsConvertedFile};
-ghost use Rattle.engine.specs.Runs.{Decides, IsRun};
-ghost use Rattle.engine.specs.Sources.{lexicon_source};
+ghost use Rattle.call_stages.specs.Runs.{Decides, IsRun};
+ghost use Rattle.call_stages.specs.Sources.{lexicon_source};
 
 use crate::building::too_many_arcs;
-use crate::decisions::Decision;
-use crate::faults::RunFault;
-use crate::lexicons::{LexiconFault, bad_file, open_within, read_lexicon};
-use crate::transfers::finish;
-use crate::verdicts::Verdict;
+use call_stages::{
+    Decision, LexiconFault, RunFault, Verdict, bad_file, finish, open_within, read_lexicon,
+};
 use devices::{Input, Output};
 use lex_build::{BuildFault, convert};
 use lex_file::Format;

@@ -4,14 +4,13 @@ ghost use Rattle.devices.specs.Devices.{HasRoom};
 ghost use Rattle.gcg_read.specs.Records.{most_bytes};
 ghost use Rattle.lex_check.specs.Pairs as pairs;
 ghost use Rattle.engine.specs.Explaining.{verdict_in, finding_line, case_verdict, case_line, IsCaseOf};
-ghost use Rattle.engine.specs.Stages.{IsRead};
+ghost use Rattle.call_stages.specs.Stages.{IsRead};
 
 use crate::entries::{Entry, entry_from};
-use crate::faults::RunFault;
 use crate::findings::Finding;
-use crate::reports::{bad_record_line, illegal_line, legal_line, unsettled_line};
-use crate::transfers::read_text;
-use crate::verdicts::Verdict;
+use call_stages::{
+    RunFault, Verdict, bad_record_line, illegal_line, legal_line, read_text, unsettled_line,
+};
 use devices::Input;
 use gcg_read::{MAX_BYTES, ReadFault};
 use lex_check::Checked;

@@ -2,15 +2,16 @@
 ghost use Rattle.std.specs.Prelude.{IfOk};
 ghost use Rattle.game_turns.specs.{Passing.{rules_in, record_in}, Places.{AreAllowed}};
 ghost use Rattle.lex_check.specs.Pairs as pairs;
-ghost use Rattle.engine.specs.declared.verdicts.Verdict.TheVariants as verdict;
-ghost use Rattle.engine.specs.{Judging.{IsToldBound, IsToldLegal, IsJudged}, Settling.{IsSettled, IsJudgedBy}, Telling.{IsTold}};
-ghost use Rattle.engine.specs.Reports as reports;
+ghost use Rattle.call_stages.specs.declared.verdicts.Verdict.TheVariants as verdict;
+ghost use Rattle.engine.specs.{Judging.{IsToldBound, IsToldLegal, IsJudged}, Settling.{IsSettled, IsJudgedBy}};
+ghost use Rattle.call_stages.specs.Telling.{IsTold};
+ghost use Rattle.call_stages.specs.Reports as reports;
 
-use crate::decisions::Decision;
-use crate::questions::{AskedGame, Question};
+use crate::legal_reports::legal_report;
 use crate::racks::{RackFinding, RackTrial, settle_racks, try_racks};
-use crate::reports::{illegal_line, legal_report, unsettled_line};
-use crate::verdicts::{GameFault, Verdict};
+use call_stages::{
+    AskedGame, Decision, GameFault, GameQuestion, Verdict, illegal_line, unsettled_line,
+};
 use game_deal::{DealBound, law_of_bounds};
 use game_turns::{Passed, play_through};
 use lex_check::Checked;
@@ -141,13 +142,13 @@ pub enum Judging {
     BySearch,
 }
 
-impl Question for Judging {
+impl GameQuestion for Judging {
     ghost use Rattle.engine.specs.Settling.{IsJudgedBy};
     ghost use Rattle.engine.specs.OwnJudging.{judged_by_own};
 
-    ghost is_answer = { λ question rules words game v report. IsJudgedBy question rules words game v report };
+    ghost is_decided = { λ question rules words game v report. IsJudgedBy question rules words game v report };
 
-    fn answer(&self, alloc: Global, asked: &AskedGame<'_>) -> Result<Decision, AllocError> {
+    fn decide(&self, alloc: Global, asked: &AskedGame<'_>) -> Result<Decision, AllocError> {
         judge_record(alloc, asked, *self)
     }
 

@@ -1,19 +1,17 @@
 //! Judging a game by the bytes of its inputs, by the deal of the rule or by a search. The contract of [`run`] is the theorem of the whole.
 ghost use Rattle.std.specs.Prelude.{◌≡◌, ◌∷◌, [], Bool, IfOk};
 ghost use Rattle.devices.specs.Devices.{HasRoom};
-ghost use Rattle.engine.specs.declared.verdicts.Verdict.TheVariants as verdict;
+ghost use Rattle.call_stages.specs.declared.verdicts.Verdict.TheVariants as verdict;
 ghost use Rattle.engine.specs.Headlines.{IsLegalRun};
 ghost use Rattle.engine.specs.Judging.{IsDecided, IsDecidedByText};
-ghost use Rattle.engine.specs.Runs.{IsRun};
+ghost use Rattle.call_stages.specs.Runs.{IsRun};
 ghost use Rattle.engine.specs.Settling.{IsSettledBy, IsSettledByText};
-ghost use Rattle.engine.specs.Sources.{rules_source, words_source, lexicon_source, game_source};
+ghost use Rattle.call_stages.specs.Sources.{rules_source, words_source, lexicon_source, game_source};
 
-use crate::faults::RunFault;
-use crate::games::{decide_by_rules, decide_game};
+use crate::asking::run_question;
 use crate::judging::Judging;
 use crate::laws::{law_of_legal, law_of_settled_games};
-use crate::transfers::finish;
-use crate::verdicts::Verdict;
+use call_stages::{KnownRules, RunFault, Verdict};
 use devices::{Input, Output};
 use ref_tiles::Rules;
 use std::alloc::Global;
@@ -53,8 +51,16 @@ pub fn run<W: Input, L: Input, G: Input, O: Output>(
         complete (O.device out.old) (O.device out.new)) }
 {
     law_of_legal();
-    let decided = decide_game(alloc, &Judging::ByRule, rules, words, lexicon, game);
-    finish(out, decided)
+    let mut known = KnownRules { rules };
+    run_question(
+        alloc,
+        &Judging::ByRule,
+        &mut known,
+        words,
+        lexicon,
+        game,
+        out,
+    )
 }
 
 /// Judges a game from its record as [`run`] does, by the rules that a text states.
@@ -84,8 +90,15 @@ pub fn run_ruled<R: Input, W: Input, L: Input, G: Input, O: Output>(
         ∷ lexicon_source (L.device lexicon.old) (L.device lexicon.new) ∷ game_source (G.device game.old) (G.device game.new) ∷ [])
         IsDecidedByText (O.device out.old) (O.device out.new) result }
 {
-    let decided = decide_by_rules(alloc, &Judging::ByRule, rules_text, words, lexicon, game);
-    finish(out, decided)
+    run_question(
+        alloc,
+        &Judging::ByRule,
+        rules_text,
+        words,
+        lexicon,
+        game,
+        out,
+    )
 }
 
 /// Judges a game as [`run`] does, but searches for a deal where `run` would say `Unsettled`.
@@ -122,8 +135,16 @@ pub fn run_settled<W: Input, L: Input, G: Input, O: Output>(
         complete (O.device out.old) (O.device out.new)) }
 {
     law_of_settled_games();
-    let decided = decide_game(alloc, &Judging::BySearch, rules, words, lexicon, game);
-    finish(out, decided)
+    let mut known = KnownRules { rules };
+    run_question(
+        alloc,
+        &Judging::BySearch,
+        &mut known,
+        words,
+        lexicon,
+        game,
+        out,
+    )
 }
 
 /// Judges a game as [`run_settled`] does, by the rules that a text states.
@@ -151,6 +172,13 @@ pub fn run_settled_ruled<R: Input, W: Input, L: Input, G: Input, O: Output>(
         ∷ lexicon_source (L.device lexicon.old) (L.device lexicon.new) ∷ game_source (G.device game.old) (G.device game.new) ∷ [])
         IsSettledByText (O.device out.old) (O.device out.new) result }
 {
-    let decided = decide_by_rules(alloc, &Judging::BySearch, rules_text, words, lexicon, game);
-    finish(out, decided)
+    run_question(
+        alloc,
+        &Judging::BySearch,
+        rules_text,
+        words,
+        lexicon,
+        game,
+        out,
+    )
 }

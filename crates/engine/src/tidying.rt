@@ -2,17 +2,13 @@
 ghost use Rattle.std.specs.Prelude.{◌≡◌, ◌∷◌, [], IfOk};
 ghost use Rattle.devices.specs.Devices.{HasRoom};
 ghost use Rattle.gcg_write.specs.Normal.{normal_of};
-ghost use Rattle.engine.specs.declared.verdicts.Verdict.TheVariants as verdict;
-ghost use Rattle.engine.specs.Runs.{Decides, IsRun};
-ghost use Rattle.engine.specs.Sources.{game_source};
-ghost use Rattle.engine.specs.Telling.{IsTold};
+ghost use Rattle.call_stages.specs.declared.verdicts.Verdict.TheVariants as verdict;
+ghost use Rattle.call_stages.specs.Runs.{Decides, IsRun};
+ghost use Rattle.call_stages.specs.Sources.{game_source};
+ghost use Rattle.call_stages.specs.Telling.{IsTold};
 ghost use Rattle.engine.specs.Tidying.{IsTidied};
 
-use crate::decisions::Decision;
-use crate::faults::RunFault;
-use crate::meanings::read_record;
-use crate::transfers::finish;
-use crate::verdicts::Verdict;
+use call_stages::{Decision, RunFault, Verdict, finish, read_record};
 use devices::{Input, Output};
 use gcg_read::Record;
 use gcg_write::write;

@@ -2,16 +2,14 @@
 ghost use Rattle.std.specs.Prelude.{◌≡◌, ◌≤◌, ◌∷◌, [], None};
 ghost use Rattle.std.specs.Option.{option_copied};
 ghost use Rattle.devices.specs.Devices.{HasRoom};
-ghost use Rattle.engine.specs.Runs.{IsRun};
-ghost use Rattle.engine.specs.Sources.{rules_source, words_source, lexicon_source, game_source, AreUntouched};
+ghost use Rattle.call_stages.specs.Runs.{IsRun};
+ghost use Rattle.call_stages.specs.Sources.{rules_source, words_source, lexicon_source, game_source, AreUntouched};
 ghost use Rattle.engine.specs.TopBefore.{given_rack, AreTopped, AreToppedByText};
 
-use crate::faults::RunFault;
-use crate::games::{decide_by_rules, decide_game};
+use crate::asking::run_question;
 use crate::topping::refuse_rack;
-use crate::transfers::finish;
 use crate::turn_plays::turn_plays;
-use crate::verdicts::Verdict;
+use call_stages::{KnownRules, RunFault, Verdict};
 use devices::{Input, Output};
 use ref_tiles::Rules;
 use std::alloc::Global;
@@ -57,8 +55,8 @@ pub fn run_top_before<W: Input, L: Input, G: Input, O: Output>(
     let Some(question) = turn_plays(rack, number, before) else {
         return refuse_rack(alloc, out);
     };
-    let decided = decide_game(alloc, &question, rules, words, lexicon, game);
-    finish(out, decided)
+    let mut known = KnownRules { rules };
+    run_question(alloc, &question, &mut known, words, lexicon, game, out)
 }
 
 /// Writes the best plays before a line as [`run_top_before`] does, by the rules that a text states.
@@ -100,6 +98,5 @@ pub fn run_top_before_ruled<R: Input, W: Input, L: Input, G: Input, O: Output>(
     let Some(question) = turn_plays(rack, number, before) else {
         return refuse_rack(alloc, out);
     };
-    let decided = decide_by_rules(alloc, &question, rules_text, words, lexicon, game);
-    finish(out, decided)
+    run_question(alloc, &question, rules_text, words, lexicon, game, out)
 }

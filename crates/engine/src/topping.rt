@@ -2,27 +2,24 @@
 ghost use Rattle.std.specs.Prelude.{◌≡◌, ◌∷◌, [], false, IfOk, IfErr};
 ghost use Rattle.devices.specs.Devices.{HasRoom};
 ghost use Rattle.gcg_read.specs.Racks.{is_rack};
-ghost use Rattle.engine.specs.declared.faults.RunFault.TheVariants.{NoMemory};
-ghost use Rattle.engine.specs.declared.verdicts.Verdict.TheVariants as verdict;
-ghost use Rattle.engine.specs.Reports as reports;
-ghost use Rattle.engine.specs.Runs.{IsRun};
-ghost use Rattle.engine.specs.Sources.{rules_source, words_source, lexicon_source, game_source, AreUntouched};
-ghost use Rattle.engine.specs.Telling.{IsTold};
+ghost use Rattle.call_stages.specs.declared.faults.RunFault.TheVariants.{NoMemory};
+ghost use Rattle.call_stages.specs.declared.verdicts.Verdict.TheVariants as verdict;
+ghost use Rattle.call_stages.specs.Reports as reports;
+ghost use Rattle.call_stages.specs.Runs.{IsRun};
+ghost use Rattle.call_stages.specs.Sources.{rules_source, words_source, lexicon_source, game_source, AreUntouched};
+ghost use Rattle.call_stages.specs.Telling.{IsTold};
 ghost use Rattle.engine.specs.Topping.{IsTopped, IsToppedByText, RefusesRack};
 
+use crate::asking::run_question;
 use crate::best_plays::BestPlays;
-use crate::decisions::Decision;
-use crate::faults::RunFault;
-use crate::games::{decide_by_rules, decide_game};
-use crate::transfers::finish;
-use crate::verdicts::Verdict;
+use call_stages::{Decision, KnownRules, RunFault, Verdict, finish};
 use devices::{Input, Output};
 use gcg_read::read_rack;
 use ref_tiles::Rules;
 use std::alloc::{AllocError, Global};
 
 /// The verdict that a rack is none.
-#[tactic(auto, unfolding(crate::specs::Reports::bad_rack_line))]
+#[tactic(auto, unfolding(call_stages::specs::Reports::bad_rack_line))]
 pub(crate) fn bad_rack(alloc: Global) -> Result<Decision, AllocError>
     ensures { IfOk result (λ d. IsTold verdict.BadRack reports.bad_rack_line d.verdict d.report.items) }
 {
@@ -85,8 +82,8 @@ pub fn run_top<W: Input, L: Input, G: Input, O: Output>(
         return refuse_rack(alloc, out);
     };
     let question = BestPlays { rack: tiles };
-    let decided = decide_game(alloc, &question, rules, words, lexicon, game);
-    finish(out, decided)
+    let mut known = KnownRules { rules };
+    run_question(alloc, &question, &mut known, words, lexicon, game, out)
 }
 
 /// Writes the ten best plays by a rack as [`run_top`] does, by the rules that a text states.
@@ -127,6 +124,6 @@ pub fn run_top_ruled<R: Input, W: Input, L: Input, G: Input, O: Output>(
     let Some(rack) = read_rack(rack) else {
         return refuse_rack(alloc, out);
     };
-    let decided = decide_by_rules(alloc, &BestPlays { rack }, rules_text, words, lexicon, game);
-    finish(out, decided)
+    let question = BestPlays { rack };
+    run_question(alloc, &question, rules_text, words, lexicon, game, out)
 }

@@ -3,15 +3,13 @@ ghost use Rattle.std.specs.Prelude.{◌≡◌, ◌≤◌, Some, None, length, If
 ghost use Rattle.std.specs.Option.{option_copied};
 ghost use Rattle.game_report.specs.TopPlays.{TellsFirst};
 ghost use Rattle.lex_check.specs.Pairs.{list_in};
-ghost use Rattle.engine.specs.declared.verdicts.Verdict.TheVariants as verdict;
+ghost use Rattle.call_stages.specs.declared.verdicts.Verdict.TheVariants as verdict;
 ghost use Rattle.engine.specs.TopBefore.{rack_asked, shown_rack, given_rack, ByRackAsked, ByPlaceAsked, IsToppedBefore};
 
 use crate::boards::{bad_line, place_asked};
-use crate::decisions::Decision;
 use crate::judging::illegal;
-use crate::questions::{AskedGame, Question};
 use crate::topping::bad_rack;
-use crate::verdicts::{GameFault, Verdict};
+use call_stages::{AskedGame, Decision, GameFault, GameQuestion, Verdict};
 use game_report::best_lines;
 use game_turns::board_before;
 use gcg_read::{Event, read_rack};
@@ -141,13 +139,13 @@ fn tell_by_line(
     }
 }
 
-impl Question for TurnPlays {
+impl GameQuestion for TurnPlays {
     ghost use Rattle.engine.specs.TopBefore.{IsToppedBefore};
     ghost use Rattle.engine.specs.OwnTurnPlays.{topped_before_own};
 
-    ghost is_answer = { λ question rules words game v report. IsToppedBefore question.number question.before rules words question.rack game v report };
+    ghost is_decided = { λ question rules words game v report. IsToppedBefore question.number question.before rules words question.rack game v report };
 
-    fn answer(&self, alloc: Global, asked: &AskedGame<'_>) -> Result<Decision, AllocError> {
+    fn decide(&self, alloc: Global, asked: &AskedGame<'_>) -> Result<Decision, AllocError> {
         tell_by_line(alloc, asked, self)
     }
 

@@ -5,10 +5,10 @@ use Rattle.exit_statuses.specs.declared.exits.Exit.{Exit}
 use Rattle.exit_statuses.specs.declared.exits.Exit.TheVariants.{Fine, Illegal, Unsettled, BadInput, Broken, Usage}
 use Rattle.exit_statuses.specs.declared.exits.Trouble.{Trouble}
 use Rattle.exit_statuses.specs.declared.exits.Trouble.TheVariants as trouble
-use Rattle.engine.specs.declared.faults.RunFault.{RunFault}
-use Rattle.engine.specs.declared.faults.RunFault.TheVariants as run
-use Rattle.engine.specs.declared.verdicts.Verdict.{Verdict}
-use Rattle.engine.specs.declared.verdicts.Verdict.TheVariants as verdict
+use Rattle.call_stages.specs.declared.faults.RunFault.{RunFault}
+use Rattle.call_stages.specs.declared.faults.RunFault.TheVariants as run
+use Rattle.call_stages.specs.declared.verdicts.Verdict.{Verdict}
+use Rattle.call_stages.specs.declared.verdicts.Verdict.TheVariants as verdict
 
 -- the status by which the program ends
 abbrev pub status_of : Exit → ℕ

@@ -1,1 +1,4 @@
 pub mod Exits
+pub mod Audits
+pub mod Cases
+pub mod Archives

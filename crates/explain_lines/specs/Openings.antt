@@ -8,7 +8,7 @@ use Rattle.engine.specs.declared.entries.Entry.{Entry}
 use Rattle.engine.specs.declared.findings.Finding.{Finding}
 use Rattle.engine.specs.declared.findings.Finding.TheVariants as finding
 use Rattle.engine.specs.Explaining.{case_line}
-use Rattle.engine.specs.Reports.{bad_line_line}
+use Rattle.call_stages.specs.Reports.{bad_line_line}
 
 -- line NUMBER: BYTES, where there is such a line
 abbrev pub shown : (number : ℕ) → Option (List ℕ) → List ℕ

@@ -2,14 +2,12 @@
 //!
 //! [`push_explanation`] writes the verdict line, the line as it stands in the file, what is wrong with it, the words of a play with
 //! what each square adds, and the board before the line. It takes numbers, squares and letters from calls of the crates below, whose
-//! contracts are exact; that they stand at the right places, and that the sentences say it well, is a matter of tests. [`exit_of`] is the
-//! exit of the program.
+//! contracts are exact; that they stand at the right places, and that the sentences say it well, is a matter of tests.
 #![tactic(auto)]
 
 mod boards;
 mod cases;
 mod challenges;
-mod exits;
 mod fields;
 mod lines;
 mod openings;
@@ -27,4 +25,3 @@ mod words;
 
 pub use boards::Stretch;
 pub use cases::{push_explanation, push_reason};
-pub use exits::exit_of;

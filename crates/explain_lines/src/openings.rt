@@ -1,7 +1,7 @@
 //! How an explanation begins.
 ghost use Rattle.std.specs.Prelude.{◌≡◌, ◌++◌, OnOk};
 ghost use Rattle.engine.specs.Explaining.{case_line};
-ghost use Rattle.engine.specs.Reports.{bad_line_line};
+ghost use Rattle.call_stages.specs.Reports.{bad_line_line};
 ghost use Rattle.explain_lines.specs.Openings.{place_shown, place_of_fault, record_opening, opening};
 
 use crate::lines::push_line;
@@ -39,7 +39,7 @@ pub fn place_of_fault(events: &[Event], finding: &Finding) -> Option<usize>
 }
 
 /// Appends that no event is on the line that was asked for, or after it.
-#[tactic(auto, unfolding(engine::specs::Reports::bad_line_line))]
+#[tactic(auto, unfolding(call_stages::specs::Reports::bad_line_line))]
 fn push_missing(text: &mut Vec<u8>) -> Result<(), AllocError>
     ensures { OnOk result (text.new.items ≡ text.old.items ++ bad_line_line) }
 {

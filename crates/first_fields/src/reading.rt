@@ -39,6 +39,13 @@ impl<R: Read + Drop> FirstFields<R> {
     }
 
     /// The inner reader, behind what was read of it.
+    pub fn inner(&self) -> &R
+        ensures { option_map (fields_from self.now.place) (R.remaining result.now) ≡ ⟦<FirstFields<R> as Read>⟧.remaining self.now }
+    {
+        &self.inner
+    }
+
+    /// The inner reader, behind what was read of it.
     pub fn into_inner(self) -> R
         ensures { option_map (fields_from self.place) (R.remaining result) ≡ ⟦<FirstFields<R> as Read>⟧.remaining self }
     {

@@ -1,19 +1,22 @@
 //! `archive`: many games by one word list and one lexicon, which are read once, and a line for each.
+ghost use Rattle.std.specs.Prelude.{[]};
+ghost use Rattle.devices.specs.Devices.{HasRoom};
+ghost use Rattle.referee.specs.Telling.{AreGamesTold};
+ghost use Rattle.referee.specs.Later.{games_later};
 
-use crate::digests::read_digested;
-use crate::files::open;
-use crate::inputs::{Inputs, open_inputs, refuse, write};
+use crate::files::{given_up, open};
+use crate::inputs::{GivenFiles, Inputs, RulesFile, maker, open_inputs, refuse, write};
 use crate::names::{Given, Listed, Names};
 use crate::pages::{Pages, unread_by};
 use crate::progress::Progress;
-use crate::sources::{Source, open_source, shown};
+use crate::sheets::Told;
+use crate::sources::{Source, Words, open_source, shown};
 use archive_lines::{Fields, PageField, Unread, push_json_line, push_tab_line};
 use command_line::{Archive, ArchiveNames, Progressing};
-use devices::FromRead;
+use devices::{FromRead, Input};
 use either::Either;
-use engine::{archive_entry, pair_file};
-use exit_statuses::{Exit, Trouble};
-use game_page::Maker;
+use engine::{Question, RulesSource, RunFault, archive_entry, ask};
+use exit_statuses::{Exit, Trouble, exit_of_line};
 use lex_check::Checked;
 use ref_tiles::Rules;
 use std::alloc::{AllocError, Global};
@@ -23,12 +26,12 @@ use std::str;
 
 /// Judges the games of an archive, each by the settled verdict, and writes a line for each to standard output before the next one is
 /// read. `watched` says whether somebody sees standard error.
-pub fn archive<'a, R: Runtime + AllocGlobal>(
-    rt: &R,
-    request: &Archive<'a>,
+pub fn archive<'r, 'a, R: Runtime + AllocGlobal>(
+    rt: &'r R,
+    request: &'r Archive<'a>,
     watched: bool,
 ) -> Result<Exit, Trouble<'a>> {
-    let inputs = open_inputs(rt, request.rules, request.pair)?;
+    let inputs = open_inputs(rt, request.rules, request.pair, request.pages.is_some())?;
     let progress = Progress::new(match request.progress {
         Progressing::Shown => true,
         Progressing::Quiet => false,
@@ -63,47 +66,106 @@ fn buffered<'a, F: Read + Drop>(
     }
 }
 
-/// Reads the inputs, and judges the games by them where they are good. A bad one ends the run with its line.
-fn archive_by<'a, R: Runtime + AllocGlobal, N: Names + Drop>(
-    rt: &R,
-    request: &Archive<'a>,
-    inputs: Inputs<Source<R>, R::File>,
+/// The games of an archive, which are judged one after the other.
+#[derive(Drop)]
+struct Games<N> {
     run: Run,
     names: N,
-) -> Result<Exit, Trouble<'a>> {
-    let given = match read_digested(rt.alloc(), request.rules, request.pair, inputs)? {
-        Ok(given) => given,
-        Err(decision) => return refuse(rt, &decision),
-    };
-    let maker = given.maker();
-    match pair_file(rt.alloc(), &given.list.list, &given.lexicon) {
-        Ok(Ok(pair)) => go_through(rt, request, &given.rules.rules, &pair, maker, run, names),
+}
+
+/// What is asked of the games of an archive, by a runtime to which their lines go.
+#[derive(Clone, Copy)]
+struct ArchiveQuestion<'r, 'a, R> {
+    rt: &'r R,
+    request: &'r Archive<'a>,
+}
+
+impl<'a, R: Runtime + AllocGlobal, F: Read + Drop, S: Read + Drop, N: Names + Drop> Question<
+    RulesFile<F>,
+    FromRead<Words<S>>,
+    Games<N>,
+> for ArchiveQuestion<'_, 'a, R> {
+    type Answer = Told<'a>;
+
+    ghost sources = { λ old new. [] };
+
+    ghost is_ready = { λ games. ⊤ };
+
+    ghost is_answer = { λ question rules words x texts v report. AreGamesTold x texts v report };
+
+    fn answer(
+        &self,
+        _alloc: Global,
+        given: &GivenFiles<'_, F, S>,
+        games: &mut Games<N>,
+    ) -> Result<Told<'a>, RunFault> {
+        Ok(Ok(go_through(self.rt, self.request, given, games)))
+    }
+
+    ghost still = { λ games. tt };
+
+    ghost later = { λ question rules words x texts v report is. games_later x texts v report is };
+}
+
+/// Reads the inputs, and judges the games by them where they are good. A bad one ends the run with its line.
+fn archive_by<'r, 'a, R: Runtime + AllocGlobal, N: Names + Drop>(
+    rt: &'r R,
+    request: &'r Archive<'a>,
+    inputs: Inputs<R::File, Source<R>>,
+    run: Run,
+    names: N,
+) -> Result<Exit, Trouble<'a>>
+    requires rules { HasRoom (⟦<RulesFile<R::File> as RulesSource>⟧.text inputs.rules) }
+    requires words { HasRoom (⟦<FromRead<Words<Source<R>>> as Input>⟧.device inputs.words) }
+    requires lexicon { HasRoom (⟦<FromRead<R::File> as Input>⟧.device inputs.lexicon) }
+{
+    let mut inputs = inputs;
+    let mut games = Games { run, names };
+    let question = ArchiveQuestion { rt, request };
+    let answer = ask(
+        rt.alloc(),
+        &question,
+        &mut inputs.rules,
+        &mut inputs.words,
+        &mut inputs.lexicon,
+        &mut games,
+    );
+    match answer {
+        Ok(Ok(told)) => told,
         Ok(Err(decision)) => refuse(rt, &decision),
-        Err(_) => Err(Trouble::NoMemory),
+        Err(fault) => Err(given_up(fault, &inputs.used(request.rules, request.pair), "")),
     }
 }
 
+/// The pages of an archive, where they are asked for.
+fn pages_of<'a, R: Runtime + AllocGlobal, F: Read + Drop, S: Read + Drop>(
+    rt: &R,
+    folder: Option<&'a str>,
+    given: &GivenFiles<'_, F, S>,
+) -> Result<Option<Pages<'a>>, Trouble<'a>> {
+    let Some(folder) = folder else {
+        return Ok(None);
+    };
+    let Ok(maker) = maker(given) else {
+        return Err(Trouble::NoMemory);
+    };
+    Ok(Some(Pages::open(rt, folder, maker)?))
+}
+
 /// Judges the games of these names, one after the other.
-fn go_through<'a, R: Runtime + AllocGlobal, N: Names + Drop>(
+fn go_through<'a, R: Runtime + AllocGlobal, F: Read + Drop, S: Read + Drop, N: Names + Drop>(
     rt: &R,
     request: &Archive<'a>,
-    rules: &Rules,
-    pair: &Checked<'_>,
-    maker: Maker,
-    run: Run,
-    names: N,
+    given: &GivenFiles<'_, F, S>,
+    games: &mut Games<N>,
 ) -> Result<Exit, Trouble<'a>> {
-    let mut pages = match request.pages {
-        None => None,
-        Some(folder) => Some(Pages::open(rt, folder, maker)?),
-    };
-    let mut run = run;
-    let mut names = names;
+    let mut pages = pages_of(rt, request.pages, given)?;
+    let Games { run, names } = games;
     let mut name = Vec::new(rt.alloc());
     for _ in 0..u64::MAX {
         name.clear();
         match names.next_name(&mut name) {
-            Ok(true) => run.take_game(rt, rules, pair, &mut pages, &name)?,
+            Ok(true) => run.take_game(rt, given.rules, given.pair, &mut pages, &name)?,
             Ok(false) => break,
             Err(error) if error.kind() == io::ErrorKind::OutOfMemory => {
                 return Err(Trouble::NoMemory);
@@ -179,13 +241,13 @@ impl Run {
         if let Some(pages) = pages {
             pages.add(rt.alloc(), &mut fields);
         }
-        let mut exit = fields.exit();
+        let mut exit = exit_of_line(&fields);
         if self.make_line(rt.alloc(), &fields).is_err() {
             let mut unread = Fields::unread(fields.name, Unread::NoMemory);
             if fields.page.is_some() {
                 unread.page = Some(PageField::NoMemory);
             }
-            exit = unread.exit();
+            exit = exit_of_line(&unread);
             if self.make_line(rt.alloc(), &unread).is_err() {
                 return Err(Trouble::NoMemory);
             }

@@ -2,10 +2,10 @@
 
 use crate::files::create;
 use crate::inputs::write;
-use audit_lines::{corrected_text, exit_of, is_corrected, push_audit};
+use audit_lines::{corrected_text, is_corrected, push_audit};
 use devices::{FromWrite, write_whole};
 use engine::Audit;
-use exit_statuses::{Exit, Trouble};
+use exit_statuses::{Exit, Trouble, exit_of_audit};
 use std::alloc::{AllocError, Global};
 use std::rt::{Files, Runtime};
 
@@ -24,7 +24,7 @@ pub fn tell_audit<'a, R: Runtime + AllocGlobal>(
         _ => {}
     }
     write(rt, told.as_slice())?;
-    Ok(exit_of(audit))
+    Ok(exit_of_audit(audit))
 }
 
 /// The lines of an audit.

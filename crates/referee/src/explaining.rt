@@ -2,8 +2,8 @@
 
 use crate::inputs::write;
 use engine::Case;
-use exit_statuses::{Exit, Trouble};
-use explain_lines::{exit_of, push_explanation};
+use exit_statuses::{Exit, Trouble, exit_of_case};
+use explain_lines::push_explanation;
 use lex_list::WordList;
 use ref_tiles::Rules;
 use std::alloc::{AllocError, Global};
@@ -21,7 +21,7 @@ pub fn tell_case<'a, R: Runtime + AllocGlobal>(
         return Err(Trouble::NoMemory);
     };
     write(rt, told.as_slice())?;
-    Ok(exit_of(case, line))
+    Ok(exit_of_case(case, line))
 }
 
 /// What explains a case, or one of its lines.

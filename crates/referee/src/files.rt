@@ -64,8 +64,14 @@ pub fn used<'a, F: Read + Drop>(name: &'a str, input: &FromRead<F>) -> InputFile
     }
 }
 
-/// What a call came to that wrote to the output of this name. Where an input failed, it is the first of these that has a failure; else
+/// Why a call gave up that wrote to the output of this name. Where an input failed, it is the first of these that has a failure; else
 /// the output did.
+pub fn given_up<'a>(fault: RunFault, inputs: &[InputFile<'a>], out: &'a str) -> Trouble<'a> {
+    let failed = inputs.iter().find(|input| input.failures > 0);
+    Trouble::of(fault, failed.map_or(out, |input| input.name))
+}
+
+/// What a call came to that wrote to the output of this name, and read these inputs.
 pub fn told<'a>(
     outcome: Result<Verdict, RunFault>,
     inputs: &[InputFile<'a>],
@@ -73,9 +79,6 @@ pub fn told<'a>(
 ) -> Result<Verdict, Trouble<'a>> {
     match outcome {
         Ok(verdict) => Ok(verdict),
-        Err(fault) => {
-            let failed = inputs.iter().find(|input| input.failures > 0);
-            Err(Trouble::of(fault, failed.map_or(out, |input| input.name)))
-        }
+        Err(fault) => Err(given_up(fault, inputs, out)),
     }
 }

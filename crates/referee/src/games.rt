@@ -1,21 +1,22 @@
 //! The commands that are about one game.
-ghost use Rattle.std.specs.Prelude.{IfOk, IfSome};
+ghost use Rattle.std.specs.Prelude.{IfOk};
 ghost use Rattle.devices.specs.Devices.{HasRoom};
 
 use crate::counted::Counted;
-use crate::files::{InputFile, STANDARD_OUTPUT, open, told, used, used_rules, used_source};
-use crate::sources::{Source, Words, open_source, open_words, shown};
+use crate::files::{InputFile, STANDARD_OUTPUT, told, used_rules, used_source};
+use crate::inputs::{Inputs, RulesFile, open_inputs, open_rules};
+use crate::sources::{Source, Words, open_source, shown};
 use command_line::{GameFiles, PlaysAsked};
 use devices::{FromRead, FromWrite, Input, Output};
 use engine::{
-    MOST_PLAYS, RunFault, Verdict, run, run_board, run_board_ruled, run_ruled, run_settled,
-    run_settled_ruled, run_tidy, run_top, run_top_before, run_top_before_ruled, run_top_ruled,
+    MOST_PLAYS, RulesInput, RulesSource, RunFault, Verdict, run, run_board, run_board_ruled,
+    run_ruled, run_settled, run_settled_ruled, run_tidy, run_top, run_top_before,
+    run_top_before_ruled, run_top_ruled,
 };
 use exit_statuses::Trouble;
-use ref_tiles::english_rules;
 use std::alloc::Global;
 use std::io::{self, Read};
-use std::rt::{Files, Runtime};
+use std::rt::Runtime;
 
 /// How long the report of a legal game without events is.
 const WITHOUT_EVENTS: u64 = b"legal unfinished\n".len() as u64;
@@ -45,18 +46,14 @@ enum GameTask<'a> {
 
 /// The inputs of a call about a game.
 #[derive(Drop)]
-struct GameInputs<F, W, S> {
-    /// The rules text; without one the rules are the English ones.
-    rules: Option<FromRead<F>>,
-    /// The word list.
-    words: FromRead<W>,
-    /// The lexicon of the words.
-    lexicon: FromRead<F>,
+struct GameInputs<F, S> {
+    /// What it is judged by.
+    given: Inputs<F, S>,
     /// The record.
     game: FromRead<S>,
 }
 
-impl<F: Read + Drop, W: Read + Drop, S: Read + Drop> GameInputs<F, W, S> {
+impl<F: Read + Drop, S: Read + Drop> GameInputs<F, S> {
     /// Has the engine do what is asked of the game. The report goes to `out`.
     fn ask<O: Output>(
         &mut self,
@@ -64,29 +61,32 @@ impl<F: Read + Drop, W: Read + Drop, S: Read + Drop> GameInputs<F, W, S> {
         task: GameTask<'_>,
         out: &mut O,
     ) -> Result<Verdict, RunFault>
-        requires rules { IfSome self.old.rules (λ text. HasRoom (⟦<FromRead<F> as Input>⟧.device text)) }
-        requires words { HasRoom (⟦<FromRead<W> as Input>⟧.device self.old.words) }
-        requires lexicon { HasRoom (⟦<FromRead<F> as Input>⟧.device self.old.lexicon) }
+        requires rules { HasRoom (⟦<RulesFile<F> as RulesSource>⟧.text self.old.given.rules) }
+        requires words { HasRoom (⟦<FromRead<Words<S>> as Input>⟧.device self.old.given.words) }
+        requires lexicon { HasRoom (⟦<FromRead<F> as Input>⟧.device self.old.given.lexicon) }
         requires game { HasRoom (⟦<FromRead<S> as Input>⟧.device self.old.game) }
         requires out { HasRoom (O.device out.old) }
     {
-        let GameInputs {
+        let GameInputs { given, game } = self;
+        let Inputs {
             rules,
             words,
             lexicon,
-            game,
-        } = self;
-        let Some(text) = rules else {
-            let english = english_rules();
+        } = given;
+        let RulesInput {
+            rules: english,
+            text,
+        } = rules;
+        let Some(text) = text else {
             return match task {
-                GameTask::Judge => run(alloc, words, lexicon, game, out, &english),
-                GameTask::Settle => run_settled(alloc, words, lexicon, game, out, &english),
+                GameTask::Judge => run(alloc, words, lexicon, game, out, english),
+                GameTask::Settle => run_settled(alloc, words, lexicon, game, out, english),
                 GameTask::TopAtTheEnd(rack) => {
-                    run_top(alloc, words, lexicon, game, rack, out, &english)
+                    run_top(alloc, words, lexicon, game, rack, out, english)
                 }
                 GameTask::TopBefore { rack, number, line } => {
                     let most = number.min(MOST_PLAYS);
-                    run_top_before(alloc, words, lexicon, game, rack, most, line, out, &english)
+                    run_top_before(alloc, words, lexicon, game, rack, most, line, out, english)
                 }
             };
         };
@@ -105,25 +105,8 @@ impl<F: Read + Drop, W: Read + Drop, S: Read + Drop> GameInputs<F, W, S> {
 
     /// These inputs after a call, in the order in which they were read.
     fn used<'a>(&self, files: GameFiles<'a>) -> [InputFile<'a>; 4] {
-        [
-            used_rules(files.rules, &self.rules),
-            used_source(files.pair.words.name, &self.words),
-            used(files.pair.lexicon, &self.lexicon),
-            used_source(files.game, &self.game),
-        ]
-    }
-}
-
-/// Opens a rules text, where one is named.
-fn open_rules<'a, R: Files>(
-    rt: &R,
-    name: Option<&'a str>,
-) -> Result<Option<FromRead<R::File>>, Trouble<'a>>
-    ensures { IfOk result (λ rules. IfSome rules (λ text. HasRoom (⟦<FromRead<R::File> as Input>⟧.device text))) }
-{
-    match name {
-        None => Ok(None),
-        Some(name) => Ok(Some(FromRead::new(open(rt, name)?))),
+        let [rules, words, lexicon] = self.given.used(files.rules, files.pair);
+        [rules, words, lexicon, used_source(files.game, &self.game)]
     }
 }
 
@@ -131,16 +114,14 @@ fn open_rules<'a, R: Files>(
 fn open_game<'a, R: Runtime>(
     rt: &R,
     files: GameFiles<'a>,
-) -> Result<GameInputs<R::File, Words<R>, Source<R>>, Trouble<'a>>
-    ensures rules { IfOk result (λ inputs. IfSome inputs.rules (λ text. HasRoom (⟦<FromRead<R::File> as Input>⟧.device text))) }
-    ensures words { IfOk result (λ inputs. HasRoom (⟦<FromRead<Words<R>> as Input>⟧.device inputs.words)) }
-    ensures lexicon { IfOk result (λ inputs. HasRoom (⟦<FromRead<R::File> as Input>⟧.device inputs.lexicon)) }
+) -> Result<GameInputs<R::File, Source<R>>, Trouble<'a>>
+    ensures rules { IfOk result (λ inputs. HasRoom (⟦<RulesFile<R::File> as RulesSource>⟧.text inputs.given.rules)) }
+    ensures words { IfOk result (λ inputs. HasRoom (⟦<FromRead<Words<Source<R>>> as Input>⟧.device inputs.given.words)) }
+    ensures lexicon { IfOk result (λ inputs. HasRoom (⟦<FromRead<R::File> as Input>⟧.device inputs.given.lexicon)) }
     ensures game { IfOk result (λ inputs. HasRoom (⟦<FromRead<Source<R>> as Input>⟧.device inputs.game)) }
 {
     Ok(GameInputs {
-        rules: open_rules(rt, files.rules)?,
-        words: FromRead::new(open_words(rt, files.pair.words)?),
-        lexicon: FromRead::new(open(rt, files.pair.lexicon)?),
+        given: open_inputs(rt, files.rules, files.pair, false)?,
         game: FromRead::new(open_source(rt, files.game)?),
     })
 }
@@ -238,14 +219,14 @@ pub fn board<'a, R: Runtime + AllocGlobal>(
     before: Option<u32>,
     game: &'a str,
 ) -> Result<Verdict, Trouble<'a>> {
-    let mut text = open_rules(rt, rules)?;
+    let mut stated = open_rules(rt, rules, false)?;
     let mut record = FromRead::new(open_source(rt, game)?);
     let mut out = FromWrite::new(io::writer(rt));
     let alloc = rt.alloc();
-    let outcome = match &mut text {
-        None => run_board(alloc, &mut record, before, &mut out, &english_rules()),
+    let outcome = match &mut stated.text {
+        None => run_board(alloc, &mut record, before, &mut out, &stated.rules),
         Some(text) => run_board_ruled(alloc, text, &mut record, before, &mut out),
     };
-    let inputs = [used_rules(rules, &text), used_source(game, &record)];
+    let inputs = [used_rules(rules, &stated.text), used_source(game, &record)];
     told(outcome, &inputs, STANDARD_OUTPUT)
 }

@@ -1,85 +1,100 @@
-//! The inputs that games are judged by: rules, a word list and its lexicon, which are opened and read once.
+//! The inputs that games are judged by: rules, a word list and its lexicon.
+ghost use Rattle.std.specs.Prelude.{IfOk};
+ghost use Rattle.devices.specs.Devices.{HasRoom};
 
-use crate::files::{STANDARD_OUTPUT, open};
-use crate::sources::{Source, open_source, shown};
-use command_line::PairFiles;
-use devices::{FromRead, FromWrite, write_whole};
-use engine::{Decision, read_lexicon, read_list, read_rules};
+use crate::files::{InputFile, STANDARD_OUTPUT, open, used, used_rules, used_source};
+use crate::sources::{Digested, Source, Words, digest_of, digested, open_words, words_digest};
+use command_line::{PROGRAM, PairFiles};
+use devices::{FromRead, FromWrite, Input, write_whole};
+use engine::{Decision, Given, RulesInput, RulesSource};
 use exit_statuses::{Exit, Trouble};
-use lex_list::WordList;
-use ref_tiles::{Rules, english_rules};
-use std::alloc::Global;
+use game_page::Maker;
+use ref_tiles::english_rules;
+use std::alloc::AllocError;
 use std::io::{self, Read};
 use std::rt::{Files, Runtime};
 
-/// The open inputs that are read once.
+/// The English rules, or those of a text.
+pub type RulesFile<F> = RulesInput<FromRead<Digested<F>>>;
+
+/// What was read of these inputs.
+pub type GivenFiles<'a, F, S> = Given<'a, RulesFile<F>, FromRead<Words<S>>>;
+
+/// The open inputs that games are judged by.
 #[derive(Drop)]
-pub struct Inputs<W, F> {
-    /// The rules text, where there is one.
-    pub rules: Option<F>,
+pub struct Inputs<F, S> {
+    /// The rules.
+    pub rules: RulesFile<F>,
     /// The word list.
-    pub words: W,
-    /// The lexicon.
-    pub lexicon: F,
+    pub words: FromRead<Words<S>>,
+    /// The lexicon of the words.
+    pub lexicon: FromRead<F>,
 }
 
-/// Opens the rules text where there is one, the word list and the lexicon, in this order.
+impl<F: Read + Drop, S: Read + Drop> Inputs<F, S> {
+    /// These inputs after a call, in the order in which they were read.
+    pub fn used<'a>(&self, rules: Option<&'a str>, pair: PairFiles<'a>) -> [InputFile<'a>; 3] {
+        [
+            used_rules(rules, &self.rules.text),
+            used_source(pair.words.name, &self.words),
+            used(pair.lexicon, &self.lexicon),
+        ]
+    }
+}
+
+/// Opens a rules text, where one is named.
+pub fn open_rules<'a, R: Files>(
+    rt: &R,
+    name: Option<&'a str>,
+    digests: bool,
+) -> Result<RulesFile<R::File>, Trouble<'a>>
+    ensures { IfOk result (λ rules. HasRoom (⟦<RulesFile<R::File> as RulesSource>⟧.text rules)) }
+{
+    let rules = english_rules();
+    let Some(name) = name else {
+        return Ok(RulesInput { rules, text: None });
+    };
+    let text = FromRead::new(digested(open(rt, name)?, digests));
+    Ok(RulesInput {
+        rules,
+        text: Some(text),
+    })
+}
+
+/// Opens the rules text where there is one, the word list and the lexicon, in this order. The bytes of the rules text and of the
+/// word list are digested where that is asked for.
 pub fn open_inputs<'a, R: Runtime>(
     rt: &R,
     rules: Option<&'a str>,
     pair: PairFiles<'a>,
-) -> Result<Inputs<Source<R>, R::File>, Trouble<'a>> {
-    let rules = match rules {
-        None => None,
-        Some(name) => Some(open(rt, name)?),
-    };
+    digests: bool,
+) -> Result<Inputs<R::File, Source<R>>, Trouble<'a>>
+    ensures rules { IfOk result (λ inputs. HasRoom (⟦<RulesFile<R::File> as RulesSource>⟧.text inputs.rules)) }
+    ensures words { IfOk result (λ inputs. HasRoom (⟦<FromRead<Words<Source<R>>> as Input>⟧.device inputs.words)) }
+    ensures lexicon { IfOk result (λ inputs. HasRoom (⟦<FromRead<R::File> as Input>⟧.device inputs.lexicon)) }
+{
     Ok(Inputs {
-        rules,
-        words: open_source(rt, pair.words.name)?,
-        lexicon: open(rt, pair.lexicon)?,
+        rules: open_rules(rt, rules, digests)?,
+        words: FromRead::new(open_words(rt, pair.words, digests)?),
+        lexicon: FromRead::new(open(rt, pair.lexicon)?),
     })
 }
 
-/// The rules of a text, the English ones where there is none, or the decision that the text states none.
-pub fn rules_of<'a, F: Read + Drop>(
-    alloc: Global,
-    name: Option<&'a str>,
-    text: Option<F>,
-) -> Result<Result<Rules, Decision>, Trouble<'a>> {
-    let Some(text) = text else {
-        return Ok(Ok(english_rules()));
+/// What pages by these inputs are made by. They are digested.
+pub fn maker<F: Read + Drop, S: Read + Drop>(
+    given: &GivenFiles<'_, F, S>,
+) -> Result<Maker, AllocError> {
+    let rules = match &given.rules_source.text {
+        None => None,
+        Some(text) => digest_of(text.inner())?,
     };
-    let mut text = FromRead::new(text);
-    match read_rules(alloc, &mut text) {
-        Ok(rules) => Ok(rules),
-        Err(fault) => Err(Trouble::of(fault, name.unwrap_or(""))),
-    }
-}
-
-/// The word list of a file, or the decision that it is none.
-pub fn list_of<'a, F: Read + Drop>(
-    alloc: Global,
-    name: &'a str,
-    words: F,
-) -> Result<Result<WordList, Decision>, Trouble<'a>> {
-    let mut words = FromRead::new(words);
-    match read_list(alloc, &mut words) {
-        Ok(list) => Ok(list),
-        Err(fault) => Err(Trouble::of(fault, shown(name))),
-    }
-}
-
-/// The bytes of a lexicon file.
-pub fn lexicon_of<'a, F: Read + Drop>(
-    alloc: Global,
-    name: &'a str,
-    lexicon: F,
-) -> Result<Vec<u8>, Trouble<'a>> {
-    let mut lexicon = FromRead::new(lexicon);
-    match read_lexicon(alloc, &mut lexicon) {
-        Ok(bytes) => Ok(bytes),
-        Err(fault) => Err(Trouble::of(fault, name)),
-    }
+    let list = words_digest(given.words)?;
+    Ok(Maker {
+        program: PROGRAM,
+        words: given.pair.list().len(),
+        list: list.unwrap_or([0; 32]),
+        rules,
+    })
 }
 
 /// Tells that an input is bad.

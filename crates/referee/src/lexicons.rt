@@ -16,7 +16,7 @@ pub fn build<'a, R: Runtime + AllocGlobal>(
     words: WordsFile<'a>,
     out: &'a str,
 ) -> Result<Verdict, Trouble<'a>> {
-    let mut list = FromRead::new(open_words(rt, words)?);
+    let mut list = FromRead::new(open_words(rt, words, false)?);
     let mut file = FromWrite::new(create(rt, out)?);
     let outcome = run_build(rt.alloc(), &mut list, &mut file);
     told(outcome, &[used_source(words.name, &list)], out)
@@ -28,7 +28,7 @@ pub fn check<'a, R: Runtime + AllocGlobal>(
     pair: PairFiles<'a>,
 ) -> Result<Verdict, Trouble<'a>> {
     let PairFiles { words, lexicon } = pair;
-    let mut list = FromRead::new(open_words(rt, words)?);
+    let mut list = FromRead::new(open_words(rt, words, false)?);
     let mut file = FromRead::new(open(rt, lexicon)?);
     let mut out = FromWrite::new(io::writer(rt));
     let outcome = run_check(rt.alloc(), &mut list, &mut file, &mut out);

@@ -6,7 +6,6 @@
 mod archiving;
 mod auditing;
 mod counted;
-mod digests;
 mod explaining;
 mod files;
 mod games;

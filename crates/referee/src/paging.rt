@@ -1,54 +1,17 @@
 //! `page`: the page of a game.
 
-use crate::digests::read_digested;
 use crate::files::create;
-use crate::inputs::{open_inputs, refuse, write};
-use crate::sources::{open_source, shown};
-use command_line::GameFiles;
-use devices::{FromRead, FromWrite, write_whole};
-use engine::{case_line, open_case, pair_file, record_from};
-use exit_statuses::{Exit, Trouble};
-use explain_lines::exit_of;
+use crate::inputs::write;
+use devices::{FromWrite, write_whole};
+use engine::{case_line, record_from};
+use exit_statuses::{Exit, Trouble, exit_of_case};
 use game_page::{Contents, push_page};
 use std::alloc::{AllocError, Global};
 use std::rt::Runtime;
 
-/// Writes the page of a record to the file `out`, and the verdict line to standard output. Of a text that is no record there is no page,
-/// and `out` is not touched.
-pub fn page<'a, R: Runtime + AllocGlobal>(
-    rt: &R,
-    files: GameFiles<'a>,
-    out: &'a str,
-) -> Result<Exit, Trouble<'a>> {
-    let inputs = open_inputs(rt, files.rules, files.pair)?;
-    let game = open_source(rt, files.game)?;
-    let given = match read_digested(rt.alloc(), files.rules, files.pair, inputs)? {
-        Ok(given) => given,
-        Err(decision) => return refuse(rt, &decision),
-    };
-    let pair = match pair_file(rt.alloc(), &given.list.list, &given.lexicon) {
-        Ok(Ok(pair)) => pair,
-        Ok(Err(decision)) => return refuse(rt, &decision),
-        Err(_) => return Err(Trouble::NoMemory),
-    };
-    let maker = given.maker();
-    let mut game = FromRead::new(game);
-    match open_case(rt.alloc(), &given.rules.rules, &pair, &mut game) {
-        Ok(case) => {
-            let contents = Contents {
-                rules: &given.rules.rules,
-                pair: &pair,
-                case: &case,
-                maker: &maker,
-            };
-            write_page(rt, &contents, out)
-        }
-        Err(fault) => Err(Trouble::of(fault, shown(files.game))),
-    }
-}
-
-/// Writes the page of a case to the file `out`, which is made once the page is.
-fn write_page<'a, R: Runtime + AllocGlobal>(
+/// Writes the page of a case to the file `out`, which is made once the page is, and the verdict line to standard output. Of a text that is
+/// no record there is no page, and `out` is not touched.
+pub fn write_page<'a, R: Runtime + AllocGlobal>(
     rt: &R,
     contents: &Contents<'_>,
     out: &'a str,
@@ -64,7 +27,7 @@ fn write_page<'a, R: Runtime + AllocGlobal>(
         }
     }
     write(rt, line.as_slice())?;
-    Ok(exit_of(case, None))
+    Ok(exit_of_case(case, None))
 }
 
 /// The page of a case.

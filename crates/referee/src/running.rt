@@ -4,7 +4,6 @@ use crate::archiving::archive;
 use crate::files::STANDARD_OUTPUT;
 use crate::games::{board, judge, tidy, top};
 use crate::lexicons::{build, check, convert};
-use crate::paging::page;
 use crate::sheets::{SheetTask, answer_sheet};
 use clap::Error;
 use clap::error::ErrorKind;
@@ -65,7 +64,7 @@ fn answer<R: Runtime + AllocGlobal>(rt: &R, request: Request<'_>, watched: bool)
         Request::Judge { settle, files } => ended(judge(rt, settle, files)),
         Request::Audit { files, out } => answer_sheet(rt, files, SheetTask::Audit(out)),
         Request::Explain { files, line } => answer_sheet(rt, files, SheetTask::Explain(line)),
-        Request::Page { files, out } => page(rt, files, out),
+        Request::Page { files, out } => answer_sheet(rt, files, SheetTask::Page(out)),
         Request::Build { words, out } => ended(build(rt, words, out)),
         Request::Check(pair) => ended(check(rt, pair)),
         Request::Convert {

@@ -1,15 +1,24 @@
 //! The commands that are about one sheet, by rules, a word list and its lexicon that are read before its record.
+ghost use Rattle.std.specs.Prelude.{◌∷◌, [], refl};
+ghost use Rattle.devices.specs.Devices.{HasRoom};
+ghost use Rattle.lex_check.specs.Pairs.{list_in};
+ghost use Rattle.call_stages.specs.Runs.{Gives, outcomes};
+ghost use Rattle.call_stages.specs.Sources.{game_source};
+ghost use Rattle.referee.specs.Telling.{IsAuditTold, IsCaseTold};
 
 use crate::auditing::tell_audit;
 use crate::explaining::tell_case;
-use crate::inputs::{Inputs, lexicon_of, list_of, open_inputs, refuse, rules_of};
-use crate::sources::{Source, fields_of, open_source, shown};
+use crate::files::{given_up, used_source};
+use crate::inputs::{GivenFiles, RulesFile, maker, open_inputs, refuse};
+use crate::paging::write_page;
+use crate::sources::{Words, open_source};
 use command_line::GameFiles;
-use devices::FromRead;
-use engine::{audit_sheet, open_case, pair_file};
+use devices::{FromRead, Input};
+use engine::{Case, Decision, Question, RunFault, ask, audit_sheet, open_case};
 use exit_statuses::{Exit, Trouble};
-use lex_check::Checked;
-use ref_tiles::Rules;
+use game_page::Contents;
+use std::alloc::Global;
+use std::io::Read;
 use std::rt::Runtime;
 
 /// What is asked of a sheet.
@@ -19,57 +28,153 @@ pub enum SheetTask<'a> {
     Audit(Option<&'a str>),
     /// To explain its verdict, or one of its lines.
     Explain(Option<u32>),
+    /// To write its page to a file.
+    Page(&'a str),
+}
+
+/// How the program ends after a question that told its answer, or the decision that an input is bad.
+pub type Told<'a> = Result<Result<Exit, Trouble<'a>>, Decision>;
+
+/// Audits a sheet, and tells the audit.
+fn audit<'a, R: Runtime + AllocGlobal, F: Read + Drop, S: Read + Drop>(
+    rt: &R,
+    given: &GivenFiles<'_, F, S>,
+    game: &mut FromRead<S>,
+    out: Option<&'a str>,
+) -> Result<Told<'a>, RunFault>
+    requires { HasRoom (⟦<FromRead<S> as Input>⟧.device game.old) }
+    ensures { Gives outcomes (game_source (⟦<FromRead<S> as Input>⟧.device game.old) (⟦<FromRead<S> as Input>⟧.device game.new) ∷ [])
+        (IsAuditTold given.now.rules.now (list_in given.now.pair.now)) result }
+{
+    match audit_sheet(rt.alloc(), given.rules, given.pair, game) {
+        Ok(Ok(audit)) => Ok(Ok(tell_audit(rt, &audit, out))),
+        Ok(Err(decision)) => Ok(Err(decision)),
+        Err(fault) => Err(fault),
+    }
+}
+
+/// Explains a sheet, or one of its lines.
+fn explain<'a, R: Runtime + AllocGlobal, F: Read + Drop, S: Read + Drop>(
+    rt: &R,
+    given: &GivenFiles<'_, F, S>,
+    game: &mut FromRead<S>,
+    line: Option<u32>,
+) -> Result<Told<'a>, RunFault>
+    requires { HasRoom (⟦<FromRead<S> as Input>⟧.device game.old) }
+    ensures { Gives outcomes (game_source (⟦<FromRead<S> as Input>⟧.device game.old) (⟦<FromRead<S> as Input>⟧.device game.new) ∷ [])
+        (IsCaseTold given.now.rules.now (list_in given.now.pair.now)) result }
+{
+    match open_case(rt.alloc(), given.rules, given.pair, game) {
+        Ok(case) => Ok(Ok(tell_case(rt, given.rules, given.pair.list(), &case, line))),
+        Err(fault) => Err(fault),
+    }
+}
+
+/// Writes the page of a case.
+fn tell_page<'a, R: Runtime + AllocGlobal, F: Read + Drop, S: Read + Drop>(
+    rt: &R,
+    given: &GivenFiles<'_, F, S>,
+    case: &Case,
+    out: &'a str,
+) -> Result<Exit, Trouble<'a>> {
+    let Ok(maker) = maker(given) else {
+        return Err(Trouble::NoMemory);
+    };
+    let contents = Contents {
+        rules: given.rules,
+        pair: given.pair,
+        case,
+        maker: &maker,
+    };
+    write_page(rt, &contents, out)
+}
+
+/// Writes the page of a sheet.
+fn page<'a, R: Runtime + AllocGlobal, F: Read + Drop, S: Read + Drop>(
+    rt: &R,
+    given: &GivenFiles<'_, F, S>,
+    game: &mut FromRead<S>,
+    out: &'a str,
+) -> Result<Told<'a>, RunFault>
+    requires { HasRoom (⟦<FromRead<S> as Input>⟧.device game.old) }
+    ensures { Gives outcomes (game_source (⟦<FromRead<S> as Input>⟧.device game.old) (⟦<FromRead<S> as Input>⟧.device game.new) ∷ [])
+        (IsCaseTold given.now.rules.now (list_in given.now.pair.now)) result }
+{
+    match open_case(rt.alloc(), given.rules, given.pair, game) {
+        Ok(case) => Ok(Ok(tell_page(rt, given, &case, out))),
+        Err(fault) => Err(fault),
+    }
+}
+
+/// What is asked of a sheet, by a runtime to which the answer goes.
+#[derive(Clone, Copy)]
+struct SheetQuestion<'a, R> {
+    rt: &'a R,
+    task: SheetTask<'a>,
+}
+
+impl<'a, R: Runtime + AllocGlobal, F: Read + Drop, S: Read + Drop> Question<
+    RulesFile<F>,
+    FromRead<Words<S>>,
+    FromRead<S>,
+> for SheetQuestion<'a, R> {
+    ghost use Rattle.referee.specs.Sheets.{IsSheetTold, sheet_later};
+
+    type Answer = Told<'a>;
+
+    ghost sources = { λ old new. game_source (⟦<FromRead<S> as Input>⟧.device old) (⟦<FromRead<S> as Input>⟧.device new) ∷ [] };
+
+    ghost is_ready = { λ game. HasRoom (⟦<FromRead<S> as Input>⟧.device game) };
+
+    ghost is_answer = { λ question rules words x texts v report. IsSheetTold question.task rules words x texts v report };
+
+    fn answer(
+        &self,
+        _alloc: Global,
+        given: &GivenFiles<'_, F, S>,
+        game: &mut FromRead<S>,
+    ) -> Result<Told<'a>, RunFault> {
+        match self.task {
+            SheetTask::Audit(out) => audit(self.rt, given, game, out),
+            SheetTask::Explain(line) => explain(self.rt, given, game, line),
+            SheetTask::Page(out) => page(self.rt, given, game, out),
+        }
+    }
+
+    ghost still = { λ game. (refl, tt) };
+
+    ghost later = { λ question rules words x texts v report is. sheet_later question.task rules words x texts v report is };
 }
 
 /// Opens the files of a sheet, reads what it is judged by, and does what is asked of it.
 pub fn answer_sheet<'a, R: Runtime + AllocGlobal>(
-    rt: &R,
+    rt: &'a R,
     files: GameFiles<'a>,
     task: SheetTask<'a>,
 ) -> Result<Exit, Trouble<'a>> {
-    let inputs = open_inputs(rt, files.rules, files.pair)?;
-    let game = open_source(rt, files.game)?;
-    let Inputs {
-        rules,
-        words,
-        lexicon,
-    } = inputs;
-    let rules = match rules_of(rt.alloc(), files.rules, rules)? {
-        Ok(rules) => rules,
-        Err(decision) => return refuse(rt, &decision),
-    };
-    let words = fields_of(words, files.pair.words.first_field);
-    let list = match list_of(rt.alloc(), files.pair.words.name, words)? {
-        Ok(list) => list,
-        Err(decision) => return refuse(rt, &decision),
-    };
-    let bytes = lexicon_of(rt.alloc(), files.pair.lexicon, lexicon)?;
-    match pair_file(rt.alloc(), &list, &bytes) {
-        Ok(Ok(pair)) => answer_by(rt, shown(files.game), &rules, &pair, game, task),
+    let mut inputs = open_inputs(
+        rt,
+        files.rules,
+        files.pair,
+        matches!(task, SheetTask::Page(_)),
+    )?;
+    let mut game = FromRead::new(open_source(rt, files.game)?);
+    let question = SheetQuestion { rt, task };
+    let answer = ask(
+        rt.alloc(),
+        &question,
+        &mut inputs.rules,
+        &mut inputs.words,
+        &mut inputs.lexicon,
+        &mut game,
+    );
+    match answer {
+        Ok(Ok(told)) => told,
         Ok(Err(decision)) => refuse(rt, &decision),
-        Err(_) => Err(Trouble::NoMemory),
-    }
-}
-
-/// Reads an open sheet, and does what is asked of it.
-fn answer_by<'a, R: Runtime + AllocGlobal>(
-    rt: &R,
-    name: &'a str,
-    rules: &Rules,
-    pair: &Checked<'_>,
-    game: Source<R>,
-    task: SheetTask<'a>,
-) -> Result<Exit, Trouble<'a>> {
-    let mut game = FromRead::new(game);
-    match task {
-        SheetTask::Audit(out) => match audit_sheet(rt.alloc(), rules, pair, &mut game) {
-            Ok(Ok(audit)) => tell_audit(rt, &audit, out),
-            Ok(Err(decision)) => refuse(rt, &decision),
-            Err(fault) => Err(Trouble::of(fault, name)),
-        },
-        SheetTask::Explain(line) => match open_case(rt.alloc(), rules, pair, &mut game) {
-            Ok(case) => tell_case(rt, rules, pair.list(), &case, line),
-            Err(fault) => Err(Trouble::of(fault, name)),
-        },
+        Err(fault) => {
+            let [rules, words, lexicon] = inputs.used(files.rules, files.pair);
+            let game = used_source(files.game, &game);
+            Err(given_up(fault, &[rules, words, lexicon, game], ""))
+        }
     }
 }

@@ -1,6 +1,7 @@
 //! Lines of an archive.
 use archive_lines::{Answer, Fields, Unread, push_escaped, push_json_line, push_tab_line};
 use engine::{Entry, Finding, GameFault};
+use exit_statuses::exit_of_answer;
 use game_turns::RuleFault;
 use gcg_read::{ReadFault, Record, Why};
 use std::alloc::Global;
@@ -43,9 +44,9 @@ fn statuses_of_answers(rt: HostRuntime) {
         (Answer::Unread, 4),
     ];
     for (answer, status) in rows {
-        assert_eq!(rt; answer.exit().status(), status);
+        assert_eq!(rt; exit_of_answer(answer).status(), status);
         for (other, other_status) in rows {
-            let worse = answer.exit().worse(other.exit());
+            let worse = exit_of_answer(answer).worse(exit_of_answer(other));
             assert_eq!(rt; worse.status(), status.max(other_status));
         }
     }

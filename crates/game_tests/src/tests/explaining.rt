@@ -2,8 +2,8 @@
 use super::games::{assert_settled, lexicon_of, rules_with};
 use super::turns::SHORT;
 use engine::{open_case, pair_file};
-use exit_statuses::Exit;
-use explain_lines::{exit_of, push_explanation};
+use exit_statuses::{Exit, exit_of_case};
+use explain_lines::push_explanation;
 use lex_list::WordList;
 use ref_tiles::{Rules, english_rules};
 use std::alloc::Global;
@@ -65,7 +65,7 @@ fn explained_by(
     let case = open_case(alloc, rules, &pair, &mut game).expect(rt, "a case");
     let mut text = Vec::new(alloc);
     push_explanation(alloc, &mut text, rules, &list, &case, line).expect(rt, "a text");
-    (exit_of(&case, line), text)
+    (exit_of_case(&case, line), text)
 }
 
 /// Asserts the exit of a row or of one of its lines, and what stands before the board.

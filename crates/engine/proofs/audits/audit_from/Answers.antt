@@ -1,6 +1,6 @@
 use Rattle.std.proofs.Common.{subst}
 use Rattle.lex_check.specs.Pairs.{list_in}
-use Rattle.engine.specs.Stages.{IsRecordOf}
+use Rattle.call_stages.specs.Stages.{IsRecordOf}
 use Rattle.engine.proofs.AuditedRecords.{audit_of}
 use Rattle.engine.proofs.audits.audit_from.Goals as goal
 

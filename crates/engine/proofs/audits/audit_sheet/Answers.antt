@@ -1,7 +1,7 @@
 use Rattle.gcg_read.specs.Records.{most_bytes}
 use Rattle.lex_check.specs.Pairs.{list_in}
 use Rattle.engine.specs.Auditing.{IsAuditOf}
-use Rattle.engine.proofs.Readings.{taken}
+use Rattle.call_stages.proofs.Readings.{taken}
 use Rattle.engine.proofs.audits.audit_sheet.Goals as goal
 
 pub returns : goal.returns

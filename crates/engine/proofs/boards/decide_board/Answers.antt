@@ -1,6 +1,6 @@
 use Rattle.engine.specs.Boards.{place_asked, IsShownAt}
-use Rattle.engine.specs.Reading.{ReadsNoMore}
-use Rattle.engine.proofs.Stages.{records, text_bad, text_last}
+use Rattle.call_stages.specs.Reading.{ReadsNoMore}
+use Rattle.call_stages.proofs.Stages.{records, text_bad, text_last}
 use Rattle.engine.proofs.boards.decide_board.Goals as goal
 
 pub returns-in-Err : goal.returns-in-Err

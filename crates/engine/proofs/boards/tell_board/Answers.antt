@@ -1,9 +1,9 @@
 use Rattle.std.proofs.Common.{ap, ◌∙◌}
 use Rattle.std.proofs.lemmas.Result.{IfOk-weaker}
-use Rattle.engine.specs.declared.verdicts.Verdict.TheVariants as verdict
+use Rattle.call_stages.specs.declared.verdicts.Verdict.TheVariants as verdict
 use Rattle.engine.specs.Boards.{place_asked, IsShown, IsShownAt}
-use Rattle.engine.specs.Reports.{bad_line_line}
-use Rattle.engine.specs.Telling.{IsTold}
+use Rattle.call_stages.specs.Reports.{bad_line_line}
+use Rattle.call_stages.specs.Telling.{IsTold}
 use Rattle.engine.proofs.ShownBoards.{shown_by, none_there}
 use Rattle.engine.proofs.boards.tell_board.Goals as goal
 

@@ -1,9 +1,9 @@
 use Rattle.std.proofs.Common.{length}
-use Rattle.engine.specs.declared.verdicts.Verdict.TheVariants as verdict
-use Rattle.engine.specs.Reading.{ReadsNoMore}
-use Rattle.engine.specs.Reports.{ok_line}
-use Rattle.engine.specs.Telling.{IsTold}
-use Rattle.engine.proofs.Stages.{lexicon_last}
+use Rattle.call_stages.specs.declared.verdicts.Verdict.TheVariants as verdict
+use Rattle.call_stages.specs.Reading.{ReadsNoMore}
+use Rattle.call_stages.specs.Reports.{ok_line}
+use Rattle.call_stages.specs.Telling.{IsTold}
+use Rattle.call_stages.proofs.Stages.{lexicon_last}
 use Rattle.engine.proofs.checking.decide_file.Goals as goal
 
 pub returns : goal.returns

@@ -1,12 +1,12 @@
 use Rattle.std.proofs.Common.{◌≡◌, ℕ, List, length, refl, sym, ◌∙◌}
-use Rattle.engine.specs.declared.verdicts.Verdict.{Verdict}
-use Rattle.engine.specs.declared.verdicts.Verdict.TheVariants as verdict
-use Rattle.engine.specs.Reading.{ReadsNoMore, ReadsLexicon}
-use Rattle.engine.specs.Reports.{ok_line}
-use Rattle.engine.specs.Telling.{IsTold}
-use Rattle.engine.proofs.Runs.{runs, runs_unread}
-use Rattle.engine.proofs.Sparing.{more_spares, lexicon_spares}
-use Rattle.engine.proofs.Stages.{lists, text_bad, list_good}
+use Rattle.call_stages.specs.declared.verdicts.Verdict.{Verdict}
+use Rattle.call_stages.specs.declared.verdicts.Verdict.TheVariants as verdict
+use Rattle.call_stages.specs.Reading.{ReadsNoMore, ReadsLexicon}
+use Rattle.call_stages.specs.Reports.{ok_line}
+use Rattle.call_stages.specs.Telling.{IsTold}
+use Rattle.call_stages.proofs.Runs.{runs, runs_unread}
+use Rattle.call_stages.specs.Sparing.{more_spares, lexicon_spares}
+use Rattle.call_stages.proofs.Stages.{lists, text_bad, list_good}
 use Rattle.engine.proofs.checking.run_check.Goals as goal
 
 pub returns-in-Ok-Err : goal.returns-in-Ok-Err

@@ -1,9 +1,8 @@
-use Rattle.engine.proofs.Runs.{runs}
 use Rattle.engine.proofs.Headlines.{settled_run}
 use Rattle.engine.proofs.running.run_settled.Goals as goal
 
 pub returns-clause-run : goal.returns-clause-run
-returns-clause-run g c = runs c.decide_game-decided.ensures c.finish.ensures
+returns-clause-run g c = c.run_question.ensures
 
 pub returns-clause-legal : goal.returns-clause-legal
-returns-clause-legal g c = settled_run c.law_of_settled_games.ensures c.args.rules.now _ _ _ _ _ c.finish.result (returns-clause-run g c)
+returns-clause-legal g c = settled_run c.law_of_settled_games.ensures c.args.rules.now _ _ _ _ _ c.run_question.result (returns-clause-run g c)

@@ -1,8 +1,8 @@
 use Rattle.gcg_write.specs.Normal.{normal_of}
-use Rattle.engine.specs.declared.verdicts.Verdict.TheVariants as verdict
-use Rattle.engine.specs.Reading.{ReadsNoMore}
-use Rattle.engine.specs.Telling.{IsTold}
-use Rattle.engine.proofs.Stages.{records, text_bad, text_last}
+use Rattle.call_stages.specs.declared.verdicts.Verdict.TheVariants as verdict
+use Rattle.call_stages.specs.Reading.{ReadsNoMore}
+use Rattle.call_stages.specs.Telling.{IsTold}
+use Rattle.call_stages.proofs.Stages.{records, text_bad, text_last}
 use Rattle.engine.proofs.tidying.decide_tidy.Goals as goal
 
 pub returns-in-Err : goal.returns-in-Err

@@ -10,4 +10,4 @@ returns-in_default-clause-run g c =
 
 pub returns-clause-run : goal.returns-clause-run
 returns-clause-run g c =
-    runs_as_asked _ (λ number before. IsToppedBeforeBy number before c.args.rules.now) c.args.number c.in-Some.question.number c.args.before c.in-Some.question.before (given_rack (option_copied c.args.rack)) c.in-Some.question.rack _ _ _ _ c.in-Some.ensures.number c.in-Some.ensures.before c.in-Some.ensures.rack c.decide_game-decided.ensures c.finish.ensures
+    runs_as_asked _ (λ number before. IsToppedBeforeBy number before c.args.rules.now) c.args.number c.in-Some.question.number c.args.before c.in-Some.question.before (given_rack (option_copied c.args.rack)) c.in-Some.question.rack _ _ _ c.in-Some.ensures.number c.in-Some.ensures.before c.in-Some.ensures.rack c.run_question.ensures

@@ -1,6 +1,6 @@
 use Rattle.std.proofs.Common.{refl}
 use Rattle.std.specs.Option.{option_copied}
-use Rattle.engine.specs.Reading.{ReadsRules}
+use Rattle.call_stages.specs.Reading.{ReadsRules}
 use Rattle.engine.specs.TopBefore.{given_rack, IsToppedBeforeBy}
 use Rattle.engine.proofs.Toppings.{no_rack, runs_without, runs_as_asked}
 use Rattle.engine.proofs.top_before.run_top_before_ruled.Goals as goal
@@ -11,4 +11,4 @@ returns-in_default-clause-run g c =
 
 pub returns-clause-run : goal.returns-clause-run
 returns-clause-run g c =
-    runs_as_asked _ (λ number before given. ReadsRules (λ rules. IsToppedBeforeBy number before rules given)) c.args.number c.in-Some.question.number c.args.before c.in-Some.question.before (given_rack (option_copied c.args.rack)) c.in-Some.question.rack _ _ _ _ c.in-Some.ensures.number c.in-Some.ensures.before c.in-Some.ensures.rack c.decide_by_rules-decided.ensures c.finish.ensures
+    runs_as_asked _ (λ number before given. ReadsRules (λ rules. IsToppedBeforeBy number before rules given)) c.args.number c.in-Some.question.number c.args.before c.in-Some.question.before (given_rack (option_copied c.args.rack)) c.in-Some.question.rack _ _ _ c.in-Some.ensures.number c.in-Some.ensures.before c.in-Some.ensures.rack c.run_question.ensures

@@ -10,4 +10,4 @@ returns-in_default-clause-run g c =
 
 pub returns-clause-run : goal.returns-clause-run
 returns-clause-run g c =
-    runs_by_rack _ (IsToppedBy c.args.rules.now) (rack_of c.args.rack.now) c.in-Some.tiles _ _ _ _ (sym c.read_rack.ensures ∙ c.in-Some.is) c.decide_game-decided.ensures c.finish.ensures
+    runs_by_rack _ (IsToppedBy c.args.rules.now) (rack_of c.args.rack.now) c.in-Some.tiles _ _ _ (sym c.read_rack.ensures ∙ c.in-Some.is) c.run_question.ensures

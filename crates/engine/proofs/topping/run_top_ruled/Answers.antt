@@ -1,6 +1,6 @@
 use Rattle.std.proofs.Common.{refl, sym, ◌∙◌}
 use Rattle.gcg_read.specs.Racks.{rack_of}
-use Rattle.engine.specs.Reading.{ReadsRules}
+use Rattle.call_stages.specs.Reading.{ReadsRules}
 use Rattle.engine.specs.Topping.{IsToppedBy}
 use Rattle.engine.proofs.Toppings.{no_rack, runs_without, runs_by_rack}
 use Rattle.engine.proofs.topping.run_top_ruled.Goals as goal
@@ -11,4 +11,4 @@ returns-in_default-clause-run g c =
 
 pub returns-clause-run : goal.returns-clause-run
 returns-clause-run g c =
-    runs_by_rack _ (λ rack. ReadsRules (λ rules. IsToppedBy rules rack)) (rack_of c.args.rack.now) c.in-Some.rack _ _ _ _ (sym c.read_rack.ensures ∙ c.in-Some.is) c.decide_by_rules-decided.ensures c.finish.ensures
+    runs_by_rack _ (λ rack. ReadsRules (λ rules. IsToppedBy rules rack)) (rack_of c.args.rack.now) c.in-Some.rack _ _ _ (sym c.read_rack.ensures ∙ c.in-Some.is) c.run_question.ensures

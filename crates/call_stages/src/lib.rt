@@ -1,0 +1,42 @@
+//! The stages of a call: it reads its inputs in order until one is bad, decides, and writes the report.
+//!
+//! [`ask`] is the door. It reads rules where they are not known, a word list and its lexicon, and then asks a [`Question`] of them,
+//! which may read more. A question of the game of a record is a [`GameQuestion`]; [`decide_by_pair`] asks it of one game of many.
+//!
+//! The door is made of stages, which other calls can be made of too. [`read_list`], [`read_rules`] and [`read_record`] read an input and
+//! take it for what it means, or give the decision that it is bad. [`read_lexicon`] reads a file, and [`pair_file`] takes it and a list for a
+//! pair. [`finish`] writes what was decided.
+//!
+//! A [`Verdict`] is what the referee answers, a [`Decision`] a verdict with its report, and a [`RunFault`] why there is none. The lines of
+//! reports are here too, but for those of the events of a legal game.
+#![tactic(auto)]
+
+mod decisions;
+mod doors;
+mod faults;
+mod lexicons;
+mod meanings;
+mod questions;
+mod records;
+mod reports;
+mod rules_sources;
+mod transfers;
+mod verdicts;
+
+pub use deal_search::Earlier;
+pub use decisions::Decision;
+pub use doors::ask;
+pub use faults::RunFault;
+pub use lexicons::{LexiconFault, bad_file, open_within, pair_file, read_lexicon};
+pub use meanings::{
+    game_from, list_from, read_list, read_record, read_rules, record_from, rules_from,
+};
+pub use questions::{Answer, Given, Question};
+pub use records::{AskedGame, GameQuestion, decide_by_pair};
+pub use reports::{
+    bad_file_line, bad_list_line, bad_record_line, bad_rules_line, fault_text, illegal_line,
+    legal_line, ok_line, unsettled_line,
+};
+pub use rules_sources::{KnownRules, RulesInput, RulesSource};
+pub use transfers::{finish, read_text};
+pub use verdicts::{GameFault, Verdict};

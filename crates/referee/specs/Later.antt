@@ -1,0 +1,37 @@
+-- What is told is not that an input is bad that was read before.
+use Rattle.std.proofs.Common.{◌≡◌, ℕ, List, [], ◌∷◌, Result, Ok, Err, sym, subst}
+use Rattle.ref_tiles.specs.declared.rulebook.Rules.{Rules}
+use Rattle.call_stages.specs.declared.decisions.Decision.{Decision}
+use Rattle.call_stages.specs.declared.verdicts.Verdict.{Verdict}
+use Rattle.call_stages.specs.declared.verdicts.Verdict.TheVariants as verdict
+use Rattle.call_stages.specs.Sparing.{record_spares}
+use Rattle.call_stages.specs.Telling.{IsLater}
+use Rattle.referee.specs.Telling.{IsAuditTold, IsCaseTold, AreGamesTold}
+
+done_later : IsLater verdict.Done
+done_later = record { rules = λ bad. cc; words = λ bad. cc; lexicon = λ bad. cc }
+
+later_as : (v : Verdict) → v ≡ verdict.Done → IsLater v
+later_as v is = subst IsLater (sym is) done_later
+
+pub audit_later : {T : Type 0} (rules : Rules) (list : List (List ℕ)) (x : Result T Decision) (texts : List (List ℕ)) (v : Verdict) (report : List ℕ) → IsAuditTold rules list x texts v report → IsLater v
+audit_later rules list (Ok told) [] v report is = absurd is
+audit_later rules list (Ok told) (text ∷ []) v report is = later_as v is.1.1.verdict_is
+audit_later rules list (Ok told) (text ∷ more ∷ rest) v report is = absurd is
+audit_later rules list (Err d) texts v report is =
+    record {
+      rules = record_spares verdict.BadRules (λ r rest w said. ⊥) (λ same. cc) (λ r rest w said none. absurd none) texts v report is;
+      words = record_spares verdict.BadList (λ r rest w said. ⊥) (λ same. cc) (λ r rest w said none. absurd none) texts v report is;
+      lexicon = record_spares verdict.BadFile (λ r rest w said. ⊥) (λ same. cc) (λ r rest w said none. absurd none) texts v report is;
+    }
+
+pub case_later : {T : Type 0} (rules : Rules) (list : List (List ℕ)) (x : Result T Decision) (texts : List (List ℕ)) (v : Verdict) (report : List ℕ) → IsCaseTold rules list x texts v report → IsLater v
+case_later rules list (Ok told) [] v report is = absurd is
+case_later rules list (Ok told) (text ∷ []) v report is = later_as v is.1.1.verdict_is
+case_later rules list (Ok told) (text ∷ more ∷ rest) v report is = absurd is
+case_later rules list (Err d) texts v report is = absurd is
+
+pub games_later : {T : Type 0} (x : Result T Decision) (texts : List (List ℕ)) (v : Verdict) (report : List ℕ) → AreGamesTold x texts v report → IsLater v
+games_later (Ok told) [] v report is = later_as v is.verdict_is
+games_later (Ok told) (text ∷ rest) v report is = absurd is
+games_later (Err d) texts v report is = absurd is

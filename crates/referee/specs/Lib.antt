@@ -1,0 +1,3 @@
+pub mod Telling
+pub mod Later
+pub mod Sheets
