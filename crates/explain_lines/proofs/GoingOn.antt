@@ -1,6 +1,6 @@
 -- A text with another behind it, and more behind that.
 use Rattle.std.proofs.Common.{◌≡◌, ℕ, List, ◌++◌, ap, ◌∙◌}
-use Rattle.explain_lines.specs.Openings.{GoesOn}
+use Rattle.case_openings.specs.Openings.{GoesOn}
 
 pub goes_on : (front old mid new more : List ℕ) → mid ≡ old ++ front → new ≡ mid ++ more → GoesOn front old new
 goes_on front old mid new more first second = record { more = more; behind = second ∙ ap (λ text. text ++ more) first }

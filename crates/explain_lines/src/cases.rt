@@ -1,22 +1,21 @@
 //! What explains a case.
 ghost use Rattle.std.specs.Prelude.{◌≡◌, ◌++◌, OnOk};
-ghost use Rattle.explain_lines.specs.Openings.{opening, GoesOn};
+ghost use Rattle.case_openings.specs.Openings.{opening, GoesOn};
 
-use crate::boards::{Stretch, push_board};
-use crate::openings::{place_of_fault, push_opening};
-use crate::parts::say_of_line;
 use crate::racks::push_rack_fault;
-use crate::record_faults::push_record_fault;
 use crate::rule_faults::push_rule_fault;
 use crate::scenes::Scene;
 use crate::sheets::Sheet;
 use crate::words::push_words;
+use case_openings::{place_of_fault, push_opening};
 use engine::{Case, Finding, GameFault};
 use game_board::{Laying, lay_plays, place_of_line};
 use game_turns::play_events;
 use gcg_read::{Event, EventKind};
 use lex_list::WordList;
+use record_sentences::push_record_fault;
 use ref_tiles::Rules;
+use sentence_parts::{Stretch, push_board, say_of_line};
 use std::alloc::{AllocError, Global};
 
 /// Appends what explains the verdict on a record, or one of its lines: the verdict line; the line as it stands in the file; what is
@@ -212,11 +211,11 @@ fn push_picture(
             push_words(text, sheet, &laying.board, *at, *dir, word.as_slice())?;
             let marked = Stretch::of(*at, *dir, word.as_slice());
             push_heading(text, event, ", the squares of the play in brackets\n")?;
-            push_board(text, sheet, &laying.board, Some(marked))
+            push_board(text, sheet.rules, &laying.board, Some(marked))
         }
         _ => {
             push_heading(text, event, "\n")?;
-            push_board(text, sheet, &laying.board, None)
+            push_board(text, sheet.rules, &laying.board, None)
         }
     }
 }

@@ -1,12 +1,12 @@
 //! Plays that are taken back or challenged, and their words.
 
-use crate::parts::{Part, say, say_of_line};
 use crate::scenes::Scene;
 use arrayvec::ArrayVec;
 use game_board::lay_plays;
 use game_turns::legal_play;
 use gcg_read::{Event, EventKind, same_seat};
 use ref_play::{Word, Words, words};
+use sentence_parts::{Part, say, say_of_line};
 use std::alloc::AllocError;
 
 /// The words of the play that comes last among some events, on the board before it; none where the last event is no play, and

@@ -5,16 +5,10 @@
 //! contracts are exact; that they stand at the right places, and that the sentences say it well, is a matter of tests.
 #![tactic(auto)]
 
-mod boards;
 mod cases;
 mod challenges;
-mod fields;
-mod lines;
-mod openings;
-mod parts;
 mod play_faults;
 mod racks;
-mod record_faults;
 mod rule_faults;
 mod scenes;
 mod scores;
@@ -23,5 +17,4 @@ mod tiles;
 mod totals;
 mod words;
 
-pub use boards::Stretch;
 pub use cases::{push_explanation, push_reason};

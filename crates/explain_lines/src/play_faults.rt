@@ -1,10 +1,10 @@
 //! What is wrong with the text or the placement of a play.
 
-use crate::parts::{Part, say};
 use game_facts::{first_misfit, new_tiles};
 use ref_board::{Board, Dir, SIDE, Square, follows_tile, precedes_tile};
 use ref_play::{PlayFault, along};
 use ref_tiles::Symbol;
+use sentence_parts::{Part, say};
 use std::alloc::AllocError;
 
 /// A play as its line has it: where its text begins, its direction and its text.

@@ -1,6 +1,5 @@
 //! Racks that cannot be dealt.
 
-use crate::parts::{Part, push_tiles, say, say_of_line};
 use crate::sheets::Sheet;
 use deal_steps::{Act, Known, Motion, Step, greater, shown_at, used_by};
 use engine::GameFault;
@@ -8,6 +7,7 @@ use game_deal::all_steps;
 use game_turns::play_through;
 use gcg_read::{Seat, same_seat};
 use ref_tiles::{Counts, Kind};
+use sentence_parts::{Part, push_tiles, say, say_of_line};
 use std::alloc::AllocError;
 
 /// Appends what is wrong with the racks up to the event at a place.

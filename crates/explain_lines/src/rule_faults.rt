@@ -1,7 +1,6 @@
 //! What is wrong with an event by the rules.
 
 use crate::challenges::{push_nothing_to_withdraw, push_phony, push_valid, push_wrong_bonus};
-use crate::parts::{Part, say};
 use crate::play_faults::{Written, push_play_fault};
 use crate::scenes::Scene;
 use crate::scores::{push_other_spots, push_wrong_score};
@@ -12,6 +11,7 @@ use crate::totals::{push_bad_time, push_wrong_total};
 use game_turns::RuleFault;
 use gcg_read::EventKind;
 use ref_play::PlayFault;
+use sentence_parts::{Part, say};
 use std::alloc::AllocError;
 
 /// Appends what is wrong with an event.

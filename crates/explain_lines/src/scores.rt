@@ -1,12 +1,12 @@
 //! A score that is not the right one, and where it would be right.
 
-use crate::parts::{Part, push_tiles, say};
 use crate::scenes::Scene;
 use game_facts::{Spot, scoring_spots};
 use game_turns::{all_listed, legal_play};
 use gcg_read::EventKind;
 use ref_play::words;
 use ref_tiles::{Counts, Symbol};
+use sentence_parts::{Part, push_tiles, say};
 use std::alloc::{AllocError, Global};
 
 /// How many spots are named at the most.

@@ -1,9 +1,9 @@
 //! Events with more tiles than there are.
 
-use crate::parts::{Part, say};
 use crate::scenes::Scene;
 use game_facts::new_tiles;
 use gcg_read::{EventKind, Seat};
+use sentence_parts::{Part, say};
 use std::alloc::AllocError;
 
 /// Appends how many tiles a play uses, and how many its player has.

@@ -1,9 +1,9 @@
 //! A total that is not the right one, and penalties for time.
 
-use crate::parts::{Part, say};
 use crate::scenes::Scene;
 use game_facts::latest_with;
 use gcg_read::{Event, EventKind, Seat, same_seat};
+use sentence_parts::{Part, say};
 use std::alloc::AllocError;
 
 /// Appends how a total is made, and the turn that it leaves out, where it is right but for one.

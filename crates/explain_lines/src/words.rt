@@ -1,6 +1,5 @@
 //! The words of a play, square by square.
 
-use crate::parts::{Part, say};
 use crate::sheets::Sheet;
 use game_board::tile_mark;
 use game_facts::{ScoredWord, WordSquare, scored_words};
@@ -8,6 +7,7 @@ use game_turns::legal_play;
 use ref_board::{Board, Dir, Square};
 use ref_play::{RACK, Word, bonus_score, score, words};
 use ref_tiles::{Premium, Symbol};
+use sentence_parts::{Part, say};
 use std::alloc::AllocError;
 
 /// Appends the words of the play that a text names on a board, where it is legal: of each word its squares and its sum, the bonus,

@@ -3,10 +3,10 @@ ghost use Rattle.std.specs.Prelude.{◌<◌};
 
 use crate::pieces::{Piece, write};
 use crate::sheets::Sheet;
-use explain_lines::Stretch;
 use game_board::tile_mark;
 use ref_board::{Board, Dir, SIDE, Square};
 use ref_tiles::{Kind, Premium};
+use sentence_parts::Stretch;
 use std::alloc::AllocError;
 
 /// A board, and which of its squares are marked.

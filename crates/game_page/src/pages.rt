@@ -8,12 +8,12 @@ use crate::pieces::{Piece, write};
 use crate::rows::push_rows;
 use crate::sheets::Sheet;
 use engine::{Case, Entry};
-use explain_lines::Stretch;
 use game_board::{lay_plays, place_of_line};
 use game_sheets::correct;
 use gcg_read::{Event, EventKind, Record};
 use lex_check::Checked;
 use ref_tiles::Rules;
+use sentence_parts::Stretch;
 use std::alloc::{AllocError, Global};
 
 /// The squares of a play that cannot be laid, where the event at a place is one.

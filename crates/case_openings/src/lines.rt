@@ -1,6 +1,6 @@
 //! A line as it stands in the file.
 ghost use Rattle.std.specs.Prelude.{◌≡◌, ◌++◌, OnOk, codes, decimal};
-ghost use Rattle.explain_lines.specs.Openings.{shown_line};
+ghost use Rattle.case_openings.specs.Openings.{shown_line};
 
 use decimal_text::push_number;
 use game_facts::line_of;

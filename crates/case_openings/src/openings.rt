@@ -2,7 +2,7 @@
 ghost use Rattle.std.specs.Prelude.{◌≡◌, ◌++◌, OnOk};
 ghost use Rattle.engine.specs.Explaining.{case_line};
 ghost use Rattle.call_stages.specs.Reports.{bad_line_line};
-ghost use Rattle.explain_lines.specs.Openings.{place_shown, place_of_fault, record_opening, opening};
+ghost use Rattle.case_openings.specs.Openings.{place_shown, place_of_fault, record_opening, opening};
 
 use crate::lines::push_line;
 use engine::{Case, Entry, Finding, case_line};

@@ -1,9 +1,9 @@
 //! What is wrong with a line that is no line of a record.
 
 use crate::fields::{after_colon, before_colon, field_at, many_fields};
-use crate::parts::{Part, say};
 use game_facts::line_of;
 use gcg_read::{Points, Record, Why, read};
+use sentence_parts::{Part, say};
 use std::alloc::{AllocError, Global};
 use text_lines::{cut_line, next_field};
 

@@ -2,10 +2,9 @@
 ghost use Rattle.std.specs.Prelude.{◌<◌};
 
 use crate::parts::{Part, say};
-use crate::sheets::Sheet;
 use game_board::square_mark;
 use ref_board::{Board, Dir, SIDE, Square};
-use ref_tiles::Symbol;
+use ref_tiles::{Rules, Symbol};
 use std::alloc::AllocError;
 
 /// The squares that a play covers: so many of a line from a first one on.
@@ -59,7 +58,7 @@ fn between(before: bool, here: bool) -> u8 {
 /// Appends a row.
 fn push_row(
     text: &mut Vec<u8>,
-    sheet: &Sheet<'_>,
+    rules: &Rules,
     board: &Board,
     marked: &Option<Stretch>,
     row: usize,
@@ -75,7 +74,7 @@ fn push_row(
         let square = Square::on_line(Dir::Across, row, column);
         let here = is_marked(marked, square);
         text.push(between(before, here))?;
-        text.push(square_mark(sheet.rules, board, square))?;
+        text.push(square_mark(rules, board, square))?;
         before = here;
     }
     if before {
@@ -88,13 +87,13 @@ fn push_row(
 /// Appends the squares of a board, with those of a play in brackets.
 pub fn push_board(
     text: &mut Vec<u8>,
-    sheet: &Sheet<'_>,
+    rules: &Rules,
     board: &Board,
     marked: Option<Stretch>,
 ) -> Result<(), AllocError> {
     text.extend_from_slice(b"   A B C D E F G H I J K L M N O\n")?;
     for row in 0..SIDE {
-        push_row(text, sheet, board, &marked, row)?;
+        push_row(text, rules, board, &marked, row)?;
     }
     text.extend_from_slice(
         b"= triple word, - double word, \" triple letter, ' double letter\nsmall letters are blanks\n",
