@@ -77,7 +77,7 @@ small_neg n h = omega (arith, ints, h.0, h.1)
 ink_decimal : (n : ℕ) → n < 1000000 → Each IsInk (decimal n)
 ink_decimal n h = ink_digits (decimal n) (digits_each n (omega arith))
 
-ink_score : (z : ℤ) → IsPoints z → Each IsInk (score_text z)
+pub ink_score : (z : ℤ) → IsPoints z → Each IsInk (score_text z)
 ink_score (pos n) h = (omega arith, ink_decimal n (small_pos n h))
 ink_score (negsuc n) h = (omega arith, ink_decimal (suc n) (small_neg n h))
 
@@ -85,7 +85,7 @@ pub ink_total : (z : ℤ) → IsPoints z → Each IsInk (signed_decimal z)
 ink_total (pos n) h = ink_decimal n (small_pos n h)
 ink_total (negsuc n) h = ink_score (negsuc n) h
 
-some_score : (z : ℤ) → 0 < length (score_text z)
+pub some_score : (z : ℤ) → 0 < length (score_text z)
 some_score (pos n) = omega arith
 some_score (negsuc n) = omega arith
 
