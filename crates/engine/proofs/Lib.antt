@@ -8,3 +8,4 @@ pub mod ConvertedFiles
 pub mod Toppings
 pub mod ShownBoards
 pub mod AuditedRecords
+pub mod WalkedRecords

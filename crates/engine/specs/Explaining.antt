@@ -1,7 +1,9 @@
 -- What is to be explained of one sheet, by a word list and a lexicon that were read before.
-use Rattle.std.specs.Prelude.{◌≡◌, ℕ, false, List, Result, Ok, Err}
+use Rattle.std.specs.Prelude.{⊤, ◌≡◌, ℕ, false, List, Result, Ok, Err, Option, Some, None}
 use Rattle.ref_tiles.specs.declared.rulebook.Rules.{Rules}
 use Rattle.gcg_read.specs.declared.faults.ReadFault.{ReadFault}
+use Rattle.game_rows.specs.declared.walking.Walk.{Walk}
+use Rattle.game_rows.specs.Walks.{IsWalkOf}
 use Rattle.engine.specs.declared.entries.Entry.{Entry}
 use Rattle.engine.specs.declared.explains.Case.{Case}
 use Rattle.engine.specs.declared.findings.Finding.{Finding}
@@ -34,6 +36,13 @@ abbrev pub case_line : Result Entry ReadFault → List ℕ
 case_line (Ok entry) = finding_line entry.finding
 case_line (Err fault) = bad_record_line fault
 
--- the case of a text: the text itself, and the entry of the record that it means, or its first fault
+-- a walk over the events of the record of an entry; none where there is no record
+abbrev pub IsWalkFor : Rules → (list : List (List ℕ)) → Result Entry ReadFault → Option Walk → Type 0
+IsWalkFor rules list (Ok entry) (Some walk) = IsWalkOf rules list entry.record.events walk
+IsWalkFor rules list (Ok entry) None = ⊥
+IsWalkFor rules list (Err fault) (Some walk) = ⊥
+IsWalkFor rules list (Err fault) None = ⊤
+
+-- the case of a text: the text itself, and the entry of the record that it means, or its first fault; and the walk over the record
 abbrev pub IsCaseOf : Rules → (list : List (List ℕ)) → (text : List ℕ) → Case → Type 0
-IsCaseOf rules list text case = (case.text.items ≡ text) × IsEntryOf rules list text case.read
+IsCaseOf rules list text case = (case.text.items ≡ text) × IsEntryOf rules list text case.read × IsWalkFor rules list case.read case.walk

@@ -16,5 +16,6 @@ pub mod OwnJudging
 pub mod OwnBestPlays
 pub mod OwnTurnPlays
 pub mod Archiving
+pub mod WalkedEntries
 pub mod Auditing
 pub mod Explaining

@@ -7,10 +7,11 @@ ghost use Rattle.lex_check.specs.Pairs as pairs;
 ghost use Rattle.engine.specs.Auditing.{IsAudit, IsAuditOf};
 ghost use Rattle.call_stages.specs.Stages.{IsRead};
 
-use crate::entries::{Entry, entry_of};
+use crate::entries::{Entry, find};
 use call_stages::{Decision, RunFault, read_text, record_from};
 use devices::Input;
-use game_sheets::{WrongNumber, audit};
+use game_rows::audit;
+use game_sheets::WrongNumber;
 use gcg_read::{MAX_BYTES, Record};
 use gcg_write::law_of_other_points;
 use lex_check::Checked;
@@ -26,28 +27,29 @@ pub struct Audit {
     pub entry: Entry,
 }
 
-/// The audit of a record that stands twice, once to be corrected.
+/// The audit of a record.
 fn audit_record(
     alloc: Global,
     rules: &Rules,
     pair: &Checked<'_>,
-    written: &Record,
     game: Record,
 ) -> Result<Audit, AllocError>
-    requires { game ≡ written.now }
-    ensures audit { IfOk result (IsAudit rules.now (pairs.list_in pair.now) written.now) }
-    ensures points { IfOk result (λ a. KeepPoints written.now.events a.entry.record.events) }
+    ensures audit { IfOk result (IsAudit rules.now (pairs.list_in pair.now) game) }
+    ensures points { IfOk result (λ a. KeepPoints game.events a.entry.record.events) }
 {
     let mut right = game;
-    let wrong = audit(
-        alloc,
-        rules,
-        written.events.as_slice(),
-        &mut right.events,
-        pair.list(),
-    )?;
-    let entry = entry_of(alloc, rules, pair, right)?;
-    Ok(Audit { wrong, entry })
+    let audited = audit(alloc, rules, pair.list(), &mut right.events)?;
+    let refused = audited.walk.refused_for_good();
+    let found = find(alloc, rules, pair, &right, refused, &audited.walk)?;
+    let entry = Entry {
+        record: right,
+        finding: found.finding,
+        unlisted: found.unlisted,
+    };
+    Ok(Audit {
+        wrong: audited.wrong,
+        entry,
+    })
 }
 
 /// The audit of the record of a text, or the verdict that it is none.
@@ -64,11 +66,7 @@ fn audit_from(
         Ok(record) => record,
         Err(decision) => return Ok(Err(decision)),
     };
-    let game = match record_from(alloc, text)? {
-        Ok(record) => record,
-        Err(decision) => return Ok(Err(decision)),
-    };
-    let audit = audit_record(alloc, rules, pair, &written, game)?;
+    let audit = audit_record(alloc, rules, pair, written)?;
     Ok(Ok(audit))
 }
 

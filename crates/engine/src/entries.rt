@@ -4,11 +4,15 @@ ghost use Rattle.devices.specs.Devices.{HasRoom};
 ghost use Rattle.gcg_read.specs.Records.{most_bytes};
 ghost use Rattle.game_turns.specs.Passing.{rules_in, record_in, list_in};
 ghost use Rattle.game_turns.specs.Places.{AreAllowed};
+ghost use Rattle.game_rows.specs.Refusals.{IsToldRefusal};
+ghost use Rattle.game_rows.specs.Rows.{HaveRows};
+ghost use Rattle.game_rows.specs.Walks.{GoesThrough, IsWalkOf};
 ghost use Rattle.lex_check.specs.Pairs as pairs;
 ghost use Rattle.engine.specs.declared.findings.Finding.TheVariants as finding;
 ghost use Rattle.call_stages.specs.declared.verdicts.GameFault.TheVariants as game;
 ghost use Rattle.engine.specs.Archiving.{past_bound, IsFinding, AreUnlisted, IsEntry, IsEntryOf};
 ghost use Rattle.call_stages.specs.Stages.{IsRead};
+ghost use Rattle.engine.specs.WalkedEntries.{IsWalkedFrom};
 
 use crate::findings::Finding;
 use crate::racks::{RackFinding, settle_racks};
@@ -16,7 +20,8 @@ use crate::unlisted::unlisted_plays;
 use call_stages::{GameFault, RunFault, game_from, read_text};
 use devices::Input;
 use game_deal::{DealBound, law_of_bounds};
-use game_turns::{Passed, RuleFault, play_through};
+use game_rows::{Refusal, Row, Walk, walk_as_written};
+use game_turns::{Passed, RuleFault};
 use gcg_read::{MAX_BYTES, ReadFault, Record};
 use lex_check::Checked;
 use ref_tiles::Rules;
@@ -74,13 +79,13 @@ fn find_passed(alloc: Global, passed: &Passed<'_>) -> Result<Finding, AllocError
 
 /// What is found of a record, and how many of its plays stand with a word that is not in the list, where every event is allowed.
 #[derive(Drop)]
-struct Found {
-    finding: Finding,
-    unlisted: Option<usize>,
+pub(crate) struct Found {
+    pub finding: Finding,
+    pub unlisted: Option<usize>,
 }
 
 /// What is found of a record with an event that is not allowed.
-fn refused(line: u32, fault: RuleFault) -> Found
+fn faulty(line: u32, fault: RuleFault) -> Found
     ensures finding { result.finding ≡ finding.Illegal line (game.Rule fault) }
     ensures unlisted { result.unlisted ≡ None }
 {
@@ -93,57 +98,95 @@ fn refused(line: u32, fault: RuleFault) -> Found
     }
 }
 
-/// What is found of a record of which every event is allowed.
-fn allowed(alloc: Global, passed: &Passed<'_>) -> Result<Found, AllocError>
-    requires { AreAllowed (rules_in passed.now) (list_in passed.now) (record_in passed.now).events }
+/// What is found of a record of which every event is allowed, by its rows.
+fn allowed(alloc: Global, passed: &Passed<'_>, rows: &[Row]) -> Result<Found, AllocError>
+    requires allowed { AreAllowed (rules_in passed.now) (list_in passed.now) (record_in passed.now).events }
+    requires rows { HaveRows (rules_in passed.now) (list_in passed.now) (record_in passed.now).events rows.now }
     ensures found { IfOk result (λ f. IsFinding (rules_in passed.now) (list_in passed.now) (record_in passed.now) f.finding) }
     ensures unlisted { IfOk result (λ f. AreUnlisted (rules_in passed.now) (list_in passed.now) (record_in passed.now).events f.unlisted) }
 {
     let finding = find_passed(alloc, passed)?;
-    let plays = unlisted_plays(passed);
+    let plays = unlisted_plays(passed, rows);
     Ok(Found {
         finding,
         unlisted: Some(plays),
     })
 }
 
-/// What is found of a record, by the list of a pair.
+/// What is found of a record, by its first refusal; where there is none, by a walk that went through it.
 #[tactic(auto, using(crate::proofs::FoundGames::not_allowed, crate::proofs::FoundGames::refused))]
-fn find(
+pub(crate) fn find(
     alloc: Global,
     rules: &Rules,
     pair: &Checked<'_>,
     game: &Record,
+    refused: Option<Refusal>,
+    walk: &Walk,
 ) -> Result<Found, AllocError>
+    requires told { IsToldRefusal rules.now (pairs.list_in pair.now) game.now.events refused }
+    requires walked { refused ≡ None → GoesThrough rules.now (pairs.list_in pair.now) game.now.events walk.now }
     ensures found { IfOk result (λ f. IsFinding rules.now (pairs.list_in pair.now) game.now f.finding) }
     ensures unlisted { IfOk result (λ f. AreUnlisted rules.now (pairs.list_in pair.now) game.now.events f.unlisted) }
 {
-    match play_through(rules, game, pair.list()) {
-        Ok(passed) => allowed(alloc, &passed),
-        Err((line, fault)) => Ok(refused(line, fault)),
+    match refused {
+        Some(refusal) => Ok(faulty(refusal.line, refusal.why)),
+        None => {
+            let complete = walk.end().finished();
+            let passed = Passed::of_allowed(rules, game, pair.list(), complete);
+            allowed(alloc, &passed, walk.rows.as_slice())
+        }
     }
 }
 
-/// The entry of a record.
-pub(crate) fn entry_of(
+/// The entry of a record, and the walk over its events.
+#[derive(Drop)]
+pub(crate) struct Walked {
+    pub entry: Entry,
+    pub walk: Walk,
+}
+
+/// Walks over a record, and makes its entry.
+fn walk_record(
     alloc: Global,
     rules: &Rules,
     pair: &Checked<'_>,
     game: Record,
-) -> Result<Entry, AllocError>
-    ensures entry { IfOk result (IsEntry rules.now (pairs.list_in pair.now)) }
-    ensures game { IfOk result (λ entry. entry.record ≡ game) }
+) -> Result<Walked, AllocError>
+    ensures entry { IfOk result (λ w. IsEntry rules.now (pairs.list_in pair.now) w.entry) }
+    ensures walk { IfOk result (λ w. IsWalkOf rules.now (pairs.list_in pair.now) w.entry.record.events w.walk) }
+    ensures game { IfOk result (λ w. w.entry.record ≡ game) }
 {
-    let found = find(alloc, rules, pair, &game)?;
-    Ok(Entry {
+    let mut game = game;
+    let walk = walk_as_written(alloc, rules, pair.list(), &mut game.events)?;
+    let found = find(alloc, rules, pair, &game, walk.refused, &walk)?;
+    let entry = Entry {
         record: game,
         finding: found.finding,
         unlisted: found.unlisted,
-    })
+    };
+    Ok(Walked { entry, walk })
+}
+
+/// The entry of the record of a text with the walk over it, or the fault of the record.
+pub(crate) fn walked_from(
+    alloc: Global,
+    rules: &Rules,
+    pair: &Checked<'_>,
+    text: &[u8],
+) -> Result<Result<Walked, ReadFault>, AllocError>
+    ensures { IfOk result (IsWalkedFrom rules.now (pairs.list_in pair.now) text.now) }
+{
+    match game_from(alloc, text)? {
+        Ok(record) => {
+            let walked = walk_record(alloc, rules, pair, record)?;
+            Ok(Ok(walked))
+        }
+        Err(fault) => Ok(Err(fault)),
+    }
 }
 
 /// The entry of the record of a text, or the fault of the record.
-pub(crate) fn entry_from(
+fn entry_from(
     alloc: Global,
     rules: &Rules,
     pair: &Checked<'_>,
@@ -151,11 +194,8 @@ pub(crate) fn entry_from(
 ) -> Result<Result<Entry, ReadFault>, AllocError>
     ensures { IfOk result (IsEntryOf rules.now (pairs.list_in pair.now) text.now) }
 {
-    match game_from(alloc, text)? {
-        Ok(record) => {
-            let entry = entry_of(alloc, rules, pair, record)?;
-            Ok(Ok(entry))
-        }
+    match walked_from(alloc, rules, pair, text)? {
+        Ok(walked) => Ok(Ok(walked.entry)),
         Err(fault) => Ok(Err(fault)),
     }
 }

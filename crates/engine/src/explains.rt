@@ -5,13 +5,15 @@ ghost use Rattle.gcg_read.specs.Records.{most_bytes};
 ghost use Rattle.lex_check.specs.Pairs as pairs;
 ghost use Rattle.engine.specs.Explaining.{verdict_in, finding_line, case_verdict, case_line, IsCaseOf};
 ghost use Rattle.call_stages.specs.Stages.{IsRead};
+ghost use Rattle.engine.specs.WalkedEntries.{read_of, walk_of};
 
-use crate::entries::{Entry, entry_from};
+use crate::entries::{Entry, Walked, walked_from};
 use crate::findings::Finding;
 use call_stages::{
     RunFault, Verdict, bad_record_line, illegal_line, legal_line, read_text, unsettled_line,
 };
 use devices::Input;
+use game_rows::Walk;
 use gcg_read::{MAX_BYTES, ReadFault};
 use lex_check::Checked;
 use ref_tiles::Rules;
@@ -24,6 +26,28 @@ pub struct Case {
     pub text: Vec<u8>,
     /// The entry of the record that they mean, or their first fault.
     pub read: Result<Entry, ReadFault>,
+    /// The walk over the events of the record, where they mean one.
+    pub walk: Option<Walk>,
+}
+
+/// The case of a text.
+fn case_of(text: Vec<u8>, walked: Result<Walked, ReadFault>) -> Case
+    ensures text { result.text ≡ text }
+    ensures read { result.read ≡ read_of walked }
+    ensures walk { result.walk ≡ walk_of walked }
+{
+    match walked {
+        Ok(walked) => Case {
+            text,
+            read: Ok(walked.entry),
+            walk: Some(walked.walk),
+        },
+        Err(fault) => Case {
+            text,
+            read: Err(fault),
+            walk: None,
+        },
+    }
 }
 
 /// The settled verdict of what is found of a record. A record without an event is a legal game that is not finished.
@@ -94,6 +118,6 @@ pub fn open_case<G: Input>(
     ensures { IsRead most_bytes (G.device game.old) (G.device game.new) (IsCaseOf rules.now (pairs.list_in pair.now)) result }
 {
     let text = read_text(alloc, game, MAX_BYTES)?;
-    let read = entry_from(alloc, rules, pair, &text)?;
-    Ok(Case { text, read })
+    let walked = walked_from(alloc, rules, pair, &text)?;
+    Ok(case_of(text, walked))
 }

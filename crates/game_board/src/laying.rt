@@ -9,7 +9,11 @@ use ref_board::Board;
 use ref_play::{PlayFault, apply};
 
 /// The board with the play of an event, where it is one and can be laid.
-fn lay(board: &Board, kind: &EventKind) -> Result<Board, PlayFault>
+///
+/// # Errors
+///
+/// The first fault of the play's text, or of its placement.
+pub fn lay(board: &Board, kind: &EventKind) -> Result<Board, PlayFault>
     ensures fault { IfErr result (λ why. kind_fault board.now kind.now ≡ Some why) }
     ensures none { OnOk result (kind_fault board.now kind.now ≡ None) }
     ensures laid { IfOk result (λ laid. laid ≡ laid_on board.now kind.now) }

@@ -10,7 +10,7 @@ mod places;
 mod texts;
 mod tiles;
 
-pub use laying::{Laying, lay_plays};
+pub use laying::{Laying, lay, lay_plays};
 pub use marks::{square_mark, tile_mark};
 pub use places::place_of_line;
 pub use texts::board_text;
