@@ -6,7 +6,7 @@ use Rattle.deal_cuts.specs.Laws.{FrontsDecide}
 use Rattle.game_deal.specs.Recorded.{steps_of}
 use Rattle.call_stages.specs.declared.verdicts.Verdict.{Verdict}
 use Rattle.call_stages.specs.declared.verdicts.Verdict.TheVariants as verdict
-use Rattle.engine.specs.Judging.{IsLegal, IsRefused, IsPastBound, IsLeftOpen, IsJudged}
+use Rattle.engine.specs.Judging.{IsLegal, IsRefused, IsPastBound, IsLeftOpen}
 use Rattle.engine.specs.Settling.{IsSettledLegal, IsUndealt, IsSettled, LegalStaysLegal}
 use Rattle.engine.proofs.Headlines.{legal_answer, game_of, first_not_allowed}
 

@@ -13,7 +13,7 @@ use Rattle.call_stages.specs.declared.verdicts.GameFault.TheVariants as game
 use Rattle.call_stages.specs.declared.verdicts.Verdict.{Verdict}
 use Rattle.call_stages.specs.declared.verdicts.Verdict.TheVariants as verdict
 use Rattle.call_stages.specs.Reports.{illegal_line, bad_rack_line}
-use Rattle.call_stages.specs.Runs.{Decides, IsSent, IsRun}
+use Rattle.call_stages.specs.Runs.{Decides, IsRun}
 use Rattle.call_stages.specs.Sources.{Source, AreUntouched}
 use Rattle.call_stages.specs.Telling.{IsTold}
 use Rattle.engine.specs.Topping.{IsToppedOn, ByRack, RefusesRack}

@@ -10,10 +10,11 @@ use crate::words::push_words;
 use case_openings::{place_of_fault, push_opening};
 use engine::{Case, Finding, GameFault};
 use game_board::{Laying, lay_plays, place_of_line};
-use game_turns::play_events;
+use game_turns::RuleFault;
 use gcg_read::{Event, EventKind};
 use lex_list::WordList;
 use record_sentences::push_record_fault;
+use ref_board::Board;
 use ref_tiles::Rules;
 use sentence_parts::{Stretch, push_board, say_of_line};
 use std::alloc::{AllocError, Global};
@@ -143,11 +144,14 @@ fn push_place(text: &mut Vec<u8>, sheet: &Sheet<'_>, place: usize) -> Result<(),
         return Ok(());
     };
     push_judged(text, sheet, event, place)?;
+    if let Some(machine) = sheet.before(place) {
+        return push_picture(text, sheet, event, machine.board());
+    }
     let laying = lay_plays(events, place.min(events.len()));
     if laying.end < place {
         return push_not_laid(text, events, &laying);
     }
-    push_picture(text, sheet, event, &laying)
+    push_picture(text, sheet, event, &laying.board)
 }
 
 /// Appends what the rules say of the event at a place.
@@ -157,33 +161,41 @@ fn push_judged<'a>(
     event: &'a Event,
     place: usize,
 ) -> Result<(), AllocError> {
-    let events = sheet.events();
-    let machine = match play_events(sheet.rules, events, sheet.list, place.min(events.len())) {
-        Ok(machine) => machine,
-        Err((line, _)) => {
-            return say_of_line(
-                text,
-                "The rules do not allow line ",
-                line,
-                ", so this line was not judged.\n",
-            );
-        }
-    };
+    if let Some(line) = sheet.refused_before(event.line) {
+        return say_of_line(
+            text,
+            "The rules do not allow line ",
+            line,
+            ", so this line was not judged.\n",
+        );
+    }
     match sheet.finding {
         Finding::Illegal { line, fault } if *line == event.line => match fault {
-            GameFault::Rule(rule) => {
-                let scene = Scene {
-                    sheet: *sheet,
-                    past: events.get(..place).unwrap_or(&[]),
-                    event,
-                    machine: &machine,
-                };
-                push_rule_fault(text, &scene, rule)
-            }
+            GameFault::Rule(rule) => push_refused(text, sheet, event, place, rule),
             _ => push_rack_fault(text, sheet, place, fault),
         },
         _ => text.extend_from_slice(b"The rules allow this event.\n"),
     }
+}
+
+/// Appends why the rules refuse the event at a place.
+fn push_refused<'a>(
+    text: &mut Vec<u8>,
+    sheet: &Sheet<'a>,
+    event: &'a Event,
+    place: usize,
+    fault: &RuleFault,
+) -> Result<(), AllocError> {
+    let Some(machine) = sheet.before(place) else {
+        return Ok(());
+    };
+    let scene = Scene {
+        sheet: *sheet,
+        past: sheet.events().get(..place).unwrap_or(&[]),
+        event,
+        machine,
+    };
+    push_rule_fault(text, &scene, fault)
 }
 
 /// Appends that the board before an event is not known.
@@ -204,18 +216,18 @@ fn push_picture(
     text: &mut Vec<u8>,
     sheet: &Sheet<'_>,
     event: &Event,
-    laying: &Laying,
+    board: &Board,
 ) -> Result<(), AllocError> {
     match &event.kind {
         EventKind::Play { at, dir, word } => {
-            push_words(text, sheet, &laying.board, *at, *dir, word.as_slice())?;
+            push_words(text, sheet, board, *at, *dir, word.as_slice())?;
             let marked = Stretch::of(*at, *dir, word.as_slice());
             push_heading(text, event, ", the squares of the play in brackets\n")?;
-            push_board(text, sheet.rules, &laying.board, Some(marked))
+            push_board(text, sheet.rules, board, Some(marked))
         }
         _ => {
             push_heading(text, event, "\n")?;
-            push_board(text, sheet.rules, &laying.board, None)
+            push_board(text, sheet.rules, board, None)
         }
     }
 }

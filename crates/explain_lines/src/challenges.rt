@@ -1,30 +1,10 @@
 //! Plays that are taken back or challenged, and their words.
 
 use crate::scenes::Scene;
-use arrayvec::ArrayVec;
-use game_board::lay_plays;
-use game_turns::legal_play;
-use gcg_read::{Event, EventKind, same_seat};
-use ref_play::{Word, Words, words};
+use gcg_read::same_seat;
+use ref_play::Word;
 use sentence_parts::{Part, say, say_of_line};
 use std::alloc::AllocError;
-
-/// The words of the play that comes last among some events, on the board before it; none where the last event is no play, and
-/// where its play cannot be laid.
-fn last_words(events: &[Event]) -> Words {
-    let none = ArrayVec::new();
-    let Some((last, past)) = events.split_last() else {
-        return none;
-    };
-    let EventKind::Play { at, dir, word } = &last.kind else {
-        return none;
-    };
-    let board = lay_plays(events, past.len()).board;
-    match legal_play(&board, *at, *dir, word.as_slice()) {
-        Ok(play) => words(&board, &play),
-        Err(_) => none,
-    }
-}
 
 /// Appends words, with a comma or an `and` between two.
 fn push_words(text: &mut Vec<u8>, words: &[Word]) -> Result<(), AllocError> {
@@ -66,7 +46,7 @@ fn push_ruled(text: &mut Vec<u8>, scene: &Scene<'_, '_>, stands: bool) -> Result
         )
     };
     say_of_line(text, play, line_before(scene), rule)?;
-    push_words(text, &last_words(scene.past))?;
+    push_words(text, scene.machine.latest_words())?;
     text.extend_from_slice(b".\nPerhaps the game was played with another word list.\n")
 }
 
@@ -153,8 +133,9 @@ pub fn push_wrong_bonus(text: &mut Vec<u8>, scene: &Scene<'_, '_>) -> Result<(),
 
 /// Appends which bonus is allowed.
 fn push_bonus(text: &mut Vec<u8>, scene: &Scene<'_, '_>) -> Result<(), AllocError> {
-    let words = last_words(scene.past);
-    let listed = words
+    let listed = scene
+        .machine
+        .latest_words()
         .iter()
         .filter(|word| scene.sheet.list.has(word.as_slice()))
         .count();

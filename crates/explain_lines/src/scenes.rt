@@ -13,7 +13,7 @@ pub struct Scene<'a, 'm> {
     pub past: &'a [Event],
     /// The event.
     pub event: &'a Event,
-    /// The machine that took the events before it.
+    /// The game before it.
     pub machine: &'m Machine,
 }
 

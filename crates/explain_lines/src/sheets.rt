@@ -1,6 +1,8 @@
 //! What a line of a record is explained by.
 
 use engine::{Case, Finding};
+use game_rows::Walk;
+use game_turns::Machine;
 use gcg_read::{Event, ReadFault, Record, Seat};
 use lex_list::WordList;
 use ref_tiles::Rules;
@@ -19,6 +21,8 @@ pub struct Sheet<'a> {
     pub record: &'a Record,
     /// What is found of it.
     pub finding: &'a Finding,
+    /// The walk over its events.
+    pub walk: Option<&'a Walk>,
 }
 
 impl<'a> Sheet<'a> {
@@ -36,6 +40,7 @@ impl<'a> Sheet<'a> {
                 list,
                 record: &entry.record,
                 finding: &entry.finding,
+                walk: case.walk.as_ref(),
             }),
             Err(fault) => Err(fault),
         }
@@ -44,6 +49,21 @@ impl<'a> Sheet<'a> {
     /// The events.
     pub fn events(&self) -> &'a [Event] {
         self.record.events.as_slice()
+    }
+
+    /// The game before the event at a place, where the rules allow the events before it, with their right numbers at least.
+    pub fn before(&self, place: usize) -> Option<&'a Machine> {
+        self.walk?.before(place)
+    }
+
+    /// The line of the first event that is refused as it is written, where it comes before another line.
+    pub fn refused_before(&self, line: u32) -> Option<u32> {
+        let refusal = self.walk?.refused.as_ref()?;
+        if refusal.line < line {
+            Some(refusal.line)
+        } else {
+            None
+        }
     }
 
     /// The nickname of a player, or words for a player who has none.

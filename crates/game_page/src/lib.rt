@@ -9,6 +9,7 @@ mod boards;
 mod feet;
 mod heads;
 mod indexes;
+mod layers;
 mod lines;
 mod names;
 mod pages;

@@ -4,14 +4,15 @@ use crate::banners::push_banner;
 use crate::boards::{Picture, push_board};
 use crate::feet::{Maker, push_foot};
 use crate::heads::{names_of, push_head};
+use crate::layers::Layer;
 use crate::pieces::{Piece, write};
 use crate::rows::push_rows;
 use crate::sheets::Sheet;
-use engine::{Case, Entry};
-use game_board::{lay_plays, place_of_line};
-use game_sheets::correct;
-use gcg_read::{Event, EventKind, Record};
+use engine::Case;
+use game_board::place_of_line;
+use gcg_read::{Event, EventKind};
 use lex_check::Checked;
+use ref_board::Board;
 use ref_tiles::Rules;
 use sentence_parts::Stretch;
 use std::alloc::{AllocError, Global};
@@ -24,24 +25,36 @@ fn squares_of(events: &[Event], place: usize) -> Option<Stretch> {
     }
 }
 
+/// Appends a board beside the one before it, and what its signs mean.
+fn push_with_key(
+    page: &mut Vec<u8>,
+    sheet: &Sheet<'_>,
+    board: &Board,
+    before: &Board,
+    marked: Option<Stretch>,
+) -> Result<(), AllocError> {
+    let picture = Picture {
+        sheet: *sheet,
+        board,
+        before,
+        marked,
+    };
+    push_board(page, &picture)?;
+    page.extend_from_slice(KEY.as_bytes())
+}
+
 /// Appends the board behind the events before a place, and behind the one at it where there is one: its new tiles are marked, or its
 /// squares where it cannot be laid.
 fn push_board_at(page: &mut Vec<u8>, sheet: &Sheet<'_>, place: usize) -> Result<(), AllocError> {
     let events = sheet.events();
-    let before = lay_plays(events, place.min(events.len()));
-    let after = lay_plays(events, place.saturating_add(1).min(events.len()));
-    let picture = Picture {
-        sheet: *sheet,
-        board: &after.board,
-        before: &before.board,
-        marked: if after.end <= place {
-            squares_of(events, place)
-        } else {
-            None
-        },
-    };
-    push_board(page, &picture)?;
-    page.extend_from_slice(KEY.as_bytes())
+    let before = Layer::before(events, place);
+    match before.behind(events, place) {
+        Some(after) => push_with_key(page, sheet, &after.board, &before.board, None),
+        None => {
+            let marked = squares_of(events, place);
+            push_with_key(page, sheet, &before.board, &before.board, marked)
+        }
+    }
 }
 
 /// What the signs of a board mean.
@@ -84,37 +97,28 @@ pub struct Contents<'a> {
     pub maker: &'a Maker,
 }
 
-/// Appends the page of a game; `right` is the record once more, whose scores and totals are put right as far as the rules allow its
-/// events. Nothing where the text is no record.
+/// Appends the page of a game. Nothing where the text is no record.
 ///
 /// It fails only where memory runs out.
 pub fn push_page(
     alloc: Global,
     page: &mut Vec<u8>,
     contents: &Contents<'_>,
-    right: &mut Record,
 ) -> Result<(), AllocError> {
-    let Ok(
-        Entry {
-            record,
-            finding,
-            ..
-        },
-    ) = &contents.case.read
-    else {
+    let case = contents.case;
+    let (Ok(entry), Some(walk)) = (&case.read, &case.walk) else {
         return Ok(());
     };
-    let _refused = correct(contents.rules, &mut right.events, contents.pair.list());
     let sheet = Sheet {
         alloc,
         rules: contents.rules,
         pair: contents.pair,
-        record,
-        right,
-        finding,
+        record: &entry.record,
+        walk,
+        finding: &entry.finding,
     };
     push_head(alloc, page, &names_of(&sheet))?;
-    push_banner(page, &sheet, contents.case)?;
+    push_banner(page, &sheet, case)?;
     page.extend_from_slice(b"<main>\n")?;
     push_main_board(page, &sheet)?;
     push_rows(page, &sheet)?;

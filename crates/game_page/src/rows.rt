@@ -1,13 +1,16 @@
 //! The rows of a sheet.
+ghost use Rattle.std.specs.Prelude.{OnOk};
+ghost use Rattle.lex_check.specs.Pairs.{list_in};
+ghost use Rattle.game_notes.specs.Following.{Follows};
 
 use crate::boards::{Picture, push_board};
+use crate::layers::Layer;
 use crate::lines::Line;
 use crate::pieces::{Piece, write};
 use crate::plays::push_event;
 use crate::sheets::Sheet;
-use crate::walks::{push_best, push_unlisted};
-use game_board::lay_plays;
-use game_turns::Machine;
+use crate::walks::{follow_line, push_best, push_unlisted};
+use game_notes::Follow;
 use std::alloc::AllocError;
 
 /// Appends the head of the table.
@@ -68,11 +71,11 @@ fn push_written(page: &mut Vec<u8>, line: &Line<'_>) -> Result<(), AllocError> {
 
 /// Appends what the score and the total of an event should be, where they are not that.
 fn push_right(page: &mut Vec<u8>, line: &Line<'_>) -> Result<(), AllocError> {
-    let (event, right) = (line.event, line.right);
+    let (event, right) = (line.event, line.right());
     page.extend_from_slice(b"<td class=\"wrong\" data-name=\"Should be\">")?;
     let numbers = [
-        ("score ", event.score.value(), right.score.value(), " "),
-        ("total ", event.total.value(), right.total.value(), ""),
+        ("score ", event.score.value(), right.score, " "),
+        ("total ", event.total.value(), right.total, ""),
     ];
     for (name, written, should, end) in numbers {
         if should != written {
@@ -87,33 +90,32 @@ fn push_right(page: &mut Vec<u8>, line: &Line<'_>) -> Result<(), AllocError> {
     page.extend_from_slice(b"</td>")
 }
 
-/// Appends the best play of a turn and what it would have given more.
-fn push_best_cells(
-    page: &mut Vec<u8>,
-    line: &Line<'_>,
-    machine: &Machine,
-) -> Result<(), AllocError> {
+/// Appends the best play of a turn and what it would have given more, where the events before are allowed.
+fn push_best_cells(page: &mut Vec<u8>, line: &Line<'_>, follow: &Follow) -> Result<(), AllocError>
+    requires { Follows line.now.sheet.rules.now (list_in line.now.sheet.pair.now) follow.now }
+{
+    let Some(machine) = line.before() else {
+        return page.extend_from_slice(b"<td></td><td></td>");
+    };
     page.extend_from_slice(b"<td data-name=\"Best play\">")?;
-    let best = push_best(page, line, machine)?;
+    let best = push_best(page, line, machine, follow)?;
     page.extend_from_slice(b"</td><td class=\"p\" data-name=\"Points more\">")?;
     if let Some(best) = best {
-        let more = best.saturating_sub(line.right.score.value());
+        let more = best.saturating_sub(line.right().score);
         write(line.sheet.alloc, page, &[Piece::Points(more)])?;
     }
     page.extend_from_slice(b"</td>")
 }
 
 /// Appends the board behind an event, which opens at a click, with the tiles marked that it put down.
-fn push_after(page: &mut Vec<u8>, line: &Line<'_>) -> Result<(), AllocError> {
-    let (sheet, place) = (&line.sheet, line.place);
-    let events = sheet.events();
-    let before = lay_plays(events, place.min(events.len()));
-    let after = lay_plays(events, place.saturating_add(1).min(events.len()));
-    if after.end <= place {
-        return Ok(());
-    }
+fn push_after(
+    page: &mut Vec<u8>,
+    line: &Line<'_>,
+    before: &Layer,
+    after: &Layer,
+) -> Result<(), AllocError> {
     write(
-        sheet.alloc,
+        line.sheet.alloc,
         page,
         &[
             Piece::Markup(
@@ -124,7 +126,7 @@ fn push_after(page: &mut Vec<u8>, line: &Line<'_>) -> Result<(), AllocError> {
         ],
     )?;
     let picture = Picture {
-        sheet: *sheet,
+        sheet: line.sheet,
         board: &after.board,
         before: &before.board,
         marked: None,
@@ -133,47 +135,69 @@ fn push_after(page: &mut Vec<u8>, line: &Line<'_>) -> Result<(), AllocError> {
     page.extend_from_slice(b"</details></td></tr>\n")
 }
 
-/// Appends the row of an event, and takes it where the events so far are allowed; gives whether it is allowed too.
-fn push_row(
-    page: &mut Vec<u8>,
-    sheet: &Sheet<'_>,
-    machine: &mut Machine,
-    stands: bool,
-    place: usize,
-) -> Result<bool, AllocError> {
-    let Some(line) = Line::at(sheet, place) else {
-        return Ok(false);
-    };
-    push_start(page, &line)?;
-    push_written(page, &line)?;
-    let mut taken = false;
-    if stands {
-        push_best_cells(page, &line, machine)?;
-        taken = machine
-            .step(line.right, line.next(), sheet.pair.list())
-            .is_ok();
-    } else {
-        page.extend_from_slice(b"<td></td><td></td>")?;
-    }
+/// Appends the row of an event; `follow` has the plays before it that stand, and then its own.
+fn push_row(page: &mut Vec<u8>, line: &Line<'_>, follow: &mut Follow) -> Result<(), AllocError>
+    requires { Follows line.now.sheet.rules.now (list_in line.now.sheet.pair.now) follow.old }
+    ensures { OnOk result (Follows line.now.sheet.rules.now (list_in line.now.sheet.pair.now) follow.new) }
+{
+    push_start(page, line)?;
+    push_written(page, line)?;
+    push_best_cells(page, line, follow)?;
     page.extend_from_slice(b"<td data-name=\"Not in the list\">")?;
-    if taken {
-        push_unlisted(page, sheet, machine.standing_words())?;
+    if let Some(row) = line.row() {
+        follow_line(line, follow);
+        push_unlisted(page, &line.sheet, row.behind.standing_words())?;
     }
     page.extend_from_slice(b"</td>")?;
-    push_right(page, &line)?;
-    page.extend_from_slice(b"</tr>\n")?;
-    push_after(page, &line)?;
-    Ok(taken)
+    push_right(page, line)?;
+    page.extend_from_slice(b"</tr>\n")
+}
+
+/// Appends the row of an event and the board after it, where the plays up to it can be laid, and gives that board.
+fn push_both(
+    page: &mut Vec<u8>,
+    line: &Line<'_>,
+    follow: &mut Follow,
+    before: &Layer,
+) -> Result<Layer, AllocError>
+    requires { Follows line.now.sheet.rules.now (list_in line.now.sheet.pair.now) follow.old }
+    ensures { OnOk result (Follows line.now.sheet.rules.now (list_in line.now.sheet.pair.now) follow.new) }
+{
+    push_row(page, line, follow)?;
+    match before.behind(line.sheet.events(), line.place) {
+        Some(after) => {
+            push_after(page, line, before, &after)?;
+            Ok(after)
+        }
+        None => Ok(before.ended()),
+    }
+}
+
+/// Appends the row of the event at a place and the board after it.
+fn push_place(
+    page: &mut Vec<u8>,
+    sheet: &Sheet<'_>,
+    follow: &mut Follow,
+    before: &Layer,
+    place: usize,
+) -> Result<Layer, AllocError>
+    requires { Follows sheet.now.rules.now (list_in sheet.now.pair.now) follow.old }
+    ensures { OnOk result (Follows sheet.now.rules.now (list_in sheet.now.pair.now) follow.new) }
+{
+    match Line::at(sheet, place) {
+        Some(line) => push_both(page, &line, follow, before),
+        None => Ok(before.ended()),
+    }
 }
 
 /// Appends the sheet: a row for each event, and behind it the board after it.
 pub fn push_rows(page: &mut Vec<u8>, sheet: &Sheet<'_>) -> Result<(), AllocError> {
     page.extend_from_slice(b"<h2>The sheet</h2>\n")?;
     push_heading(page)?;
-    let mut machine = Machine::new(sheet.rules);
-    let mut stands = true;
+    let mut follow = Follow::new(sheet.rules, sheet.pair);
+    let mut layer = Layer::new();
     for place in 0..sheet.events().len() {
-        stands = push_row(page, sheet, &mut machine, stands, place)?;
+        layer = push_place(page, sheet, &mut follow, &layer, place)?;
     }
     page.extend_from_slice(b"</tbody>\n</table>\n")
 }

@@ -1,12 +1,13 @@
 //! The sheet that a page shows.
 
 use engine::Finding;
+use game_rows::Walk;
 use gcg_read::{Event, Record};
 use lex_check::Checked;
 use ref_tiles::Rules;
 use std::alloc::Global;
 
-/// A record with its rules, its words, what is found of it and what it should be.
+/// A record with its rules, its words, what is found of it and what each event did.
 #[derive(Clone, Copy)]
 pub struct Sheet<'a> {
     /// Where the memory for what is worked out of it comes from.
@@ -17,8 +18,8 @@ pub struct Sheet<'a> {
     pub pair: &'a Checked<'a>,
     /// The record as it is written.
     pub record: &'a Record,
-    /// The same record with the right scores and totals, as far as the rules allow its events.
-    pub right: &'a Record,
+    /// The walk over its events.
+    pub walk: &'a Walk,
     /// What is found of the record as it is written.
     pub finding: &'a Finding,
 }

@@ -16,7 +16,7 @@ later_as v is = subst IsLater (sym is) done_later
 
 pub audit_later : {T : Type 0} (rules : Rules) (list : List (List ℕ)) (x : Result T Decision) (texts : List (List ℕ)) (v : Verdict) (report : List ℕ) → IsAuditTold rules list x texts v report → IsLater v
 audit_later rules list (Ok told) [] v report is = absurd is
-audit_later rules list (Ok told) (text ∷ []) v report is = later_as v is.1.1.verdict_is
+audit_later rules list (Ok told) (text ∷ []) v report is = later_as v is.2.verdict_is
 audit_later rules list (Ok told) (text ∷ more ∷ rest) v report is = absurd is
 audit_later rules list (Err d) texts v report is =
     record {
@@ -27,7 +27,7 @@ audit_later rules list (Err d) texts v report is =
 
 pub case_later : {T : Type 0} (rules : Rules) (list : List (List ℕ)) (x : Result T Decision) (texts : List (List ℕ)) (v : Verdict) (report : List ℕ) → IsCaseTold rules list x texts v report → IsLater v
 case_later rules list (Ok told) [] v report is = absurd is
-case_later rules list (Ok told) (text ∷ []) v report is = later_as v is.1.1.verdict_is
+case_later rules list (Ok told) (text ∷ []) v report is = later_as v is.2.verdict_is
 case_later rules list (Ok told) (text ∷ more ∷ rest) v report is = absurd is
 case_later rules list (Err d) texts v report is = absurd is
 

@@ -1,5 +1,5 @@
 //! `archive`: many games by one word list and one lexicon, which are read once, and a line for each.
-ghost use Rattle.std.specs.Prelude.{[]};
+ghost use Rattle.std.specs.Prelude.{[], ⊤};
 ghost use Rattle.devices.specs.Devices.{HasRoom};
 ghost use Rattle.referee.specs.Telling.{AreGamesTold};
 ghost use Rattle.referee.specs.Later.{games_later};

@@ -1,13 +1,12 @@
 //! The pages of an archive: one for each game, and their index.
 
-use crate::paging::push_case;
 use archive_lines::{Fields, PageField, Unread};
 use devices::{FromRead, FromWrite, write_whole};
 use engine::{Case, RunFault, open_case};
 use exit_statuses::Trouble;
 use game_page::{
     Contents, IndexPlayer, IndexRow, Maker, PageNames, push_index_end, push_index_head,
-    push_index_row,
+    push_index_row, push_page,
 };
 use lex_check::Checked;
 use ref_tiles::Rules;
@@ -108,7 +107,7 @@ impl<'a> Pages<'a> {
             case,
             maker: &self.maker,
         };
-        push_case(alloc, &mut self.page, &contents)?;
+        push_page(alloc, &mut self.page, &contents)?;
         let file = self.names.next_name(alloc, name)?;
         let path = path_in(alloc, self.folder, file.as_str())?;
         if put(rt, path.as_str(), self.page.as_slice())? {

@@ -3,7 +3,7 @@
 use crate::files::create;
 use crate::inputs::write;
 use devices::{FromWrite, write_whole};
-use engine::{case_line, record_from};
+use engine::case_line;
 use exit_statuses::{Exit, Trouble, exit_of_case};
 use game_page::{Contents, push_page};
 use std::alloc::{AllocError, Global};
@@ -30,21 +30,9 @@ pub fn write_page<'a, R: Runtime + AllocGlobal>(
     Ok(exit_of_case(case, None))
 }
 
-/// The page of a case.
+/// The page of a case, or nothing where its text is no record.
 fn page_of(alloc: Global, contents: &Contents<'_>) -> Result<Vec<u8>, AllocError> {
     let mut page = Vec::new(alloc);
-    push_case(alloc, &mut page, contents)?;
+    push_page(alloc, &mut page, contents)?;
     Ok(page)
-}
-
-/// Appends the page of a case, or nothing where its text is no record.
-pub fn push_case(
-    alloc: Global,
-    page: &mut Vec<u8>,
-    contents: &Contents<'_>,
-) -> Result<(), AllocError> {
-    match record_from(alloc, contents.case.text.as_slice())? {
-        Ok(mut right) => push_page(alloc, page, contents, &mut right),
-        Err(_) => Ok(()),
-    }
 }

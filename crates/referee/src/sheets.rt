@@ -108,8 +108,8 @@ fn page<'a, R: Runtime + AllocGlobal, F: Read + Drop, S: Read + Drop>(
 
 /// What is asked of a sheet, by a runtime to which the answer goes.
 #[derive(Clone, Copy)]
-struct SheetQuestion<'a, R> {
-    rt: &'a R,
+struct SheetQuestion<'r, 'a, R> {
+    rt: &'r R,
     task: SheetTask<'a>,
 }
 
@@ -117,7 +117,7 @@ impl<'a, R: Runtime + AllocGlobal, F: Read + Drop, S: Read + Drop> Question<
     RulesFile<F>,
     FromRead<Words<S>>,
     FromRead<S>,
-> for SheetQuestion<'a, R> {
+> for SheetQuestion<'_, 'a, R> {
     ghost use Rattle.referee.specs.Sheets.{IsSheetTold, sheet_later};
 
     type Answer = Told<'a>;
@@ -148,7 +148,7 @@ impl<'a, R: Runtime + AllocGlobal, F: Read + Drop, S: Read + Drop> Question<
 
 /// Opens the files of a sheet, reads what it is judged by, and does what is asked of it.
 pub fn answer_sheet<'a, R: Runtime + AllocGlobal>(
-    rt: &'a R,
+    rt: &R,
     files: GameFiles<'a>,
     task: SheetTask<'a>,
 ) -> Result<Exit, Trouble<'a>> {

@@ -1,8 +1,8 @@
-use Rattle.std.proofs.Common.{◌≡◌, List, ap, sym, ◌∙◌}
+use Rattle.std.proofs.Common.{ap, sym, ◌∙◌}
 use Rattle.gcg_read.specs.Records.{most_bytes}
 use Rattle.lex_check.specs.Pairs.{list_in}
 use Rattle.engine.specs.Explaining.{IsCaseOf}
-use Rattle.engine.proofs.Readings.{taken}
+use Rattle.call_stages.proofs.Readings.{taken}
 use Rattle.engine.proofs.WalkedRecords.{case_is}
 use Rattle.engine.proofs.explains.open_case.Goals as goal
 

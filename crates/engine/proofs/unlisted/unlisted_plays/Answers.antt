@@ -1,4 +1,4 @@
-use Rattle.std.proofs.Common.{◌≡◌, ◌+◌, ◌≤◌, length, refl, ap, ◌∙◌, arith}
+use Rattle.std.proofs.Common.{◌≡◌, length, ap, ◌∙◌, arith}
 use Rattle.game_turns.specs.Passing.{rules_in, record_in, list_in}
 use Rattle.engine.specs.Archiving.{unlisted_plays, unlisted_to}
 use Rattle.engine.proofs.WalkedRecords.{unlisted_more}
