@@ -48,8 +48,8 @@ use Rattle.call_stages.specs.Sources.{Source, AreGiven}
 use Rattle.call_stages.specs.Telling.{IsOwn}
 use Rattle.engine.specs.Verdicts.{IsGame}
 use Rattle.engine.specs.Headlines.{Texts, in_order, IsBestPrinted, IsLegalGame, IsLegalRun, LegalMeansLegal, LegalMeansLegalByText, IllegalMeansNoGame, PlainGamesAreDecided}
-use Rattle.engine.specs.OwnJudging.{legal_own}
-use Rattle.engine.specs.OwnVerdicts.{illegal_own}
+use Rattle.engine.specs.JudgingLaws.{legal_own}
+use Rattle.engine.specs.VerdictLaws.{illegal_own}
 
 -- a value of which something holds
 pub some_of : {T : Type 0} (o : Option T) (P : T → Type 0) → IsSomeAnd o P → (x : T) × P x

@@ -11,10 +11,10 @@ pub mod Building
 pub mod Converting
 pub mod Headlines
 pub mod Settling
-pub mod OwnVerdicts
-pub mod OwnJudging
-pub mod OwnBestPlays
-pub mod OwnTurnPlays
+pub mod VerdictLaws
+pub mod JudgingLaws
+pub mod BestPlayLaws
+pub mod TurnPlayLaws
 pub mod Archiving
 pub mod WalkedEntries
 pub mod Auditing

@@ -51,7 +51,7 @@ pub struct BestPlays {
 
 impl GameQuestion for BestPlays {
     ghost use Rattle.engine.specs.Topping.{IsToppedOn};
-    ghost use Rattle.engine.specs.OwnBestPlays.{topped_own};
+    ghost use Rattle.engine.specs.BestPlayLaws.{topped_own};
 
     ghost is_decided = { λ question rules words game v report. IsToppedOn rules words question.rack game v report };
 

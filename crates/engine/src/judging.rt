@@ -144,7 +144,7 @@ pub enum Judging {
 
 impl GameQuestion for Judging {
     ghost use Rattle.engine.specs.Settling.{IsJudgedBy};
-    ghost use Rattle.engine.specs.OwnJudging.{judged_by_own};
+    ghost use Rattle.engine.specs.JudgingLaws.{judged_by_own};
 
     ghost is_decided = { λ question rules words game v report. IsJudgedBy question rules words game v report };
 

@@ -141,7 +141,7 @@ fn tell_by_line(
 
 impl GameQuestion for TurnPlays {
     ghost use Rattle.engine.specs.TopBefore.{IsToppedBefore};
-    ghost use Rattle.engine.specs.OwnTurnPlays.{topped_before_own};
+    ghost use Rattle.engine.specs.TurnPlayLaws.{topped_before_own};
 
     ghost is_decided = { λ question rules words game v report. IsToppedBefore question.number question.before rules words question.rack game v report };
 

@@ -4,5 +4,3 @@ pub mod Fronts
 pub mod Mends
 pub mod Sheets
 pub mod Totals
-pub mod WrongPlaces
-pub mod Audits

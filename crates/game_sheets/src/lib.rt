@@ -1,16 +1,12 @@
 //! The correction of a score sheet: the same events, with the scores and totals that the rules give.
 #![tactic(auto)]
 
-mod auditing;
-mod correcting;
 mod last_totals;
 mod laws;
 mod mending;
 mod wrong_numbers;
 
-pub use auditing::audit;
-pub use correcting::correct;
 pub use last_totals::last_total;
 pub use laws::law_of_corrections;
 pub use mending::{mend, take};
-pub use wrong_numbers::{WrongNumber, had_before, push_totals, wrong_lines};
+pub use wrong_numbers::{WrongNumber, had_before};

@@ -11,7 +11,7 @@ use Rattle.call_stages.specs.declared.verdicts.GameFault.TheVariants as game
 use Rattle.call_stages.specs.declared.verdicts.Verdict.{Verdict}
 use Rattle.call_stages.specs.declared.verdicts.Verdict.TheVariants as verdict
 use Rattle.engine.specs.Judging.{IsLegal, IsRefused, IsPastBound, IsLeftOpen, IsToldBound, IsJudged}
-use Rattle.engine.specs.OwnVerdicts.{own_as, illegal_own, refused_own}
+use Rattle.engine.specs.VerdictLaws.{own_as, illegal_own, refused_own}
 use Rattle.engine.specs.Settling.{IsSettledLegal, IsUndealt, IsSettled, IsJudgedBy}
 use Rattle.call_stages.specs.Telling.{IsOwn}
 

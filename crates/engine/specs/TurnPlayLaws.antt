@@ -6,7 +6,7 @@ use Rattle.call_stages.specs.declared.verdicts.GameFault.TheVariants as game
 use Rattle.call_stages.specs.declared.verdicts.Verdict.{Verdict}
 use Rattle.call_stages.specs.declared.verdicts.Verdict.TheVariants as verdict
 use Rattle.engine.specs.Boards.{place_asked}
-use Rattle.engine.specs.OwnVerdicts.{own_as, done_own, illegal_own}
+use Rattle.engine.specs.VerdictLaws.{own_as, done_own, illegal_own}
 use Rattle.call_stages.specs.Telling.{IsOwn}
 use Rattle.engine.specs.TopBefore.{rack_asked, AreToldBefore, IsToldRefusal, ByRackAsked, ByPlaceAsked, IsToppedBefore}
 

@@ -5,7 +5,7 @@ use Rattle.gcg_read.specs.declared.records.Record.{Record}
 use Rattle.call_stages.specs.declared.verdicts.Verdict.{Verdict}
 use Rattle.call_stages.specs.declared.verdicts.Verdict.TheVariants as verdict
 use Rattle.engine.specs.Judging.{IsRefused}
-use Rattle.engine.specs.OwnVerdicts.{own_as, done_own, refused_own}
+use Rattle.engine.specs.VerdictLaws.{own_as, done_own, refused_own}
 use Rattle.call_stages.specs.Telling.{IsOwn}
 use Rattle.engine.specs.Topping.{AreTold, IsToppedOn}
 
