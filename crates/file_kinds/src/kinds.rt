@@ -1,0 +1,160 @@
+//! The kinds of files that are taken for records.
+ghost use Rattle.std.specs.Prelude.{◌≡◌, ◌↔◌, IsTrue};
+ghost use Rattle.std.specs.List.{list_any};
+ghost use Rattle.text_lines.specs.Lines.{is_feed};
+ghost use Rattle.file_kinds.specs.Kinds.{kind_of, is_lexicon, is_gzip, is_zip, is_wide, is_markup, is_return, has_returns_alone, is_indented_event, has_indented_events};
+
+use text_lines::{Lines, next_field, without_mark};
+
+/// What a file seems to be.
+#[derive(Clone, Copy, Debug, PartialEq, Eq)]
+pub enum FileKind {
+    /// It has no byte.
+    Empty,
+    /// It begins as a compiled lexicon.
+    Lexicon,
+    /// It begins as a file that `gzip` made ([RFC 1952](https://www.rfc-editor.org/rfc/rfc1952), 2.3.1).
+    Gzip,
+    /// It begins as an archive of the format ZIP.
+    Zip,
+    /// It begins as text in UTF-16, with a byte order mark or with a zero byte for every other one.
+    Utf16,
+    /// Its first field begins with `<`, as that of HTML does.
+    Markup,
+    /// Its lines end in CR alone.
+    Returns,
+    /// Some line is an event but for the blanks before it.
+    Indented,
+    /// It is none of these.
+    Other,
+}
+
+/// Whether a text begins as a compiled lexicon of either format.
+fn is_lexicon(text: &[u8]) -> bool
+    ensures { result ≡ is_lexicon text.now }
+{
+    text.starts_with(b"GAD1") || text.starts_with(b"GAD2")
+}
+
+/// Whether a text begins as a file that `gzip` made.
+fn is_gzip(text: &[u8]) -> bool
+    ensures { result ≡ is_gzip text.now }
+{
+    text.starts_with(&[0x1f, 0x8b])
+}
+
+/// Whether a text begins as a ZIP archive.
+fn is_zip(text: &[u8]) -> bool
+    ensures { result ≡ is_zip text.now }
+{
+    text.starts_with(&[0x50, 0x4b, 3, 4])
+}
+
+/// Whether a text begins as one in UTF-16.
+fn is_wide(text: &[u8]) -> bool
+    ensures { result ≡ is_wide text.now }
+{
+    match text {
+        [0xff, 0xfe, ..] | [0xfe, 0xff, ..] | [0, ..] | [_, 0, ..] => true,
+        _ => false,
+    }
+}
+
+/// Whether the first field of a text begins with `<`.
+fn is_markup(text: &[u8]) -> bool
+    ensures { result ≡ is_markup text.now }
+{
+    match next_field(text) {
+        Some(field) => field.bytes.starts_with(b"<"),
+        None => false,
+    }
+}
+
+/// Whether a text has a CR.
+fn has_return(text: &[u8]) -> bool
+    ensures { result ≡ list_any is_return text.now }
+{
+    text.iter().any(|byte| *byte == b'\r')
+}
+
+/// Whether a text has an LF.
+fn has_feed(text: &[u8]) -> bool
+    ensures { result ≡ list_any is_feed text.now }
+{
+    text.iter().any(|byte| *byte == b'\n')
+}
+
+/// Whether a text has a CR and no LF.
+fn has_returns_alone(text: &[u8]) -> bool
+    ensures { result ≡ has_returns_alone text.now }
+{
+    has_return(text) && !has_feed(text)
+}
+
+/// Whether a line begins with a blank, and its first field with `>`.
+fn is_indented_event(line: &[u8]) -> bool
+    ensures { result ≡ is_indented_event line.now }
+{
+    if line.starts_with(b">") {
+        return false;
+    }
+    match next_field(line) {
+        Some(field) => field.bytes.starts_with(b">"),
+        None => false,
+    }
+}
+
+/// Whether some line of a text is an event but for the blanks before it.
+fn has_indented_events(text: &[u8]) -> bool
+    ensures { result ≡ has_indented_events text.now }
+{
+    for line in Lines::of(text) {
+        if is_indented_event(line) {
+            return true;
+        }
+    }
+    false
+}
+
+impl FileKind {
+    /// What a text without an event seems to be: the first kind, in the order in which they are declared, of which it has the signs.
+    #[tactic(auto, unfolding(crate::specs::Kinds::kind_of))]
+    pub fn of(text: &[u8]) -> FileKind
+        ensures { result ≡ kind_of text.now }
+    {
+        if text.is_empty() {
+            FileKind::Empty
+        } else if is_lexicon(text) {
+            FileKind::Lexicon
+        } else if is_gzip(text) {
+            FileKind::Gzip
+        } else if is_zip(text) {
+            FileKind::Zip
+        } else if is_wide(text) {
+            FileKind::Utf16
+        } else if is_markup(without_mark(text)) {
+            FileKind::Markup
+        } else if has_returns_alone(text) {
+            FileKind::Returns
+        } else if has_indented_events(without_mark(text)) {
+            FileKind::Indented
+        } else {
+            FileKind::Other
+        }
+    }
+
+    /// What is said of such a file: a clause whose subject is the file.
+    pub fn sentence(self) -> &'static str {
+        match self {
+            FileKind::Empty => "it is empty",
+            FileKind::Lexicon => "it is a compiled lexicon",
+            FileKind::Gzip => "it is compressed (gzip)",
+            FileKind::Zip => "it is compressed (zip)",
+            FileKind::Utf16 => "it is text in UTF-16, and records are read as UTF-8 or ISO-8859-1",
+            FileKind::Markup => "it is HTML or another markup",
+            FileKind::Returns => "its lines end in CR alone, and not in LF or CR LF",
+            FileKind::Indented => "its lines begin with blanks before the >",
+            FileKind::Other => "no line begins with >",
+        }
+    }
+}

@@ -1,0 +1,16 @@
+pub mod Fields
+pub mod Lasts
+pub mod Scored
+pub mod Events
+pub mod Heads
+pub mod Entries
+pub mod Returns
+pub mod Feeds
+pub mod Walks
+pub mod Lines
+pub mod Marks
+pub mod Texts
+pub mod Cuts
+pub mod Colons
+pub mod Uniqueness
+pub mod Rounds

@@ -1,0 +1,20 @@
+-- How the lines of a text are cut off.
+use Rattle.std.specs.Prelude.{ℕ, ◌==◌, Bool, List, [], ◌∷◌, if◌then◌else◌, Option, Some, None}
+use Rattle.std.specs.Borrow.{Bor}
+use Rattle.std.specs.List.{slice_split}
+use Rattle.text_lines.specs.Lines.{is_feed}
+use Rattle.gcg_read.specs.declared.events.Event.{Event}
+use Rattle.gcg_numbers.specs.Numbers.{line_with, is_event_line}
+
+abbrev pub is_colon : ℕ → Bool
+is_colon byte = byte == 58
+
+-- the lines of what stands behind an LF
+abbrev pub parts_behind : Option (Bor (List ℕ)) → List (List ℕ)
+parts_behind None = []
+parts_behind (Some after) = slice_split is_feed after.now
+
+-- a line with the numbers of the first event, where it is an event line and there is one
+abbrev pub first_with : List Event → List ℕ → List ℕ
+first_with [] line = line
+first_with (event ∷ events) line = if is_event_line line then line_with event line else line

@@ -1,0 +1,13 @@
+//! The text of a sheet with other scores and totals: nothing but these numbers is changed, so that titles, notes, blanks and ends of
+//! lines stay as they were given.
+//!
+//! [`push_with_numbers`] writes it, and [`law_of_numbers`] says that it reads as the record with these numbers.
+#![tactic(auto)]
+
+mod cutting;
+mod laws;
+mod numbers;
+mod writing;
+
+pub use laws::law_of_numbers;
+pub use writing::push_with_numbers;

@@ -1,0 +1,140 @@
+//! The lines of a sheet.
+ghost use Rattle.std.specs.Prelude.{◌≡◌, ◌<◌, ◌≤◌, ◌++◌, ◌∷◌, [], ℕ, List, drop, length, IfSome, IfOk, OnOk};
+ghost use Rattle.std.specs.List.{position, slice_split};
+ghost use Rattle.text_lines.specs.Lines.{is_feed};
+ghost use Rattle.gcg_numbers.specs.Lines.{is_colon, parts_behind, first_with};
+ghost use Rattle.gcg_numbers.specs.Numbers.{with_numbers, behind_colon, line_with, is_event_line, lines_with, mark_of, text_with};
+
+use crate::numbers::push_numbers;
+use bstr::ByteSlice;
+use gcg_read::Event;
+use std::alloc::AllocError;
+use text_lines::without_mark;
+
+/// A line with the end that it has but for its LF, and the text behind that.
+#[derive(Clone, Copy)]
+struct Cut<'a> {
+    line: &'a [u8],
+    after: Option<&'a [u8]>,
+}
+
+/// The place of the first LF of a text.
+#[tactic(auto, using(text_lines::proofs::Cuts::first_byte))]
+fn find_feed(text: &[u8]) -> Option<usize>
+    ensures { result ≡ position is_feed text.now }
+{
+    text.find_byte(b'\n')
+}
+
+/// Cuts the first line off a text.
+#[tactic(auto, using(crate::proofs::Cuts::lines_end))]
+fn cut_line(text: &[u8]) -> Cut<'_>
+    ensures lines { slice_split is_feed text.now ≡ result.line.now ∷ parts_behind result.after }
+    ensures shorter { IfSome result.after (λ after. length after.now < length text.now) }
+{
+    match find_feed(text) {
+        None => Cut {
+            line: text,
+            after: None,
+        },
+        Some(end) => Cut {
+            line: &text[..end],
+            after: Some(&text[end + 1..]),
+        },
+    }
+}
+
+/// The place of the first colon of a line.
+#[tactic(auto, using(text_lines::proofs::Cuts::first_byte))]
+fn find_colon(line: &[u8]) -> Option<usize>
+    ensures { result ≡ position is_colon line.now }
+{
+    line.find_byte(b':')
+}
+
+/// Appends the text of an event line with the numbers of its event, which stand behind the first colon.
+#[tactic(auto, using(crate::proofs::Colons::none, crate::proofs::Colons::there))]
+fn push_behind_colon(out: &mut Vec<u8>, line: &[u8], event: &Event) -> Result<(), AllocError>
+    ensures { OnOk result (out.new.items ≡ out.old.items ++ behind_colon (with_numbers event.now) line.now) }
+{
+    let Some(colon) = find_colon(line) else {
+        return out.extend_from_slice(line);
+    };
+    out.extend_from_slice(&line[..colon + 1])?;
+    push_numbers(out, &line[colon + 1..], event)
+}
+
+/// Appends an event line with the numbers of its event; a CR at its end stays.
+#[tactic(auto, unfolding(crate::specs::Numbers::line_with))]
+fn push_line(out: &mut Vec<u8>, line: &[u8], event: &Event) -> Result<(), AllocError>
+    ensures { OnOk result (out.new.items ≡ out.old.items ++ line_with event.now line.now) }
+{
+    match line {
+        [front @ .., b'\r'] => {
+            push_behind_colon(out, front, event)?;
+            out.push(b'\r')?;
+            Ok(())
+        }
+        _ => push_behind_colon(out, line, event),
+    }
+}
+
+/// Whether a line is that of an event.
+fn is_event_line(line: &[u8]) -> bool
+    ensures { result ≡ is_event_line line.now }
+{
+    line.starts_with(b">")
+}
+
+/// Appends a line of a sheet with the numbers of the first of the events, where it is an event line and there is one; gives how many
+/// events that are.
+#[tactic(auto, using(crate::proofs::Rounds::of_event, crate::proofs::Rounds::of_none, crate::proofs::Rounds::of_other))]
+fn push_next(out: &mut Vec<u8>, line: &[u8], events: &[Event]) -> Result<usize, AllocError>
+    ensures bound { IfOk result (λ taken. taken ≤ length events.now) }
+    ensures line { IfOk result (λ taken. (lines : List (List ℕ)) → lines_with events.now (line.now ∷ lines) ≡ first_with events.now line.now ∷ lines_with (drop taken events.now) lines) }
+    ensures done { OnOk result (out.new.items ≡ out.old.items ++ first_with events.now line.now) }
+{
+    let Some(event) = events.first() else {
+        out.extend_from_slice(line)?;
+        return Ok(0);
+    };
+    if is_event_line(line) {
+        push_line(out, line, event)?;
+        return Ok(1);
+    }
+    out.extend_from_slice(line)?;
+    Ok(0)
+}
+
+/// Appends the text of a sheet with the scores and the totals of events, the first of which is that of the first event line. Only these
+/// numbers are changed, and only where they are not written so already.
+///
+/// # Errors
+///
+/// Memory was refused.
+#[tactic(auto, using(crate::proofs::Rounds::one_line_more, crate::proofs::Rounds::at_the_end), unfolding(crate::specs::Numbers::text_with))]
+pub fn push_with_numbers(out: &mut Vec<u8>, text: &[u8], events: &[Event]) -> Result<(), AllocError>
+    ensures { OnOk result (out.new.items ≡ out.old.items ++ text_with events.now text.now) }
+{
+    let unmarked = without_mark(text);
+    push_mark(out, text)?;
+    let mut cut = cut_line(unmarked);
+    let mut taken = 0;
+    while let Some(after) = cut.after {
+        taken += push_next(out, cut.line, &events[taken..])?;
+        out.push(b'\n')?;
+        cut = cut_line(after);
+    }
+    push_next(out, cut.line, &events[taken..])?;
+    Ok(())
+}
+
+/// Appends the byte order mark of a text, where it has one.
+fn push_mark(out: &mut Vec<u8>, text: &[u8]) -> Result<(), AllocError>
+    ensures { OnOk result (out.new.items ≡ out.old.items ++ mark_of text.now) }
+{
+    if text.starts_with(&[0xef, 0xbb, 0xbf]) {
+        return out.extend_from_slice(&[0xef, 0xbb, 0xbf]);
+    }
+    Ok(())
+}

@@ -1,0 +1,44 @@
+-- A line of fields that tabs separate.
+use Rattle.std.specs.Prelude.{ℕ, Bool, true, false, ◌==◌, List, [], ◌∷◌, ◌++◌, codes, map, if◌then◌else◌}
+use Rattle.std.specs.List.{flat_map, slice_split}
+
+-- A tab (9), an LF (10) and a backslash (92) are written as a backslash and 't', 'n' or a backslash; any other byte as itself.
+abbrev pub escaped_byte : ℕ → List ℕ
+escaped_byte byte =
+    if byte == 9 then codes "\\t" else (if byte == 10 then codes "\\n" else (if byte == 92 then codes "\\\\" else byte ∷ []))
+
+unfoldable pub escaped : List ℕ → List ℕ
+escaped text = flat_map escaped_byte text
+
+-- the fields with a tab between two
+abbrev pub joined : List (List ℕ) → List ℕ
+joined [] = []
+joined (field ∷ []) = escaped field
+joined (field ∷ next ∷ fields) = escaped field ++ 9 ∷ joined (next ∷ fields)
+
+-- a line with its LF
+abbrev pub line_text : List (List ℕ) → List ℕ
+line_text fields = joined fields ++ 10 ∷ []
+
+-- ---- what a reader makes of it
+
+-- what stands for a byte behind a backslash: 't' (116) for a tab, 'n' (110) for an LF
+abbrev pub meant : ℕ → ℕ
+meant byte = if byte == 116 then 9 else (if byte == 110 then 10 else byte)
+
+-- a text with its escapes undone; `behind` says whether a backslash stands before it
+abbrev pub unescaped_behind : (behind : Bool) → List ℕ → List ℕ
+unescaped_behind true [] = 92 ∷ []
+unescaped_behind false [] = []
+unescaped_behind true (byte ∷ text) = meant byte ∷ unescaped_behind false text
+unescaped_behind false (byte ∷ text) = if byte == 92 then unescaped_behind true text else byte ∷ unescaped_behind false text
+
+abbrev pub unescaped : List ℕ → List ℕ
+unescaped text = unescaped_behind false text
+
+abbrev pub is_tab : ℕ → Bool
+is_tab byte = byte == 9
+
+-- the fields of a line without its LF
+abbrev pub fields_read : List ℕ → List (List ℕ)
+fields_read text = map unescaped (slice_split is_tab text)

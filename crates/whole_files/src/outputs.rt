@@ -1,0 +1,121 @@
+//! A file that is being written.
+
+use crate::names::part_beside;
+use std::alloc::Global;
+use std::fs::{self, OpenFile, OpenOptions, Permissions};
+use std::io::{self, ErrorKind, Result, Write};
+use std::rt::Files;
+
+/// How many names are tried for a new file beside another one.
+const MOST_NAMES: u32 = 1000;
+
+/// A file that is being written. Where its name leads to a file or to nothing, what is written goes to a new file in the same folder, and
+/// the name leads to it only once it is [kept](OutputFile::keep): so what was there stays as it is until then. A device, a pipe and what
+/// else is no file is written in place.
+#[derive(Drop)]
+pub struct OutputFile<F> {
+    file: F,
+    /// Where the new file is to go; none where the output is written in place.
+    renaming: Option<Renaming>,
+}
+
+/// The two names of a new file.
+#[derive(Drop)]
+struct Renaming {
+    /// Its name while it is written.
+    from: String,
+    /// The name that it gets when it is kept.
+    to: String,
+}
+
+impl<F: Write + OpenFile + Drop> OutputFile<F> {
+    /// Opens the output of this name.
+    ///
+    /// # Errors
+    ///
+    /// What keeps the output from being written: it is a folder, say, or it must not be written, or no new file can be made in its folder.
+    pub fn open<R: Files<File = F> + AllocGlobal>(rt: &R, name: &str) -> Result<OutputFile<F>> {
+        match fs::metadata(rt, name) {
+            Ok(there) if there.is_file() => {
+                let _writable = in_place(rt, name)?;
+                let to = fs::canonicalize(rt, name)?.into_string();
+                OutputFile::beside(rt, to, Some(there.permissions()))
+            }
+            Ok(_) => Ok(OutputFile {
+                file: in_place(rt, name)?,
+                renaming: None,
+            }),
+            Err(error) if error.kind() == ErrorKind::NotFound => {
+                OutputFile::beside(rt, String::from_str(rt.alloc(), name)?, None)
+            }
+            Err(error) => Err(error),
+        }
+    }
+
+    /// Makes a new file beside the one that it is to replace, with the same permissions where these are given.
+    fn beside<R: Files<File = F> + AllocGlobal>(
+        rt: &R,
+        to: String,
+        permissions: Option<Permissions>,
+    ) -> Result<OutputFile<F>> {
+        let mut options = OpenOptions::new();
+        options.write(true).create_new(true);
+        for number in 0..MOST_NAMES {
+            let from = part_beside(rt.alloc(), to.as_str(), number)?;
+            match options.open(rt, from.as_str()) {
+                Ok(file) => {
+                    if let Some(permissions) = permissions {
+                        let _ = file.set_permissions(permissions);
+                    }
+                    let renaming = Some(Renaming { from, to });
+                    return Ok(OutputFile { file, renaming });
+                }
+                Err(error) if error.kind() == ErrorKind::AlreadyExists => {}
+                Err(error) => return Err(error),
+            }
+        }
+        Err(io::Error::from(ErrorKind::AlreadyExists))
+    }
+
+    /// Keeps what was written: from now on the name of the output leads to it, and the file that was there before is gone.
+    ///
+    /// # Errors
+    ///
+    /// Where the device did not take all of it, or the name could not be given. What was there before then is as it was.
+    pub fn keep<R: Files<File = F>>(self, rt: &R) -> Result<()> {
+        let OutputFile { file, renaming } = self;
+        let Some(Renaming { from, to }) = renaming else {
+            return Ok(());
+        };
+        let mut kept = file.sync_all();
+        if kept.is_ok() {
+            kept = fs::rename(rt, from.as_str(), to.as_str());
+        }
+        if kept.is_err() {
+            let _ = fs::remove_file(rt, from.as_str());
+        }
+        kept
+    }
+
+    /// Throws away what was written to a new file.
+    pub fn discard<R: Files<File = F>>(self, rt: &R) {
+        if let Some(renaming) = &self.renaming {
+            let _ = fs::remove_file(rt, renaming.from.as_str());
+        }
+    }
+}
+
+/// Opens what is there to be written, and changes nothing of it.
+fn in_place<R: Files>(rt: &R, name: &str) -> Result<R::File> {
+    OpenOptions::new().write(true).open(rt, name)
+}
+
+impl<F: Write> Write for OutputFile<F> {
+    fn write(&mut self, buf: &[u8]) -> Result<usize> {
+        self.file.write(buf)
+    }
+
+    fn flush(&mut self) -> Result<()> {
+        self.file.flush()
+    }
+}
