@@ -1,7 +1,8 @@
 """Compares `referee audit` with sheets whose mistakes are known, and with the second judge: compare_audits.py PROGRAM CASES SEED
 
 Each game is dealt for real. Of every five cases two have one wrong score that is carried on in the totals, two one sum that is wrong,
-and one both: the program has to tell exactly these, and the corrected record has to be the true one in its normal form. Then as many
+and one both: the program has to tell exactly these, and the corrected record has to be the sheet with the true numbers, which is otherwise the
+text that was given: its notes, blanks, ends of lines and the form of the numbers that are right. Then as many
 games that nobody dealt have some numbers changed at random, and the second judge says what is to be told of them.
 """
 import random
@@ -63,22 +64,43 @@ def spoil(events, kind):
     return changed, lines
 
 
+def number_in(number, sign):
+    """A number in some form in which a record may have it, or as it is written where it is corrected."""
+    if sign is not None:
+        return f"{number:+d}" if sign else str(number)
+    digits = str(abs(number)).zfill(choose([1, 1, 1, 3]))
+    return ("-" if number < 0 else choose(["", "+"])) + digits
+
+
+class By:
+    """A sheet that somebody wrote by hand, and the same one with other numbers."""
+
+    def __init__(self, written, right):
+        """The sheet of some events, and of others that have the same lines but for their numbers."""
+        end = choose(["\n", "\r\n"])
+        self.given = self.wanted = choose(["", "\ufeff"])
+        for place, (event, other) in enumerate(zip(written, right)):
+            head, _, _ = line(event).rstrip("\n").rsplit(" ", 2)
+            given = [number_in(event.score, None), number_in(event.total, None)]
+            wanted = [given[0] if event.score == other.score else number_in(other.score, True), given[1] if event.total == other.total else number_in(other.total, False)]
+            first, second, third = (choose([" ", " ", "\t", "   "]) for _ in range(3))
+            third = choose(["", third])
+            last = end if place + 1 < len(written) else choose(["", end])
+            self.given += f"{head}{first}{given[0]}{second}{given[1]}{third}{last}"
+            self.wanted += f"{head}{first}{wanted[0]}{second}{wanted[1]}{third}{last}"
+
+
 class Sheets(Differences):
     """Sheets with mistakes."""
 
-    def write(self, events, listed, rules):
+    def write(self, events, listed, rules, text=None):
         """Writes the inputs of a run, and tells its options."""
         (self.folder / "words").write_text("\n".join(sorted(listed)))
         (self.folder / "lexicon").write_bytes(choose([build(listed), convert(build(listed), GAD2)]))
         (self.folder / "rules").write_bytes(text_of(rules))
-        (self.folder / "game").write_text("".join(map(line, events)))
+        (self.folder / "game").write_bytes((text or "".join(map(line, events))).encode())
         (self.folder / "out").unlink(missing_ok=True)
         return ["--rules", "rules"] if rules != ENGLISH or likely(0.2) else []
-
-    def tidied(self, events):
-        """The normal form of a record of these events."""
-        (self.folder / "true").write_text("".join(map(line, events)))
-        return self.run("tidy", "true").stdout
 
     def known(self, kind):
         """A game that was dealt for real, with mistakes that are known."""
@@ -91,7 +113,8 @@ class Sheets(Differences):
         changed, told = spoil(events, kind)
         if any(abs(it.total) > MOST for it in [*events, *changed]):
             return
-        by = self.write(changed, listed, rules)
+        sheet = By(changed, events)
+        by = self.write(changed, listed, rules, sheet.given)
         ran = self.run("audit", *by, "--corrected", "out", "words", "lexicon", "game")
         lines = ran.stdout.decode().split("\n")
         verdict = lines[-2] if len(lines) > 1 else ""
@@ -99,7 +122,7 @@ class Sheets(Differences):
         self.expect(lines[:-2] == told and verdict.startswith(("legal", "unsettled")), kind, lines, told)
         self.expect(ran.returncode == status(told, verdict or "legal") and not ran.stderr, kind, ran.returncode, ran.stderr)
         out = self.folder / "out"
-        self.expect(out.exists() and out.read_bytes() == self.tidied(events), kind, "corrected", changed)
+        self.expect(out.exists() and out.read_bytes() == sheet.wanted.encode(), kind, "corrected", sheet.given, sheet.wanted)
 
     def unknown(self):
         """A game that nobody dealt, with numbers changed at random."""

@@ -1,14 +1,16 @@
 -- The corrected record of an audit, written and read again.
-use Rattle.std.proofs.Common.{◌≡◌, inl, inr, ℕ, List, length, slice_get, Some, ap, ◌∙◌, subst}
+use Rattle.std.proofs.Common.{◌≡◌, inl, inr, ℕ, suc, List, [], ◌∷◌, length, Ok, refl, ap, sym, ◌∙◌, subst, arith}
 use Rattle.std.specs.Prelude.{◌≤◌}
 use Rattle.ref_tiles.specs.declared.rulebook.Rules.{Rules}
 use Rattle.gcg_read.specs.declared.events.Event.{Event}
-use Rattle.gcg_read.specs.Records.{record_of}
-use Rattle.gcg_write.specs.Normal.{normal_of}
-use Rattle.gcg_write.specs.Rounds.{IsRescored, HasOtherPoints, IsRescoredReadAgain}
+use Rattle.gcg_read.specs.declared.records.Record.{Record}
+use Rattle.gcg_read.specs.Records.{record_of, most_bytes}
+use Rattle.gcg_numbers.specs.Laws.{IsOther, AreOther, IsReadWithNumbers}
+use Rattle.gcg_numbers.specs.Numbers.{text_with}
 use Rattle.game_sheets.specs.declared.wrong_numbers.WrongNumber.{WrongNumber}
-use Rattle.game_sheets.specs.Corrections.{AreRenumbered, HavePoints}
+use Rattle.game_sheets.specs.Corrections.{IsRenumbered, AreRenumbered, HasPoints, HavePoints}
 use Rattle.game_sheets.specs.Auditing.{IsAudited}
+use Rattle.game_sheets.proofs.Numbers.{same_event}
 use Rattle.engine.specs.declared.audits.Audit.{Audit}
 use Rattle.engine.specs.Auditing.{IsAuditOfRecord}
 use Rattle.audit_lines.specs.Corrected.{IsReadBack}
@@ -18,23 +20,41 @@ renumbered : (rules : Rules) (list : List (List ℕ)) (written right : List Even
 renumbered rules list written right wrong (inl whole) = whole.correction.renumbered
 renumbered rules list written right wrong (inr part) = part.stops.before.renumbered
 
-rescored : (written right : List Event) → AreRenumbered written right → HavePoints right
-    → (place : ℕ) (a b : Event) → slice_get written place ≡ Some a → slice_get right place ≡ Some b → IsRescored a b
-rescored written right like points place a b of_a of_b =
-    let same = like.each place a b of_a of_b in
-    let good = points place b of_b in
-    record { player = same.player; rack = same.rack; kind = same.kind; score = good.score; total = good.total }
-
-other_points : (rules : Rules) (list : List (List ℕ)) (text : List ℕ) (a : Audit) (is : IsAuditOfRecord rules list text a) → HasOtherPoints is.written a.entry.record
-other_points rules list text a is =
-    let like = renumbered rules list is.written.events a.entry.record.events a.wrong.items is.audit.audited in
+-- an event with other numbers that a record can write
+other : (w r : Event) → IsRenumbered w r → HasPoints r → IsOther w r
+other w r is points =
     record {
-      players = is.audit.players;
-      as_many = like.as_many;
-      events = rescored is.written.events a.entry.record.events like is.points;
+      same =
+          same_event (record w { score = r.score; total = r.total }) r
+          (record { line = is.line; player = is.player; rack = is.rack; kind = is.kind; given = λ given. refl }) refl refl;
+      score = points.score;
+      total = points.total;
     }
 
-pub read_back : (a : Audit) (bytes : List ℕ) → IsRescoredReadAgain → bytes ≡ normal_of a.entry.record → IsReadBack a bytes
-read_back a bytes law same rules list text is first second short =
-    ap record_of same
-    ∙ law text is.written a.entry.record is.means (other_points rules list text a is) first second (subst (λ (b : List ℕ). length b ≤ 1048576) same short)
+first_like : (w r : Event) (ws rs : List Event) → AreRenumbered (w ∷ ws) (r ∷ rs) → IsRenumbered w r
+first_like w r ws rs are = are.each 0 w r refl refl
+
+others_like : (w r : Event) (ws rs : List Event) → AreRenumbered (w ∷ ws) (r ∷ rs) → AreRenumbered ws rs
+others_like w r ws rs are =
+    let long = are.as_many in
+    record { as_many = omega (arith, long); each = λ place a b of_a of_b. are.each (suc place) a b of_a of_b }
+
+others : (written right : List Event) → AreRenumbered written right → HavePoints right → AreOther written right
+others [] [] are points = tt
+others [] (r ∷ rs) are points = let long = are.as_many in absurd (omega (arith, long))
+others (w ∷ ws) [] are points = let long = are.as_many in absurd (omega (arith, long))
+others (w ∷ ws) (r ∷ rs) are points =
+    (other w r (first_like w r ws rs are) (points 0 r refl), others ws rs (others_like w r ws rs are) (λ place e is. points (suc place) e is))
+
+-- a record with the events of another one that has the same players is that one
+same_record : (old new : Record) → new.players ≡ old.players → record old { events = new.events } ≡ new
+same_record old new same = ap (λ players. record new { players = players }) (sym same)
+
+pub read_back : (a : Audit) (bytes : List ℕ) → IsReadWithNumbers → bytes ≡ text_with a.entry.record.events a.text.items → IsReadBack a bytes
+read_back a bytes law same rules list text is short =
+    let like = renumbered rules list is.written.events a.entry.record.events a.wrong.items is.audit.audited in
+    let here : bytes ≡ text_with a.entry.record.events text = same ∙ ap (text_with a.entry.record.events) is.kept in
+    ap record_of here
+    ∙ law text is.written a.entry.record.events is.means (others is.written.events a.entry.record.events like is.points)
+    (subst (λ (b : List ℕ). length b ≤ most_bytes) here short)
+    ∙ ap (λ (r : Record). Ok r) (same_record is.written a.entry.record is.audit.players)

@@ -8,12 +8,13 @@ use Rattle.game_sheets.specs.Corrections.{KeepPoints}
 use Rattle.engine.specs.declared.audits.Audit.{Audit}
 use Rattle.engine.specs.Auditing.{IsAudit, IsAuditOfRecord}
 
-pub audit_of : (rules : Rules) (list : List (List ℕ)) (text : List ℕ) (written : Record) (a : Audit) → IsReadWithPoints → record_of text ≡ Ok written
+pub audit_of : (rules : Rules) (list : List (List ℕ)) (text : List ℕ) (written : Record) (a : Audit) → a.text.items ≡ text → IsReadWithPoints → record_of text ≡ Ok written
     → IsAudit rules list written a → KeepPoints written.events a.entry.record.events → IsAuditOfRecord rules list text a
-audit_of rules list text written a law means audit kept =
+audit_of rules list text written a kept_text law means audit points =
     record {
+      kept = kept_text;
       written = written;
       means = means;
       audit = audit;
-      points = kept.points (λ place e is. let points = law text written means place e is in record { score = points.0; total = points.1 });
+      points = points.points (λ place e is. let both = law text written means place e is in record { score = both.0; total = both.1 });
     }

@@ -17,8 +17,9 @@ pub record IsAudit (rules : Rules) (list : List (List ℕ)) (written : Record) (
   pub audited : IsAudited rules list written.events a.entry.record.events a.wrong.items
   pub entry : IsEntry rules list a.entry
 
--- the audit of the record that a text means: its corrected record has scores and totals that a record can write
+-- the audit of the record that a text means, and the text itself: its corrected record has scores and totals that a record can write
 pub record IsAuditOfRecord (rules : Rules) (list : List (List ℕ)) (text : List ℕ) (a : Audit) : Type 0 where
+  pub kept : a.text.items ≡ text
   pub written : Record
   pub means : record_of text ≡ Ok written
   pub audit : IsAudit rules list written a

@@ -21,19 +21,23 @@ use std::alloc::{AllocError, Global};
 /// What an audit says of a sheet.
 #[derive(Drop)]
 pub struct Audit {
+    /// The bytes of the sheet.
+    pub text: Vec<u8>,
     /// The numbers that are wrong: scores and sums in the order of the sheet, and last totals.
     pub wrong: Vec<WrongNumber>,
     /// The entry of the corrected record, or of a record that is corrected as far as the rules allow its events.
     pub entry: Entry,
 }
 
-/// The audit of a record.
+/// The audit of a record that was read from a text.
 fn audit_record(
     alloc: Global,
     rules: &Rules,
     pair: &Checked<'_>,
     game: Record,
+    text: Vec<u8>,
 ) -> Result<Audit, AllocError>
+    ensures text { IfOk result (λ a. a.text ≡ text) }
     ensures audit { IfOk result (IsAudit rules.now (pairs.list_in pair.now) game) }
     ensures points { IfOk result (λ a. KeepPoints game.events a.entry.record.events) }
 {
@@ -47,26 +51,27 @@ fn audit_record(
         unlisted: found.unlisted,
     };
     Ok(Audit {
+        text,
         wrong: audited.wrong,
         entry,
     })
 }
 
-/// The audit of the record of a text, or the verdict that it is none.
+/// The audit of the record of a text, which it keeps, or the verdict that it is none.
 fn audit_from(
     alloc: Global,
     rules: &Rules,
     pair: &Checked<'_>,
-    text: &[u8],
+    text: Vec<u8>,
 ) -> Result<Result<Audit, Decision>, AllocError>
-    ensures { IfOk result (IsAuditOf rules.now (pairs.list_in pair.now) text.now) }
+    ensures { IfOk result (IsAuditOf rules.now (pairs.list_in pair.now) text.items) }
 {
     law_of_other_points();
-    let written = match record_from(alloc, text)? {
+    let written = match record_from(alloc, &text)? {
         Ok(record) => record,
         Err(decision) => return Ok(Err(decision)),
     };
-    let audit = audit_record(alloc, rules, pair, written)?;
+    let audit = audit_record(alloc, rules, pair, written, text)?;
     Ok(Ok(audit))
 }
 
@@ -89,5 +94,5 @@ pub fn audit_sheet<G: Input>(
     ensures { IsRead most_bytes (G.device game.old) (G.device game.new) (IsAuditOf rules.now (pairs.list_in pair.now)) result }
 {
     let text = read_text(alloc, game, MAX_BYTES)?;
-    Ok(audit_from(alloc, rules, pair, &text)?)
+    Ok(audit_from(alloc, rules, pair, text)?)
 }
