@@ -1,5 +1,6 @@
 -- A line of fields that tabs separate.
-use Rattle.std.specs.Prelude.{ℕ, Bool, true, false, ◌==◌, List, [], ◌∷◌, ◌++◌, codes, map, if◌then◌else◌}
+use Rattle.std.specs.Prelude.{ℕ, Bool, true, false, ◌==◌, List, [], ◌∷◌, ◌++◌, codes, map, Option, Some, None, if◌then◌else◌}
+use Rattle.std.specs.Borrow.{Bor}
 use Rattle.std.specs.List.{flat_map, slice_split}
 
 -- A tab (9), an LF (10) and a backslash (92) are written as a backslash and 't', 'n' or a backslash; any other byte as itself.
@@ -42,3 +43,8 @@ is_tab byte = byte == 9
 -- the fields of a line without its LF
 abbrev pub fields_read : List ℕ → List (List ℕ)
 fields_read text = map unescaped (slice_split is_tab text)
+
+-- the fields of what stands after a tab, as they are written
+abbrev pub fields_behind : Option (Bor (List ℕ)) → List (List ℕ)
+fields_behind None = []
+fields_behind (Some after) = slice_split is_tab after.now
