@@ -79,7 +79,7 @@ def is_archive(ran, row):
     """Whether lines are those of a row but for one game for which, or for whose page, there was no memory; or those of the first games, where
     there was none for a line at all, or of all games, where there was none for the index."""
     told, wanted = ([unnumbered(it) for it in lines.splitlines()] for lines in (ran.stdout, row.stdout))
-    if (ran.returncode, ran.stderr) == (4, b"no memory\n"):
+    if (ran.returncode, ran.stderr) == (4, b"referee: no memory\n"):
         return told == wanted[: len(told)]
     changed = [it for it, want in zip(told, wanted) if it != want]
     return (ran.returncode, ran.stderr, len(told)) == (4, b"", len(wanted)) and len(changed) == 1 and b"no memory" in changed[0]
@@ -145,7 +145,7 @@ def try_program(refuser, program):
                 return True
             if words[0] == "archive":
                 return refused and is_archive(ran, row)
-            return refused and (ran.returncode, ran.stdout, ran.stderr, now) == (4, b"", b"no memory\n", b"")
+            return refused and (ran.returncode, ran.stdout, ran.stderr, now) == (4, b"", b"referee: no memory\n", b"")
 
         yield tell(f"referee {words[0]}: {game.splitlines()[-1] if game else listed.strip()}", *refuser.each([program, *words], is_good))
 

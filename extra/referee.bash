@@ -8,9 +8,10 @@ _referee() {
         fi
     done
     case $command in
-        "") options="-h --help -V --version" values="judge archive audit explain page build check convert top tidy board help" ;;
+        "") options="-h --help -V --version" values="judge archive index audit explain page build check convert top tidy board rules help" ;;
         judge) options="--first-field --settle --rules -h --help" ;;
-        archive) options="--first-field --names --json --pages --progress --quiet --rules -h --help" ;;
+        archive) options="--first-field --names -0 --null --skip --json --pages --progress --quiet --rules -h --help" ;;
+        index) options="-h --help" ;;
         audit) options="--first-field --corrected --rules -h --help" ;;
         explain) options="--first-field --rules -h --help" ;;
         page) options="--first-field --rules -h --help" ;;
@@ -20,7 +21,8 @@ _referee() {
         top) options="--before --first-field --number --rules -h --help" ;;
         tidy) options="-h --help" ;;
         board) options="--before --rules -h --help" ;;
-        help) values="judge archive audit explain page build check convert top tidy board help" ;;
+        rules) options="-h --help" ;;
+        help) values="judge archive index audit explain page build check convert top tidy board rules help" ;;
     esac
     [[ $command != convert || ${COMP_WORDS[COMP_CWORD - 1]} != convert ]] || values="gad1 gad2"
     if [[ $word == -* ]]; then

@@ -4,19 +4,22 @@ import re
 import audits
 import explains
 import rules_texts
+from advice import advice
+from archive import states_latin
 from best import MANY, best_plays
 from deals import event_of, judge_deal, settled_verdicts, settled_ways
 from games import board_after, go_through
+from hints import beside
 from lexicons import build, check, convert
 from records import Fault, read
 from rules import ENGLISH
 from sheets import sheet
 
 BOM = b"\xef\xbb\xbf"
-SETTLE = b"unsettled: `judge --settle` searches for a deal that yields the racks\n"
 BAD_LINE = b"bad line: no event is on it or after it\n"
 BAD_RACK = b"bad rack\n"
-VERDICTS = {"legal": 0, "illegal": 1, "unsettled": 2, "bad": 3}
+NO_GAME = b"no game\n"
+VERDICTS = {"legal": 0, "illegal": 1, "unsettled": 2, "bad": 3, "no": 3}
 
 
 def first_fields(data):
@@ -95,6 +98,8 @@ def audited(words, lexicon, game, text=None):
     """What `audit` may print, one of these."""
 
     def lines(listed, players, events, rules):
+        if not events:
+            return NO_GAME
         numbers = [k for k, line in enumerate(game.removeprefix(BOM).split(b"\n"), 1) if line.startswith(b">")]
         nicks = [player[0].decode("latin-1") if player else "" for player in players]
         wrong, verdicts = audits.ways(events, listed, rules, numbers, nicks)
@@ -108,11 +113,18 @@ def explained(words, lexicon, game, asked, told, text=None):
     """What `explain` is to print of a record, or of a line where one is asked for, where its first line is `told`, if that can be."""
 
     def sentences(listed, players, events, rules):
+        if not events:
+            return NO_GAME
         verdicts = [audits.on_line(verdict, lines_of(game)) for verdict in settled_verdicts(events, listed, rules)]
         verdict = told.decode("latin-1") if told.decode("latin-1") in verdicts else verdicts[0]
-        return explains.explained(verdict, game, players, events, lines_of(game), listed, rules, asked)
+        said = explains.explained(verdict, game, players, events, lines_of(game), listed, rules, asked)
+        return said.decode("latin-1").encode() if states_latin(game) else said
 
-    return answered(words, lexicon, game, text, sentences, lambda fault: explains.explained_fault(game, fault))
+    def fault_told(fault):
+        said = explains.explained_fault(game, fault)
+        return said.decode("latin-1").encode() if states_latin(game) else said
+
+    return answered(words, lexicon, game, text, sentences, fault_told)
 
 
 def audit_status(output):
@@ -188,9 +200,8 @@ def status_of(output):
     return VERDICTS.get(output.split(b"\n")[0].split(b":")[0].split(b" ")[0].decode("latin-1"), 0)
 
 
-def error_of(command, output, game):
-    """What standard error gets beside an answer: where `judge` leaves a game open, that a search may settle it; where the record of the
-    file `game` has no event, that it may be none."""
-    if command == "judge" and output == b"unsettled\n":
-        return SETTLE
-    return f"no event: is {game} a game record?\n".encode() if command == "judge" and output == b"legal unfinished\n" else b""
+def error_of(words, output, game):
+    """What standard error gets beside an answer to a command line: where an input is bad, what may help; where `judge` leaves a game open,
+    that a search may settle it; where the file `game` is no game, why."""
+    hint = beside(words, output) if output.startswith(b"bad ") else b""
+    return hint + advice(words[0], output, game, game.read_bytes())

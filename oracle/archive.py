@@ -7,7 +7,9 @@ from records import Fault, read
 from rules import ENGLISH
 
 NAMES = ["name", "verdict", "ending", "line", "fault", "events", "player1", "total1", "player2", "total2", "unlisted"]
+JSON_NAMES = [*NAMES, "fault_name", "expected"]
 NUMBERS = {"line", "events", "total1", "total2", "unlisted"}
+NUMBER_FAULTS = ("WrongScore ", "WrongTotal ")
 STATUSES = {"legal": 0, "illegal": 1, "unsettled": 2, "bad record": 3, "no game": 3, "unread": 4}
 ESCAPES = {"\\": "\\\\", "\t": "\\t", "\n": "\\n"}
 
@@ -21,12 +23,24 @@ def unread(name, why):
     return fields(name, "unread", fault=why)
 
 
-def known(players, events):
+def states_latin(game):
+    """Whether a record states that its encoding is ISO-8859-1."""
+    lines = (line.removesuffix(b"\r") for line in game.removeprefix(b"\xef\xbb\xbf").split(b"\n"))
+    pragmas = ([part for part in line.replace(b"\t", b" ").split(b" ") if part] for line in lines if line.startswith(b"#"))
+    return any(len(it) > 1 and it[0] == b"#character-encoding" and it[1].lower() == b"iso-8859-1" for it in pragmas)
+
+
+def text_of(name, latin):
+    """A name as text."""
+    return name.decode("latin-1") if latin else name.decode(errors="replace")
+
+
+def known(players, events, latin=False):
     """What is said of the players and the events of a record, whatever its verdict is."""
     told = {"events": len(events)}
     for seat, number in enumerate("12"):
         totals = [event.total for event in events if event.player == seat]
-        nick = players[seat][0].decode(errors="replace") if players[seat] else ""
+        nick = text_of(players[seat][0], latin) if players[seat] else ""
         told |= {f"player{number}": nick or None, f"total{number}": totals[-1] if totals else None}
     return told
 
@@ -38,7 +52,7 @@ def ways(name, game, listed, rules=ENGLISH, dealt=False):
     except Fault as fault:
         return [fields(name, "bad record", line=fault.line or None, fault=fault.why)]
     events = [event_of(it) for it in said]
-    told = known(players, events)
+    told = known(players, events, states_latin(game))
     if not events:
         return [fields(name, "no game", unlisted=0, **told)]
     numbers = [k for k, text in enumerate(game.removeprefix(b"\xef\xbb\xbf").split(b"\n"), 1) if text.startswith(b">")]
@@ -60,16 +74,19 @@ def ways(name, game, listed, rules=ENGLISH, dealt=False):
 def tab_line(told):
     """A line in the form with tabs."""
     texts = ["-" if told[it] is None else str(told[it]) for it in NAMES]
-    texts[0] = "".join(ESCAPES.get(symbol, symbol) for symbol in told["name"])
-    return "\t".join(texts) + "\n"
+    return "\t".join("".join(ESCAPES.get(symbol, symbol) for symbol in text) for text in texts) + "\n"
 
 
 def read_tab_line(text):
     """The fields of a line without its LF. A nickname of `-` cannot be told from none."""
-    texts = dict(zip(NAMES, text.split("\t"), strict=True))
-    shown = "".join({"t": "\t", "n": "\n", "\\": "\\"}[it[0]] + it[1:] if k else it for k, it in split_escapes(texts["name"]))
+    texts = dict(zip(NAMES, map(unescaped, text.split("\t")), strict=True))
     told = {it: None if text == "-" else int(text) if it in NUMBERS else text for it, text in texts.items()}
-    return told | {"name": shown}
+    return told | {"name": texts["name"]}
+
+
+def unescaped(text):
+    """A field with its escapes undone."""
+    return "".join({"t": "\t", "n": "\n", "\\": "\\"}[it[0]] + it[1:] if k else it for k, it in split_escapes(text))
 
 
 def split_escapes(name):
@@ -86,9 +103,12 @@ def split_escapes(name):
 
 
 def read_json_line(text):
-    """The fields of a JSON object, which stand in their order."""
+    """The fields of a JSON object, which stand in their order. The last two say again what the fault does."""
     told = json.loads(text)
-    assert list(told) == NAMES, text
+    assert list(told) == JSON_NAMES, text
+    fault = None if told["verdict"] == "unread" else told["fault"]
+    assert told.pop("fault_name") == (fault and fault.split()[0]), text
+    assert told.pop("expected") == (int(fault.split()[1]) if fault and fault.startswith(NUMBER_FAULTS) else None), text
     return told
 
 

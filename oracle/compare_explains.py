@@ -5,6 +5,7 @@ explained, and then one of the lines. At the end stands how often each fault was
 """
 import random
 
+from advice import advice
 from answers import explained, status_of
 from comparing import Differences, compare_cases
 from dealing import likely, line
@@ -31,7 +32,7 @@ class Explaining(Differences):
         if asked is None:
             self.seen[first.decode("latin-1").split(": ")[-1].split(" ")[0]] += 1
         told = explained(words, lexicon, game, asked, first, text)
-        if ran.stdout != told or ran.returncode != status_of(told) or ran.stderr:
+        if ran.stdout != told or ran.returncode != status_of(told) or ran.stderr != advice("explain", told, "game", game):
             self.differences += 1
             print("line", asked, "status", ran.returncode, ran.stderr, ran.stdout.decode("latin-1"), "for", told.decode("latin-1"), game.decode("latin-1"), sep="\n")
 

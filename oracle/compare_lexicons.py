@@ -9,6 +9,7 @@ from pathlib import Path
 
 from answers import checked, converted, status_of
 from comparing import compared
+from hints import beside
 from lexicons import GAD1, GAD2, MARK, build, convert
 
 LETTERS = "ABEINRSTZ"
@@ -82,7 +83,7 @@ class Lexicons:
         """Runs a command and stops where it does not give the answer that is expected: on standard output, or in its file."""
         ran = subprocess.run([self.program, *words], capture_output=True, check=False)
         told, printed = (self.out.read_bytes(), ran.stdout) if wrote else (ran.stdout, b"")
-        if (ran.returncode, told, printed, ran.stderr) != (status, expected, b"", b""):
+        if (ran.returncode, told, printed, ran.stderr) != (status, expected, b"", beside(words, expected) if status else b""):
             print(*words, self.words.read_text(), self.lexicon.read_bytes().hex(), sep="\n")
             print("expected", status, expected, "got", ran, told, sep="\n")
             sys.exit(1)

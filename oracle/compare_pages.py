@@ -8,7 +8,9 @@ of a game of up to 30 events has less than 300 kB.
 import random
 
 import audits
+from advice import advice
 from answers import lines_of, status_of, words_of
+from archive import states_latin
 from comparing import Differences, compare_cases
 from dealing import likely, line
 from deals import event_of, settled_verdicts
@@ -25,7 +27,14 @@ def named(game, first, second):
     game = game.replace(b">A:", b">%s:" % first).replace(b">B:", b">%s:" % second)
     if likely(0.5):
         game = b"#player1 %s %s %s\n#player2 %s %s\n" % (first, choose(NAMES), first, second, choose(NAMES)) + game
+    if likely(0.3):
+        game = choose([b"#character-encoding ISO-8859-1\n", b"#character-encoding  iso-8859-1 \r\n", b"#character-encoding UTF-8\n"]) + game
     return game
+
+
+def in_utf8(game, player):
+    """The names of a player, where the record may state that they are in ISO-8859-1."""
+    return player and tuple(name.decode("latin-1").encode() if states_latin(game) else name for name in player)
 
 
 class Pages(Differences):
@@ -50,7 +59,12 @@ class Pages(Differences):
             players, said = read(game)
         except Fault as fault:
             self.seen["bad record"] += 1
-            return self.expect(ran.stdout == fault.text() and ran.returncode == 3 and page is None, ran.stdout, fault.text(), game)
+            good = ran.stdout == fault.text() and ran.returncode == 3 and page is None and ran.stderr == advice("page", ran.stdout, "game", game)
+            return self.expect(good, ran, fault.text(), game)
+        if not said:
+            self.seen["no game"] += 1
+            good = ran.stdout == b"no game\n" and ran.returncode == 3 and page is None and ran.stderr == advice("page", ran.stdout, "game", game)
+            return self.expect(good, ran, game)
         listed, events, lines = words_of(words), [event_of(it) for it in said], lines_of(game)
         verdicts = [audits.on_line(verdict, lines) for verdict in settled_verdicts(events, listed, rules)]
         verdict = ran.stdout.decode("latin-1").removesuffix("\n")
@@ -59,7 +73,7 @@ class Pages(Differences):
         if page is None or verdict not in verdicts:
             return self.expect(False, "no page", ran)
         self.expect(len(events) > 30 or len(page) < 300_000, len(page), "bytes")
-        told = differences(page, expected(verdict, players, events, lines, listed, rules, words, text))
+        told = differences(page, expected(verdict, [in_utf8(game, player) for player in players], events, lines, listed, rules, words, text))
         self.expect(not told, *told[:5], game.decode("latin-1"))
         return self.expect(self.page(by)[1] == page, "another page")
 

@@ -65,7 +65,7 @@ class Ruled:
         words = [self.program, command, "--rules", self.rules, self.words, self.lexicon, self.game, *rack]
         ran = subprocess.run(words, capture_output=True, check=False, timeout=60)
         self.seen[f"{command}: {kind_of(expected)}" if command == "judge" or status_of(expected) else "top: plays"] += 1
-        if (ran.returncode, ran.stdout, ran.stderr) != (status_of(expected), expected, error_of(command, expected, self.game)):
+        if (ran.returncode, ran.stdout, ran.stderr) != (status_of(expected), expected, error_of(words[1:], expected, self.game)):
             self.differences += 1
             print(command, "rules", text.decode("latin-1"), "words", self.words.read_text(), "game", self.game.read_text(), sep="\n")
             print(*rack, "program", ran.returncode, ran.stdout.decode(), ran.stderr.decode(), "second judge", expected.decode(), sep="\n")

@@ -10,6 +10,7 @@ from pathlib import Path
 
 from answers import checked, status_of
 from compare_lexicons import LETTERS, other_list
+from hints import beside
 from lexicons import GAD1, GAD2, build, convert
 
 WORKERS = 2
@@ -52,7 +53,7 @@ def told(program, folder, number, words, data):
     listed.write_text("".join(word + "\n" for word in words))
     lexicon.write_bytes(data)
     ran = subprocess.run([program, "check", listed, lexicon], capture_output=True, check=False)
-    return ran.returncode, ran.stdout, ran.stderr
+    return ran.returncode, ran.stdout, ran.stderr == (beside(["check", listed, lexicon], ran.stdout) if ran.returncode else b"")
 
 
 def main():
@@ -67,7 +68,7 @@ def main():
             for _, (words, data), ran in batch:
                 answer = checked("".join(word + "\n" for word in words).encode(), data)
                 seen[" ".join(answer.decode().split()[:3])] += 1
-                if ran.result() != (status_of(answer), answer, b""):
+                if ran.result() != (status_of(answer), answer, True):
                     differences += 1
                     print(*sorted(words), data.hex(), answer, ran.result(), sep="\n")
             batch = []

@@ -14,7 +14,7 @@ from collections import Counter
 from pathlib import Path
 
 import web
-from answers import audit_status, audited, boarded, built, checked, converted, error_of, explained, first_fields, judged, settled, status_of, topped, words_of
+from answers import NO_GAME, audit_status, audited, boarded, built, checked, converted, error_of, explained, first_fields, judged, settled, status_of, topped, words_of
 from dealing import Dealer, likely, line, words_in_reach
 from lexicons import GAD2, build, convert
 from records import tidy
@@ -98,7 +98,7 @@ class Fuzzer:
         ran = subprocess.run([self.program, *words], capture_output=True, check=False, timeout=60)
         told = ran.stdout if wrote is None else wrote.read_bytes()
         self.seen[f"{name or words[0]} {status}"] += 1
-        if told != expected or ran.returncode != status or ran.stderr != error_of(words[0], expected, self.game):
+        if told != expected or ran.returncode != status or ran.stderr != error_of(words, expected, self.game):
             self.differences += 1
             print(*words, "status", ran.returncode, "for", status, ran.stderr)
             print(" ", told, "  for", expected, sep="\n  ")
@@ -110,7 +110,7 @@ class Fuzzer:
         words = ["judge", "--settle", *by, self.words, self.lexicon, self.game]
         ran = subprocess.run([self.program, *words], capture_output=True, check=False, timeout=60)
         self.seen[f"judge --settle {ran.returncode}"] += 1
-        if ran.stdout not in ways or ran.returncode != status_of(ran.stdout) or ran.stderr != error_of("judge", b"" if ran.stdout == b"unsettled\n" else ran.stdout, self.game):
+        if ran.stdout not in ways or ran.returncode != status_of(ran.stdout) or ran.stderr != error_of(words, b"" if ran.stdout == b"unsettled\n" else ran.stdout, self.game):
             self.differences += 1
             print(*words, "status", ran.returncode, ran.stdout, ran.stderr, "for", ways[:2], self.game.read_bytes(), sep="\n  ")
 
@@ -122,7 +122,7 @@ class Fuzzer:
         self.seen[f"audit {ran.returncode}"] += 1
         verdict = ran.stdout.split(b"\n")[-2:-1]
         wrote = self.out.exists() == any(it.startswith((b"legal", b"unsettled")) for it in verdict)
-        if ran.stdout not in ways or ran.returncode != audit_status(ran.stdout) or ran.stderr or not wrote:
+        if ran.stdout not in ways or ran.returncode != audit_status(ran.stdout) or ran.stderr != error_of(words, ran.stdout, self.game) or not wrote:
             self.differences += 1
             print(*words, "status", ran.returncode, ran.stdout, ran.stderr, "for", ways[:2], self.game.read_bytes(), sep="\n  ")
 
@@ -141,7 +141,8 @@ class Fuzzer:
         words = ["page", *by, self.words, self.lexicon, self.game, self.out]
         ran = subprocess.run([self.program, *words], capture_output=True, check=False, timeout=60)
         self.seen[f"page {ran.returncode}"] += 1
-        good = ran.stdout in {it.split(b"\n")[0] + b"\n" for it in ways} and ran.returncode == status_of(ran.stdout) and not ran.stderr
+        ways = [NO_GAME] if ways == [b"legal unfinished\n"] else ways
+        good = ran.stdout in {it.split(b"\n")[0] + b"\n" for it in ways} and ran.returncode == status_of(ran.stdout) and ran.stderr == error_of(words, ran.stdout, self.game)
         if self.out.exists():
             web.read(self.out.read_bytes())
         if not good or self.out.exists() != (ran.returncode in (0, 1, 2)):

@@ -72,10 +72,11 @@ try_lexicons 200
 try_rules 100
 END
 if command -v cc > /dev/null; then
+    [ ! -x "$program" ] || part oracle/whole_files.py "$program" 200 "$seed"
     [ ! -x "$program" ] || part bench/refuse_memory.py - "$program"
     [ ! -x "$tests" ] || part bench/refuse_memory.py "$tests"
 else
-    echo "left out: refused memory, which needs a C compiler"
+    echo "left out: whole files and refused memory, which need a C compiler"
 fi
 echo "$passed passed, $failed failed"
 [ "$failed" = 0 ]

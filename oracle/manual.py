@@ -58,7 +58,7 @@ def page_options(text):
     """The options that a section of the page explains, with the name of the value of each that has one."""
     found = {}
     for line in re.findall(r"^\.TP\n\.B[RI]? (\\-.*)$", text, re.M):
-        names = re.findall(r"(?<![\w-])--?[A-Za-z][\w-]*", line.replace("\\-", "-"))
+        names = re.findall(r"(?<![\w-])--?[A-Za-z0-9][\w-]*", line.replace("\\-", "-"))
         value = re.search(r'" ([A-Z]+)"', line)
         found.update({name: value[1] if value else None for name in names})
     return found
@@ -82,11 +82,11 @@ def compare_page(own, commands, failed):
         long = {it: value or "" for it, value in options.items() if it.startswith("--") and it != "--help"}
         if page_options(body) != options or on_line != long:
             failed(f"referee.1 has of {name} {page_options(body)} and {on_line} for {options}")
-        if re.sub(r"\[--[^\]]*\]", "", line).split()[1:] != arguments:
+        if re.sub(r"\[-[^\]]*\]", "", line).split()[1:] != arguments:
             failed(f"referee.1 has of {name} the line {line!r} for {arguments}")
         if not all(re.search(rf"^\.B {value}$", body, re.M) for value in values):
             failed(f"referee.1 does not name {values} of {name}")
-    table = [line.replace("\\|", "|") for line in re.findall(r"^\| `([a-z]+ [^`]*)` \|", (ROOT / "README.md").read_text().split("## The commands\n")[1].split("\n## ")[0], re.M)]
+    table = [line.replace("\\|", "|") for line in re.findall(r"^\| `([a-z]+(?: [^`]*)?)` \|", (ROOT / "README.md").read_text().split("## The commands\n")[1].split("\n## ")[0], re.M)]
     wanted = [line for name, (line, _) in sections.items() if name != "help"]
     if sorted(table) != sorted(wanted):
         failed(f"README.md has the commands\n  {sorted(table)}\nfor\n  {sorted(wanted)}")
@@ -119,6 +119,7 @@ def try_examples(program, commands, statuses, failed):
         shutil.copytree(ROOT / "examples", folder, dirs_exist_ok=True)
         shutil.copy(program, Path(folder, "referee"))
         Path(folder, "names.txt").write_text("game.gcg\n")
+        Path(folder, "lines.tsv").write_text("game.gcg\tlegal\tcomplete\t-\t-\t45\tAnn\t322\tBob\t356\t0\tgame.html\n")
         for name, (_, _, _, text) in commands.items():
             if name == "help":
                 continue

@@ -4,6 +4,7 @@ Every row is a command line with what has to come of it: the exit status, the by
 error, and what is in the file OUT of `build` and `convert`. The answers were made by hand from the rules and the formats. With `large`
 there are rows of lexicon files at the limits of their formats too, which take some hundred megabytes of disk and of memory.
 """
+import gzip
 import json
 import os
 import resource
@@ -15,6 +16,7 @@ from pathlib import Path
 from urllib.parse import unquote
 
 import web
+from hints import beside
 
 AT_FILE = bytes.fromhex("47414431 05000000 04000000 01000000 74000000 c0000000 61000000 01010000 d4010000")
 AT_IT_FILE = bytes.fromhex(
@@ -88,7 +90,35 @@ def with_counts(count):
 
 
 TWO_SETS = with_counts(lambda kind, count: 2 * count)
-NO_EVENT = "no event: is {} a game record?"
+NO_EVENT = {  # what is said of a file without an event
+    name: f"referee: {name if name != '-' else 'standard input'} has no event: {why}"
+    for names, why in [
+        ("nothing -", "it is empty"),
+        ("page", "it is HTML or another markup"),
+        ("full-game named plain", "no line begins with >"),
+        ("indented", "its lines begin with blanks before the >"),
+        ("utf-16", "it is text in UTF-16, and records are read as UTF-8 or ISO-8859-1"),
+        ("returns", "its lines end in CR alone, and not in LF or CR LF"),
+        ("gzip", "it is compressed (gzip)"),
+        ("zip", "it is compressed (zip)"),
+        ("at.gad at-masks.gad", "it is a compiled lexicon"),
+    ]
+    for name in names.split()
+}
+BAD = {  # what is said of the first fault of a file that is no record
+    "number": "referee: number line 1: The score +x is not a number of 1 to 6 digits, with or without a sign.",
+    "third": "referee: third line 3: C is a third nickname: the players are A and B.",
+    "long-game": "referee: long-game: The file has more than 1,048,576 bytes, and no game record may be that long. Is it the wrong file?",
+    "blank-nick": "referee: blank-nick line 1: There is a space or a tab inside the nickname before the colon. Write Ann_Lee.",
+    "no-total": "referee: no-total line 1: 8E is not an event: an event is a play with its position, word, score and total, or one of the codes"
+    " -, --, -TILES, -NUMBER, (challenge), (time) and (TILES). The score or the total is missing: an event ends with both.",
+    "no-numbers": "referee: no-numbers line 1: There are 2 fields after the colon, but an event has 3 to 5. The score and the total are missing.",
+    "numbers-alone": "referee: numbers-alone line 1: There are 2 fields after the colon, but an event has 3 to 5. The play or the code before the score"
+    " is missing.",
+    "latin-third": "referee: latin-third line 4: \u00c9va is a third nickname: the players are A and B.",
+    "returns-alone": "referee: returns-alone line 1: There are more than 5 fields after the colon, but an event has 3 to 5."
+    " (its lines end in CR alone, and not in LF or CR LF)",
+}
 SETTLE = "unsettled: `judge --settle` searches for a deal that yields the racks"
 FOURTEEN = with_counts(lambda kind, count: "AADEEINORRSTTW".count(kind))
 WORD = ">A: DORWAAE 8E WORD +16 16\n"
@@ -96,7 +126,11 @@ PASSES = "".join(f">{'AB'[k % 2]}: - +0 0\n" for k in range(6))
 LOST_RACKS = ">A: AEINRST (AEINRST) -7 -7\n>B: AEINRST (AEINRST) -7 -7\n"
 ON_WORD = WORD + ">B: AT 9G AT +9 9\n"
 
+BY_HAND = "\ufeff#title Final, table 3\r\n#player1 A  Ann  Lee \r\n>A:\tDORWAAE   8e  WORD  16  +16 \r\n#note Ann: 16? yes: 16 16\r\n"
+OTHERS = "\t\r\n\r\n>A: - +0 016"
+
 TEXTS = {
+    "by-hand": f"{BY_HAND}>B: AT 9G AT +10 +010{OTHERS}",
     "word": "WORD\n",
     "at": "AT\n",
     "it-at": "it\nAT\nAt\n",
@@ -156,6 +190,13 @@ TEXTS = {
     "seven": ">A: AEINRST - +0 0\n",
     "page": "<html>\n<body>no game</body>\n</html>\n",
     "indented": " " + WORD,
+    "plain": "8E WORD 16\n",
+    "returns": "#player1 A Ann\r>A: 8E WORD +16 16\r",
+    "returns-alone": ">A: 8E WORD +16 16\r>B: - +0 0\r",
+    "blank-nick": ">Ann  Lee: 8E WORD +16 16\n",
+    "no-total": ">A: DORWAAE 8E WORD +16\n",
+    "no-numbers": ">A: 8E WORD\n",
+    "numbers-alone": ">A: +16 16\n",
     "named": "#player1 Ann Ann Lee\n#player2 Bob Bob Roe\n",
     "tab\there": WORD,
     "two\nlines": WORD,
@@ -214,6 +255,11 @@ def files(folder):
         Path(folder, f"front-{size}.gad").write_bytes(AT_FILE[:size])
     Path(folder, "utf-16").write_bytes(WORD.encode("utf-16"))
     Path(folder, "latin").write_bytes(WORD.replace("A:", "\u00c9va:").encode("latin-1"))
+    Path(folder, "latin-stated").write_bytes(("#character-encoding ISO-8859-1\n" + WORD.replace("A:", "\u00c9va:")).encode("latin-1"))
+    Path(folder, "latin-wrong").write_bytes(("#character-encoding iso-8859-1\r\n" + WORD.replace("A:", "\u00c9va:").replace("16\n", "17\n")).encode("latin-1"))
+    Path(folder, "latin-third").write_bytes("#character-encoding ISO-8859-1\n>A: - +0 0\n>B: - +0 0\n>\u00c9va: - +0 0\n".encode("latin-1"))
+    Path(folder, "gzip").write_bytes(gzip.compress(WORD.encode()))
+    Path(folder, "zip").write_bytes(b"PK\3\4" + bytes(26) + WORD.encode())
     Path(folder, "many").write_text("".join(f"{word}\n" for word in many_words()))
     Path(folder, "folder").mkdir()
 
@@ -254,7 +300,7 @@ ARCHIVED = {
         ("nowhere", "unread - - cannot_open - - - - - -", 4),
         ("no/where", "unread - - cannot_open - - - - - -", 4),
         ("", "unread - - cannot_open - - - - - -", 4),
-        ("folder", "unread - - read_failed - - - - - -", 4),
+        ("folder", "unread - - is_a_folder - - - - - -", 4),
     ],
     "word-at-ra": [
         ("line", "legal unfinished - - 1 A 16 - - 0", 0),
@@ -270,14 +316,38 @@ def told_of(name, text):
     return [name, *(field.replace("_", " ") for field in text.split())]
 
 
+OF_A_GAME = ("judge", "top", "tidy", "board", "audit", "explain", "page")
+
+
+def advised(words, out, stdin):
+    """What standard error gets beside an answer about a file that is no game, by the name of the file."""
+    behind = [words[k + 1 :] for k, it in enumerate(words) if it.endswith(".gad")]
+    names = words[1:] if words[:1] == ["tidy"] or words[:1] == ["board"] else behind[0][:1] if behind else []
+    game = next((it for it in names if it in NO_EVENT or it in BAD), None)
+    other = ("bad rules", "bad word list", "bad lexicon", "bad rack")
+    if not words or words[0] not in OF_A_GAME or "--json" in words or game is None or (out or "").startswith(other) or (game == "-" and stdin):
+        return ""
+    if game in BAD:
+        return BAD[game] if words[0] != "explain" else ""
+    return NO_EVENT[game] if words[0] != "top" or game not in ("nothing", "-") else ""
+
+
+ADVISED = object()
+
+
 class Runner:
     """Runs the program in a folder, and counts what it does not do as it has to."""
 
     def __init__(self, program, folder):
         self.program, self.folder, self.rows, self.failures, self.patience = program, folder, 0, 0, 60
 
-    def row(self, words, status, out="", error="", stdin="", wrote=None, stdout=None, room=None):
-        """One command line; `out` or `error` None asks for some text, `wrote` is what the file `out` has then."""
+    def row(self, words, status, out="", error=ADVISED, stdin="", wrote=None, stdout=None, room=None):
+        """One command line; `out` or `error` None asks for some text, `wrote` is what the file `out` has then. Where nothing is said of `error`,
+        it is what the second judge says beside the line of a bad input or of a file that is no game, and else nothing."""
+        if error is ADVISED:
+            line = (wrote or b"") if words[0] in ("build", "convert") else (out or "").encode()
+            hint = beside(words, line, self.folder, stdin.encode()).decode().removesuffix("\n") if status == 3 else ""
+            error = "\n".join(it for it in (hint, advised(words, out, stdin)) if it)
         limit = (lambda: resource.setrlimit(resource.RLIMIT_AS, (room, room))) if room else None
         how = {"cwd": self.folder, "input": stdin.encode(), "stderr": subprocess.PIPE, "preexec_fn": limit, "timeout": self.patience}
         with open(stdout or os.devnull, "wb") as sink:
@@ -319,9 +389,15 @@ def judged(run):
     by_word = lambda game, status, out: run.row(["judge", "word", "word.gad", game], status, out)
     for row in BY_WORD:
         by_word(*row)
-    for game in ("nothing", "page", "full-game"):
+    for game in ("nothing", "page", "full-game", "plain", "indented", "utf-16", "returns", "gzip", "zip", "at.gad", "at-masks.gad"):
         for more in ([], ["--settle"], ["--rules", "english.rules"], ["--settle", "--rules", "english.rules"]):
-            run.row(["judge", *more, "word", "word.gad", game], 0, "legal unfinished\n", error=NO_EVENT.format(game))
+            run.row(["judge", *more, "word", "word.gad", game], 0, "legal unfinished\n", error=NO_EVENT[game])
+    by_word("blank-nick", 3, "bad record line 1: NoColon\n")
+    by_word("no-total", 3, "bad record line 1: Code\n")
+    by_word("no-numbers", 3, "bad record line 1: Fields\n")
+    by_word("numbers-alone", 3, "bad record line 1: Fields\n")
+    by_word("latin-third", 3, "bad record line 4: ThirdPlayer\n")
+    by_word("returns-alone", 3, "bad record line 1: Fields\n")
     lines = "".join(f"{k + 1} {'AB'[k % 2]} - +0 0 best -\n" for k in range(6))
     by_word("ends", 0, f"legal complete\n{lines}7 A (AEINRST) -7 -7\n8 B (AEINRST) -7 -7\n")
     by_word("too-soon", 1, "illegal line 6: NotOver\n")
@@ -343,11 +419,11 @@ def judged(run):
     run.row(["judge", "at", "at.gad", "with-blank"], 0, "legal unfinished\n1 A - +0 0 best 8G At 2\n")
     run.row(["judge", "at", "at.gad", "no-play"], 0, "legal unfinished\n1 A - +0 0 best none\n2 B - +0 0 best 8G AT 4\n")
     run.row(["judge", "nothing", "nothing.gad", "no-play"], 0, "legal unfinished\n1 A - +0 0 best none\n2 B - +0 0 best none\n")
-    run.row(["judge", "nothing", "nothing.gad", "nothing"], 0, "legal unfinished\n", error=NO_EVENT.format("nothing"))
+    run.row(["judge", "nothing", "nothing.gad", "nothing"], 0, "legal unfinished\n")
     run.row(["judge", "digit", "at.gad", "line"], 3, "bad word list line 2: BadLetter\n")
     run.row(["judge", "short-word", "at.gad", "line"], 3, "bad word list line 1: BadLength\n")
     run.row(["judge", "long-list", "at.gad", "line"], 3, "bad word list: TooLong\n")
-    run.row(["judge", "full-list", "nothing.gad", "nothing"], 0, "legal unfinished\n", error=NO_EVENT.format("nothing"))
+    run.row(["judge", "full-list", "nothing.gad", "nothing"], 0, "legal unfinished\n")
     run.row(["judge", "at", "extra.gad", "number"], 3, "bad lexicon: Extra A\n")
     run.row(["judge", "it-at", "at.gad", "number"], 3, "bad lexicon: Missing I+T\n")
 
@@ -382,9 +458,6 @@ def built_and_checked(run):
     run.row(["check", "nothing", "nothing.gad"], 0, "ok 0\n")
     run.row(["build", "digit", "out"], 3, wrote=b"bad word list line 2: BadLetter\n")
     run.row(["build", "long-list", "out"], 3, wrote=b"bad word list: TooLong\n")
-    # OUT is emptied as it is opened, and the words are read after that.
-    Path(run.folder, "out").write_text("AT\n")
-    run.row(["build", "out", "out"], 0, wrote=EMPTY_FILE)
     run.row(["check", "it-at", "at.gad"], 3, "bad lexicon: Missing I+T\n")
     run.row(["check", "short-word", "at.gad"], 3, "bad word list line 1: BadLength\n")
     for name, (_, line) in CHANGED.items():
@@ -424,14 +497,11 @@ def converted(run):
     run.row(["check", "at", "there"], 3, "bad lexicon: Missing A+T\n")
     run.row(["convert", "gad1", "there", "out"], 0, wrote=FAN)
     by_converted(run)
-    # OUT is emptied as it is opened, behind the lexicon, which is read after that.
-    Path(run.folder, "out").write_bytes(AT_FILE)
-    run.row(["convert", "gad2", "out", "out"], 3, wrote=b"bad lexicon: Short\n")
     Path(run.folder, "out").write_bytes(b"something")
-    run.row(["convert", "gad2", "nowhere", "out"], 4, error="cannot open nowhere", wrote=b"something")
-    run.row(["convert", "gad2", "at.gad", "no/where"], 4, error="cannot open no/where")
-    run.row(["convert", "gad2", "nowhere", "no/where"], 4, error="cannot open nowhere")
-    run.row(["convert", "gad2", "folder", "out"], 4, error="read failed: folder", wrote=b"")
+    run.row(["convert", "gad2", "nowhere", "out"], 4, error="referee: cannot open nowhere: no such file", wrote=b"something")
+    run.row(["convert", "gad2", "at.gad", "no/where"], 4, error="referee: cannot open no/where: no such file")
+    run.row(["convert", "gad2", "nowhere", "no/where"], 4, error="referee: cannot open nowhere: no such file")
+    run.row(["convert", "gad2", "folder", "out"], 4, error="referee: read failed: folder: is a folder", wrote=b"something")
     for form in ("gad3", "GAD2", "gad", "2", ""):
         Path(run.folder, "out").write_bytes(b"something")
         run.row(["convert", form, "at.gad", "out"], 64, error=None, wrote=b"something")
@@ -530,8 +600,8 @@ def ruled_tops(run):
         run.row(["top", "--rules", f"{rules}.rules", "retains", "retains.gad", "nothing", "AEINRST"], 0, best)
     run.row(["top", "--rules", "tiles.rules", "at", "at.gad", "nothing", "A1"], 3, "bad rack\n")
     run.row(["top", "--rules", "folder", "folder", "folder", "folder", "A1"], 3, "bad rack\n")
-    run.row(["top", "--rules", "nowhere", "at", "at.gad", "nothing", "A1"], 4, error="cannot open nowhere")
-    run.row(["top", "--rules", "folder", "at", "at.gad", "nothing", "A"], 4, error="read failed: folder")
+    run.row(["top", "--rules", "nowhere", "at", "at.gad", "nothing", "A1"], 4, error="referee: cannot open nowhere: no such file")
+    run.row(["top", "--rules", "folder", "at", "at.gad", "nothing", "A"], 4, error="referee: read failed: folder: is a folder")
 
 
 def ruled_lines(run):
@@ -541,9 +611,9 @@ def ruled_lines(run):
         run.row(["judge", *words], 0, told)
     run.row(["judge", "word", "--rules", "english.rules", "word.gad", "line"], 0, told)
     run.row(["top", "at", "at.gad", "nothing", "Q", "--rules", "english.rules"], 0, "none\n")
-    run.row(["judge", "--rules", "nowhere", "elsewhere", "at.gad", "line"], 4, error="cannot open nowhere")
-    run.row(["judge", "--rules", "tiles.rules", "elsewhere", "at.gad", "line"], 4, error="cannot open elsewhere")
-    run.row(["judge", "--rules", "folder", "digit", "at.gad", "line"], 4, error="read failed: folder")
+    run.row(["judge", "--rules", "nowhere", "elsewhere", "at.gad", "line"], 4, error="referee: cannot open nowhere: no such file")
+    run.row(["judge", "--rules", "tiles.rules", "elsewhere", "at.gad", "line"], 4, error="referee: cannot open elsewhere: no such file")
+    run.row(["judge", "--rules", "folder", "digit", "at.gad", "line"], 4, error="referee: read failed: folder: is a folder")
     # What stands behind a bad rules text is not read.
     run.row(["judge", "--rules", "tiles.rules", "folder", "folder", "folder"], 3, "bad rules line 1: Unknown\n")
     run.row(["judge", "--rules", "english.rules", "digit", "folder", "folder"], 3, "bad word list line 2: BadLetter\n")
@@ -562,6 +632,7 @@ def topped(run):
     ten = "8G AT 4\n8H AT 4\nH7 AT 4\nH8 AT 4\n8G At 2\n8G aT 2\n8H At 2\n8H aT 2\nH7 At 2\nH7 aT 2\n"
     by_at("nothing", "AT?", 0, ten)
     by_at("nothing", "Q", 0, "none\n")
+    by_at("page", "Q", 0, "none\n")
     by_at("line-17", "AT", 1, "illegal line 1: WrongTotal 16\n")
     # Deals are not judged: three blanks are shown, of which there are two.
     by_at("blanks", "?A", 0, "8G At 2\n8H At 2\nH7 At 2\nH8 At 2\n")
@@ -572,9 +643,9 @@ def topped(run):
     run.row(["top", "digit", "extra.gad", "number", "A"], 3, "bad word list line 2: BadLetter\n")
     run.row(["top", "at", "extra.gad", "number", "A"], 3, "bad lexicon: Extra A\n")
     # The files are opened before the rack is looked at, and none is read behind a rack that is none.
-    run.row(["top", "at", "at.gad", "nowhere", "A1"], 4, error="cannot open nowhere")
+    run.row(["top", "at", "at.gad", "nowhere", "A1"], 4, error="referee: cannot open nowhere: no such file")
     run.row(["top", "folder", "folder", "folder", "A1"], 3, "bad rack\n")
-    run.row(["top", "at", "at.gad", "folder", "A"], 4, error="read failed: folder")
+    run.row(["top", "at", "at.gad", "folder", "A"], 4, error="referee: read failed: folder: is a folder")
 
 
 def topped_before(run):
@@ -624,7 +695,7 @@ def from_standard_input(run):
     for more in ([], ["--settle"], ["--rules", "english.rules"], ["--settle", "--rules", "english.rules"]):
         run.row(["judge", *more, "word", "word.gad", "-"], 0, told, stdin=line)
         run.row(["judge", *more, "-", "word.gad", "line"], 0, told, stdin="WORD\n")
-        run.row(["judge", *more, "word", "word.gad", "-"], 0, "legal unfinished\n", error=NO_EVENT.format("standard input"))
+        run.row(["judge", *more, "word", "word.gad", "-"], 0, "legal unfinished\n")
     run.row(["judge", "word", "word.gad", "-"], 1, "illegal line 1: WrongScore 16\n", stdin=TEXTS["line-18"])
     run.row(["judge", "-", "at.gad", "line"], 3, "bad word list line 2: BadLetter\n", stdin=TEXTS["digit"])
     plays = "8G At 2\n8H At 2\nH7 At 2\nH8 At 2\n"
@@ -641,11 +712,11 @@ def from_standard_input(run):
     run.row(["archive", "--names", "names", "word", "word.gad"], 4, f"-{unread}line{legal}", stdin=line)
     run.row(["archive", "--names", "-", "word", "word.gad"], 4, f"-{unread}line{legal}", stdin="-\nline\n")
     # Files are opened in their order, standard input among them, and only then read.
-    run.row(["judge", "-", "word.gad", "nowhere"], 4, error="cannot open nowhere", stdin="A1\n")
+    run.row(["judge", "-", "word.gad", "nowhere"], 4, error="referee: cannot open nowhere: no such file", stdin="A1\n")
     for words in (["judge", "word", "-", "line"], ["check", "word", "-"], ["top", "word", "-", "line", "A"], ["archive", "word", "-", "line"]):
-        run.row(words, 4, error="cannot open -", stdin="AT\n")
-    run.row(["convert", "gad2", "-", "out"], 4, error="cannot open -", stdin="AT\n")
-    run.row(["judge", "--rules", "-", "word", "word.gad", "line"], 4, error="cannot open -", stdin=ENGLISH_RULES)
+        run.row(words, 4, error="referee: cannot open -: no such file", stdin="AT\n")
+    run.row(["convert", "gad2", "-", "out"], 4, error="referee: cannot open -: no such file", stdin="AT\n")
+    run.row(["judge", "--rules", "-", "word", "word.gad", "line"], 4, error="referee: cannot open -: no such file", stdin=ENGLISH_RULES)
     for words in (["judge", "-", "at.gad", "-"], ["top", "-", "at.gad", "-", "A"], ["archive", "-", "at.gad", "-"], ["archive", "at", "at.gad", "-", "-"]):
         run.row(words, 64, error=None, stdin="AT\n")
     run.row(["archive", "--names", "-", "-", "at.gad"], 64, error=None, stdin="AT\n")
@@ -691,8 +762,8 @@ def fielded(run):
     run.row(["check", "--first-field", "fields", "at.gad"], 0, "ok 1\n")
     run.row(["check", "fields", "at.gad"], 3, "bad word list: TooLong\n")
     run.row(["check", "--first-field", "long-list", "at.gad"], 3, "bad word list: TooLong\n")
-    run.row(["check", "--first-field", "folder", "at.gad"], 4, error="read failed: folder")
-    run.row(["check", "--first-field", "nowhere", "at.gad"], 4, error="cannot open nowhere")
+    run.row(["check", "--first-field", "folder", "at.gad"], 4, error="referee: read failed: folder: is a folder")
+    run.row(["check", "--first-field", "nowhere", "at.gad"], 4, error="referee: cannot open nowhere: no such file")
     for words in (["tidy", "--first-field", "line"], ["convert", "--first-field", "gad2", "at.gad", "out"],
                   ["check", "--first-field", "--first-field", "at", "at.gad"], ["check", "--first-field=1", "at", "at.gad"]):
         run.row(words, 64, error=None)
@@ -705,7 +776,7 @@ def unreadable(run):
                   ["top", "-", "at.gad", "line", "A"], ["top", "--rules", "english.rules", "at", "at.gad", "-", "A"], ["tidy", "-"],
                   ["check", "-", "at.gad"], ["build", "-", "out"], ["archive", "-", "at.gad", "line"], ["archive", "--names", "-", "at", "at.gad"]):
         ran = subprocess.run([run.program, *words], stdin=folder, cwd=run.folder, capture_output=True, check=False)
-        run.expect(f"{words} of a folder", (ran.returncode, ran.stdout, ran.stderr) == (4, b"", b"read failed: standard input\n"))
+        run.expect(f"{words} of a folder", (ran.returncode, ran.stdout, ran.stderr) == (4, b"", b"referee: read failed: standard input: is a folder\n"))
     ran = subprocess.run([run.program, "archive", "at", "at.gad", "-"], stdin=folder, cwd=run.folder, capture_output=True, check=False)
     run.expect("a game that is a folder", (ran.returncode, ran.stdout.split(b"\t")[:5]) == (4, [b"-", b"unread", b"-", b"-", b"read failed"]))
     os.close(folder)
@@ -794,9 +865,9 @@ def boarded(run):
             ("  S 4  T 6  U 4  V 2  W 2  X 1  Y 2  Z 1  ? 2", "  S 8  T 12  U 8  V 4  W 4  X 2  Y 4  Z 2  ? 4")]
     run.row(["board", "--rules", "two-sets.rules", "nothing"], 0, board_of("after the last event", " 0\n 0\n", *more))
     run.row(["board", "--rules", "tiles.rules", "folder"], 3, "bad rules line 1: Unknown\n")
-    run.row(["board", "--rules", "nowhere", "elsewhere"], 4, error="cannot open nowhere")
-    run.row(["board", "nowhere"], 4, error="cannot open nowhere")
-    run.row(["board", "folder"], 4, error="read failed: folder")
+    run.row(["board", "--rules", "nowhere", "elsewhere"], 4, error="referee: cannot open nowhere: no such file")
+    run.row(["board", "nowhere"], 4, error="referee: cannot open nowhere: no such file")
+    run.row(["board", "folder"], 4, error="referee: read failed: folder: is a folder")
     for words in (["--before", "line"], ["--before", "-1", "line"], ["--before", "x", "line"], ["--before", "4294967296", "line"], ["--settle", "line"]):
         run.row(["board", *words], 64, error=None)
 
@@ -825,13 +896,18 @@ def archived(run):
         run.row(["archive", "--progress", *names, *every], worst, "".join(lines), error=f"games done: {len(rows)}")
         objects = subprocess.run([run.program, "archive", "--json", *names, *every], cwd=run.folder, capture_output=True, check=False)
         told = [json.loads(text) for text in objects.stdout.decode().splitlines()]
-        run.expect("the names of a JSON object", all(list(it) == FIELDS for it in told))
+        run.expect("the names of a JSON object", all(list(it) == [*FIELDS, "fault_name", "expected"] for it in told))
+        faults = [None if it["fault"] is None or it["verdict"] == "unread" else it["fault"].split() for it in told]
+        run.expect("the name of a fault", [it["fault_name"] for it in told] == [fault and fault[0] for fault in faults])
+        wrong = [int(fault[1]) if fault and fault[0] in ("WrongScore", "WrongTotal") else None for fault in faults]
+        run.expect("what was expected", [it["expected"] for it in told] == wrong and 16 in wrong if words == "word" else True)
         texts = [["-" if it[field] is None else str(it[field]) for field in FIELDS] for it in told]
         run.expect("JSON objects", texts == [told_of(name, text) for name, text, _ in rows] and objects.returncode == worst)
     archived_names(run)
     archived_inputs(run)
     archived_lines(run)
     archived_pages(run)
+    archived_again(run)
 
 
 def archived_names(run):
@@ -850,6 +926,9 @@ def archived_names(run):
     run.row(["archive", "word", "word.gad", "/dev/stdin"], 0, f"/dev/stdin{legal}", stdin=WORD)
     nick = legal.replace("A", "\ufffdva")
     run.row(["archive", "word", "word.gad", "latin"], 0, f"latin{nick}")
+    run.row(["archive", "word", "word.gad", "latin-stated"], 0, f"latin-stated{legal.replace('A', chr(0xC9) + 'va')}")
+    Path(run.folder, "slashed").write_text(WORD.replace("A:", "a\\b:"))
+    run.row(["archive", "word", "word.gad", "slashed"], 0, "slashed" + legal.replace("A", "a\\\\b"))
     objects = ["two\\nlines", "back\\\\slash", "tab\\there", "caf\u00e9", "\ufffdva"]
     told = subprocess.run([run.program, "archive", "--json", "word", "word.gad", "two\nlines", "back\\slash", "tab\there", "caf\u00e9", "latin"],
                           cwd=run.folder, capture_output=True, check=False).stdout.decode()
@@ -867,63 +946,129 @@ def archived_inputs(run):
     run.row(["archive", "--rules", "english.rules", "digit", "folder", "folder"], 3, "bad word list line 2: BadLetter\n")
     for words in (["nowhere", "at.gad"], ["at", "nowhere"], ["--names", "nowhere", "at", "at.gad"], ["--rules", "nowhere", "digit", "at.gad"]):
         games = [] if "--names" in words else ["line"]
-        run.row(["archive", *words, *games], 4, error="cannot open nowhere")
+        run.row(["archive", *words, *games], 4, error="referee: cannot open nowhere: no such file")
     for words in (["folder", "at.gad"], ["at", "folder"], ["--names", "folder", "at", "at.gad"], ["--rules", "folder", "digit", "at.gad"]):
         games = [] if "--names" in words else ["line"]
-        run.row(["archive", *words, *games], 4, error="read failed: folder")
+        run.row(["archive", *words, *games], 4, error="referee: read failed: folder: is a folder")
     run.row(["archive", "--rules", "two-sets.rules", "at", "at.gad", "blanks"], 0, "blanks\tlegal\tunfinished\t-\t-\t2\tA\t0\tB\t0\t0\n")
     run.row(["archive", "--rules", "fourteen.rules", "retains", "retains.gad", "goes-out"], 0, "goes-out\tlegal\tcomplete\t-\t-\t2\tA\t88\t-\t-\t0\n")
-    run.row(["archive", "many", "at.gad", "line"], 4, error="no memory", room=1 << 23)
+    run.row(["archive", "many", "at.gad", "line"], 4, error="referee: no memory", room=1 << 23)
     if os.path.exists("/dev/full"):
-        run.row(["archive", "word", "word.gad", "nowhere", "line"], 4, error="write failed: standard output", stdout="/dev/full")
-        run.row(["archive", "digit", "word.gad", "line"], 4, error="write failed: standard output", stdout="/dev/full")
+        run.row(["archive", "word", "word.gad", "nowhere", "line"], 4, error="referee: write failed: standard output: no space left, error 28 of the system", stdout="/dev/full")
+        run.row(["archive", "digit", "word.gad", "line"], 4, error="referee: write failed: standard output: no space left, error 28 of the system", stdout="/dev/full")
 
 
 PAGED = [  # a game, its line but for its name and its page, the page, and the verdict and the totals in the index
-    ("line", "legal unfinished - - 1 A 16 - - 0", "line.html", ["legal: unfinished", "A", "16", "", ""]),
-    ("./line", "legal unfinished - - 1 A 16 - - 0", "line-2.html", ["legal: unfinished", "A", "16", "", ""]),
-    ("folder/../line", "legal unfinished - - 1 A 16 - - 0", "line-3.html", ["legal: unfinished", "A", "16", "", ""]),
-    ("index", "legal unfinished - - 1 A 16 - - 0", "index-2.html", ["legal: unfinished", "A", "16", "", ""]),
+    ("line", "legal unfinished - - 1 A 16 - - 0", "line%.html", ["legal: unfinished", "A", "16", "", ""]),
+    ("./line", "legal unfinished - - 1 A 16 - - 0", "%./line%.html", ["legal: unfinished", "A", "16", "", ""]),
+    ("folder/../line", "legal unfinished - - 1 A 16 - - 0", "folder/%../line%.html", ["legal: unfinished", "A", "16", "", ""]),
+    ("index", "legal unfinished - - 1 A 16 - - 0", "index%.html", ["legal: unfinished", "A", "16", "", ""]),
+    ("index.gcg", "legal unfinished - - 1 A 16 - - 0", "index.gcg%.html", ["legal: unfinished", "A", "16", "", ""]),
+    ("r1/final.gcg", "legal unfinished - - 1 A 16 - - 0", "r1/final.html", ["legal: unfinished", "A", "16", "", ""]),
+    ("r2/final.gcg", "illegal - 1 WrongTotal_16 1 A 17 - - -", "r2/final.html", ["illegal line 1: WrongTotal 16", "A", "17", "", ""]),
+    ("r2/100%", "legal unfinished - - 1 A 16 - - 0", "r2/100%25%.html", ["legal: unfinished", "A", "16", "", ""]),
     ("<b>&\"'.gcg", "legal unfinished - - 1 A 16 - - 0", "<b>&\"'.html", ["legal: unfinished", "A", "16", "", ""]),
-    ("turn", "illegal - 2 NotYourTurn 2 A 16 - - -", "turn.html", ["illegal line 2: NotYourTurn", "A", "16", "", ""]),
-    ("nothing", "no_game - - - 0 - - - - 0", "nothing.html", ["no game", "", "", "", ""]),
+    ("latin-stated", "legal unfinished - - 1 \u00c9va 16 - - 0", "latin-stated%.html", ["legal: unfinished", "\u00c9va", "16", "", ""]),
+    ("turn", "illegal - 2 NotYourTurn 2 A 16 - - -", "turn%.html", ["illegal line 2: NotYourTurn", "A", "16", "", ""]),
+    ("nothing", "no_game - - - 0 - - - - 0", "-", ["no game", "", "", "", ""]),
     ("third", "bad_record - 3 ThirdPlayer - - - - - -", "-", ["bad record line 3: ThirdPlayer", "", "", "", ""]),
     ("nowhere", "unread - - cannot_open - - - - - -", "-", ["unread: cannot open", "", "", "", ""]),
-    ("..", "unread - - read_failed - - - - - -", "-", ["unread: read failed", "", "", "", ""]),
+    ("..", "unread - - is_a_folder - - - - - -", "-", ["unread: is a folder", "", "", "", ""]),
 ]
 
 
 def archived_pages(run):
-    """`archive --pages`: a page for each game that is read, no two of one name, and their index."""
+    """`archive --pages`: a page for each game that is read, by the name of the game alone, and their index."""
     pages, names = Path(run.folder, "pages/of/games"), [name for name, _, _, _ in PAGED]
-    for name in ("index", "<b>&\"'.gcg"):
-        Path(run.folder, name).write_text(WORD)
+    for name, text in [("index", WORD), ("index.gcg", WORD), ("<b>&\"'.gcg", WORD), ("r1/final.gcg", WORD), ("r2/final.gcg", TEXTS["line-17"]), ("r2/100%", WORD)]:
+        Path(run.folder, name).parent.mkdir(exist_ok=True)
+        Path(run.folder, name).write_text(text)
     lines = ["\t".join([*told_of(name, text), page]) + "\n" for name, text, page, _ in PAGED]
-    for _ in range(2):
-        run.row(["archive", "--pages", "pages/of/games", "word", "word.gad", *names], 4, "".join(lines))
-    run.expect("the files of a folder", sorted(it.name for it in pages.iterdir()) == sorted(["index.html", *(page for _, _, page, _ in PAGED if page != "-")]))
-    for name, _, page, _ in PAGED:
+    for order in (1, -1):
+        run.row(["archive", "--pages", "pages/of/games", "word", "word.gad", *names[::order]], 4, "".join(lines[::order]))
+    run.row(["archive", "--pages", "pages/of/games", "word", "word.gad", *names], 4, "".join(lines))
+    made = sorted(str(it.relative_to(pages)) for it in pages.rglob("*") if it.is_file())
+    run.expect("the files of a folder", made == sorted(["index.html", *(page for _, _, page, _ in PAGED if page != "-")]))
+    for name, text, page, _ in PAGED:
         if page != "-":
-            run.row(["page", "word", "word.gad", name, "out"], int(name == "turn"), None, wrote=(pages / page).read_bytes())
-    rows = web.read((pages / "index.html").read_bytes()).first("tbody").all("tr")
+            run.row(["page", "word", "word.gad", name, "out"], int(text.startswith("illegal")), None, wrote=(pages / page).read_bytes())
+    whole = (pages / "index.html").read_bytes()
+    rows = web.read(whole).first("tbody").all("tr")
     run.expect("the rows of the index", [[it.text() for it in row.all("td")] for row in rows] == [[name, *cells] for name, _, _, cells in PAGED])
     links = [[unquote(it.attributes["href"]) for it in row.all("a")] for row in rows]
     run.expect("the links of the index", links == [[page] if page != "-" else [] for _, _, page, _ in PAGED])
     told = subprocess.run([run.program, "archive", "--json", "--pages", "pages", "word", "word.gad", *names], cwd=run.folder, capture_output=True, check=False)
     objects = [json.loads(text) for text in told.stdout.decode().splitlines()]
-    run.expect("pages in JSON", all(list(it) == [*FIELDS, "page"] for it in objects) and [it["page"] or "-" for it in objects] == [page for _, _, page, _ in PAGED])
+    named = all(list(it) == [*FIELDS, "page", "fault_name", "expected"] for it in objects)
+    run.expect("pages in JSON", named and [it["page"] or "-" for it in objects] == [page for _, _, page, _ in PAGED])
     refused_pages(run)
+    indexed(run, lines, told.stdout.decode(), whole)
+
+
+def indexed(run, lines, objects, whole):
+    """`index`: of the lines of runs, in both forms, the index that one run makes of them all."""
+    for text in ("".join(lines), objects, "".join(lines[:3]) + "\n".join(objects.split("\n")[3:])):
+        Path(run.folder, "lines").write_text(text)
+        run.row(["index", "lines", "out"], 0, wrote=whole)
+        run.row(["index", "-", "out"], 0, stdin=text, wrote=whole)
+    plain = ["\t".join(line.split("\t")[:11]) + "\n" for line in lines]
+    run.row(["index", "-", "out"], 0, stdin="".join(plain))
+    rows = web.read(Path(run.folder, "out").read_bytes()).first("tbody").all("tr")
+    run.expect("an index without pages", [[it.text() for it in row.all("td")] for row in rows] == [[name, *cells] for name, _, _, cells in PAGED])
+    run.expect("no links", not any(row.all("a") for row in rows))
+    run.row(["index", "-", "out"], 0, stdin="")
+    Path(run.folder, "out").write_bytes(b"as it was")
+    for bad in ("line\n", "\n", lines[0].replace("legal", "lawful"), lines[0].replace("16", "x"), lines[0].replace("line%.html", "a\tb"), lines[0][:-1], "{}\n",
+                objects.split("\n")[0].replace('"legal"', '"lawful"') + "\n", objects.split("\n")[0][:-1] + "\n"):
+        run.row(["index", "-", "out"], 3, stdin=lines[1] + bad, error="referee: standard input line 2 is not a line of an archive", wrote=b"as it was")
+    run.row(["index", "nowhere", "out"], 4, error="referee: cannot open nowhere: no such file", wrote=b"as it was")
+    run.row(["index", "folder", "out"], 4, error="referee: read failed: folder: is a folder", wrote=b"as it was")
+    run.row(["index", "lines"], 64, error=None)
+    run.row(["index", "lines", "out", "more"], 64, error=None)
 
 
 def refused_pages(run):
     """Pages that cannot be written."""
     legal = "legal\tunfinished\t-\t-\t1\tA\t16\t-\t-\t0"
-    run.row(["archive", "--pages", "line", "word", "word.gad", "line"], 4, error="cannot open line")
-    run.row(["archive", "--pages", "line/x", "word", "word.gad", "line"], 4, error="cannot open line/x")
-    Path(run.folder, "some/line.html").mkdir(parents=True)
-    run.row(["archive", "--pages", "some", "word", "word.gad", "line", "caf\u00e9"], 4, f"line\t{legal}\tcannot write\ncaf\u00e9\t{legal}\tcaf\u00e9.html\n")
+    run.row(["archive", "--pages", "line", "word", "word.gad", "line"], 4, error="referee: cannot open line: error 17 of the system")
+    run.row(["archive", "--pages", "line/x", "word", "word.gad", "line"], 4, error="referee: cannot open line/x: error 20 of the system")
+    Path(run.folder, "some/line%.html").mkdir(parents=True)
+    Path(run.folder, "some/r1").write_text("")
+    names, pages = ["line", "caf\u00e9", "r1/final.gcg"], ["cannot write", "caf\u00e9%.html", "cannot write"]
+    run.row(["archive", "--pages", "some", "word", "word.gad", *names], 4, "".join(f"{name}\t{legal}\t{page}\n" for name, page in zip(names, pages)))
     Path(run.folder, "none/index.html").mkdir(parents=True)
-    run.row(["archive", "--pages", "none", "word", "word.gad", "line"], 4, f"line\t{legal}\tline.html\n", error="write failed: none")
+    run.row(["archive", "--pages", "none", "word", "word.gad", "line"], 4, f"line\t{legal}\tline%.html\n", error="referee: write failed: none: is a folder")
+
+
+def archived_again(run):
+    """`archive --skip`: the games that have no line yet; and `-0`, names that end in NUL."""
+    legal, other = "\tlegal\tunfinished\t-\t-\t1\tA\t16\t-\t-\t0", "\tno game\t-\t-\t-\t0\t-\t-\t-\t-\t0"
+    names = ["line", "no\xffwhere", "tab\there", "two\nlines", "back\\slash", "nothing"]
+    shown = [("line", legal), ("no\ufffdwhere", "\tunread\t-\t-\tcannot open\t-\t-\t-\t-\t-\t-"), ("tab\\there", legal), ("two\\nlines", legal),
+             ("back\\\\slash", legal), ("nothing", other)]
+    lines, statuses = [f"{name}{text}\n" for name, text in shown], [0, 4, 0, 0, 0, 3]
+    Path(run.folder, "names").write_bytes(b"\0".join(name.encode("latin-1") for name in names))
+    null = ["--names", "names", "word", "word.gad"]
+    for option in ("-0", "--null"):
+        run.row(["archive", option, *null], 4, "".join(lines))
+    run.row(["archive", "-0", "--names", "-", "word", "word.gad"], 0, f"{lines[0]}{lines[3]}", stdin="\0\0line\0two\nlines\0")
+    told = subprocess.run([run.program, "archive", "--json", "-0", *null], cwd=run.folder, capture_output=True, check=False).stdout
+    objects = told.decode().splitlines(keepends=True)
+    for done in range(len(names) + 1):
+        left, status = "".join(lines[done:]), max(statuses[done:], default=0)
+        Path(run.folder, "done").write_text("".join(lines[:done]))
+        run.row(["archive", "-0", "--skip", "done", *null], status, left)
+        run.row(["archive", "-0", "--skip", "-", *null], status, left, stdin="".join(objects[:done]))
+        run.row(["archive", "--skip", "done", "word", "word.gad", "--", "line", "line"], 0, lines[0] * 2 if done == 0 else "")
+        part = lines[done][:-1] if done < len(names) else "x"
+        Path(run.folder, "done").write_text("".join(lines[:done]) + part)
+        run.row(["archive", "-0", "--skip", "done", *null], status, left, error=f"referee: done ends with part of line {done + 1}, which does not count")
+    Path(run.folder, "done").write_text(lines[0] + "line\n")
+    run.row(["archive", "--skip", "done", "word", "word.gad", "turn"], 3, error="referee: done line 2 is not a line of an archive")
+    run.row(["archive", "--skip", "nowhere", "word", "word.gad", "line"], 4, error="referee: cannot open nowhere: no such file")
+    run.row(["archive", "--skip", "folder", "word", "word.gad", "line"], 4, error="referee: read failed: folder: is a folder")
+    run.row(["archive", "--skip", "-", "--names", "-", "word", "word.gad"], 64, error=None)
+    run.row(["archive", "-0", "word", "word.gad", "line"], 64, error=None)
 
 
 def archived_lines(run):
@@ -946,13 +1091,16 @@ def audited(run):
     """`audit`, by the wrong numbers of a sheet and the verdict on its correction, and the record that it writes."""
     run.row(["build", "word", "word.gad"], 0)
     run.row(["build", "word-at-ra", "word-at-ra.gad"], 0)
-    line = b"#player1 A\n>A: AADEORW 8E WORD +16 16\n"
+    line = WORD.encode()
     for game, status, out, kept in [
         ("line", 0, "legal unfinished\n", line),
         ("line-18", 1, "line 1: score 18, should be 16\ntotal of A: 18, should be 16\nlegal unfinished\n", line),
         ("line-17", 1, "line 1: sum 17, should be 16\ntotal of A: 17, should be 16\nlegal unfinished\n", line),
         ("score-and-sum", 1, "line 1: score 18, should be 16\nline 1: sum 19, should be 18\ntotal of A: 19, should be 16\nlegal unfinished\n", line),
-        ("nothing", 0, "legal unfinished\n", b""),
+        ("untidy", 0, "legal unfinished\n", TEXTS["untidy"].encode()),
+        ("by-hand", 1, "line 5: score 10, should be 9\ntotal of B: 10, should be 9\nlegal unfinished\n", f"{BY_HAND}>B: AT 9G AT +9 9{OTHERS}".encode()),
+        ("nothing", 3, "no game\n", None),
+        ("page", 3, "no game\n", None),
         ("line-8d", 1, "illegal line 1: MissesCentre\n", None),
         ("turn", 1, "illegal line 2: NotYourTurn\n", None),
         ("blanks", 1, "illegal line 2: TilesShort ?\n", None),
@@ -973,13 +1121,13 @@ def audited(run):
         run.row(["audit", "--corrected", "out", *words], status, out, wrote=b"as it was")
     run.row(["audit", "--rules", "two-sets.rules", "at", "at.gad", "blanks"], 0, "legal unfinished\n")
     run.row(["audit", "word", "word.gad", "-"], 0, "legal unfinished\n", stdin=WORD)
-    run.row(["audit", "word", "word.gad", "nowhere"], 4, error="cannot open nowhere")
-    run.row(["audit", "word", "folder", "line"], 4, error="read failed: folder")
-    run.row(["audit", "--corrected", "no/where", "word", "word.gad", "line"], 4, error="cannot open no/where")
+    run.row(["audit", "word", "word.gad", "nowhere"], 4, error="referee: cannot open nowhere: no such file")
+    run.row(["audit", "word", "folder", "line"], 4, error="referee: read failed: folder: is a folder")
+    run.row(["audit", "--corrected", "no/where", "word", "word.gad", "line"], 4, error="referee: cannot open no/where: no such file")
     run.row(["audit", "word", "word.gad"], 64, error=None)
     if os.path.exists("/dev/full"):
-        run.row(["audit", "word", "word.gad", "line"], 4, error="write failed: standard output", stdout="/dev/full")
-        run.row(["audit", "--corrected", "/dev/full", "word", "word.gad", "line"], 4, error="write failed: /dev/full")
+        run.row(["audit", "word", "word.gad", "line"], 4, error="referee: write failed: standard output: no space left, error 28 of the system", stdout="/dev/full")
+        run.row(["audit", "--corrected", "/dev/full", "word", "word.gad", "line"], 4, error="referee: write failed: /dev/full: no space left, error 28 of the system")
 
 
 STANDS = "The rules allow every event, and a deal of the tiles gives the players every rack that is shown.\n"
@@ -1015,8 +1163,11 @@ def explained(run):
     told = lambda game, status, out, *line: run.row(["explain", "word", "word.gad", game, *line], status, out)
     told("line", 0, f"legal unfinished\n{STANDS}")
     told("ends", 0, f"legal complete\n{STANDS}")
-    told("nothing", 0, "legal unfinished\nThe record has no event. Is it a game record?\n")
-    told("page", 0, "legal unfinished\nThe record has no event. Is it a game record?\n")
+    for line in ([], ["0"], ["1"]):
+        told("nothing", 3, "no game\n", *line)
+        told("page", 3, "no game\n", *line)
+    named = "latin-wrong", 1, "illegal line 2: WrongTotal 16\nline 2: >\u00c9va: DORWAAE 8E WORD +16 17\n\u00c9va had 0 and scores 16 on this line, which makes 16, but 17 is written.\n"
+    told(named[0], named[1], named[2] + WORD_SUMS + picture_of(2, True, WORD_MARKED))
     for line in ([], ["0"], ["1"]):
         score = "illegal line 1: WrongScore 16\nline 1: >A: DORWAAE 8E WORD +18 18\nThe play scores 16, but 18 is written.\n"
         told("line-18", 1, score + WORD_SUMS + picture_of(1, True, WORD_MARKED), *line)
@@ -1040,7 +1191,7 @@ def explained(run):
         told("number", 3, number, *line)
     long = "The file has more than 1,048,576 bytes, and no game record may be that long. Is it the wrong file?\n"
     told("long-game", 3, f"bad record: TooLong\n{long}")
-    for game, line in (("line", "2"), ("line", "4294967295"), ("nothing", "0")):
+    for game, line in (("line", "2"), ("line", "4294967295")):
         told(game, 3, "bad line: no event is on it or after it\n", line)
     allowed = "The rules allow this event.\n"
     told("line", 0, f"legal unfinished\nline 1: {WORD}{allowed}{WORD_SUMS}" + picture_of(1, True, WORD_MARKED), "1")
@@ -1060,21 +1211,20 @@ def explained(run):
     ]:
         run.row(["explain", *words], status, out)
     run.row(["explain", "word", "word.gad", "-"], 0, f"legal unfinished\n{STANDS}", stdin=WORD)
-    run.row(["explain", "word", "word.gad", "nowhere"], 4, error="cannot open nowhere")
-    run.row(["explain", "word", "folder", "line"], 4, error="read failed: folder")
-    run.row(["explain", "word", "word.gad", "folder"], 4, error="read failed: folder")
+    run.row(["explain", "word", "word.gad", "nowhere"], 4, error="referee: cannot open nowhere: no such file")
+    run.row(["explain", "word", "folder", "line"], 4, error="referee: read failed: folder: is a folder")
+    run.row(["explain", "word", "word.gad", "folder"], 4, error="referee: read failed: folder: is a folder")
     for words in (["line", "x"], ["line", "-1"], ["line", "4294967296"], ["line", "1", "2"], ["--before", "1", "line"]):
         run.row(["explain", "word", "word.gad", *words], 64, error=None)
     if os.path.exists("/dev/full"):
-        run.row(["explain", "word", "word.gad", "line"], 4, error="write failed: standard output", stdout="/dev/full")
+        run.row(["explain", "word", "word.gad", "line"], 4, error="referee: write failed: standard output: no space left, error 28 of the system", stdout="/dev/full")
 
 
 def paged(run):
     """`page`: the verdict line, and what stands on the page."""
     run.row(["build", "word", "word.gad"], 0)
     out = Path(run.folder, "out")
-    for game, status, verdict in [("line", 0, "legal unfinished"), ("ends", 0, "legal complete"), ("nothing", 0, "legal unfinished"),
-                                  ("line-18", 1, "illegal line 1: WrongScore 16"), ("turn", 1, "illegal line 2: NotYourTurn")]:
+    for game, status, verdict in [("line", 0, "legal unfinished"), ("ends", 0, "legal complete"), ("line-18", 1, "illegal line 1: WrongScore 16"), ("turn", 1, "illegal line 2: NotYourTurn")]:
         run.row(["page", "word", "word.gad", game, "out"], status, f"{verdict}\n")
         banner = web.read(out.read_bytes()).first("p", "verdict")
         run.expect(f"the banner of {game}", banner.first("strong").text() == verdict and banner.attributes["class"] == f"verdict {verdict.split()[0]}")
@@ -1102,65 +1252,191 @@ def unread_pages(run, out):
     ]:
         run.row(["page", *words, "out"], status, told, wrote=b"as it was")
     for place, words in enumerate([["nowhere", "word.gad", "line"], ["word", "nowhere", "line"], ["word", "word.gad", "nowhere"]]):
-        run.row(["page", *words, "out"], 4, error="cannot open nowhere", wrote=b"as it was")
+        run.row(["page", *words, "out"], 4, error="referee: cannot open nowhere: no such file", wrote=b"as it was")
         words[place] = "folder"
-        run.row(["page", *words, "out"], 4, error="read failed: folder", wrote=b"as it was")
-    run.row(["page", "word", "word.gad", "line", "folder"], 4, error="cannot open folder")
-    run.row(["page", "many", "at.gad", "line", "out"], 4, error="no memory", wrote=b"as it was", room=1 << 23)
+        run.row(["page", *words, "out"], 4, error="referee: read failed: folder: is a folder", wrote=b"as it was")
+    run.row(["page", "word", "word.gad", "line", "folder"], 4, error="referee: cannot open folder: is a folder")
+    run.row(["page", "many", "at.gad", "line", "out"], 4, error="referee: no memory", wrote=b"as it was", room=1 << 23)
     run.row(["page", "word", "word.gad", "-", "out"], 0, "legal unfinished\n", stdin=WORD)
     page = out.read_bytes()
     for words in (["-", "word.gad", "line"], ["word", "word.gad", "line"]):
         run.row(["page", *words, "out"], 0, "legal unfinished\n", stdin="WORD\n", wrote=page)
     run.row(["page", "-", "word.gad", "-", "out"], 64, error=None)
     if os.path.exists("/dev/full"):
-        run.row(["page", "word", "word.gad", "line", "/dev/full"], 4, error="write failed: /dev/full")
-        run.row(["page", "word", "word.gad", "line", "out"], 4, error="write failed: standard output", stdout="/dev/full")
+        run.row(["page", "word", "word.gad", "line", "/dev/full"], 4, error="referee: write failed: /dev/full: no space left, error 28 of the system")
+        run.row(["page", "word", "word.gad", "line", "out"], 4, error="referee: write failed: standard output: no space left, error 28 of the system", stdout="/dev/full")
 
 
 def broken(run):
     """Status 4: files that cannot be opened, read or written, and want of memory."""
-    run.row(["judge", "nowhere", "at.gad", "line"], 4, error="cannot open nowhere")
-    run.row(["judge", "at", "nowhere", "line"], 4, error="cannot open nowhere")
-    run.row(["judge", "at", "at.gad", "nowhere"], 4, error="cannot open nowhere")
+    run.row(["judge", "nowhere", "at.gad", "line"], 4, error="referee: cannot open nowhere: no such file")
+    run.row(["judge", "at", "nowhere", "line"], 4, error="referee: cannot open nowhere: no such file")
+    run.row(["judge", "at", "at.gad", "nowhere"], 4, error="referee: cannot open nowhere: no such file")
     # Files are opened in their order, before any is read.
-    run.row(["judge", "digit", "at.gad", "nowhere"], 4, error="cannot open nowhere")
-    run.row(["judge", "folder", "nowhere", "elsewhere"], 4, error="cannot open nowhere")
-    run.row(["check", "nowhere", "elsewhere"], 4, error="cannot open nowhere")
-    run.row(["tidy", "nowhere"], 4, error="cannot open nowhere")
-    run.row(["build", "nowhere", "out"], 4, error="cannot open nowhere")
-    run.row(["build", "at", "no/where"], 4, error="cannot open no/where")
-    run.row(["build", "at", "folder"], 4, error="cannot open folder")
+    run.row(["judge", "digit", "at.gad", "nowhere"], 4, error="referee: cannot open nowhere: no such file")
+    run.row(["judge", "folder", "nowhere", "elsewhere"], 4, error="referee: cannot open nowhere: no such file")
+    run.row(["check", "nowhere", "elsewhere"], 4, error="referee: cannot open nowhere: no such file")
+    run.row(["tidy", "nowhere"], 4, error="referee: cannot open nowhere: no such file")
+    run.row(["build", "nowhere", "out"], 4, error="referee: cannot open nowhere: no such file")
+    run.row(["build", "at", "no/where"], 4, error="referee: cannot open no/where: no such file")
+    run.row(["build", "at", "folder"], 4, error="referee: cannot open folder: is a folder")
     for words in (["judge", "folder", "at.gad", "line"], ["judge", "at", "folder", "line"], ["judge", "at", "at.gad", "folder"]):
-        run.row(words, 4, error="read failed: folder")
-    run.row(["check", "at", "folder"], 4, error="read failed: folder")
-    run.row(["tidy", "folder"], 4, error="read failed: folder")
+        run.row(words, 4, error="referee: read failed: folder: is a folder")
+    run.row(["check", "at", "folder"], 4, error="referee: read failed: folder: is a folder")
+    run.row(["tidy", "folder"], 4, error="referee: read failed: folder: is a folder")
     Path(run.folder, "out").write_text("something")
-    run.row(["build", "folder", "out"], 4, error="read failed: folder", wrote=b"")
+    run.row(["build", "folder", "out"], 4, error="referee: read failed: folder: is a folder", wrote=b"something")
     # What stands behind a bad word list or a bad lexicon is not read.
     run.row(["judge", "digit", "folder", "folder"], 3, "bad word list line 2: BadLetter\n")
     run.row(["judge", "at", "extra.gad", "folder"], 3, "bad lexicon: Extra A\n")
     run.row(["check", "digit", "folder"], 3, "bad word list line 2: BadLetter\n")
     if os.path.exists("/dev/full"):
         for words in (["judge", "at", "at.gad", "nothing"], ["check", "at", "at.gad"], ["tidy", "untidy"], ["tidy", "number"]):
-            run.row(words, 4, error="write failed: standard output", stdout="/dev/full")
+            run.row(words, 4, error="referee: write failed: standard output: no space left, error 28 of the system", stdout="/dev/full")
         run.row(["tidy", "nothing"], 0, stdout="/dev/full")
-        run.row(["build", "at", "/dev/full"], 4, error="write failed: /dev/full")
-    run.row(["build", "many", "out"], 4, error="no memory", wrote=b"", room=1 << 26)
-    run.row(["judge", "many", "at.gad", "line"], 4, error="no memory", room=1 << 23)
+        run.row(["build", "at", "/dev/full"], 4, error="referee: write failed: /dev/full: no space left, error 28 of the system")
+    run.row(["build", "many", "out"], 4, error="referee: no memory", wrote=b"something", room=1 << 26)
+    run.row(["judge", "many", "at.gad", "line"], 4, error="referee: no memory", room=1 << 23)
+
+
+def said(run, words, stdin=b""):
+    """The status, the bytes on standard output and those on standard error of a command line."""
+    ran = subprocess.run([run.program, *words], cwd=run.folder, input=stdin, capture_output=True, check=False, timeout=run.patience)
+    return ran.returncode, ran.stdout, ran.stderr
+
+
+def put_out(run):
+    """OUT: standard output where it is `-`; a file that its links lead to, with the permissions that it had; and what is no file."""
+    run.row(["build", "word", "word.gad"], 0)
+    page = ["page", "word", "word.gad", "line"]
+    run.row([*page, "out"], 0, "legal unfinished\n")
+    for words, ended in [
+        (["build", "at", "-"], (0, AT_FILE, b"")),
+        (["build", "digit", "-"], (3, b"bad word list line 2: BadLetter\n", b"referee: digit: bad word list line 2: BadLetter\n")),
+        (["convert", "gad2", "at.gad", "-"], (0, AT_MASKS, b"")),
+        (["convert", "gad2", "text.gad", "-"], (3, b"bad lexicon: Magic\n", b"referee: text.gad: bad lexicon: Magic\n")),
+        ([*page, "-"], (0, Path(run.folder, "out").read_bytes(), b"legal unfinished\n")),
+        (["page", "word", "word.gad", "third", "-"], (3, b"", b"bad record line 3: ThirdPlayer\n" + BAD["third"].encode() + b"\n")),
+        (["page", "digit", "word.gad", "line", "-"], (3, b"", b"bad word list line 2: BadLetter\n")),
+        (["audit", "--corrected", "-", "word", "word.gad", "line-17"], (1, WORD.encode(), b"line 1: sum 17, should be 16\ntotal of A: 17, should be 16\nlegal unfinished\n")),
+        (["audit", "--corrected", "-", "word", "word.gad", "turn"], (1, b"", b"illegal line 2: NotYourTurn\n")),
+        (["audit", "--corrected", "-", "at", "extra.gad", "line"], (3, b"", b"bad lexicon: Extra A\nreferee: extra.gad is the lexicon of another list than at: make its own by referee build\n")),
+    ]:
+        run.expect(words, said(run, words) == ended)
+    run.expect("no file is named -", not Path(run.folder, "-").exists())
+    run.row(["build", "at", "./-"], 0)
+    run.expect("./- is a file", Path(run.folder, "-").read_bytes() == AT_FILE)
+    Path(run.folder, "-").unlink()
+    Path(run.folder, "out").write_bytes(b"something")
+    Path(run.folder, "out").chmod(0o640)
+    for link, end in (("link", "out"), ("folder/dangling", "../made"), ("loop", "loop")):
+        Path(run.folder, link).symlink_to(end)
+    run.row(["build", "at", "link"], 0, wrote=AT_FILE)
+    run.expect("a link stays one", Path(run.folder, "link").is_symlink() and Path(run.folder, "out").stat().st_mode & 0o777 == 0o640)
+    run.row(["build", "at", "folder/dangling"], 0)
+    run.expect("a link to no file", Path(run.folder, "folder/dangling").is_symlink() and Path(run.folder, "made").read_bytes() == AT_FILE)
+    run.row(["build", "at", "/dev/null"], 0)
+    run.expect("a device", said(run, ["build", "at", "/dev/stdout"]) == (0, AT_FILE, b""))
+    for name, why in (("loop", "too many links"), ("folder", "is a folder"), ("line/x", "error 20 of the system"), ("x" * 300, "error 36 of the system"), ("", "no such file"), ("new/", "no such file")):
+        run.row(["build", "at", name], 4, error=f"referee: cannot open {name}: {why}")
+        if name != "folder":
+            why = why if name != "new/" else "no such file"
+            run.row(["check", "at", name], 4, error=f"referee: cannot open {name}: {why}")
+    if os.geteuid():
+        Path(run.folder, "shut").mkdir(0o500)
+        run.row(["build", "at", "shut/out"], 4, error="referee: cannot open shut/out: permission denied")
+        Path(run.folder, "mine").write_text("AT\n")
+        Path(run.folder, "mine").chmod(0)
+        for words in (["check", "mine", "at.gad"], ["build", "at", "mine"]):
+            run.row(words, 4, error="referee: cannot open mine: permission denied")
+    run.expect("nothing else is left", not list(Path(run.folder).glob("**/.referee*")))
+
+
+def overwritten(run):
+    """An OUT that is one of the inputs is a mistake of the command line, and nothing is written."""
+    run.row(["build", "word", "word.gad"], 0)
+    Path(run.folder, "again").symlink_to("word")
+    os.link(Path(run.folder, "word"), Path(run.folder, "other-name"))
+    kept = {name: Path(run.folder, name).read_bytes() for name in ("word", "word.gad", "line", "english.rules")}
+    game = ["--rules", "english.rules", "word", "word.gad", "line"]
+    for out in ("word", "./word", "again", "other-name"):
+        run.row(["build", "word", out], 64, error=None)
+        run.row(["build", "again", out], 64, error=None)
+        run.row(["page", *game, out], 64, error=None)
+        run.row(["audit", "--corrected", out, *game], 64, error=None)
+    for out in ("word.gad", "line", "english.rules", "folder/../line"):
+        run.row(["page", *game, out], 64, error=None)
+        run.row(["audit", "--corrected", out, *game], 64, error=None)
+    run.row(["convert", "gad2", "word.gad", "word.gad"], 64, error=None)
+    with open(Path(run.folder, "word"), "rb") as words:
+        ran = subprocess.run([run.program, "build", "-", "word"], stdin=words, cwd=run.folder, capture_output=True, check=False)
+    run.expect("standard input that is OUT", ran.returncode == 64 and ran.stdout == b"" and b"OUT is the same file as WORDS" in ran.stderr)
+    run.expect("the inputs are as they were", all(Path(run.folder, name).read_bytes() == data for name, data in kept.items()))
+    run.row(["page", "word", "word.gad", "line", "other"], 0, "legal unfinished\n")
+
+
+def hinted(run):
+    """What standard error says beside the line of a fault, by every command that has such a line."""
+    rack = "tiles are A to Z, and ? for a blank"
+    for named, told in [
+        ("", "the rack has no tile, and a rack has 1 to 7"),
+        ("A1", f"'1' in the rack is no tile: {rack}"),
+        ("at", f"'a' in the rack is no tile: {rack}"),
+        ("\u00c4", f"'\u00c4' in the rack is no tile: {rack}"),
+        ("AAAAAAAA", "the rack has 8 tiles, and a rack has 1 to 7"),
+    ]:
+        run.row(["top", "at", "at.gad", "number", named], 3, "bad rack\n", error=f"referee: {told}")
+        run.row(["top", "--before", "2", "at", "at.gad", "number", named], 3, "bad rack\n", error=f"referee: {told}")
+    run.row(["top", "--before", "2", "at", "at.gad", "shown-rack"], 3, "bad rack\n", error="referee: the line shows no rack: name one after GAME")
+    texts = {
+        "no-row": (ENGLISH_RULES.replace(ROW_8, ""), "Missing", "the rules text has no line for row 8"),
+        "few": ("\ufeff bonus 50\n" + "".join(it for it in ENGLISH_RULES.splitlines(True) if it[:5] in ("tile ", "row 1") and "Q" not in it), "Missing",
+                "the rules text has no line for tile Q, row 2, row 3, row 4, row 5, row 6, row 7, row 8, row 9, exchange_min, zero_limit, challenge_unit, time_step"),
+        "nineteen": (TWO_SETS.replace("A 18 1", "A 19 1"), "Limits", "the rules text has 201 tiles together, and may have 14 to 200"),
+        "thirteen": (FOURTEEN.replace("A 2 1", "A 1 1"), "Limits", "the rules text has 13 tiles together, and may have 14 to 200"),
+        "dear": (ENGLISH_RULES.replace("Q 1 10", "Q 1 100"), "Limits", "tile Q has 100 points in the rules text, and may have 0 to 99"),
+        "never": (ENGLISH_RULES.replace("zero_limit 6", "zero_limit 00"), "Limits", "zero_limit is 0 in the rules text, and may be 1 to 99"),
+        "late": (ENGLISH_RULES.replace("time_step 5", "time_step 100"), "Limits", "time_step is 100 in the rules text, and may be 1 to 99"),
+    }
+    judging = (["judge"], ["judge", "--settle"], ["explain"], ["audit"], ["archive"], ["top"], ["page"])
+    behind = lambda command: {"top": ["A"], "page": ["out"]}.get(command[0], [])
+    for name, (text, why, told) in texts.items():
+        Path(run.folder, f"{name}.rules").write_text(text)
+        for command in judging:
+            words = [*command, "--rules", f"{name}.rules", "at", "at.gad", "line", *behind(command)]
+            run.row(words, 3, f"bad rules: {why}\n", error=f"referee: {told}")
+        run.row(["board", "--rules", f"{name}.rules", "line"], 3, f"bad rules: {why}\n", error=f"referee: {told}")
+    run.row(["judge", "--rules", "tiles.rules", "at", "at.gad", "line"], 3, "bad rules line 1: Unknown\n", error="")
+    other = "referee: {} is the lexicon of another list than {}: make its own by referee build"
+    turned = "referee: {} is a compiled lexicon and no word list: the two names are the wrong way round"
+    for command in (["check"], *judging):
+        more = [] if command == ["check"] else ["line", *behind(command)]
+        for words, lexicon, told in (("it-at", "at.gad", "Missing I+T"), ("at", "it-at.gad", "Extra I"), ("at", "count.gad", "WordCount")):
+            run.row([*command, words, lexicon, *more], 3, f"bad lexicon: {told}\n", error=other.format(lexicon, words))
+        for lexicon in ("at.gad", "at-masks.gad"):
+            run.row([*command, lexicon, "at", *more], 3, "bad word list line 1: BadLetter\n", error=turned.format(lexicon))
+        run.row([*command, "--first-field", "at.gad", "at", *more], 3, "bad word list line 1: BadLetter\n", error=turned.format("at.gad"))
+        run.row([*command, "digit", "at.gad", *more], 3, "bad word list line 2: BadLetter\n", error="")
+        run.row([*command, "at", "text.gad", *more], 3, "bad lexicon: Magic\n", error="")
+    fault = "bad word list line 1: BadLetter"
+    run.row(["build", "at.gad", "out"], 3, error=f"referee: at.gad: {fault}\n{turned.format('at.gad')}", wrote=f"{fault}\n".encode())
+    run.row(["build", "-", "out"], 3, error="referee: standard input: bad word list line 1: BadLength", stdin="A\n", wrote=b"bad word list line 1: BadLength\n")
+    run.row(["check", "-", "it-at.gad"], 3, "bad lexicon: Extra I\n", error=other.format("it-at.gad", "standard input"), stdin="AT\n")
 
 
 def helped(run):
     """Help and the version, on standard output. The text of help is not fixed, but there is some."""
     run.row(["--version"], 0, "referee 1.0.0\nrecords: GCG\nword lists: one word a line\nlexicons: GAD1, GAD2\n")
     run.row(["-V"], 0, "referee 1.0.0\n")
+    run.row(["rules"], 0, ENGLISH_RULES)
     for words in (["help"], ["--help"], ["-h"], ["judge", "--help"], ["judge", "-h"], ["help", "help"]):
         run.row(words, 0, None)
-    for command in ("judge", "archive", "audit", "explain", "page", "board", "build", "check", "convert", "top", "tidy"):
+    for command in ("judge", "archive", "audit", "explain", "page", "board", "build", "check", "convert", "top", "tidy", "rules"):
         run.row(["help", command], 0, None)
         run.row([command, "--help"], 0, None)
     if os.path.exists("/dev/full"):
-        for words in (["--version"], ["help"], ["help", "judge"]):
-            run.row(words, 4, error="write failed: standard output", stdout="/dev/full")
+        for words in (["--version"], ["help"], ["help", "judge"], ["rules"]):
+            run.row(words, 4, error="referee: write failed: standard output: no space left, error 28 of the system", stdout="/dev/full")
 
 
 def misused(run):
@@ -1177,6 +1453,7 @@ def misused(run):
         run.row([command, *["at"] * (count + 1)], 64, error=None)
     for names in range(3):
         run.row(["explain", *["at"] * names], 64, error=None)
+    run.row(["rules", "at"], 64, error=None)
     run.row(["tidy", b"\xff\xfe"], 64, error=None)
     run.row(["tidy", "--loud", "line"], 64, error=None)
 
@@ -1185,7 +1462,7 @@ def main():
     with tempfile.TemporaryDirectory() as folder:
         files(folder)
         run = Runner(os.path.abspath(sys.argv[1]), folder)
-        for part in (judged, settled, built_and_checked, converted, topped, topped_before, ruled, tidied, boarded, widest, from_standard_input, fielded, archived, audited, explained, paged, broken, helped, misused):
+        for part in (judged, settled, built_and_checked, converted, topped, topped_before, ruled, tidied, boarded, widest, from_standard_input, fielded, archived, audited, explained, paged, put_out, overwritten, hinted, broken, helped, misused):
             part(run)
         if sys.argv[2:] == ["large"]:
             converted_large(run)

@@ -1,1 +1,2 @@
-pub mod OneField
+pub mod Joined
+pub mod ReadBack

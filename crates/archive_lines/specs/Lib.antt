@@ -1,2 +1,7 @@
 pub mod Answers
-pub mod Escapes
+pub mod Faults
+pub mod Players
+pub mod Pages
+pub mod Tabs
+pub mod Said
+pub mod Laws

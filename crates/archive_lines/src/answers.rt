@@ -1,6 +1,8 @@
 //! What a line answers of a game.
 ghost use Rattle.std.specs.Prelude.{◌≡◌};
+ghost use Rattle.archive_lines.specs.Answers.{answer_of, ending_in};
 
+use engine::Finding;
 use serde::{Described, Serialize, Serializer};
 
 /// What a line answers of a game.
@@ -34,6 +36,19 @@ impl Answer {
             Answer::BadRecord => "bad record",
             Answer::NoGame => "no game",
             Answer::Unread => "unread",
+        }
+    }
+
+    /// The answer whose name this is.
+    pub fn of_name(name: &str) -> Option<Answer> {
+        match name {
+            "legal" => Some(Answer::Legal),
+            "illegal" => Some(Answer::Illegal),
+            "unsettled" => Some(Answer::Unsettled),
+            "bad record" => Some(Answer::BadRecord),
+            "no game" => Some(Answer::NoGame),
+            "unread" => Some(Answer::Unread),
+            _ => None,
         }
     }
 }
@@ -82,6 +97,8 @@ impl Serialize for Ending {
 pub enum Unread {
     /// The file could not be opened.
     CannotOpen,
+    /// It is a folder.
+    IsFolder,
     /// The file could not be read to its end.
     ReadFailed,
     /// Memory was refused.
@@ -97,8 +114,35 @@ impl Unread {
     {
         match self {
             Unread::CannotOpen => "cannot open",
+            Unread::IsFolder => "is a folder",
             Unread::ReadFailed => "read failed",
             Unread::NoMemory => "no memory",
         }
+    }
+}
+
+/// The answer of a finding.
+pub fn answer_of(finding: Finding) -> Answer
+    ensures { result ≡ answer_of finding }
+{
+    match finding {
+        Finding::NoGame => Answer::NoGame,
+        Finding::Legal { .. } => Answer::Legal,
+        Finding::Illegal { .. } => Answer::Illegal,
+        Finding::Unsettled => Answer::Unsettled,
+    }
+}
+
+/// Whether the game of a finding has ended, where it is legal.
+pub fn ending_in(finding: Finding) -> Option<Ending>
+    ensures { result ≡ ending_in finding }
+{
+    match finding {
+        Finding::Legal { complete } => Some(if complete {
+            Ending::Complete
+        } else {
+            Ending::Unfinished
+        }),
+        Finding::NoGame | Finding::Illegal { .. } | Finding::Unsettled => None,
     }
 }

@@ -1,10 +1,15 @@
 //! What a line says of a game.
+ghost use Rattle.std.specs.Prelude.{◌≡◌, IfOk, option_map};
+ghost use Rattle.std.specs.Cow.{cow_str_bytes};
+ghost use Rattle.archive_lines.specs.Said.{IsBare, SaysEntry, SaysBadRecord, SaysUnread};
 
-use crate::answers::{Answer, Ending, Unread};
+use crate::answers::{Answer, Ending, Unread, answer_of, ending_in};
+use crate::faults::{expected_in, fault_in, line_in, line_of_fault, name_in, owned};
 use crate::pages::PageField;
-use engine::{Entry, Finding, fault_text};
-use game_sheets::last_total;
-use gcg_read::{Player, ReadFault, Record, Seat};
+use crate::players::{nick_of, total_of};
+use engine::Entry;
+use gcg_read::{ReadFault, Seat};
+use name_texts::Encoding;
 use serde::Serialize;
 use std::alloc::{AllocError, Global};
 use std::borrow::CowStr;
@@ -37,17 +42,29 @@ pub struct Fields<'a> {
     /// The page of the game; none where no pages are made, and then no line has the field.
     #[serde(skip_serializing_if = "Option::is_none")]
     pub page: Option<PageField>,
+    /// The name of the fault of a game or a record, without a number or a tile behind it. Only the JSON object has it.
+    pub fault_name: Option<CowStr<'a, Global>>,
+    /// The number that was expected in the place of the one that is wrong. Only the JSON object has it.
+    pub expected: Option<i32>,
 }
 
 impl<'a> Fields<'a> {
-    /// A line that says no more than a verdict.
-    fn bare(name: &'a str, verdict: Answer) -> Fields<'a> {
+    /// A line that says no more than a verdict and a fault.
+    fn bare(
+        name: &'a str,
+        verdict: Answer,
+        line: Option<u32>,
+        fault: &'static str,
+        fault_name: Option<CowStr<'a, Global>>,
+    ) -> Fields<'a>
+        ensures { IsBare name.entry verdict line fault.now (option_map cow_str_bytes fault_name.entry) result }
+    {
         Fields {
             name,
             verdict,
             ending: None,
-            line: None,
-            fault: None,
+            line,
+            fault: Some(CowStr::Borrowed(fault)),
             events: None,
             player1: None,
             total1: None,
@@ -55,94 +72,64 @@ impl<'a> Fields<'a> {
             total2: None,
             unlisted: None,
             page: None,
+            fault_name,
+            expected: None,
         }
     }
 
     /// What is said of a game that was not read.
-    pub fn unread(name: &'a str, why: Unread) -> Fields<'a> {
-        let mut fields = Fields::bare(name, Answer::Unread);
-        fields.fault = Some(CowStr::Borrowed(why.name()));
-        fields
+    pub fn unread(name: &'a str, why: Unread) -> Fields<'a>
+        ensures { SaysUnread name.entry why result }
+    {
+        Fields::bare(name, Answer::Unread, None, why.name(), None)
     }
 
     /// What is said of a file that is no record.
-    pub fn bad_record(name: &'a str, fault: &ReadFault) -> Fields<'a> {
-        let mut fields = Fields::bare(name, Answer::BadRecord);
-        fields.line = if fault.line == 0 {
-            None
-        } else {
-            Some(fault.line)
-        };
-        fields.fault = Some(CowStr::Borrowed(fault.why.name()));
-        fields
+    pub fn bad_record(name: &'a str, fault: &ReadFault) -> Fields<'a>
+        ensures { SaysBadRecord name.entry fault.now result }
+    {
+        let why = fault.why.name();
+        Fields::bare(
+            name,
+            Answer::BadRecord,
+            line_of_fault(fault),
+            why,
+            Some(CowStr::Borrowed(why)),
+        )
     }
 
-    /// What is said of the game of a record.
-    pub fn of_entry(alloc: Global, name: &'a str, entry: &Entry) -> Result<Fields<'a>, AllocError> {
-        let mut fields = Fields::bare(name, answer_of(entry.finding));
-        fields.take_finding(alloc, entry.finding)?;
-        fields.take_record(alloc, &entry.record)?;
-        fields.unlisted = entry.unlisted;
-        Ok(fields)
+    /// What is said of the game of a record, whose nicknames are text by this encoding.
+    ///
+    /// # Errors
+    ///
+    /// Memory was refused.
+    pub fn of_entry(
+        alloc: Global,
+        name: &'a str,
+        entry: &Entry,
+        encoding: Encoding,
+    ) -> Result<Fields<'a>, AllocError>
+        ensures { IfOk result (SaysEntry name.entry entry.now encoding) }
+    {
+        let events = entry.record.events.as_slice();
+        let players = &entry.record.players;
+        let fault = fault_in(alloc, entry.finding)?;
+        let fault_name = name_in(alloc, &fault)?;
+        Ok(Fields {
+            name,
+            verdict: answer_of(entry.finding),
+            ending: ending_in(entry.finding),
+            line: line_in(entry.finding),
+            fault: owned(fault),
+            events: Some(events.len()),
+            player1: nick_of(alloc, &players.first, encoding)?,
+            total1: total_of(events, Seat::First),
+            player2: nick_of(alloc, &players.second, encoding)?,
+            total2: total_of(events, Seat::Second),
+            unlisted: entry.unlisted,
+            page: None,
+            fault_name: owned(fault_name),
+            expected: expected_in(entry.finding),
+        })
     }
-
-    /// Takes what goes with a finding.
-    fn take_finding(&mut self, alloc: Global, finding: Finding) -> Result<(), AllocError> {
-        match finding {
-            Finding::NoGame | Finding::Unsettled => {}
-            Finding::Legal { complete } => self.ending = Some(ending_of(complete)),
-            Finding::Illegal { line, fault } => {
-                self.line = Some(line);
-                self.fault = Some(CowStr::Owned(text_of(
-                    alloc,
-                    fault_text(alloc, &fault)?.as_slice(),
-                )?));
-            }
-        }
-        Ok(())
-    }
-
-    /// Takes the number of the events, the nicknames and the last totals.
-    fn take_record(&mut self, alloc: Global, record: &Record) -> Result<(), AllocError> {
-        let events = record.events.as_slice();
-        self.events = Some(events.len());
-        self.player1 = nick_of(alloc, &record.players.first)?;
-        self.total1 = last_total(events, Seat::First).map(|total| total.value());
-        self.player2 = nick_of(alloc, &record.players.second)?;
-        self.total2 = last_total(events, Seat::Second).map(|total| total.value());
-        Ok(())
-    }
-}
-
-/// The answer of a finding.
-fn answer_of(finding: Finding) -> Answer {
-    match finding {
-        Finding::NoGame => Answer::NoGame,
-        Finding::Legal { .. } => Answer::Legal,
-        Finding::Illegal { .. } => Answer::Illegal,
-        Finding::Unsettled => Answer::Unsettled,
-    }
-}
-
-/// Whether a game has ended, as a line has it.
-fn ending_of(complete: bool) -> Ending {
-    if complete {
-        Ending::Complete
-    } else {
-        Ending::Unfinished
-    }
-}
-
-/// The nickname of a player as text; none where there is none.
-fn nick_of(alloc: Global, player: &Player) -> Result<Option<String>, AllocError> {
-    let nick = player.nick.as_bytes();
-    if nick.is_empty() {
-        return Ok(None);
-    }
-    Ok(Some(text_of(alloc, nick)?))
-}
-
-/// Bytes as text, with U+FFFD for what is no UTF-8.
-fn text_of(alloc: Global, bytes: &[u8]) -> Result<String, AllocError> {
-    String::from_utf8_lossy(alloc, bytes)
 }

@@ -1,11 +1,11 @@
-//! The law of a line.
-ghost use Rattle.archive_lines.specs.Escapes.{escaped, IsOneField};
+//! The law of a line. The function does nothing: its contract is the law.
+ghost use Rattle.archive_lines.specs.Laws.{IsReadBack, HasSoMany, IsOneLine};
 
-/// A name that is escaped has no tab and no LF, so that it stays in its field and on its line. The function does nothing: its contract is
-/// the law.
-#[tactic(auto, using(crate::proofs::OneField::one_field))]
-pub fn law_of_escapes(name: &[u8])
-    ensures { IsOneField (escaped name.now) }
-{
-    let _ = name;
-}
+/// A reader that cuts a line at its tabs and undoes the escapes has the fields that the line says; these are 11, and 12 where pages are
+/// made; and the LF at the end of the line is its only one.
+#[tactic(auto, using(crate::proofs::ReadBack::read_again, crate::proofs::ReadBack::so_many, crate::proofs::ReadBack::no_feed))]
+pub fn law_of_tab_lines()
+    ensures read_back { IsReadBack }
+    ensures many { HasSoMany }
+    ensures one_line { IsOneLine }
+{}

@@ -1,21 +1,24 @@
 //! The lines of an archive: what one says of a game, as plain data, and the two forms in which it is written.
 //!
 //! [`Fields`] is what a line says. [`push_tab_line`] writes it as fields separated by tabs, [`push_json_line`] as a JSON object with the
-//! same fields by name. The last field, the page of the game, stands in a line only where pages are made.
+//! same fields by name. The field of the page of the game stands in a line only where pages are made. [`law_of_tab_lines`] says that a
+//! line has exactly its fields, and [`LineRead`] is what its reader has.
 #![tactic(auto)]
 
 mod answers;
-mod escapes;
+mod faults;
 mod fields;
 mod json_lines;
 mod laws;
 mod pages;
-mod tab_lines;
+mod players;
+mod reading;
+mod tabs;
 
 pub use answers::{Answer, Ending, Unread};
-pub use escapes::push_escaped;
 pub use fields::Fields;
 pub use json_lines::push_json_line;
-pub use laws::law_of_escapes;
+pub use laws::law_of_tab_lines;
 pub use pages::PageField;
-pub use tab_lines::push_tab_line;
+pub use reading::LineRead;
+pub use tabs::push_tab_line;

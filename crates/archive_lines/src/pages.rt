@@ -1,4 +1,5 @@
 //! What a line says of the page of a game.
+ghost use Rattle.std.specs.Prelude.{◌≡◌, option_map};
 
 use serde::{Described, Serialize, Serializer};
 
@@ -16,8 +17,12 @@ pub enum PageField {
 }
 
 impl PageField {
+    ghost use Rattle.archive_lines.specs.Pages.{page_text};
+
     /// The field as a line has it: a name with `.html` at its end, why there is none, or nothing where there is nothing to be shown.
-    pub fn text(&self) -> Option<&str> {
+    pub fn text(&self) -> Option<&str>
+        ensures { option_map (λ text. text.now) result ≡ page_text self.now }
+    {
         match self {
             PageField::Missing => None,
             PageField::Written(name) => Some(name.as_str()),

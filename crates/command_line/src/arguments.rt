@@ -15,6 +15,8 @@ pub enum Form {
     Several,
     /// An option without a value.
     Flag,
+    /// An option without a value, which has a letter or a digit too.
+    Letter(char),
     /// An option with a value, which help calls by this name.
     Option(&'static str),
 }
@@ -32,7 +34,7 @@ pub struct Argument {
     pub value: ValueParser<'static>,
     /// The option without which it is needed.
     pub unless: Option<&'static str>,
-    /// The option beside which it is a mistake.
+    /// The argument beside which it is a mistake.
     pub against: Option<&'static str>,
 }
 
@@ -58,6 +60,10 @@ impl Argument {
             Form::Last => argument,
             Form::Several => argument.action(ArgAction::Append).num_args(1..),
             Form::Flag => argument.long(self.id).action(ArgAction::SetTrue),
+            Form::Letter(letter) => argument
+                .short(letter)
+                .long(self.id)
+                .action(ArgAction::SetTrue),
             Form::Option(value) => argument.long(self.id).value_name(value),
         }
     }

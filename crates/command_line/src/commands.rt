@@ -15,6 +15,9 @@ lexicons: GAD1, GAD2";
 /// What `-V` prints behind the program's name.
 pub const SHORT_VERSION: &str = "1.0.0";
 
+/// The name of the program, with which its messages begin.
+pub const PROGRAM_NAME: &str = "referee";
+
 /// The name and the version of the program.
 pub const PROGRAM: &str = "referee 1.0.0";
 
@@ -106,7 +109,7 @@ const LINE_NUMBER: ValueParser<'static> = ValueParser::Signed(0, 4_294_967_295);
 const LEXICON_OUT: Argument = argument!(
     Form::Needed,
     "OUT",
-    "the lexicon file to be written, or emptied first"
+    "the lexicon file to be written; - is standard output"
 );
 
 /// The line before which a board is taken.
@@ -147,8 +150,20 @@ macro_rules! behind {
 }
 
 /// The commands, in the order in which help shows them.
-const COMMANDS: [CommandRow; 11] = [
-    JUDGE, ARCHIVE, AUDIT, EXPLAIN, PAGE, BUILD, CHECK, CONVERT, TOP, TIDY, BOARD,
+const COMMANDS: [CommandRow; 13] = [
+    JUDGE,
+    ARCHIVE,
+    INDEX,
+    AUDIT,
+    EXPLAIN,
+    PAGE,
+    BUILD,
+    CHECK,
+    CONVERT,
+    TOP,
+    TIDY,
+    BOARD,
+    ENGLISH_RULES,
 ];
 
 /// `judge [--first-field] [--settle] [--rules FILE] WORDS LEXICON GAME`.
@@ -177,7 +192,7 @@ const JUDGE: CommandRow = CommandRow {
     ],
 };
 
-/// `archive [--first-field] [--rules FILE] [--names FILE] [--json] [--pages FOLDER] [--progress|--quiet] WORDS LEXICON [GAME...]`.
+/// `archive [--first-field] [--rules FILE] [--names FILE] [--null] [--skip LINES] [--json] [--pages FOLDER] [--progress|--quiet] WORDS LEXICON [GAME...]`.
 const ARCHIVE: CommandRow = CommandRow {
     name: "archive",
     about: "Judges many games as judge --settle does, one line for each",
@@ -206,6 +221,19 @@ const ARCHIVE: CommandRow = CommandRow {
             "names",
             "the names of the records, one a line; - is standard input"
         ),
+        Argument {
+            form: Form::Letter('0'),
+            ..flag!(
+                "null",
+                "names of FILE end in a NUL and not in an LF",
+                Some("GAME")
+            )
+        },
+        argument!(
+            Form::Option("LINES"),
+            "skip",
+            "pass over names that have a line in this file of lines; - is standard input"
+        ),
         flag!("json", "write each line as a JSON object", None),
         argument!(
             Form::Option("FOLDER"),
@@ -220,6 +248,30 @@ const ARCHIVE: CommandRow = CommandRow {
         flag!("quiet", "do not show how many games are done", None),
         FIRST_FIELD_OPTION,
         RULES,
+    ],
+};
+
+/// `index LINES OUT`.
+const INDEX: CommandRow = CommandRow {
+    name: "index",
+    about: "Writes the index of the pages of one run of archive, or of many",
+    behind: behind!(
+        "referee index lines.tsv index.html",
+        "Exit status:",
+        "0   OUT has the index",
+        "3   a line is not one that archive prints; then OUT is not touched"
+    ),
+    arguments: &[
+        argument!(
+            Form::Needed,
+            "LINES",
+            "the lines that archive printed, in either form; - is standard input"
+        ),
+        argument!(
+            Form::Needed,
+            "OUT",
+            "the index to be written, in the folder of the pages"
+        ),
     ],
 };
 
@@ -242,7 +294,7 @@ const AUDIT: CommandRow = CommandRow {
         argument!(
             Form::Option("OUT"),
             "corrected",
-            "write the corrected record to this file, where nothing else is wrong"
+            "write the corrected record to this file, where nothing else is wrong; - is standard output"
         ),
         FIRST_FIELD_OPTION,
         RULES,
@@ -297,7 +349,7 @@ const PAGE: CommandRow = CommandRow {
         argument!(
             Form::Needed,
             "OUT",
-            "the page to be written, or emptied first"
+            "the page to be written; - is standard output"
         ),
         FIRST_FIELD_OPTION,
         RULES,
@@ -411,4 +463,12 @@ const BOARD: CommandRow = CommandRow {
         "3   the rules text or the record is bad, or no event is on the line or after it"
     ),
     arguments: &[GAME, BEFORE, RULES],
+};
+
+/// `rules`.
+const ENGLISH_RULES: CommandRow = CommandRow {
+    name: "rules",
+    about: "Prints the English rules as a rules text, of which others can be made",
+    behind: behind!("referee rules", "Exit status:", "0   the text is printed"),
+    arguments: &[],
 };

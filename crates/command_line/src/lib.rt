@@ -5,8 +5,8 @@ mod arguments;
 mod commands;
 mod requests;
 
-pub use commands::{MOST_PLAYS, PROGRAM};
+pub use commands::{MOST_PLAYS, PROGRAM, PROGRAM_NAME};
 pub use requests::{
     Archive, ArchiveNames, GameFiles, PairFiles, PlaysAsked, Progressing, Request, STANDARD_INPUT,
-    WordsFile, mistake, parse_arguments,
+    STANDARD_OUTPUT_NAME, WordsFile, mistake, parse_arguments,
 };

@@ -9,6 +9,9 @@ use std::alloc::{AllocError, Global};
 /// The name of standard input on the command line.
 pub const STANDARD_INPUT: &str = "-";
 
+/// The name of standard output on the command line.
+pub const STANDARD_OUTPUT_NAME: &str = "-";
+
 /// A word list, and how its lines are read.
 #[derive(Clone, Copy)]
 pub struct WordsFile<'a> {
@@ -88,6 +91,10 @@ pub struct Archive<'a> {
     pub pair: PairFiles<'a>,
     /// The names of the records.
     pub names: ArchiveNames<'a>,
+    /// The byte that ends a name in a file of names.
+    pub end: u8,
+    /// The file of lines whose games are passed over.
+    pub skip: Option<&'a str>,
     /// Whether the lines are JSON objects.
     pub json: bool,
     /// The folder for a page of each game, where pages are wanted.
@@ -106,6 +113,11 @@ pub enum Request<'a> {
     },
     /// To judge many games, and to write a line for each.
     Archive(Archive<'a>),
+    /// To write the index of the pages that lines of archives name to the file `out`.
+    Index {
+        lines: &'a str,
+        out: &'a str,
+    },
     /// To audit the sheet of a record, and to write the corrected record to the file `out` where there is one.
     Audit {
         files: GameFiles<'a>,
@@ -149,6 +161,8 @@ pub enum Request<'a> {
         before: Option<u32>,
         game: &'a str,
     },
+    /// To write the English rules text.
+    Rules,
 }
 
 /// Parses the arguments of a command line, the program's name first.
@@ -184,7 +198,7 @@ fn reads_twice(matches: &ArgMatches<'_>) -> bool {
     let Some((_, names)) = matches.subcommand() else {
         return false;
     };
-    let times = ["WORDS", "GAME", "names"]
+    let times = ["WORDS", "GAME", "names", "skip", "LINES"]
         .iter()
         .map(|id| times_read(names, id))
         .fold(0usize, |sum, times| sum.saturating_add(times));
@@ -211,6 +225,7 @@ fn request_of<'a>(
     };
     match command {
         "archive" => archive_of(alloc, names),
+        "index" => Ok(index_of(names)),
         "build" | "check" | "convert" => Ok(lexicon_request_of(command, names)),
         _ => Ok(game_request_of(command, names)),
     }
@@ -232,10 +247,20 @@ fn archive_of<'a>(
         rules: names.get_str("rules"),
         pair,
         names: games,
+        end: if names.get_flag("null") { 0 } else { b'\n' },
+        skip: names.get_str("skip"),
         json: names.get_flag("json"),
         pages: names.get_str("pages"),
         progress: wanted_progress(names),
     })))
+}
+
+/// What the matches of `index` ask for.
+fn index_of<'a>(names: &ArgMatches<'a>) -> Option<Request<'a>> {
+    Some(Request::Index {
+        lines: names.get_str("LINES")?,
+        out: names.get_str("OUT")?,
+    })
 }
 
 /// What is said of the progress of a run.
@@ -279,6 +304,7 @@ fn game_request_of<'a>(command: &str, names: &ArgMatches<'a>) -> Option<Request<
         "tidy" => Some(Request::Tidy {
             game: names.get_str("GAME")?,
         }),
+        "rules" => Some(Request::Rules),
         "board" => Some(Request::Board {
             rules: names.get_str("rules"),
             before: names.get_one::<u32>("before"),

@@ -5,9 +5,8 @@ use Rattle.gcg_read.specs.declared.faults.ReadFault.{ReadFault}
 use Rattle.game_board.specs.Places.{place_of_line}
 use Rattle.exit_statuses.specs.declared.exits.Exit.{Exit}
 use Rattle.exit_statuses.specs.declared.exits.Exit.TheVariants as exit
-use Rattle.exit_statuses.specs.Exits.{exit_of}
+use Rattle.exit_statuses.specs.Audits.{exit_of_finding}
 use Rattle.engine.specs.declared.entries.Entry.{Entry}
-use Rattle.engine.specs.Explaining.{case_verdict}
 
 -- whether there is an event to be explained, where a line is named
 abbrev pub exit_by : (verdict place : Exit) → Option ℕ → Exit
@@ -21,5 +20,5 @@ exit_on verdict events (Some line) = exit_by verdict exit.BadInput (place_of_lin
 
 -- the exit after a case is explained, or one of its lines
 abbrev pub explain_exit : Result Entry ReadFault → (line : Option ℕ) → Exit
-explain_exit (Ok entry) line = exit_on (exit_of (case_verdict (Ok entry))) entry.record.events line
+explain_exit (Ok entry) line = exit_on (exit_of_finding entry.finding) entry.record.events line
 explain_exit (Err fault) line = exit.BadInput

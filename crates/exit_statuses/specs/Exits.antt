@@ -5,6 +5,7 @@ use Rattle.exit_statuses.specs.declared.exits.Exit.{Exit}
 use Rattle.exit_statuses.specs.declared.exits.Exit.TheVariants.{Fine, Illegal, Unsettled, BadInput, Broken, Usage}
 use Rattle.exit_statuses.specs.declared.exits.Trouble.{Trouble}
 use Rattle.exit_statuses.specs.declared.exits.Trouble.TheVariants as trouble
+use Rattle.watching.specs.declared.reasons.Reason.{Reason}
 use Rattle.call_stages.specs.declared.faults.RunFault.{RunFault}
 use Rattle.call_stages.specs.declared.faults.RunFault.TheVariants as run
 use Rattle.call_stages.specs.declared.verdicts.Verdict.{Verdict}
@@ -32,8 +33,8 @@ exit_of verdict.BadRack = BadInput
 exit_of verdict.BadRules = BadInput
 exit_of verdict.BadLine = BadInput
 
--- what kept the program from its end, where a call gave up and this is the name of the input or output that failed, if one did
-abbrev pub trouble_of : RunFault → Bor (List ℕ) → Trouble
-trouble_of run.ReadFailed name = trouble.ReadFailed name
-trouble_of run.WriteFailed name = trouble.WriteFailed name
-trouble_of run.NoMemory name = trouble.NoMemory
+-- what kept the program from its end, where a call gave up: this is the name of the input or output that failed, if one did, and why it did
+abbrev pub trouble_of : RunFault → Bor (List ℕ) → Reason → Trouble
+trouble_of run.ReadFailed name reason = trouble.ReadFailed name reason
+trouble_of run.WriteFailed name reason = trouble.WriteFailed name reason
+trouble_of run.NoMemory name reason = trouble.NoMemory

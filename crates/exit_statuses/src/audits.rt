@@ -7,12 +7,13 @@ use crate::exits::Exit;
 use engine::{Audit, Finding};
 use game_sheets::WrongNumber;
 
-/// The exit after a finding alone.
-fn exit_of_finding(finding: &Finding) -> Exit
+/// The exit after a finding alone: a record without an event is no game.
+pub(crate) fn exit_of_finding(finding: &Finding) -> Exit
     ensures { result ≡ exit_of_finding finding.now }
 {
     match finding {
-        Finding::NoGame | Finding::Legal { .. } => Exit::Fine,
+        Finding::NoGame => Exit::BadInput,
+        Finding::Legal { .. } => Exit::Fine,
         Finding::Illegal { .. } => Exit::Illegal,
         Finding::Unsettled => Exit::Unsettled,
     }
@@ -30,7 +31,7 @@ fn exit_of_numbers(wrong: &[WrongNumber]) -> Exit
 }
 
 /// How the program ends after an audit: 0 where no number is wrong and the game is legal, 1 where a number is wrong or the game is
-/// illegal, and 2 where the corrected game is unsettled.
+/// illegal, 2 where the corrected game is unsettled, and 3 where the record has no event.
 pub fn exit_of_audit(audit: &Audit) -> Exit
     ensures { status_of result ≡ audit_status audit.now.wrong.items audit.now.entry.finding }
 {

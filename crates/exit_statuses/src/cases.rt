@@ -2,8 +2,9 @@
 ghost use Rattle.std.specs.Prelude.{◌≡◌};
 ghost use Rattle.exit_statuses.specs.Cases.{exit_on, explain_exit};
 
+use crate::audits::exit_of_finding;
 use crate::exits::Exit;
-use engine::{Case, case_verdict};
+use engine::Case;
 use game_board::place_of_line;
 use gcg_read::Event;
 
@@ -20,14 +21,17 @@ fn exit_on(verdict: Exit, events: &[Event], line: Option<u32>) -> Exit
     }
 }
 
-/// How the program ends after a case is explained, or one of its lines: as after its verdict; and 3 where the record is bad, or every
-/// event of it stands before the line.
+/// How the program ends after a case is explained, or one of its lines: as after its verdict; and 3 where the record is bad or has no
+/// event, or every event of it stands before the line.
 pub fn exit_of_case(case: &Case, line: Option<u32>) -> Exit
     ensures { result ≡ explain_exit case.now.read line }
 {
-    let verdict = Exit::from(case_verdict(case));
     match &case.read {
-        Ok(entry) => exit_on(verdict, entry.record.events.as_slice(), line),
-        Err(_) => verdict,
+        Ok(entry) => exit_on(
+            exit_of_finding(&entry.finding),
+            entry.record.events.as_slice(),
+            line,
+        ),
+        Err(_) => Exit::BadInput,
     }
 }

@@ -3,6 +3,7 @@ ghost use Rattle.std.specs.Prelude.{◌≡◌, max};
 
 use engine::{RunFault, Verdict};
 use std::fmt;
+use watching::Reason;
 
 /// How the program ends.
 #[derive(Clone, Copy, Debug, PartialEq, Eq)]
@@ -54,22 +55,22 @@ impl Exit {
 #[derive(Clone, Copy, Debug, PartialEq, Eq)]
 pub enum Trouble<'a> {
     /// A read of the input of this name failed.
-    ReadFailed(&'a str),
+    ReadFailed(&'a str, Reason),
     /// A write to the output of this name failed, or the output took no byte of it.
-    WriteFailed(&'a str),
+    WriteFailed(&'a str, Reason),
     /// Memory was refused.
     NoMemory,
     /// The file of this name could not be opened.
-    CannotOpen(&'a str),
+    CannotOpen(&'a str, Reason),
 }
 
 impl fmt::Display for Trouble<'_> {
     fn fmt<W: fmt::Write>(&self, f: &mut fmt::Formatter<W>) -> fmt::Result {
         match self {
-            Trouble::ReadFailed(name) => write!(f, "read failed: {name}"),
-            Trouble::WriteFailed(name) => write!(f, "write failed: {name}"),
+            Trouble::ReadFailed(name, reason) => write!(f, "read failed: {name}{reason}"),
+            Trouble::WriteFailed(name, reason) => write!(f, "write failed: {name}{reason}"),
             Trouble::NoMemory => write!(f, "no memory"),
-            Trouble::CannotOpen(name) => write!(f, "cannot open {name}"),
+            Trouble::CannotOpen(name, reason) => write!(f, "cannot open {name}{reason}"),
         }
     }
 }
@@ -77,13 +78,14 @@ impl fmt::Display for Trouble<'_> {
 impl<'a> Trouble<'a> {
     ghost use Rattle.exit_statuses.specs.Exits.{trouble_of};
 
-    /// What kept the program from its end, where a call gave up. `name` is that of the input or output that failed, where one did.
-    pub fn of(fault: RunFault, name: &'a str) -> Trouble<'a>
-        ensures { result ≡ trouble_of fault name.entry }
+    /// What kept the program from its end, where a call gave up. `name` is that of the input or output that failed, where one did, and
+    /// `reason` why it did.
+    pub fn of(fault: RunFault, name: &'a str, reason: Reason) -> Trouble<'a>
+        ensures { result ≡ trouble_of fault name.entry reason }
     {
         match fault {
-            RunFault::ReadFailed => Trouble::ReadFailed(name),
-            RunFault::WriteFailed => Trouble::WriteFailed(name),
+            RunFault::ReadFailed => Trouble::ReadFailed(name, reason),
+            RunFault::WriteFailed => Trouble::WriteFailed(name, reason),
             RunFault::NoMemory => Trouble::NoMemory,
         }
     }

@@ -49,6 +49,13 @@ is_indented_event line = not (begins (62 ∷ []) line) && first_begins (62 ∷ [
 abbrev pub has_indented_events : List ℕ → Bool
 has_indented_events text = list_any is_indented_event (lines_in text)
 
+-- > (62) at the front
+abbrev pub is_event : List ℕ → Bool
+is_event line = begins (62 ∷ []) line
+
+abbrev pub has_events : List ℕ → Bool
+has_events text = list_any is_event (lines_in (without_mark text))
+
 -- the first kind whose signs a text has
 unfoldable pub kind_of : List ℕ → FileKind
 kind_of text =

@@ -1,8 +1,8 @@
 //! The kinds of files that are taken for records.
 ghost use Rattle.std.specs.Prelude.{◌≡◌, ◌↔◌, IsTrue};
 ghost use Rattle.std.specs.List.{list_any};
-ghost use Rattle.text_lines.specs.Lines.{is_feed};
-ghost use Rattle.file_kinds.specs.Kinds.{kind_of, is_lexicon, is_gzip, is_zip, is_wide, is_markup, is_return, has_returns_alone, is_indented_event, has_indented_events};
+ghost use Rattle.text_lines.specs.Lines.{is_feed, lines_in};
+ghost use Rattle.file_kinds.specs.Kinds.{kind_of, is_lexicon, is_gzip, is_zip, is_wide, is_markup, is_return, has_returns_alone, is_indented_event, has_indented_events, is_event, has_events};
 
 use text_lines::{Lines, next_field, without_mark};
 
@@ -110,6 +110,32 @@ fn has_indented_events(text: &[u8]) -> bool
 {
     for line in Lines::of(text) {
         if is_indented_event(line) {
+            return true;
+        }
+    }
+    false
+}
+
+/// Whether a line of a text, behind a byte order mark, begins as an event does.
+pub fn has_events(text: &[u8]) -> bool
+    ensures { result ≡ has_events text.now }
+{
+    has_event_lines(without_mark(text))
+}
+
+/// Whether a line begins as an event does.
+fn is_event(line: &[u8]) -> bool
+    ensures { result ≡ is_event line.now }
+{
+    line.starts_with(b">")
+}
+
+/// Whether some line begins as an event does.
+fn has_event_lines(text: &[u8]) -> bool
+    ensures { result ≡ list_any is_event (lines_in text.now) }
+{
+    for line in Lines::of(text) {
+        if is_event(line) {
             return true;
         }
     }

@@ -3,4 +3,4 @@
 
 mod kinds;
 
-pub use kinds::FileKind;
+pub use kinds::{FileKind, has_events};

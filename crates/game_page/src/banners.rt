@@ -58,6 +58,6 @@ pub fn push_banner(page: &mut Vec<u8>, sheet: &Sheet<'_>, case: &Case) -> Result
     page.extend_from_slice(class_of(sheet.finding).as_bytes())?;
     push_text(sheet.alloc, page, line.as_slice().trim_ascii_end())?;
     page.extend_from_slice(b"</strong>")?;
-    push_text(sheet.alloc, page, reason.as_slice().trim_ascii_end())?;
-    page.extend_from_slice(b"</p>\n")
+    let reason = Piece::Recorded(reason.as_slice().trim_ascii_end(), sheet.encoding);
+    write(sheet.alloc, page, &[reason, Piece::Markup("</p>\n")])
 }

@@ -45,11 +45,12 @@ footer,.key{color:var(--faint);font-size:.85rem}code{overflow-wrap:anywhere}\n\
 pub fn name_of<'a>(sheet: &Sheet<'a>, seat: Seat) -> Piece<'a> {
     let player = sheet.record.players.of(seat);
     let full = player.full.as_bytes();
-    Piece::Text(if full.is_empty() {
+    let name = if full.is_empty() {
         player.nick.as_bytes()
     } else {
         full
-    })
+    };
+    Piece::Recorded(name, sheet.encoding)
 }
 
 /// Both names.

@@ -3,8 +3,11 @@
 use crate::heads::push_head;
 use crate::pieces::{Piece, write};
 use html_text::push_text;
-use percent_encoding::{NON_ALPHANUMERIC, utf8_percent_encode};
+use percent_encoding::{AsciiSet, NON_ALPHANUMERIC, ascii_set, utf8_percent_encode};
 use std::alloc::{AllocError, Global};
+
+/// What is written by its number in the address of a page: all but letters, digits and the slashes between its folders.
+const IN_ADDRESS: AsciiSet = ascii_set!(NON_ALPHANUMERIC.remove(b'/'));
 
 /// A player in the index.
 #[derive(Clone, Copy)]
@@ -20,7 +23,7 @@ pub struct IndexPlayer<'a> {
 pub struct IndexRow<'a> {
     /// The name of the game, as it was given.
     pub game: &'a str,
-    /// The file of its page, beside the index; none where there is none.
+    /// The path of its page from the folder of the index; none where there is none.
     pub page: Option<&'a str>,
     /// What was answered of it, in one word or two.
     pub answer: &'static str,
@@ -74,7 +77,7 @@ fn push_link(alloc: Global, page: &mut Vec<u8>, row: &IndexRow<'_>) -> Result<()
         return push_text(alloc, page, row.game.as_bytes());
     };
     let mut address = String::new(alloc);
-    utf8_percent_encode(name, NON_ALPHANUMERIC).append_to(&mut address)?;
+    utf8_percent_encode(name, IN_ADDRESS).append_to(&mut address)?;
     page.extend_from_slice(b"<a href=\"")?;
     push_text(alloc, page, address.as_bytes())?;
     page.extend_from_slice(b"\">")?;

@@ -11,7 +11,6 @@ mod heads;
 mod indexes;
 mod layers;
 mod lines;
-mod names;
 mod pages;
 mod pieces;
 mod plays;
@@ -21,5 +20,4 @@ mod walks;
 
 pub use feet::Maker;
 pub use indexes::{IndexPlayer, IndexRow, push_index_end, push_index_head, push_index_row};
-pub use names::PageNames;
 pub use pages::{Contents, push_page};

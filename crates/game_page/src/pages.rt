@@ -12,6 +12,7 @@ use engine::Case;
 use game_board::place_of_line;
 use gcg_read::{Event, EventKind};
 use lex_check::Checked;
+use name_texts::Encoding;
 use ref_board::Board;
 use ref_tiles::Rules;
 use sentence_parts::Stretch;
@@ -114,6 +115,7 @@ pub fn push_page(
         rules: contents.rules,
         pair: contents.pair,
         record: &entry.record,
+        encoding: Encoding::of(case.text.as_slice()),
         walk,
         finding: &entry.finding,
     };

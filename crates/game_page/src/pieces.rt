@@ -3,6 +3,7 @@
 use decimal_text::push_number;
 use gcg_write::tiles_text;
 use html_text::push_text;
+use name_texts::Encoding;
 use ref_tiles::Counts;
 use std::alloc::{AllocError, Global};
 
@@ -13,6 +14,8 @@ pub enum Piece<'a> {
     Markup(&'static str),
     /// Text of any origin.
     Text(&'a [u8]),
+    /// Bytes of a record, by its encoding.
+    Recorded(&'a [u8], Encoding),
     /// A number of points.
     Points(i32),
     /// The number of a line.
@@ -36,11 +39,23 @@ fn push_piece(alloc: Global, page: &mut Vec<u8>, piece: &Piece<'_>) -> Result<()
     match piece {
         Piece::Markup(markup) => page.extend_from_slice(markup.as_bytes()),
         Piece::Text(text) => push_text(alloc, page, text),
+        Piece::Recorded(bytes, encoding) => push_recorded(alloc, page, bytes, *encoding),
         Piece::Points(points) => push_number(page, *points),
         Piece::Line(line) => push_number(page, *line),
         Piece::Many(many) => push_number(page, *many),
         Piece::Tiles(tiles) => push_tiles(page, tiles),
     }
+}
+
+/// Appends bytes of a record.
+fn push_recorded(
+    alloc: Global,
+    page: &mut Vec<u8>,
+    bytes: &[u8],
+    encoding: Encoding,
+) -> Result<(), AllocError> {
+    let text = encoding.text_of(alloc, bytes)?;
+    push_text(alloc, page, text.as_bytes())
 }
 
 /// Appends tiles.

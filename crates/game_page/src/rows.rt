@@ -41,7 +41,10 @@ fn push_start(page: &mut Vec<u8>, line: &Line<'_>) -> Result<(), AllocError> {
                 ""
             }),
             Piece::Markup("</td><td data-name=\"Player\">"),
-            Piece::Text(sheet.record.players.of(event.player).nick.as_bytes()),
+            Piece::Recorded(
+                sheet.record.players.of(event.player).nick.as_bytes(),
+                sheet.encoding,
+            ),
             Piece::Markup("</td>"),
         ],
     )

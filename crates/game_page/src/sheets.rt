@@ -4,6 +4,7 @@ use engine::Finding;
 use game_rows::Walk;
 use gcg_read::{Event, Record};
 use lex_check::Checked;
+use name_texts::Encoding;
 use ref_tiles::Rules;
 use std::alloc::Global;
 
@@ -18,6 +19,8 @@ pub struct Sheet<'a> {
     pub pair: &'a Checked<'a>,
     /// The record as it is written.
     pub record: &'a Record,
+    /// How the names in it are read.
+    pub encoding: Encoding,
     /// The walk over its events.
     pub walk: &'a Walk,
     /// What is found of the record as it is written.

@@ -4,25 +4,31 @@ ghost use Rattle.devices.specs.Devices.{HasRoom};
 ghost use Rattle.referee.specs.Telling.{AreGamesTold};
 ghost use Rattle.referee.specs.Later.{games_later};
 
-use crate::files::{given_up, open};
-use crate::inputs::{GivenFiles, Inputs, RulesFile, maker, open_inputs, refuse, write};
+use crate::done::Done;
+use crate::files::{UsedOutput, given_up, open};
+use crate::folders::is_folder;
+use crate::inputs::{
+    GivenFiles, Inputs, LexiconFile, RulesFile, maker, open_inputs, refuse, write,
+};
 use crate::names::{Given, Listed, Names};
-use crate::pages::{Pages, unread_by};
+use crate::pages::Pages;
 use crate::progress::Progress;
 use crate::sheets::Told;
-use crate::sources::{Source, Words, open_source, shown};
+use crate::sources::{Source, Words, open_source, sheet_of, shown};
 use archive_lines::{Fields, PageField, Unread, push_json_line, push_tab_line};
 use command_line::{Archive, ArchiveNames, Progressing};
 use devices::{FromRead, Input};
 use either::Either;
-use engine::{Question, RulesSource, RunFault, archive_entry, ask};
+use engine::{Entry, Question, RulesSource, RunFault, archive_entry, ask};
 use exit_statuses::{Exit, Trouble, exit_of_line};
 use lex_check::Checked;
+use name_texts::Encoding;
 use ref_tiles::Rules;
 use std::alloc::{AllocError, Global};
 use std::io::{self, BufReader, Read};
 use std::rt::{Files, Runtime};
 use std::str;
+use watching::{Front, Reason};
 
 /// Judges the games of an archive, each by the settled verdict, and writes a line for each to standard output before the next one is
 /// read. `watched` says whether somebody sees standard error.
@@ -37,7 +43,11 @@ pub fn archive<'r, 'a, R: Runtime + AllocGlobal>(
         Progressing::Quiet => false,
         Progressing::Unsaid => watched,
     });
+    let Some(done) = Done::read(rt, request.skip)? else {
+        return Ok(Exit::BadInput);
+    };
     let run = Run {
+        done,
         json: request.json,
         is_listed: matches!(&request.names, ArchiveNames::Listed(_)),
         progress,
@@ -50,13 +60,13 @@ pub fn archive<'r, 'a, R: Runtime + AllocGlobal>(
         }
         ArchiveNames::Listed(file) => {
             let reader = buffered(rt.alloc(), open_source(rt, *file)?)?;
-            archive_by(rt, request, inputs, run, Listed::new(reader))
+            archive_by(rt, request, inputs, run, Listed::new(reader, request.end))
         }
     }
 }
 
 /// A reader with a buffer.
-fn buffered<'a, F: Read + Drop>(
+pub fn buffered<'a, F: Read + Drop>(
     alloc: Global,
     reader: F,
 ) -> Result<BufReader<F, Global>, Trouble<'a>> {
@@ -117,7 +127,7 @@ fn archive_by<'r, 'a, R: Runtime + AllocGlobal, N: Names + Drop>(
 ) -> Result<Exit, Trouble<'a>>
     requires rules { HasRoom (⟦<RulesFile<R::File> as RulesSource>⟧.text inputs.rules) }
     requires words { HasRoom (⟦<FromRead<Words<Source<R>>> as Input>⟧.device inputs.words) }
-    requires lexicon { HasRoom (⟦<FromRead<R::File> as Input>⟧.device inputs.lexicon) }
+    requires lexicon { HasRoom (⟦<LexiconFile<R::File> as Input>⟧.device inputs.lexicon) }
 {
     let mut inputs = inputs;
     let mut games = Games { run, names };
@@ -132,8 +142,11 @@ fn archive_by<'r, 'a, R: Runtime + AllocGlobal, N: Names + Drop>(
     );
     match answer {
         Ok(Ok(told)) => told,
-        Ok(Err(decision)) => refuse(rt, &decision),
-        Err(fault) => Err(given_up(fault, &inputs.used(request.rules, request.pair), "")),
+        Ok(Err(decision)) => refuse(rt, None, &decision, &inputs.known(request.pair)),
+        Err(fault) => {
+            let inputs = inputs.used(request.rules, request.pair);
+            Err(given_up(fault, &inputs, UsedOutput::NONE))
+        }
     }
 }
 
@@ -165,12 +178,15 @@ fn go_through<'a, R: Runtime + AllocGlobal, F: Read + Drop, S: Read + Drop, N: N
     for _ in 0..u64::MAX {
         name.clear();
         match names.next_name(&mut name) {
-            Ok(true) => run.take_game(rt, given.rules, given.pair, &mut pages, &name)?,
+            Ok(true) => run.take_name(rt, given.rules, given.pair, &mut pages, &name)?,
             Ok(false) => break,
             Err(error) if error.kind() == io::ErrorKind::OutOfMemory => {
                 return Err(Trouble::NoMemory);
             }
-            Err(_) => return Err(Trouble::ReadFailed(shown(request.names.source()))),
+            Err(error) => {
+                let names = shown(request.names.source());
+                return Err(Trouble::ReadFailed(names, Reason::of(&error)));
+            }
         }
     }
     run.progress.end(rt);
@@ -183,6 +199,8 @@ fn go_through<'a, R: Runtime + AllocGlobal, F: Read + Drop, S: Read + Drop, N: N
 /// How far a run over the games of an archive is.
 #[derive(Drop)]
 struct Run {
+    /// The games that have a line already, and are passed over.
+    done: Done,
     json: bool,
     /// Whether the names of the games stand in a list, and not on the command line.
     is_listed: bool,
@@ -194,6 +212,21 @@ struct Run {
 }
 
 impl Run {
+    /// Judges the game of a name, unless it has a line already.
+    fn take_name<'a, R: Runtime + AllocGlobal>(
+        &mut self,
+        rt: &R,
+        rules: &Rules,
+        pair: &Checked<'_>,
+        pages: &mut Option<Pages<'_>>,
+        name: &[u8],
+    ) -> Result<(), Trouble<'a>> {
+        if self.done.has(rt.alloc(), name)? {
+            return Ok(());
+        }
+        self.take_game(rt, rules, pair, pages, name)
+    }
+
     /// Judges one game, and writes its line. A name that is not UTF-8 text is the name of no file.
     fn take_game<'a, R: Runtime + AllocGlobal>(
         &mut self,
@@ -281,14 +314,41 @@ fn found<'n, R: Runtime + AllocGlobal, F: Read + Drop>(
     if let Some(pages) = pages {
         return pages.found(rt, rules, pair, name, game);
     }
-    let mut game = FromRead::new(game);
+    let mut game = sheet_of(rt.alloc(), game);
     let entry = match archive_entry(rt.alloc(), rules, pair, &mut game) {
         Ok(Ok(entry)) => entry,
         Ok(Err(fault)) => return Fields::bad_record(name, &fault),
-        Err(fault) => return Fields::unread(name, unread_by(fault)),
+        Err(fault) => return Fields::unread(name, unread_by(rt, name, fault)),
     };
-    match Fields::of_entry(rt.alloc(), name, &entry) {
+    match fields_of(rt.alloc(), name, &entry, game.inner().front()) {
         Ok(fields) => fields,
         Err(_) => Fields::unread(name, Unread::NoMemory),
+    }
+}
+
+/// What the line of a game says whose bytes are these.
+fn fields_of<'n>(
+    alloc: Global,
+    name: &'n str,
+    entry: &Entry,
+    game: &Front,
+) -> Result<Fields<'n>, AllocError> {
+    let Some(text) = game.whole() else {
+        return Err(AllocError);
+    };
+    Fields::of_entry(alloc, name, entry, Encoding::of(text))
+}
+
+/// Why a game of this name is unread whose reading failed.
+pub fn unread_by<R: Files>(rt: &R, name: &str, fault: RunFault) -> Unread {
+    match fault {
+        RunFault::NoMemory => Unread::NoMemory,
+        RunFault::ReadFailed | RunFault::WriteFailed => {
+            if is_folder(rt, name) {
+                Unread::IsFolder
+            } else {
+                Unread::ReadFailed
+            }
+        }
     }
 }

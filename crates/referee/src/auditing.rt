@@ -1,21 +1,26 @@
 //! `audit`: the wrong numbers of one sheet, and its correction.
 
-use crate::files::create;
-use crate::inputs::write;
+use crate::explaining::NO_GAME;
+use crate::files::write_out;
+use crate::inputs::write_beside;
 use audit_lines::{corrected_text, is_corrected, push_audit};
-use devices::{FromWrite, write_whole};
-use engine::Audit;
+use engine::{Audit, Finding};
 use exit_statuses::{Exit, Trouble, exit_of_audit};
 use std::alloc::{AllocError, Global};
 use std::rt::{Files, Runtime};
 
 /// Tells the audit of a sheet: writes each wrong number and the verdict of the corrected record to standard output, and that record in
-/// its normal form to the file `out`, where one is named and the record stands.
+/// its normal form to the output `out`, where one is named and the record stands. Where that is standard output, the rest goes to standard
+/// error.
 pub fn tell_audit<'a, R: Runtime + AllocGlobal>(
     rt: &R,
     audit: &Audit,
     out: Option<&'a str>,
 ) -> Result<Exit, Trouble<'a>> {
+    if audit.entry.finding == Finding::NoGame {
+        write_beside(rt, out, NO_GAME)?;
+        return Ok(exit_of_audit(audit));
+    }
     let Ok(told) = lines_of(rt.alloc(), audit) else {
         return Err(Trouble::NoMemory);
     };
@@ -23,7 +28,7 @@ pub fn tell_audit<'a, R: Runtime + AllocGlobal>(
         Some(out) if is_corrected(audit) => keep(rt, out, audit)?,
         _ => {}
     }
-    write(rt, told.as_slice())?;
+    write_beside(rt, out, told.as_slice())?;
     Ok(exit_of_audit(audit))
 }
 
@@ -34,7 +39,7 @@ fn lines_of(alloc: Global, audit: &Audit) -> Result<Vec<u8>, AllocError> {
     Ok(told)
 }
 
-/// Writes the corrected record of an audit to the file `out`, which is made once its text is.
+/// Writes the corrected record of an audit to the output `out`, which is opened once its text is made.
 fn keep<'a, R: Runtime + AllocGlobal>(
     rt: &R,
     out: &'a str,
@@ -43,9 +48,5 @@ fn keep<'a, R: Runtime + AllocGlobal>(
     let Ok(text) = corrected_text(rt.alloc(), audit) else {
         return Err(Trouble::NoMemory);
     };
-    let mut file = FromWrite::new(create(rt, out)?);
-    match write_whole(&mut file, text.as_slice()) {
-        Ok(()) => Ok(()),
-        Err(_) => Err(Trouble::WriteFailed(out)),
-    }
+    write_out(rt, out, text.as_slice())
 }

@@ -1,13 +1,18 @@
 //! `explain`: what is wrong with a record, or how one of its lines is judged, in plain words.
 
 use crate::inputs::write;
+use crate::pages::has_no_event;
 use engine::Case;
 use exit_statuses::{Exit, Trouble, exit_of_case};
 use explain_lines::push_explanation;
 use lex_list::WordList;
+use name_texts::Encoding;
 use ref_tiles::Rules;
 use std::alloc::{AllocError, Global};
 use std::rt::Runtime;
+
+/// What is answered of a record without an event.
+pub const NO_GAME: &[u8] = b"no game\n";
 
 /// Explains the verdict on a record, or one of its lines, by the rules and the word list: writes it to standard output.
 pub fn tell_case<'a, R: Runtime + AllocGlobal>(
@@ -17,6 +22,10 @@ pub fn tell_case<'a, R: Runtime + AllocGlobal>(
     case: &Case,
     line: Option<u32>,
 ) -> Result<Exit, Trouble<'a>> {
+    if has_no_event(case) {
+        write(rt, NO_GAME)?;
+        return Ok(exit_of_case(case, line));
+    }
     let Ok(told) = text_of(rt.alloc(), rules, list, case, line) else {
         return Err(Trouble::NoMemory);
     };
@@ -24,7 +33,7 @@ pub fn tell_case<'a, R: Runtime + AllocGlobal>(
     Ok(exit_of_case(case, line))
 }
 
-/// What explains a case, or one of its lines.
+/// What explains a case, or one of its lines. Where the record states its encoding, names in it are UTF-8.
 fn text_of(
     alloc: Global,
     rules: &Rules,
@@ -34,5 +43,11 @@ fn text_of(
 ) -> Result<Vec<u8>, AllocError> {
     let mut told = Vec::new(alloc);
     push_explanation(alloc, &mut told, rules, list, case, line)?;
-    Ok(told)
+    match Encoding::of(case.text.as_slice()) {
+        Encoding::Utf8 => Ok(told),
+        Encoding::Latin1 => {
+            let text = Encoding::Latin1.text_of(alloc, told.as_slice())?;
+            Ok(text.into_bytes())
+        }
+    }
 }

@@ -2,10 +2,13 @@
 ghost use Rattle.std.specs.Prelude.{IfOk};
 ghost use Rattle.devices.specs.Devices.{HasRoom};
 
-use crate::counted::Counted;
-use crate::files::{InputFile, STANDARD_OUTPUT, told, used_rules, used_source};
-use crate::inputs::{Inputs, RulesFile, open_inputs, open_rules};
-use crate::sources::{Source, Words, open_source, shown};
+use crate::advice::{advise_bad_record, advise_no_game};
+use crate::files::{
+    InputFile, STANDARD_OUTPUT, UsedOutput, told, used_rules, used_source, watched,
+};
+use crate::inputs::{Inputs, LexiconFile, RulesFile, open_inputs, open_rules, rules_front};
+use crate::sources::{SheetFile, Source, Words, open_sheet};
+use crate::telling::give_hint;
 use command_line::{GameFiles, PlaysAsked};
 use devices::{FromRead, FromWrite, Input, Output};
 use engine::{
@@ -14,12 +17,12 @@ use engine::{
     run_top_before_ruled, run_top_ruled,
 };
 use exit_statuses::Trouble;
+use hints::Known;
 use std::alloc::Global;
 use std::io::{self, Read};
 use std::rt::Runtime;
-
-/// How long the report of a legal game without events is.
-const WITHOUT_EVENTS: u64 = b"legal unfinished\n".len() as u64;
+use std::str;
+use watching::Front;
 
 /// No more plays are asked for than the engine gives.
 const _: () = prove!(command_line::MOST_PLAYS as usize == MOST_PLAYS);
@@ -44,13 +47,33 @@ enum GameTask<'a> {
     },
 }
 
+impl<'a> GameTask<'a> {
+    /// The rack that is named, where one is.
+    fn rack(self) -> Option<&'a str> {
+        let rack = match self {
+            GameTask::Judge | GameTask::Settle => return None,
+            GameTask::TopAtTheEnd(rack) => rack,
+            GameTask::TopBefore { rack, .. } => rack?,
+        };
+        str::from_utf8(rack).ok()
+    }
+
+    /// Whether a game without events is asked about by mistake. The first plays of a game are asked for by an empty record.
+    fn needs_events(self) -> bool {
+        match self {
+            GameTask::Judge | GameTask::Settle => true,
+            GameTask::TopAtTheEnd(_) | GameTask::TopBefore { .. } => false,
+        }
+    }
+}
+
 /// The inputs of a call about a game.
 #[derive(Drop)]
 struct GameInputs<F, S> {
     /// What it is judged by.
     given: Inputs<F, S>,
     /// The record.
-    game: FromRead<S>,
+    game: SheetFile<S>,
 }
 
 impl<F: Read + Drop, S: Read + Drop> GameInputs<F, S> {
@@ -63,8 +86,8 @@ impl<F: Read + Drop, S: Read + Drop> GameInputs<F, S> {
     ) -> Result<Verdict, RunFault>
         requires rules { HasRoom (⟦<RulesFile<F> as RulesSource>⟧.text self.old.given.rules) }
         requires words { HasRoom (⟦<FromRead<Words<S>> as Input>⟧.device self.old.given.words) }
-        requires lexicon { HasRoom (⟦<FromRead<F> as Input>⟧.device self.old.given.lexicon) }
-        requires game { HasRoom (⟦<FromRead<S> as Input>⟧.device self.old.game) }
+        requires lexicon { HasRoom (⟦<LexiconFile<F> as Input>⟧.device self.old.given.lexicon) }
+        requires game { HasRoom (⟦<SheetFile<S> as Input>⟧.device self.old.game) }
         requires out { HasRoom (O.device out.old) }
     {
         let GameInputs { given, game } = self;
@@ -111,40 +134,57 @@ impl<F: Read + Drop, S: Read + Drop> GameInputs<F, S> {
 }
 
 /// Opens the rules text of a game, where there is one, its word list, its lexicon and its record, in this order.
-fn open_game<'a, R: Runtime>(
+fn open_game<'a, R: Runtime + AllocGlobal>(
     rt: &R,
     files: GameFiles<'a>,
 ) -> Result<GameInputs<R::File, Source<R>>, Trouble<'a>>
     ensures rules { IfOk result (λ inputs. HasRoom (⟦<RulesFile<R::File> as RulesSource>⟧.text inputs.given.rules)) }
     ensures words { IfOk result (λ inputs. HasRoom (⟦<FromRead<Words<Source<R>>> as Input>⟧.device inputs.given.words)) }
-    ensures lexicon { IfOk result (λ inputs. HasRoom (⟦<FromRead<R::File> as Input>⟧.device inputs.given.lexicon)) }
-    ensures game { IfOk result (λ inputs. HasRoom (⟦<FromRead<Source<R>> as Input>⟧.device inputs.game)) }
+    ensures lexicon { IfOk result (λ inputs. HasRoom (⟦<LexiconFile<R::File> as Input>⟧.device inputs.given.lexicon)) }
+    ensures game { IfOk result (λ inputs. HasRoom (⟦<SheetFile<Source<R>> as Input>⟧.device inputs.game)) }
 {
     Ok(GameInputs {
         given: open_inputs(rt, files.rules, files.pair, false)?,
-        game: FromRead::new(open_source(rt, files.game)?),
+        game: open_sheet(rt, files.game)?,
     })
 }
 
-/// The answer to what is asked of a game, and how long its report is.
-#[derive(Clone, Copy)]
-struct Answered {
-    verdict: Verdict,
-    bytes: u64,
-}
-
-/// Opens the files of a game, and does what is asked of it. The report goes to standard output.
+/// Opens the files of a game, and does what is asked of it. The report goes to standard output, and what may help to standard error.
 fn answer_game<'a, R: Runtime + AllocGlobal>(
     rt: &R,
     files: GameFiles<'a>,
     task: GameTask<'a>,
-) -> Result<Answered, Trouble<'a>> {
+) -> Result<Verdict, Trouble<'a>> {
     let mut inputs = open_game(rt, files)?;
-    let mut out = FromWrite::new(Counted::new(io::writer(rt)));
+    let mut out = FromWrite::new(watched(rt, io::writer(rt)));
     let outcome = inputs.ask(rt.alloc(), task, &mut out);
-    let verdict = told(outcome, &inputs.used(files), STANDARD_OUTPUT)?;
-    let bytes = out.into_inner().taken();
-    Ok(Answered { verdict, bytes })
+    let out = out.into_inner();
+    let known = Known {
+        rack: task.rack(),
+        ..inputs.given.known(files.pair)
+    };
+    give_hint(rt, out.front().bytes(), &known);
+    let verdict = told(
+        outcome,
+        &inputs.used(files),
+        UsedOutput::new(STANDARD_OUTPUT, &out),
+    )?;
+    let game = inputs.game.inner().front();
+    if task.needs_events() || game.passed() > 0 {
+        advise(rt, verdict, files.game, game);
+    }
+    Ok(verdict)
+}
+
+/// Says beside a report what is wrong with a file that is no game.
+fn advise<R: Runtime + AllocGlobal>(rt: &R, verdict: Verdict, name: &str, game: &Front) {
+    match verdict {
+        Verdict::BadRecord => advise_bad_record(rt, name, game),
+        Verdict::Legal { .. } | Verdict::Done | Verdict::BadLine => {
+            advise_no_game(rt, name, game);
+        }
+        _ => {}
+    }
 }
 
 /// Judges the game of a record, by the English rules or those of a text; a search for a deal settles it where that is asked
@@ -159,25 +199,13 @@ pub fn judge<'a, R: Runtime + AllocGlobal>(
     } else {
         GameTask::Judge
     };
-    let judged = answer_game(rt, files, task)?;
-    advise(rt, settle, files.game, judged);
-    Ok(judged.verdict)
-}
-
-/// Says beside a report what may be done about it: where a search may settle the game, and where the record has no event.
-fn advise<R: Runtime>(rt: &R, settle: bool, game: &str, judged: Answered) {
-    match judged.verdict {
-        Verdict::Unsettled if !settle => {
-            let _ = rt.eprintln(
-                "unsettled: `judge --settle` searches for a deal that yields the racks",
-            );
-        }
-        Verdict::Legal { .. } if judged.bytes == WITHOUT_EVENTS => {
-            let game = shown(game);
-            let _ = rt.eprintln(format_args!("no event: is {game} a game record?"));
-        }
-        _ => {}
+    let verdict = answer_game(rt, files, task)?;
+    if verdict == Verdict::Unsettled && !settle {
+        let _ = rt.eprintln(
+            "unsettled: `judge --settle` searches for a deal that yields the racks",
+        );
     }
+    Ok(verdict)
 }
 
 /// Writes the best plays by a rack on a board of a record, by the English rules or those of a text, to standard output.
@@ -187,8 +215,7 @@ pub fn top<'a, R: Runtime + AllocGlobal>(
     files: GameFiles<'a>,
     plays: PlaysAsked<'a>,
 ) -> Result<Verdict, Trouble<'a>> {
-    let listed = answer_game(rt, files, top_task(plays))?;
-    Ok(listed.verdict)
+    answer_game(rt, files, top_task(plays))
 }
 
 /// What the command line asks of a game whose best plays it asks for.
@@ -205,10 +232,23 @@ fn top_task<'a>(plays: PlaysAsked<'a>) -> GameTask<'a> {
 
 /// Writes the normal form of the record of a file to standard output.
 pub fn tidy<'a, R: Runtime + AllocGlobal>(rt: &R, game: &'a str) -> Result<Verdict, Trouble<'a>> {
-    let mut record = FromRead::new(open_source(rt, game)?);
-    let mut out = FromWrite::new(io::writer(rt));
+    let mut record = open_sheet(rt, game)?;
+    let mut out = FromWrite::new(watched(rt, io::writer(rt)));
     let outcome = run_tidy(rt.alloc(), &mut record, &mut out);
-    told(outcome, &[used_source(game, &record)], STANDARD_OUTPUT)
+    let inputs = [used_source(game, &record)];
+    let out = UsedOutput::new(STANDARD_OUTPUT, &out.into_inner());
+    let verdict = told(outcome, &inputs, out)?;
+    advise(rt, verdict, game, record.inner().front());
+    Ok(verdict)
+}
+
+/// Says what may help beside the line of a fault of a rules text.
+fn hint_rules<R: Runtime, F: Read + Drop>(rt: &R, line: &[u8], rules: &RulesFile<F>) {
+    let known = Known {
+        rules: rules_front(rules),
+        ..Known::NOTHING
+    };
+    give_hint(rt, line, &known);
 }
 
 /// Writes the board of a record to standard output, before a line where one is named, by the English rules or those of a text, which is
@@ -220,13 +260,17 @@ pub fn board<'a, R: Runtime + AllocGlobal>(
     game: &'a str,
 ) -> Result<Verdict, Trouble<'a>> {
     let mut stated = open_rules(rt, rules, false)?;
-    let mut record = FromRead::new(open_source(rt, game)?);
-    let mut out = FromWrite::new(io::writer(rt));
+    let mut record = open_sheet(rt, game)?;
+    let mut out = FromWrite::new(watched(rt, io::writer(rt)));
     let alloc = rt.alloc();
     let outcome = match &mut stated.text {
         None => run_board(alloc, &mut record, before, &mut out, &stated.rules),
         Some(text) => run_board_ruled(alloc, text, &mut record, before, &mut out),
     };
     let inputs = [used_rules(rules, &stated.text), used_source(game, &record)];
-    told(outcome, &inputs, STANDARD_OUTPUT)
+    let out = out.into_inner();
+    hint_rules(rt, out.front().bytes(), &stated);
+    let verdict = told(outcome, &inputs, UsedOutput::new(STANDARD_OUTPUT, &out))?;
+    advise(rt, verdict, game, record.inner().front());
+    Ok(verdict)
 }

@@ -33,26 +33,27 @@ impl Names for Given<'_> {
     }
 }
 
-/// The names of a text, one a line; an empty line is none.
+/// The names of a text, each up to a byte that ends it; an empty one is none.
 #[derive(Drop)]
 pub struct Listed<B> {
     reader: B,
+    end: u8,
 }
 
 impl<B: BufRead + Drop> Listed<B> {
-    /// The names of the text that is read here.
-    pub fn new(reader: B) -> Listed<B> {
-        Listed { reader }
+    /// The names of the text that is read here, which this byte ends.
+    pub fn new(reader: B, end: u8) -> Listed<B> {
+        Listed { reader, end }
     }
 }
 
 impl<B: BufRead + Drop> Names for Listed<B> {
     fn next_name(&mut self, name: &mut Vec<u8>) -> io::Result<bool> {
         for _ in 0..u64::MAX {
-            if self.reader.read_until(b'\n', name)? == 0 {
+            if self.reader.read_until(self.end, name)? == 0 {
                 return Ok(false);
             }
-            if name.last() == Some(&b'\n') {
+            if name.last() == Some(&self.end) {
                 name.pop();
             }
             if !name.is_empty() {

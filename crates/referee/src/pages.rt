@@ -1,18 +1,23 @@
 //! The pages of an archive: one for each game, and their index.
 
+use crate::archiving::unread_by;
+use crate::files::{unopened, write_whole_file};
 use archive_lines::{Fields, PageField, Unread};
-use devices::{FromRead, FromWrite, write_whole};
-use engine::{Case, RunFault, open_case};
+use devices::FromRead;
+use engine::{Case, Finding, open_case};
 use exit_statuses::Trouble;
 use game_page::{
-    Contents, IndexPlayer, IndexRow, Maker, PageNames, push_index_end, push_index_head,
-    push_index_row, push_page,
+    Contents, IndexPlayer, IndexRow, Maker, push_index_end, push_index_head, push_index_row,
+    push_page,
 };
 use lex_check::Checked;
+use name_texts::Encoding;
+use page_names::push_page_name;
 use ref_tiles::Rules;
 use std::alloc::{AllocError, Global};
 use std::fs;
 use std::io::{self, Read};
+use std::path::Path;
 use std::rt::Runtime;
 
 /// The file of the index in the folder.
@@ -23,7 +28,6 @@ const INDEX: &str = "index.html";
 pub struct Pages<'a> {
     folder: &'a str,
     maker: Maker,
-    names: PageNames,
     /// The page of the game that is being judged. The games share its memory.
     page: Vec<u8>,
     /// The index up to the last game that is done.
@@ -39,10 +43,7 @@ impl<'a> Pages<'a> {
     ) -> Result<Pages<'a>, Trouble<'a>> {
         match fs::create_dir_all(rt, folder) {
             Ok(()) => {}
-            Err(error) if error.kind() == io::ErrorKind::OutOfMemory => {
-                return Err(Trouble::NoMemory);
-            }
-            Err(_) => return Err(Trouble::CannotOpen(folder)),
+            Err(error) => return Err(unopened(folder, &error)),
         }
         match Pages::empty(rt.alloc(), folder, maker) {
             Ok(pages) => Ok(pages),
@@ -57,7 +58,6 @@ impl<'a> Pages<'a> {
         Ok(Pages {
             folder,
             maker,
-            names: PageNames::new(alloc)?,
             page: Vec::new(alloc),
             index,
         })
@@ -75,7 +75,7 @@ impl<'a> Pages<'a> {
         let mut game = FromRead::new(game);
         let case = match open_case(rt.alloc(), rules, pair, &mut game) {
             Ok(case) => case,
-            Err(fault) => return Fields::unread(name, unread_by(fault)),
+            Err(fault) => return Fields::unread(name, unread_by(rt, name, fault)),
         };
         let Ok(mut fields) = fields_of(rt.alloc(), name, &case) else {
             return Fields::unread(name, Unread::NoMemory);
@@ -87,7 +87,7 @@ impl<'a> Pages<'a> {
         fields
     }
 
-    /// Makes the page of a case and writes it, where its text is a record.
+    /// Makes the page of a case and writes it, where its text is a record with an event.
     fn write_page<R: Runtime + AllocGlobal>(
         &mut self,
         rt: &R,
@@ -96,7 +96,7 @@ impl<'a> Pages<'a> {
         name: &str,
         case: &Case,
     ) -> Result<PageField, AllocError> {
-        if case.read.is_err() {
+        if !has_page(case) {
             return Ok(PageField::Missing);
         }
         let alloc = rt.alloc();
@@ -108,9 +108,9 @@ impl<'a> Pages<'a> {
             maker: &self.maker,
         };
         push_page(alloc, &mut self.page, &contents)?;
-        let file = self.names.next_name(alloc, name)?;
+        let file = page_of(alloc, name)?;
         let path = path_in(alloc, self.folder, file.as_str())?;
-        if put(rt, path.as_str(), self.page.as_slice())? {
+        if put_page(rt, path.as_str(), self.page.as_slice())? {
             Ok(PageField::Written(file))
         } else {
             Ok(PageField::CannotWrite)
@@ -137,26 +137,33 @@ impl<'a> Pages<'a> {
         ) else {
             return Err(Trouble::NoMemory);
         };
-        match put(rt, path.as_str(), self.index.as_slice()) {
-            Ok(true) => Ok(()),
-            Ok(false) => Err(Trouble::WriteFailed(self.folder)),
+        match write_whole_file(rt, path.as_str(), self.index.as_slice()) {
+            Ok(()) => Ok(()),
+            Err(Trouble::CannotOpen(_, reason) | Trouble::WriteFailed(_, reason)) => {
+                Err(Trouble::WriteFailed(self.folder, reason))
+            }
             Err(_) => Err(Trouble::NoMemory),
         }
     }
 }
 
-/// Why a game is unread whose reading failed.
-pub fn unread_by(fault: RunFault) -> Unread {
-    match fault {
-        RunFault::NoMemory => Unread::NoMemory,
-        RunFault::ReadFailed | RunFault::WriteFailed => Unread::ReadFailed,
+/// Whether the text of a case is a record without an event.
+pub fn has_no_event(case: &Case) -> bool {
+    match &case.read {
+        Ok(entry) => entry.finding == Finding::NoGame,
+        Err(_) => false,
     }
+}
+
+/// Whether there is a page of a case: its text is a record with an event.
+pub fn has_page(case: &Case) -> bool {
+    case.read.is_ok() && !has_no_event(case)
 }
 
 /// What the line of a case says of its game.
 fn fields_of<'n>(alloc: Global, name: &'n str, case: &Case) -> Result<Fields<'n>, AllocError> {
     match &case.read {
-        Ok(entry) => Fields::of_entry(alloc, name, entry),
+        Ok(entry) => { Fields::of_entry(alloc, name, entry, Encoding::of(case.text.as_slice())) }
         Err(fault) => Ok(Fields::bad_record(name, fault)),
     }
 }
@@ -184,6 +191,13 @@ fn row_of<'f>(fields: &'f Fields<'_>) -> IndexRow<'f> {
     }
 }
 
+/// The page of a game: its path in the folder of the pages.
+fn page_of(alloc: Global, name: &str) -> Result<String, AllocError> {
+    let mut page = Vec::new(alloc);
+    push_page_name(&mut page, name.as_bytes())?;
+    String::from_utf8_lossy(alloc, page.as_slice())
+}
+
 /// The path of a file in a folder.
 fn path_in(alloc: Global, folder: &str, file: &str) -> Result<String, AllocError> {
     let mut path = String::from_str(alloc, folder)?;
@@ -192,14 +206,22 @@ fn path_in(alloc: Global, folder: &str, file: &str) -> Result<String, AllocError
     Ok(path)
 }
 
-/// Writes bytes to the file of a path, and says whether it was done.
-fn put<R: Runtime>(rt: &R, path: &str, bytes: &[u8]) -> Result<bool, AllocError> {
-    match fs::create(rt, path) {
-        Ok(file) => {
-            let mut file = FromWrite::new(file);
-            Ok(write_whole(&mut file, bytes).is_ok())
+/// Writes a page to the file of a path, whose folders are made where they are not there, and says whether it was done.
+fn put_page<R: Runtime + AllocGlobal>(
+    rt: &R,
+    path: &str,
+    bytes: &[u8],
+) -> Result<bool, AllocError> {
+    if let Some(folder) = Path::new(path).parent() {
+        match fs::create_dir_all(rt, folder.as_str()) {
+            Ok(()) => {}
+            Err(error) if error.kind() == io::ErrorKind::OutOfMemory => return Err(AllocError),
+            Err(_) => return Ok(false),
         }
-        Err(error) if error.kind() == io::ErrorKind::OutOfMemory => Err(AllocError),
+    }
+    match write_whole_file(rt, path, bytes) {
+        Ok(()) => Ok(true),
+        Err(Trouble::NoMemory) => Err(AllocError),
         Err(_) => Ok(false),
     }
 }

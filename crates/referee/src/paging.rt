@@ -1,32 +1,35 @@
 //! `page`: the page of a game.
 
-use crate::files::create;
-use crate::inputs::write;
-use devices::{FromWrite, write_whole};
+use crate::explaining::NO_GAME;
+use crate::files::write_out;
+use crate::inputs::write_beside;
+use crate::pages::{has_no_event, has_page};
 use engine::case_line;
 use exit_statuses::{Exit, Trouble, exit_of_case};
 use game_page::{Contents, push_page};
 use std::alloc::{AllocError, Global};
 use std::rt::Runtime;
 
-/// Writes the page of a case to the file `out`, which is made once the page is, and the verdict line to standard output. Of a text that is
-/// no record there is no page, and `out` is not touched.
+/// Writes the page of a case to the output `out`, which is opened once the page is made, and the verdict line to standard output, or to
+/// standard error where `out` is standard output. Of a text that is no record, and of a record without an event, there is no page, and `out`
+/// is not touched.
 pub fn write_page<'a, R: Runtime + AllocGlobal>(
     rt: &R,
     contents: &Contents<'_>,
     out: &'a str,
 ) -> Result<Exit, Trouble<'a>> {
     let case = contents.case;
+    if has_no_event(case) {
+        write_beside(rt, Some(out), NO_GAME)?;
+        return Ok(exit_of_case(case, None));
+    }
     let (Ok(page), Ok(line)) = (page_of(rt.alloc(), contents), case_line(rt.alloc(), case)) else {
         return Err(Trouble::NoMemory);
     };
-    if case.read.is_ok() {
-        let mut file = FromWrite::new(create(rt, out)?);
-        if write_whole(&mut file, page.as_slice()).is_err() {
-            return Err(Trouble::WriteFailed(out));
-        }
+    if has_page(case) {
+        write_out(rt, out, page.as_slice())?;
     }
-    write(rt, line.as_slice())?;
+    write_beside(rt, Some(out), line.as_slice())?;
     Ok(exit_of_case(case, None))
 }
 

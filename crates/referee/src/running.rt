@@ -3,16 +3,21 @@
 use crate::archiving::archive;
 use crate::files::STANDARD_OUTPUT;
 use crate::games::{board, judge, tidy, top};
+use crate::indexing::index;
+use crate::inputs::write;
 use crate::lexicons::{build, check, convert};
+use crate::same_files::lost_input;
 use crate::sheets::{SheetTask, answer_sheet};
 use clap::Error;
 use clap::error::ErrorKind;
-use command_line::{Request, mistake, parse_arguments};
+use command_line::{PROGRAM_NAME, Request, mistake, parse_arguments};
 use engine::Verdict;
 use exit_statuses::{Exit, Trouble};
+use ref_tiles::ENGLISH_TEXT;
 use std::alloc::AllocError;
 use std::rt::Runtime;
 use std::{env, io};
+use watching::Reason;
 
 /// Runs the program on the arguments of its command line. What keeps it from its end is said on standard error, which somebody
 /// sees where it is `watched`.
@@ -47,20 +52,32 @@ fn refuse<R: Runtime>(rt: &R, error: &Error) -> Exit {
     }
     match rt.print(error) {
         Ok(()) => Exit::Fine,
-        Err(_) => give_up(rt, Trouble::WriteFailed(STANDARD_OUTPUT)),
+        Err(error) => give_up(
+            rt,
+            Trouble::WriteFailed(STANDARD_OUTPUT, Reason::of(&error)),
+        ),
     }
 }
 
 /// Says what kept the program from its end.
 fn give_up<R: Runtime>(rt: &R, trouble: Trouble<'_>) -> Exit {
-    let _ = rt.eprintln(trouble);
+    let _ = rt.eprintln(format_args!("{PROGRAM_NAME}: {trouble}"));
     Exit::Broken
 }
 
-/// Does what was asked for.
+/// Does what was asked for, unless an output that it names is one of its inputs, which would be lost.
 fn answer<R: Runtime + AllocGlobal>(rt: &R, request: Request<'_>, watched: bool) -> Exit {
+    if let Some(input) = lost_input(rt, &request) {
+        return match format!(in rt.alloc();
+            "OUT is the same file as {input}, which would be lost"
+        ) {
+            Ok(text) => refuse(rt, &mistake(rt.alloc(), text.as_str())),
+            Err(_) => give_up(rt, Trouble::NoMemory),
+        };
+    }
     let outcome = match request {
         Request::Archive(games) => archive(rt, &games, watched),
+        Request::Index { lines, out } => index(rt, lines, out),
         Request::Judge { settle, files } => ended(judge(rt, settle, files)),
         Request::Audit { files, out } => answer_sheet(rt, files, SheetTask::Audit(out)),
         Request::Explain { files, line } => answer_sheet(rt, files, SheetTask::Explain(line)),
@@ -79,11 +96,18 @@ fn answer<R: Runtime + AllocGlobal>(rt: &R, request: Request<'_>, watched: bool)
             before,
             game,
         } => ended(board(rt, rules, before, game)),
+        Request::Rules => print_rules(rt),
     };
     match outcome {
         Ok(exit) => exit,
         Err(trouble) => give_up(rt, trouble),
     }
+}
+
+/// Writes the English rules text to standard output.
+fn print_rules<'a, R: Runtime + AllocGlobal>(rt: &R) -> Result<Exit, Trouble<'a>> {
+    write(rt, ENGLISH_TEXT)?;
+    Ok(Exit::Fine)
 }
 
 /// How the program ends after a verdict.

@@ -6,20 +6,22 @@ ghost use Rattle.call_stages.specs.Runs.{Gives, outcomes};
 ghost use Rattle.call_stages.specs.Sources.{game_source};
 ghost use Rattle.referee.specs.Telling.{IsAuditTold, IsCaseTold};
 
+use crate::advice::{advise_bad_record, advise_no_game, is_record};
 use crate::auditing::tell_audit;
 use crate::explaining::tell_case;
-use crate::files::{given_up, used_source};
+use crate::files::{UsedOutput, given_up, used_source};
 use crate::inputs::{GivenFiles, RulesFile, maker, open_inputs, refuse};
 use crate::paging::write_page;
-use crate::sources::{Words, open_source};
+use crate::sources::{SheetFile, Words, open_sheet};
 use command_line::GameFiles;
 use devices::{FromRead, Input};
-use engine::{Case, Decision, Question, RunFault, ask, audit_sheet, open_case};
+use engine::{Case, Decision, Question, RunFault, Verdict, ask, audit_sheet, open_case};
 use exit_statuses::{Exit, Trouble};
 use game_page::Contents;
 use std::alloc::Global;
 use std::io::Read;
 use std::rt::Runtime;
+use watching::Front;
 
 /// What is asked of a sheet.
 #[derive(Clone, Copy)]
@@ -32,6 +34,17 @@ pub enum SheetTask<'a> {
     Page(&'a str),
 }
 
+impl<'a> SheetTask<'a> {
+    /// The output that is written beside the report, where there is one.
+    fn out(self) -> Option<&'a str> {
+        match self {
+            SheetTask::Audit(out) => out,
+            SheetTask::Explain(_) => None,
+            SheetTask::Page(out) => Some(out),
+        }
+    }
+}
+
 /// How the program ends after a question that told its answer, or the decision that an input is bad.
 pub type Told<'a> = Result<Result<Exit, Trouble<'a>>, Decision>;
 
@@ -39,11 +52,11 @@ pub type Told<'a> = Result<Result<Exit, Trouble<'a>>, Decision>;
 fn audit<'a, R: Runtime + AllocGlobal, F: Read + Drop, S: Read + Drop>(
     rt: &R,
     given: &GivenFiles<'_, F, S>,
-    game: &mut FromRead<S>,
+    game: &mut SheetFile<S>,
     out: Option<&'a str>,
 ) -> Result<Told<'a>, RunFault>
-    requires { HasRoom (⟦<FromRead<S> as Input>⟧.device game.old) }
-    ensures { Gives outcomes (game_source (⟦<FromRead<S> as Input>⟧.device game.old) (⟦<FromRead<S> as Input>⟧.device game.new) ∷ [])
+    requires { HasRoom (⟦<SheetFile<S> as Input>⟧.device game.old) }
+    ensures { Gives outcomes (game_source (⟦<SheetFile<S> as Input>⟧.device game.old) (⟦<SheetFile<S> as Input>⟧.device game.new) ∷ [])
         (IsAuditTold given.now.rules.now (list_in given.now.pair.now)) result }
 {
     match audit_sheet(rt.alloc(), given.rules, given.pair, game) {
@@ -57,11 +70,11 @@ fn audit<'a, R: Runtime + AllocGlobal, F: Read + Drop, S: Read + Drop>(
 fn explain<'a, R: Runtime + AllocGlobal, F: Read + Drop, S: Read + Drop>(
     rt: &R,
     given: &GivenFiles<'_, F, S>,
-    game: &mut FromRead<S>,
+    game: &mut SheetFile<S>,
     line: Option<u32>,
 ) -> Result<Told<'a>, RunFault>
-    requires { HasRoom (⟦<FromRead<S> as Input>⟧.device game.old) }
-    ensures { Gives outcomes (game_source (⟦<FromRead<S> as Input>⟧.device game.old) (⟦<FromRead<S> as Input>⟧.device game.new) ∷ [])
+    requires { HasRoom (⟦<SheetFile<S> as Input>⟧.device game.old) }
+    ensures { Gives outcomes (game_source (⟦<SheetFile<S> as Input>⟧.device game.old) (⟦<SheetFile<S> as Input>⟧.device game.new) ∷ [])
         (IsCaseTold given.now.rules.now (list_in given.now.pair.now)) result }
 {
     match open_case(rt.alloc(), given.rules, given.pair, game) {
@@ -93,11 +106,11 @@ fn tell_page<'a, R: Runtime + AllocGlobal, F: Read + Drop, S: Read + Drop>(
 fn page<'a, R: Runtime + AllocGlobal, F: Read + Drop, S: Read + Drop>(
     rt: &R,
     given: &GivenFiles<'_, F, S>,
-    game: &mut FromRead<S>,
+    game: &mut SheetFile<S>,
     out: &'a str,
 ) -> Result<Told<'a>, RunFault>
-    requires { HasRoom (⟦<FromRead<S> as Input>⟧.device game.old) }
-    ensures { Gives outcomes (game_source (⟦<FromRead<S> as Input>⟧.device game.old) (⟦<FromRead<S> as Input>⟧.device game.new) ∷ [])
+    requires { HasRoom (⟦<SheetFile<S> as Input>⟧.device game.old) }
+    ensures { Gives outcomes (game_source (⟦<SheetFile<S> as Input>⟧.device game.old) (⟦<SheetFile<S> as Input>⟧.device game.new) ∷ [])
         (IsCaseTold given.now.rules.now (list_in given.now.pair.now)) result }
 {
     match open_case(rt.alloc(), given.rules, given.pair, game) {
@@ -116,15 +129,15 @@ struct SheetQuestion<'r, 'a, R> {
 impl<'a, R: Runtime + AllocGlobal, F: Read + Drop, S: Read + Drop> Question<
     RulesFile<F>,
     FromRead<Words<S>>,
-    FromRead<S>,
+    SheetFile<S>,
 > for SheetQuestion<'_, 'a, R> {
     ghost use Rattle.referee.specs.Sheets.{IsSheetTold, sheet_later};
 
     type Answer = Told<'a>;
 
-    ghost sources = { λ old new. game_source (⟦<FromRead<S> as Input>⟧.device old) (⟦<FromRead<S> as Input>⟧.device new) ∷ [] };
+    ghost sources = { λ old new. game_source (⟦<SheetFile<S> as Input>⟧.device old) (⟦<SheetFile<S> as Input>⟧.device new) ∷ [] };
 
-    ghost is_ready = { λ game. HasRoom (⟦<FromRead<S> as Input>⟧.device game) };
+    ghost is_ready = { λ game. HasRoom (⟦<SheetFile<S> as Input>⟧.device game) };
 
     ghost is_answer = { λ question rules words x texts v report. IsSheetTold question.task rules words x texts v report };
 
@@ -132,7 +145,7 @@ impl<'a, R: Runtime + AllocGlobal, F: Read + Drop, S: Read + Drop> Question<
         &self,
         _alloc: Global,
         given: &GivenFiles<'_, F, S>,
-        game: &mut FromRead<S>,
+        game: &mut SheetFile<S>,
     ) -> Result<Told<'a>, RunFault> {
         match self.task {
             SheetTask::Audit(out) => audit(self.rt, given, game, out),
@@ -158,7 +171,7 @@ pub fn answer_sheet<'a, R: Runtime + AllocGlobal>(
         files.pair,
         matches!(task, SheetTask::Page(_)),
     )?;
-    let mut game = FromRead::new(open_source(rt, files.game)?);
+    let mut game = open_sheet(rt, files.game)?;
     let question = SheetQuestion { rt, task };
     let answer = ask(
         rt.alloc(),
@@ -169,12 +182,34 @@ pub fn answer_sheet<'a, R: Runtime + AllocGlobal>(
         &mut game,
     );
     match answer {
-        Ok(Ok(told)) => told,
-        Ok(Err(decision)) => refuse(rt, &decision),
+        Ok(Ok(told)) => {
+            let exit = told?;
+            if exit == Exit::BadInput {
+                advise(rt, files.game, task, game.inner().front());
+            }
+            Ok(exit)
+        }
+        Ok(Err(decision)) => {
+            let exit = refuse(rt, task.out(), &decision, &inputs.known(files.pair))?;
+            if decision.verdict == Verdict::BadRecord {
+                advise_bad_record(rt, files.game, game.inner().front());
+            }
+            Ok(exit)
+        }
         Err(fault) => {
             let [rules, words, lexicon] = inputs.used(files.rules, files.pair);
             let game = used_source(files.game, &game);
-            Err(given_up(fault, &[rules, words, lexicon, game], ""))
+            let inputs = [rules, words, lexicon, game];
+            Err(given_up(fault, &inputs, UsedOutput::NONE))
         }
+    }
+}
+
+/// Says beside what was told of a sheet why its file is no game. `explain` tells itself what is wrong with a bad record.
+fn advise<R: Runtime + AllocGlobal>(rt: &R, name: &str, task: SheetTask<'_>, game: &Front) {
+    if is_record(rt.alloc(), game) {
+        advise_no_game(rt, name, game);
+    } else if !matches!(task, SheetTask::Explain(_)) {
+        advise_bad_record(rt, name, game);
     }
 }

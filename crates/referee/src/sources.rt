@@ -1,18 +1,24 @@
 //! The files of a command line that are read: word lists and records, which may be standard input, and what is known of their bytes.
+ghost use Rattle.std.specs.Prelude.{IfOk};
+ghost use Rattle.devices.specs.Devices.{HasRoom};
 
 use crate::files::open;
 use command_line::{STANDARD_INPUT, WordsFile};
-use devices::FromRead;
+use devices::{FromRead, Input};
 use digesting::Digesting;
 use either::Either;
 use exit_statuses::Trouble;
 use first_fields::FirstFields;
-use std::alloc::AllocError;
-use std::io::{Input, Read};
+use std::alloc::{AllocError, Global};
+use std::io::{self, Read};
 use std::rt::{Files, Runtime};
+use watching::WatchedRead;
+
+/// How many bytes of a word list are kept: its beginning shows what it is.
+const WORDS_FRONT: usize = 64;
 
 /// A file, or standard input.
-pub type Source<R> = Either<<R as Files>::File, <R as Input>::Reader>;
+pub type Source<R> = Either<<R as Files>::File, <R as io::Input>::Reader>;
 
 /// Opens the file of this name to be read, or standard input where it is `-`.
 pub fn open_source<'a, R: Runtime>(rt: &R, name: &'a str) -> Result<Source<R>, Trouble<'a>> {
@@ -42,16 +48,20 @@ pub fn digest_of<F: Read + Drop>(reader: &Digested<F>) -> Result<Option<[u8; 32]
     }
 }
 
+/// A reader that may digest its bytes, and is watched.
+pub type Seen<F> = WatchedRead<Digested<F>>;
+
 /// A word list, or the first fields of its lines.
-pub type Words<S> = Either<Digested<S>, FirstFields<Digested<S>>>;
+pub type Words<S> = Either<Seen<S>, FirstFields<Seen<S>>>;
 
 /// Opens a word list to be read, whose bytes are digested where that is asked for.
-pub fn open_words<'a, R: Runtime>(
+pub fn open_words<'a, R: Runtime + AllocGlobal>(
     rt: &R,
     words: WordsFile<'a>,
     digests: bool,
 ) -> Result<Words<Source<R>>, Trouble<'a>> {
     let source = digested(open_source(rt, words.name)?, digests);
+    let source = WatchedRead::new(rt.alloc(), source, WORDS_FRONT);
     if words.first_field {
         Ok(Either::Right(FirstFields::new(source)))
     } else {
@@ -59,13 +69,31 @@ pub fn open_words<'a, R: Runtime>(
     }
 }
 
-/// The SHA-256 of the bytes of a word list, where they are digested.
-pub fn words_digest<S: Read + Drop>(
-    words: &FromRead<Words<S>>,
-) -> Result<Option<[u8; 32]>, AllocError> {
+/// A record, all of which is kept.
+pub type SheetFile<S> = FromRead<WatchedRead<S>>;
+
+/// A reader of a record, which keeps all of it.
+pub fn sheet_of<S: Read + Drop>(alloc: Global, source: S) -> SheetFile<S>
+    ensures { HasRoom (⟦<SheetFile<S> as Input>⟧.device result) }
+{
+    FromRead::new(WatchedRead::new(alloc, source, gcg_read::MAX_BYTES + 1))
+}
+
+/// Opens a record, or standard input where its name is `-`.
+pub fn open_sheet<'a, R: Runtime + AllocGlobal>(
+    rt: &R,
+    name: &'a str,
+) -> Result<SheetFile<Source<R>>, Trouble<'a>>
+    ensures { IfOk result (λ game. HasRoom (⟦<SheetFile<Source<R>> as Input>⟧.device game)) }
+{
+    Ok(sheet_of(rt.alloc(), open_source(rt, name)?))
+}
+
+/// The watched bytes of a word list.
+pub fn seen_words<S: Read + Drop>(words: &FromRead<Words<S>>) -> &Seen<S> {
     match words.inner() {
-        Either::Left(lines) => digest_of(lines),
-        Either::Right(fields) => digest_of(fields.inner()),
+        Either::Left(lines) => lines,
+        Either::Right(fields) => fields.inner(),
     }
 }
 

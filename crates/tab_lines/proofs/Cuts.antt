@@ -1,5 +1,5 @@
 -- A line that is cut at its first tab.
-use Rattle.std.proofs.Common.{◌≡◌, ℕ, ◌+◌, ◌-◌, List, [], ◌∷◌, ◌++◌, length, take, drop, map, Some, None, sym, ◌∙◌}
+use Rattle.std.proofs.Common.{◌≡◌, ℕ, ◌+◌, ◌-◌, List, [], ◌∷◌, ◌++◌, length, take, drop, map, Some, None, sym}
 use Rattle.std.specs.List.{position, slice_split}
 use Rattle.std.proofs.lemmas.List.{append_assoc}
 use Rattle.text_lines.proofs.Cuts.{rest_is, split_none, split_at}

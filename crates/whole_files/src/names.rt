@@ -1,31 +1,53 @@
-//! Names of files: the one that two names lead to, and one for a new file beside another.
+//! Names of files: whether two lead to the same file, where a name leads that has no file yet, and one for a new file beside another.
 
 use std::alloc::{AllocError, Global};
 use std::fs;
-use std::io;
-use std::path::{Path, PathBuf};
+use std::io::{self, ErrorKind};
+use std::os::unix::fs::MetadataExt;
+use std::path::Path;
 use std::rt::Files;
 
-/// Whether two names lead to the same file once links are followed. A name that leads to no file is the same as no other.
+/// How many links the system follows from one name.
+const MOST_LINKS: u32 = 40;
+
+/// Whether two names lead to the same file once links are followed. A name that leads to no file is the same as no other, and so is one of
+/// a device or a pipe, of which nothing is lost when it is written.
+pub fn is_same_file<R: Files>(rt: &R, one: &str, other: &str) -> bool {
+    match (fs::metadata(rt, one), fs::metadata(rt, other)) {
+        (Ok(one), Ok(other)) => {
+            one.is_file() && other.is_file() && one.dev() == other.dev() && one.ino() == other.ino()
+        }
+        _ => false,
+    }
+}
+
+/// The name that a file gets which is made by this name, that leads to none yet: the one to which its links lead.
 ///
 /// # Errors
 ///
-/// Where memory was refused.
-pub fn is_same_file<R: Files + AllocGlobal>(rt: &R, one: &str, other: &str) -> io::Result<bool> {
-    let Some(one) = file_of(rt, one)? else {
-        return Ok(false);
-    };
-    let Some(other) = file_of(rt, other)? else {
-        return Ok(false);
-    };
-    Ok(one.as_str() == other.as_str())
+/// `NotFound` where no file can have the name, and what else keeps a link from being read.
+pub fn end_of_links<R: Files + AllocGlobal>(rt: &R, name: &str) -> io::Result<String> {
+    let mut end = String::from_str(rt.alloc(), name)?;
+    for _ in 0..MOST_LINKS {
+        match next_link(rt, end.as_str())? {
+            Some(next) => end = next,
+            None => break,
+        }
+    }
+    if end.is_empty() || end.ends_with('/') {
+        return Err(io::Error::from(ErrorKind::NotFound));
+    }
+    Ok(end)
 }
 
-/// The file that a name leads to, by its absolute path without links, where there is one.
-fn file_of<R: Files + AllocGlobal>(rt: &R, name: &str) -> io::Result<Option<PathBuf>> {
-    match fs::canonicalize(rt, name) {
-        Ok(path) => Ok(Some(path)),
-        Err(error) if error.kind() == io::ErrorKind::OutOfMemory => Err(error),
+/// The name to which the link of this name leads; none where it is no link.
+fn next_link<R: Files + AllocGlobal>(rt: &R, name: &str) -> io::Result<Option<String>> {
+    match fs::read_link(rt, name) {
+        Ok(next) => {
+            let path = Path::new(name).with_file_name(rt.alloc(), next.as_str())?;
+            Ok(Some(path.into_string()))
+        }
+        Err(error) if error.kind() == ErrorKind::OutOfMemory => Err(error),
         Err(_) => Ok(None),
     }
 }

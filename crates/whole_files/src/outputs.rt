@@ -1,13 +1,17 @@
 //! A file that is being written.
 
-use crate::names::part_beside;
+use crate::names::{end_of_links, part_beside};
 use std::alloc::Global;
 use std::fs::{self, OpenFile, OpenOptions, Permissions};
 use std::io::{self, ErrorKind, Result, Write};
+use std::os::unix::fs::OpenOptionsExt;
 use std::rt::Files;
 
 /// How many names are tried for a new file beside another one.
 const MOST_NAMES: u32 = 1000;
+
+/// The permissions of a new file until it has those of the file that it is to replace.
+const HIDDEN: u32 = 0o600;
 
 /// A file that is being written. Where its name leads to a file or to nothing, what is written goes to a new file in the same folder, and
 /// the name leads to it only once it is [kept](OutputFile::keep): so what was there stays as it is until then. A device, a pipe and what
@@ -46,7 +50,7 @@ impl<F: Write + OpenFile + Drop> OutputFile<F> {
                 renaming: None,
             }),
             Err(error) if error.kind() == ErrorKind::NotFound => {
-                OutputFile::beside(rt, String::from_str(rt.alloc(), name)?, None)
+                OutputFile::beside(rt, end_of_links(rt, name)?, None)
             }
             Err(error) => Err(error),
         }
@@ -60,6 +64,9 @@ impl<F: Write + OpenFile + Drop> OutputFile<F> {
     ) -> Result<OutputFile<F>> {
         let mut options = OpenOptions::new();
         options.write(true).create_new(true);
+        if permissions.is_some() {
+            options.mode(HIDDEN);
+        }
         for number in 0..MOST_NAMES {
             let from = part_beside(rt.alloc(), to.as_str(), number)?;
             match options.open(rt, from.as_str()) {

@@ -1,11 +1,13 @@
 //! Lines of an archive.
-use archive_lines::{Answer, Fields, Unread, push_escaped, push_json_line, push_tab_line};
+use archive_lines::{Answer, Fields, LineRead, Unread, push_json_line, push_tab_line};
 use engine::{Entry, Finding, GameFault};
 use exit_statuses::exit_of_answer;
 use game_turns::RuleFault;
 use gcg_read::{ReadFault, Record, Why};
+use name_texts::Encoding;
 use std::alloc::Global;
 use std::process::Abort;
+use tab_lines::push_escaped;
 
 /// The line of these fields, in both forms.
 fn lines_of(rt: &impl Abort, alloc: Global, fields: &Fields<'_>) -> (Vec<u8>, Vec<u8>) {
@@ -58,21 +60,26 @@ fn lines_without_an_entry(rt: HostRuntime) {
         line: 0,
         why: Why::TooLong,
     };
-    let rows: [(Fields<'_>, &str, &str); 3] = [
+    let rows: [(Fields<'_>, &str, &str); 4] = [
         (
             Fields::unread("a", Unread::CannotOpen),
             "a\tunread\t-\t-\tcannot open\t-\t-\t-\t-\t-\t-\n",
-            "{\"name\":\"a\",\"verdict\":\"unread\",\"ending\":null,\"line\":null,\"fault\":\"cannot open\",\"events\":null,\"player1\":null,\"total1\":null,\"player2\":null,\"total2\":null,\"unlisted\":null}\n",
+            "{\"name\":\"a\",\"verdict\":\"unread\",\"ending\":null,\"line\":null,\"fault\":\"cannot open\",\"events\":null,\"player1\":null,\"total1\":null,\"player2\":null,\"total2\":null,\"unlisted\":null,\"fault_name\":null,\"expected\":null}\n",
+        ),
+        (
+            Fields::unread("a", Unread::IsFolder),
+            "a\tunread\t-\t-\tis a folder\t-\t-\t-\t-\t-\t-\n",
+            "{\"name\":\"a\",\"verdict\":\"unread\",\"ending\":null,\"line\":null,\"fault\":\"is a folder\",\"events\":null,\"player1\":null,\"total1\":null,\"player2\":null,\"total2\":null,\"unlisted\":null,\"fault_name\":null,\"expected\":null}\n",
         ),
         (
             Fields::unread("a", Unread::ReadFailed),
             "a\tunread\t-\t-\tread failed\t-\t-\t-\t-\t-\t-\n",
-            "{\"name\":\"a\",\"verdict\":\"unread\",\"ending\":null,\"line\":null,\"fault\":\"read failed\",\"events\":null,\"player1\":null,\"total1\":null,\"player2\":null,\"total2\":null,\"unlisted\":null}\n",
+            "{\"name\":\"a\",\"verdict\":\"unread\",\"ending\":null,\"line\":null,\"fault\":\"read failed\",\"events\":null,\"player1\":null,\"total1\":null,\"player2\":null,\"total2\":null,\"unlisted\":null,\"fault_name\":null,\"expected\":null}\n",
         ),
         (
             Fields::bad_record("a\t\"", &why),
             "a\\t\"\tbad record\t-\t-\tTooLong\t-\t-\t-\t-\t-\t-\n",
-            "{\"name\":\"a\\t\\\"\",\"verdict\":\"bad record\",\"ending\":null,\"line\":null,\"fault\":\"TooLong\",\"events\":null,\"player1\":null,\"total1\":null,\"player2\":null,\"total2\":null,\"unlisted\":null}\n",
+            "{\"name\":\"a\\t\\\"\",\"verdict\":\"bad record\",\"ending\":null,\"line\":null,\"fault\":\"TooLong\",\"events\":null,\"player1\":null,\"total1\":null,\"player2\":null,\"total2\":null,\"unlisted\":null,\"fault_name\":\"TooLong\",\"expected\":null}\n",
         ),
     ];
     for (fields, tabs, object) in rows {
@@ -122,8 +129,42 @@ fn lines_of_findings(rt: HostRuntime) {
             finding,
             unlisted,
         };
-        let fields = Fields::of_entry(rt.alloc(), "a", &entry).expect(&rt, "fields");
+        let fields = Fields::of_entry(rt.alloc(), "a", &entry, Encoding::Utf8).expect(
+            &rt, "fields",
+        );
         let told = lines_of(&rt, rt.alloc(), &fields);
         assert_eq!(rt; told.0.as_slice(), want.as_bytes(), "{want}");
+    }
+}
+
+#[test]
+fn lines_that_are_read(rt: HostRuntime) {
+    let rows: [(&str, bool); 10] = [
+        ("a\tlegal\tcomplete\t-\t-\t0\t-\t-\t-\t-\t0", true),
+        ("a\tlegal\tcomplete\t-\t-\t0\tA\t-7\t-\t-\t0\ta.html", true),
+        ("", false),
+        ("a", false),
+        ("a\tlawful\tcomplete\t-\t-\t0\t-\t-\t-\t-\t0", false),
+        ("a\tlegal\tcomplete\tx\t-\t0\t-\t-\t-\t-\t0", false),
+        ("a\tlegal\tcomplete\t-\t-\t0\t-\t-\t-\t-\t", false),
+        ("a\tlegal\tcomplete\t-\t-\t0\t-\t-\t-\t-\t0\ta\tb", false),
+        ("{}", false),
+        ("{\"name\":\"a\"", false),
+    ];
+    for (line, is_line) in rows {
+        let read = LineRead::of(rt.alloc(), line.as_bytes()).expect(&rt, "memory");
+        assert_eq!(rt; read.is_some(), is_line, "{line}");
+    }
+}
+
+#[test]
+fn names_that_are_read(rt: HostRuntime) {
+    for name in ["a.gcg", "a\tb", "a\nb", "a\\tb", "\\\t\n\u{e9}", ""] {
+        let told = lines_of(&rt, rt.alloc(), &Fields::unread(name, Unread::CannotOpen));
+        for line in [told.0.as_slice(), told.1.as_slice()] {
+            let read = LineRead::of(rt.alloc(), line.trim_ascii_end()).expect(&rt, "memory");
+            let read = read.expect(&rt, "a line");
+            assert_eq!(rt; read.name.as_str(), name, "{name}");
+        }
     }
 }

@@ -573,7 +573,7 @@ const ASKED: [(Exit, Option<u32>, Row); 10] = [
         },
     ),
     (
-        Exit::Fine,
+        Exit::BadInput,
         None,
         Row {
             words: "WORD",

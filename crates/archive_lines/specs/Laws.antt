@@ -1,0 +1,23 @@
+-- What holds of each line.
+use Rattle.std.specs.Prelude.{◌≡◌, ◌==◌, ℕ, true, not, length, Option, Some, None}
+use Rattle.std.specs.List.{list_all}
+use Rattle.tab_lines.specs.Lines.{joined, fields_read}
+use Rattle.archive_lines.specs.declared.fields.Fields.{Fields}
+use Rattle.archive_lines.specs.declared.pages.PageField.{PageField}
+use Rattle.archive_lines.specs.Tabs.{told}
+
+-- a reader that cuts the line at its tabs, and undoes the escapes, has what was told
+abbrev pub IsReadBack : Type 0
+IsReadBack = (f : Fields) → fields_read (joined (told f)) ≡ told f
+
+-- how many fields there are, with pages and without
+abbrev pub many_with : Option PageField → ℕ
+many_with None = 11
+many_with (Some page) = 12
+
+abbrev pub HasSoMany : Type 0
+HasSoMany = (f : Fields) → length (fields_read (joined (told f))) ≡ many_with f.page
+
+-- no LF (10) is in the fields of a line
+abbrev pub IsOneLine : Type 0
+IsOneLine = (f : Fields) → list_all (λ byte. not (byte == 10)) (joined (told f)) ≡ true

@@ -1,0 +1,118 @@
+//! Lines whose fields are separated by tabs.
+ghost use Rattle.std.specs.Prelude.{◌≡◌, ◌++◌, ◌∷◌, OnOk, option_map};
+ghost use Rattle.std.specs.String.{string_bytes};
+ghost use Rattle.std.specs.Cow.{cow_str_bytes};
+ghost use Rattle.tab_lines.specs.Lines.{escaped};
+ghost use Rattle.archive_lines.specs.Answers.{ending_text};
+ghost use Rattle.archive_lines.specs.Pages.{page_text};
+ghost use Rattle.archive_lines.specs.Tabs.{shown, behind, verdict_told, record_told, page_told, tab_line};
+
+use crate::answers::Ending;
+use crate::fields::Fields;
+use crate::pages::PageField;
+use itoa::{Buffer, Integer};
+use std::alloc::{AllocError, Global};
+use std::borrow::CowStr;
+use tab_lines::{push_escaped, push_field};
+
+/// Appends the field of a text, or of none.
+fn push_text(line: &mut Vec<u8>, text: Option<&str>) -> Result<(), AllocError>
+    ensures { OnOk result (line.new.items ≡ line.old.items ++ 9 ∷ escaped (shown (option_map (λ t. t.now) text.entry))) }
+{
+    match text {
+        None => push_field(line, b"-"),
+        Some(text) => push_field(line, text.as_bytes()),
+    }
+}
+
+/// Appends the field of a number, or of none.
+fn push_known<I: Integer>(line: &mut Vec<u8>, number: Option<I>) -> Result<(), AllocError>
+    ensures { OnOk result (line.new.items ≡ line.old.items ++ 9 ∷ escaped (shown (option_map I.text number))) }
+{
+    match number {
+        None => push_field(line, b"-"),
+        Some(number) => {
+            let mut buffer = Buffer::new();
+            push_field(line, buffer.format(number).as_bytes())
+        }
+    }
+}
+
+/// Appends the field of the ending of a game, or of none.
+fn push_ending(line: &mut Vec<u8>, ending: Option<Ending>) -> Result<(), AllocError>
+    ensures { OnOk result (line.new.items ≡ line.old.items ++ 9 ∷ escaped (shown (option_map ending_text ending))) }
+{
+    match ending {
+        None => push_field(line, b"-"),
+        Some(ending) => push_field(line, ending.name().as_bytes()),
+    }
+}
+
+/// Appends the field of a fault, or of none.
+fn push_fault(line: &mut Vec<u8>, fault: &Option<CowStr<'_, Global>>) -> Result<(), AllocError>
+    ensures { OnOk result (line.new.items ≡ line.old.items ++ 9 ∷ escaped (shown (option_map cow_str_bytes fault.now))) }
+{
+    match fault {
+        None => push_field(line, b"-"),
+        Some(fault) => push_field(line, fault.as_str().as_bytes()),
+    }
+}
+
+/// Appends the field of a nickname, or of none.
+fn push_nick(line: &mut Vec<u8>, nick: &Option<String>) -> Result<(), AllocError>
+    ensures { OnOk result (line.new.items ≡ line.old.items ++ 9 ∷ escaped (shown (option_map string_bytes nick.now))) }
+{
+    match nick {
+        None => push_field(line, b"-"),
+        Some(nick) => push_field(line, nick.as_bytes()),
+    }
+}
+
+/// Appends the fields that say what the verdict is.
+fn push_verdict(line: &mut Vec<u8>, fields: &Fields<'_>) -> Result<(), AllocError>
+    ensures { OnOk result (line.new.items ≡ line.old.items ++ behind (verdict_told fields.now)) }
+{
+    push_field(line, fields.verdict.name().as_bytes())?;
+    push_ending(line, fields.ending)?;
+    push_known(line, fields.line)?;
+    push_fault(line, &fields.fault)
+}
+
+/// Appends the fields that say what the record has.
+fn push_record(line: &mut Vec<u8>, fields: &Fields<'_>) -> Result<(), AllocError>
+    ensures { OnOk result (line.new.items ≡ line.old.items ++ behind (record_told fields.now)) }
+{
+    push_known(line, fields.events)?;
+    push_nick(line, &fields.player1)?;
+    push_known(line, fields.total1)?;
+    push_nick(line, &fields.player2)?;
+    push_known(line, fields.total2)?;
+    push_known(line, fields.unlisted)
+}
+
+/// Appends the field of the page, where pages are made.
+fn push_page(line: &mut Vec<u8>, page: &Option<PageField>) -> Result<(), AllocError>
+    ensures { OnOk result (line.new.items ≡ line.old.items ++ behind (page_told page.now)) }
+{
+    match page {
+        None => Ok(()),
+        Some(page) => push_text(line, page.text()),
+    }
+}
+
+/// Appends a line: its fields in their order with a tab between two, `-` for what is none, and an LF. It has the field of the page only
+/// where pages are made. A tab, an LF and a backslash of a field are written `\t`, `\n` and `\\`.
+///
+/// # Errors
+///
+/// Memory was refused.
+pub fn push_tab_line(line: &mut Vec<u8>, fields: &Fields<'_>) -> Result<(), AllocError>
+    ensures { OnOk result (line.new.items ≡ line.old.items ++ tab_line fields.now) }
+{
+    push_escaped(line, fields.name.as_bytes())?;
+    push_verdict(line, fields)?;
+    push_record(line, fields)?;
+    push_page(line, &fields.page)?;
+    line.push(b'\n')?;
+    Ok(())
+}

@@ -1,0 +1,122 @@
+//! The hint beside the line of a fault.
+
+use crate::items::write_missing;
+use crate::limits::Limit;
+use crate::racks::RackHint;
+use std::fmt;
+
+/// What is known of the inputs of a call.
+#[derive(Clone, Copy, Debug)]
+pub struct Known<'a> {
+    /// What messages name the word list.
+    pub words: &'a str,
+    /// The first bytes of the word list.
+    pub words_front: &'a [u8],
+    /// What messages name the lexicon.
+    pub lexicon: &'a str,
+    /// The rules text.
+    pub rules: &'a [u8],
+    /// The rack of the command line, where it has one.
+    pub rack: Option<&'a str>,
+}
+
+impl Known<'_> {
+    /// Nothing is known.
+    pub const NOTHING: Known<'static> = Known {
+        words: "",
+        words_front: b"",
+        lexicon: "",
+        rules: b"",
+        rack: None,
+    };
+}
+
+/// What may help beside the line of a fault. Its text is a clause without a full stop.
+#[derive(Clone, Copy, Debug)]
+pub enum Hint<'a> {
+    /// The rack is none.
+    Rack(RackHint),
+    /// The command line names no rack, and the line shows none.
+    NoRack,
+    /// The rules text leaves items out.
+    Missing(&'a [u8]),
+    /// A number of the rules text is outside its limits.
+    Limit(Limit),
+    /// The lexicon is that of another list.
+    OtherList { words: &'a str, lexicon: &'a str },
+    /// A lexicon is given for the word list.
+    NoList { words: &'a str },
+}
+
+impl<'a> Hint<'a> {
+    /// What may help beside the line of a fault.
+    pub fn of(line: &[u8], known: &Known<'a>) -> Option<Hint<'a>> {
+        if line.starts_with(b"bad rack") {
+            return match known.rack {
+                Some(rack) => Some(Hint::Rack(RackHint::of(rack)?)),
+                None => Some(Hint::NoRack),
+            };
+        }
+        if line.starts_with(b"bad rules") {
+            return Hint::of_rules(line, known.rules);
+        }
+        Hint::of_pair(line, known)
+    }
+
+    /// What may help beside the line of a fault of a rules text.
+    fn of_rules(line: &[u8], text: &'a [u8]) -> Option<Hint<'a>> {
+        if line.starts_with(b"bad rules: Missing") {
+            Some(Hint::Missing(text))
+        } else if line.starts_with(b"bad rules: Limits") {
+            Some(Hint::Limit(Limit::first(text)?))
+        } else {
+            None
+        }
+    }
+
+    /// What may help beside the line of a fault of a word list or of its lexicon.
+    fn of_pair(line: &[u8], known: &Known<'a>) -> Option<Hint<'a>> {
+        let Known { words, lexicon, .. } = *known;
+        if line.starts_with(b"bad word list") && is_lexicon(known.words_front) {
+            Some(Hint::NoList { words })
+        } else if is_of_other_list(line) {
+            Some(Hint::OtherList { words, lexicon })
+        } else {
+            None
+        }
+    }
+}
+
+/// Whether a text begins as a compiled lexicon.
+fn is_lexicon(text: &[u8]) -> bool {
+    text.starts_with(b"GAD1") || text.starts_with(b"GAD2")
+}
+
+/// Whether the line of a fault says that a lexicon is that of another list.
+fn is_of_other_list(line: &[u8]) -> bool {
+    line.starts_with(b"bad lexicon: Missing")
+        || line.starts_with(b"bad lexicon: Extra")
+        || line.starts_with(b"bad lexicon: WordCount")
+}
+
+impl fmt::Display for Hint<'_> {
+    fn fmt<W: fmt::Write>(&self, f: &mut fmt::Formatter<W>) -> fmt::Result {
+        match self {
+            Hint::Rack(rack) => write!(f, "{rack}"),
+            Hint::NoRack => write!(f, "the line shows no rack: name one after GAME"),
+            Hint::Missing(text) => {
+                write!(f, "the rules text has no line for ")?;
+                write_missing(text, f)
+            }
+            Hint::Limit(limit) => write!(f, "{limit}"),
+            Hint::OtherList { words, lexicon } => write!(
+                f,
+                "{lexicon} is the lexicon of another list than {words}: make its own by referee build"
+            ),
+            Hint::NoList { words } => write!(
+                f,
+                "{words} is a compiled lexicon and no word list: the two names are the wrong way round"
+            ),
+        }
+    }
+}

@@ -1,0 +1,12 @@
+//! What may help a person beside the line that tells that an input is bad: clauses in plain words.
+#![tactic(auto)]
+
+mod hinting;
+mod items;
+mod limits;
+mod racks;
+
+pub use hinting::{Hint, Known};
+pub use items::Item;
+pub use limits::Limit;
+pub use racks::RackHint;

@@ -1,0 +1,60 @@
+//! Outputs that are inputs of the same command.
+
+use command_line::{GameFiles, Request, STANDARD_INPUT, STANDARD_OUTPUT_NAME};
+use std::rt::Runtime;
+use whole_files::is_same_file;
+
+/// The file that standard input may be.
+const STANDARD_INPUT_FILE: &str = "/dev/stdin";
+
+/// What help calls the first input of a command that is the same file as its output, where there is one.
+pub fn lost_input<R: Runtime>(rt: &R, request: &Request<'_>) -> Option<&'static str> {
+    match request {
+        Request::Build { words, out } => first_lost(rt, out, &[("WORDS", source(words.name))]),
+        Request::Convert { lexicon, out, .. } => first_lost(rt, out, &[("LEXICON", *lexicon)]),
+        Request::Index { lines, out } => first_lost(rt, out, &[("LINES", source(lines))]),
+        Request::Page { files, out } => lost_of_game(rt, out, files),
+        Request::Audit {
+            files,
+            out: Some(out),
+        } => lost_of_game(rt, out, files),
+        _ => None,
+    }
+}
+
+/// The first file of a game that is the same as an output.
+fn lost_of_game<R: Runtime>(rt: &R, out: &str, files: &GameFiles<'_>) -> Option<&'static str> {
+    let inputs = [
+        ("the FILE of --rules", files.rules.unwrap_or("")),
+        ("WORDS", source(files.pair.words.name)),
+        ("LEXICON", files.pair.lexicon),
+        ("GAME", source(files.game)),
+    ];
+    first_lost(rt, out, &inputs)
+}
+
+/// The name of a file that is read where an input is named so: that of standard input may be a file too.
+fn source(name: &str) -> &str {
+    if name == STANDARD_INPUT {
+        STANDARD_INPUT_FILE
+    } else {
+        name
+    }
+}
+
+/// The first of these inputs that is the same file as an output.
+fn first_lost<R: Runtime>(
+    rt: &R,
+    out: &str,
+    inputs: &[(&'static str, &str)],
+) -> Option<&'static str> {
+    if out == STANDARD_OUTPUT_NAME {
+        return None;
+    }
+    for (shown, name) in inputs {
+        if is_same_file(rt, name, out) {
+            return Some(*shown);
+        }
+    }
+    None
+}
