@@ -1,0 +1,62 @@
+-- Where a text has the written score.
+use Rattle.std.proofs.Common.{◌≡◌, ℕ, ℤ, Bool, true, false, List, [], ◌∷◌, All, take, zero, suc, Option, refl, sym, subst}
+use Rattle.std.specs.Prelude.{filter}
+use Rattle.std.proofs.lemmas.List.Elements.{All-append, All-cons, All-nil, All-head, All-tail}
+use Rattle.ref_tiles.specs.declared.tiles.Tile.{Tile}
+use Rattle.ref_tiles.specs.declared.symbols.Symbol.{Symbol}
+use Rattle.ref_tiles.specs.declared.rulebook.Rules.{Rules}
+use Rattle.ref_board.specs.declared.directions.Dir.TheVariants.{Across, Down}
+use Rattle.game_facts.specs.declared.spots.Spot.{Spot}
+use Rattle.game_facts.specs.Spots.{scores_at, spots_along, scoring_along, scoring_spots}
+use Rattle.event_facts.specs.Moments.{Moment}
+use Rattle.event_facts.specs.Elsewhere.{is_listed_at, those_or, places}
+
+-- the elements that pass a test pass it
+passed_one : {X : Type 0} (f : X → Bool) (x : X) (xs : List X) (b : Bool) → f x ≡ b → All (λ y. f y ≡ true) (filter f xs) → All (λ y. f y ≡ true) (filter f (x ∷ xs))
+passed_one f x xs true is rest = rw is (All-cons (λ y. f y ≡ true) x (filter f xs) is rest)
+passed_one f x xs false is rest = rw is rest
+
+all_passed : {X : Type 0} (f : X → Bool) (xs : List X) → All (λ y. f y ≡ true) (filter f xs)
+all_passed f [] = All-nil (λ y. f y ≡ true)
+all_passed f (x ∷ xs) = passed_one f x xs (f x) refl (all_passed f xs)
+
+-- what holds of all holds of those that pass a test, and of the first of them
+kept_one : {X : Type 0} (P : X → Type 0) (f : X → Bool) (x : X) (xs : List X) (b : Bool) → f x ≡ b → P x → All P (filter f xs) → All P (filter f (x ∷ xs))
+kept_one P f x xs true is here rest = rw is (All-cons P x (filter f xs) here rest)
+kept_one P f x xs false is here rest = rw is rest
+
+all_kept : {X : Type 0} (P : X → Type 0) (f : X → Bool) (xs : List X) → All P xs → All P (filter f xs)
+all_kept P f [] all = All-nil P
+all_kept P f (x ∷ xs) all = kept_one P f x xs (f x) refl (All-head P x xs all) (all_kept P f xs (All-tail P x xs all))
+
+first_of : {X : Type 0} (P : X → Type 0) (many : ℕ) (xs : List X) → All P xs → All P (take many xs)
+first_of P zero [] all = All-nil P
+first_of P zero (x ∷ xs) all = All-nil P
+first_of P (suc many) [] all = All-nil P
+first_of P (suc many) (x ∷ xs) all = All-cons P x (take many xs) (All-head P x xs all) (first_of P many xs (All-tail P x xs all))
+
+of_either : (P : Spot → Type 0) (all some : List Spot) → All P all → All P some → All P (those_or all some)
+of_either P all [] first second = first
+of_either P all (spot ∷ spots) first second = second
+
+all_scoring : (rules : Rules) (board : List (Option Tile)) (word : List Symbol) (score : ℤ) → All (λ spot. scores_at rules board word score spot ≡ true) (scoring_spots rules board word score)
+unfolding scoring_along
+all_scoring rules board word score =
+    All-append (λ spot. scores_at rules board word score spot ≡ true) (scoring_along rules board word score Across 225) (scoring_along rules board word score Down 225)
+    (all_passed (scores_at rules board word score) (spots_along Across 225)) (all_passed (scores_at rules board word score) (spots_along Down 225))
+
+all_places : (m : Moment) (word : List Symbol) → All (λ spot. scores_at m.rules m.before.board word m.event.score spot ≡ true) (places m word)
+unfolding places
+all_places m word =
+    let P : Spot → Type 0 = λ spot. scores_at m.rules m.before.board word m.event.score spot ≡ true in
+    let all = scoring_spots m.rules m.before.board word m.event.score in
+    let scoring = all_scoring m.rules m.before.board word m.event.score in
+    of_either P all (filter (is_listed_at m.before.board m.list word) all) scoring (all_kept P (is_listed_at m.before.board m.list word) all scoring)
+
+-- each place that is named has the written score
+pub all_score : (m : Moment) (word : List Symbol) (written : ℤ) (named : List Spot) → written ≡ m.event.score → named ≡ take 3 (places m word)
+    → All (λ spot. scores_at m.rules m.before.board word written spot ≡ true) named
+all_score m word written named is_written is_named =
+    subst (λ (w : ℤ). All (λ spot. scores_at m.rules m.before.board word w spot ≡ true) named) (sym is_written)
+    (subst (λ (spots : List Spot). All (λ spot. scores_at m.rules m.before.board word m.event.score spot ≡ true) spots) (sym is_named)
+    (first_of (λ spot. scores_at m.rules m.before.board word m.event.score spot ≡ true) 3 (places m word) (all_places m word)))

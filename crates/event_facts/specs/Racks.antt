@@ -1,0 +1,170 @@
+-- What is true of racks that cannot be dealt, by the steps of a game.
+use Rattle.std.specs.Prelude.{◌≡◌, ℕ, ◌+◌, ◌<◌, ◌==◌, ◌&&◌, ◌||◌, not, Bool, true, List, [], ◌∷◌, ◌++◌, sum, take, reverse, slice_get, Option, Some, None, if◌then◌else◌}
+use Rattle.std.specs.List.{flat_map, list_any}
+use Rattle.ref_tiles.specs.declared.rulebook.Rules.{Rules}
+use Rattle.ref_tiles.specs.declared.kinds.Kind.{Kind}
+use Rattle.ref_tiles.specs.Counting.{no_tiles, count_of}
+use Rattle.gcg_read.specs.declared.events.Seat.{Seat}
+use Rattle.deal_steps.specs.declared.steps.Motion.{Motion}
+use Rattle.deal_steps.specs.declared.steps.Motion.TheVariants as motion
+use Rattle.deal_steps.specs.declared.steps.Act.{Act}
+use Rattle.deal_steps.specs.declared.steps.Act.TheVariants as act
+use Rattle.deal_steps.specs.declared.steps.Step.{Step}
+use Rattle.deal_steps.specs.declared.known.Known.{Known}
+use Rattle.deal_steps.specs.Piles.{greater, without, joined}
+use Rattle.deal_steps.specs.Steps.{needed, ends_epoch, size_of}
+use Rattle.deal_steps.specs.Bounds.{gone, low_at}
+use Rattle.deal_steps.specs.Knowing.{IsShownAt}
+use Rattle.event_facts.specs.declared.facts.Fact.{Fact}
+use Rattle.event_facts.specs.declared.facts.Fact.TheVariants as fact
+use Rattle.event_facts.specs.declared.facts.RackLine.{RackLine}
+use Rattle.event_facts.specs.declared.facts.KindLine.{KindLine}
+use Rattle.event_facts.specs.declared.facts.ExchangeLine.{ExchangeLine}
+use Rattle.event_facts.specs.declared.facts.Leaving.{Leaving}
+use Rattle.event_facts.specs.declared.facts.Leaving.TheVariants as leaves
+
+-- ---- what the lines show of a rack
+
+-- whose rack a step shows: the mover's, or that of a last rack's holder
+abbrev pub holder_by : Seat → Act → Seat
+holder_by player (act.Turns shown what) = player
+holder_by player (act.TakesBack used) = player
+holder_by player (act.Ends holder tiles) = holder
+holder_by player act.Rests = player
+
+abbrev pub holder_of : Step → Seat
+holder_of s = holder_by s.player s.act
+
+-- which tiles of a rack a turn takes off it: those of a play that stands, and those of an exchange
+abbrev pub leaving_by : Motion → Leaving
+leaving_by motion.Keeps = leaves.Nothing
+leaving_by (motion.Lays used drawn) = leaves.Plays used
+leaving_by (motion.Tries used) = leaves.Nothing
+leaving_by (motion.Throws tiles) = leaves.Exchanges tiles
+leaving_by (motion.ThrowsUnknown n) = leaves.Nothing
+
+abbrev pub leaving : Act → Leaving
+leaving (act.Turns shown what) = leaving_by what
+leaving (act.TakesBack used) = leaves.Nothing
+leaving (act.Ends holder tiles) = leaves.Nothing
+leaving act.Rests = leaves.Nothing
+
+-- the tiles that leave
+abbrev pub left_by : Leaving → List ℕ
+left_by leaves.Nothing = no_tiles
+left_by (leaves.Plays tiles) = tiles
+left_by (leaves.Exchanges tiles) = tiles
+
+abbrev pub rack_line_by : Step → Option (List ℕ) → List RackLine
+rack_line_by s None = []
+rack_line_by s (Some tiles) = if sum tiles == 0 then [] else record { line = s.line; shown = tiles; leaves = leaving s.act } ∷ []
+
+-- what a step shows of a player's rack: the tiles that its line states and those that it uses, and which leave
+abbrev pub rack_line : Seat → Step → List RackLine
+rack_line seat s = rack_line_by s (needed seat s)
+
+-- the same of the steps behind the player's latest exchange of unknown tiles, of a past from the latest step back
+abbrev pub rack_lines : Seat → (past : List Step) → List RackLine
+rack_lines seat [] = []
+rack_lines seat (s ∷ past) = if ends_epoch seat s then [] else rack_lines seat past ++ rack_line seat s
+
+-- What some lines together show that a rack has to hold at the last of them, where it had these tiles before the first: from line to line of
+-- each kind the greater number of what was there and what the line shows, and then what leaves is off.
+abbrev pub together : (known : List ℕ) → List RackLine → List ℕ
+together known [] = known
+together known (l ∷ []) = greater known l.shown
+together known (l ∷ m ∷ lines) = together (without (greater known l.shown) (left_by l.leaves)) (m ∷ lines)
+
+-- A rack would have to hold more tiles than it has: so many as the lines together show, and with those that left it as many as the game's
+-- moments up to the step have shown.
+pub record IsTooBig (steps : List Step) (place : ℕ) (player : Seat) (size : ℕ) (tiles : List ℕ) (lines : List RackLine) : Type 0 where
+  pub step : Step
+  pub there : slice_get steps place ≡ Some step
+  pub of : player ≡ holder_of step
+  pub has : size ≡ size_of step player
+  pub lines_are : lines ≡ rack_lines player (reverse (take place steps)) ++ rack_line player step
+  pub shown : joined tiles (gone player (reverse (take place steps))) ≡ low_at player step (reverse (take place steps))
+  pub adds_up : tiles ≡ together no_tiles lines
+  pub more : size < sum tiles
+
+-- ---- what the lines show of a kind of tile
+
+-- how many tiles of a kind a step puts on the board for good
+abbrev pub laid_by : Kind → Leaving → ℕ
+laid_by kind leaves.Nothing = 0
+laid_by kind (leaves.Plays tiles) = count_of tiles kind
+laid_by kind (leaves.Exchanges tiles) = 0
+
+abbrev pub laid_in_kind : Kind → Step → ℕ
+laid_in_kind kind s = laid_by kind (leaving s.act)
+
+abbrev pub count_in : Kind → Option (List ℕ) → ℕ
+count_in kind None = 0
+count_in kind (Some tiles) = count_of tiles kind
+
+-- how many tiles of a kind a step shows on its holder's rack
+abbrev pub shown_in_kind : Kind → Step → ℕ
+shown_in_kind kind s = count_in kind (needed (holder_of s) s)
+
+-- what a step shows of a kind, where that counts or is played
+abbrev pub kind_line : Kind → (counts : Bool) → Step → List KindLine
+kind_line kind counts s =
+    if shown_in_kind kind s == 0 || not counts && laid_in_kind kind s == 0 then []
+    else record { line = s.line; player = holder_of s; shown = shown_in_kind kind s; played = laid_in_kind kind s } ∷ []
+
+-- The same of steps in their order: a line counts where no exchange of unknown tiles by its holder, its own or a later one, hides what it shows.
+abbrev pub kind_lines : Kind → List Step → List KindLine
+kind_lines kind [] = []
+kind_lines kind (s ∷ later) = kind_line kind (not (list_any (ends_epoch (holder_of s)) (s ∷ later))) s ++ kind_lines kind later
+
+-- ---- exchanges
+
+abbrev pub exchanged_by_motion : Motion → ℕ
+exchanged_by_motion motion.Keeps = 0
+exchanged_by_motion (motion.Lays used drawn) = 0
+exchanged_by_motion (motion.Tries used) = 0
+exchanged_by_motion (motion.Throws tiles) = sum tiles
+exchanged_by_motion (motion.ThrowsUnknown n) = n
+
+-- how many tiles a step exchanges
+abbrev pub exchanged_by : Act → ℕ
+exchanged_by (act.Turns shown what) = exchanged_by_motion what
+exchanged_by (act.TakesBack used) = 0
+exchanged_by (act.Ends holder tiles) = 0
+exchanged_by act.Rests = 0
+
+abbrev pub exchange_line : Step → List ExchangeLine
+exchange_line s = if exchanged_by s.act == 0 then [] else record { line = s.line; player = s.player; tiles = exchanged_by s.act } ∷ []
+
+-- the exchanges among some steps
+abbrev pub exchange_lines : List Step → List ExchangeLine
+exchange_lines steps = flat_map exchange_line steps
+
+-- ---- each fact
+
+-- There would have to be more tiles of a kind than the game has: on the board, and on both racks by what is shown at the step.
+pub record IsShort (rules : Rules) (steps : List Step) (place : ℕ) (kind : Kind) (all many laid first second : ℕ) (lines : List KindLine) : Type 0 where
+  pub step : Step
+  pub there : slice_get steps place ≡ Some step
+  pub known : Known
+  pub shown : IsShownAt steps place known
+  pub has : all ≡ count_of rules.counts kind
+  pub on_board : laid ≡ count_of known.laid kind
+  pub on_first : first ≡ count_of known.first kind
+  pub on_second : second ≡ count_of known.second kind
+  pub adds_up : many ≡ laid + first + second
+  pub more : all < many
+  pub lines_are : lines ≡ kind_lines kind (take place steps) ++ kind_line kind true step
+
+-- the exchanges up to the step at a place, that one included
+pub record AreExchanges (steps : List Step) (place : ℕ) (lines : List ExchangeLine) : Type 0 where
+  pub step : Step
+  pub there : slice_get steps place ≡ Some step
+  pub lines_are : lines ≡ exchange_lines (take place steps) ++ exchange_line step
+
+-- what is true of the racks up to the step at a place
+abbrev pub IsRackTrue : Rules → List Step → (place : ℕ) → Fact → Type 0
+IsRackTrue rules steps place (fact.RackTooBig player size tiles lines) = IsTooBig steps place player size tiles lines.items
+IsRackTrue rules steps place (fact.TilesShort kind all many laid first second lines) = IsShort rules steps place kind all many laid first second lines.items
+IsRackTrue rules steps place (fact.NoDeal exchanges) = AreExchanges steps place exchanges.items
+IsRackTrue rules steps place other = ⊥

@@ -1,0 +1,142 @@
+//! Plays that are taken back or challenged, and their words.
+ghost use Rattle.std.specs.Prelude.{◌≡◌, ◌≤◌, ◌*◌, length, map, IfOk, IfSome, All, OnOk, option_map};
+ghost use Rattle.std.specs.List.{range_with_len};
+ghost use Rattle.game_turns.specs.Checks.{listed_in};
+ghost use Rattle.ref_play.specs.Words.{items_of};
+ghost use Rattle.event_facts.specs.Moments.{moment_of};
+ghost use Rattle.event_facts.specs.Facts.{IsTrue, letters_in, play_before};
+
+use crate::facts::{Fact, Spelled};
+use crate::scenes::Scene;
+use gcg_read::{Event, EventKind, same_seat};
+use lex_list::WordList;
+use ref_play::Word;
+use std::alloc::{AllocError, Global};
+
+/// The words of the play before the event.
+fn words_before(alloc: Global, words: &[Word]) -> Result<Vec<Spelled>, AllocError>
+    ensures { IfOk result (λ kept. letters_in kept.items ≡ items_of words.now) }
+{
+    let mut kept = Vec::new(alloc);
+    for word in words {
+        let letters = Vec::from_slice(alloc, word.as_slice())?;
+        kept.push(Spelled { letters })?;
+    }
+    Ok(kept)
+}
+
+/// The event directly before an event, where that is a play.
+fn play_before<'a>(scene: &Scene<'a>) -> Option<&'a Event>
+    ensures { option_map (λ e. e.now) result ≡ play_before scene.now.past.now }
+{
+    match scene.past.last() {
+        Some(event) if matches!(event.kind, EventKind::Play { .. }) => Some(event),
+        _ => None,
+    }
+}
+
+/// That the words of the play before are all in the list, so that it cannot be taken back.
+pub(crate) fn valid(alloc: Global, scene: &Scene<'_>) -> Result<Option<Fact>, AllocError>
+    ensures { IfOk result (λ fact. IfSome fact (IsTrue (moment_of scene.now))) }
+{
+    let words = words_before(alloc, scene.machine.latest_words())?;
+    match scene.past.last() {
+        None => Ok(None),
+        Some(event) => Ok(Some(Fact::PlayStands {
+            line: event.line,
+            words,
+        })),
+    }
+}
+
+/// That no word of the challenged play is in the list.
+pub(crate) fn phony(alloc: Global, scene: &Scene<'_>) -> Result<Option<Fact>, AllocError>
+    ensures { IfOk result (λ fact. IfSome fact (IsTrue (moment_of scene.now))) }
+{
+    let words = words_before(alloc, scene.machine.latest_words())?;
+    match scene.past.last() {
+        None => Ok(None),
+        Some(event) => Ok(Some(Fact::NoWordListed {
+            line: event.line,
+            words,
+        })),
+    }
+}
+
+/// Why there is no play to be taken back.
+pub(crate) fn nothing_to_withdraw(scene: &Scene<'_>) -> Option<Fact>
+    ensures { IfSome result (IsTrue (moment_of scene.now)) }
+{
+    match play_before(scene) {
+        Some(play) if !same_seat(play.player, scene.event.player) => Some(Fact::OthersPlay {
+            line: play.line,
+            player: scene.event.player,
+            other: play.player,
+        }),
+        Some(_) => None,
+        None => Some(Fact::NothingToTakeBack {
+            is_first: scene.past.is_empty(),
+        }),
+    }
+}
+
+/// Which bonus a challenge gives, or that there is no play to be challenged.
+pub(crate) fn wrong_bonus(alloc: Global, scene: &Scene<'_>) -> Result<Option<Fact>, AllocError>
+    ensures { IfOk result (λ fact. IfSome fact (IsTrue (moment_of scene.now))) }
+{
+    match play_before(scene) {
+        Some(play) if same_seat(play.player, scene.event.player) => bonus(alloc, scene),
+        Some(play) => Ok(Some(Fact::OthersBonus {
+            line: play.line,
+            player: scene.event.player,
+            other: play.player,
+        })),
+        None => Ok(Some(Fact::NothingToChallenge {
+            is_first: scene.past.is_empty(),
+        })),
+    }
+}
+
+/// How many of the words are in the list.
+fn listed_in(list: &WordList, words: &[Word]) -> usize
+    ensures { result ≡ listed_in list.now (items_of words.now) }
+{
+    words
+        .iter()
+        .filter(|word| list.has(word.as_slice()))
+        .count()
+}
+
+/// Which bonus is allowed.
+fn bonus(alloc: Global, scene: &Scene<'_>) -> Result<Option<Fact>, AllocError>
+    ensures { IfOk result (λ fact. IfSome fact (IsTrue (moment_of scene.now))) }
+{
+    let listed = listed_in(scene.list, scene.machine.latest_words());
+    let unit = scene.rules.challenge_unit as usize;
+    let amounts = amounts_of(alloc, unit, listed)?;
+    Ok(Some(Fact::Bonus {
+        unit,
+        listed,
+        amounts,
+        written: scene.event.score.value(),
+    }))
+}
+
+/// The amounts of a bonus for one word, for two, up to a number of words.
+///
+/// It fails where memory runs out, and where an amount is past every number; so many words have no memory either.
+fn amounts_of(alloc: Global, unit: usize, words: usize) -> Result<Vec<usize>, AllocError>
+    ensures { IfOk result (λ amounts. amounts.items ≡ map (λ n. unit * n) (range_with_len 1 words)) }
+{
+    let mut amounts = Vec::new(alloc);
+    let mut amount = 0usize;
+    for k in 0..words {
+        let _ = k;
+        let Some(next) = amount.checked_add(unit) else {
+            return Err(AllocError);
+        };
+        amount = next;
+        amounts.push(amount)?;
+    }
+    Ok(amounts)
+}

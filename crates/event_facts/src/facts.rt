@@ -1,0 +1,383 @@
+//! What is said of a record or of one of its events: facts, each with its numbers, squares, tiles, players and lines.
+
+use game_facts::Spot;
+use gcg_read::Seat;
+use ref_board::{Dir, Square};
+use ref_tiles::{Counts, Kind};
+
+/// A word of a play.
+#[derive(Drop)]
+pub struct Spelled {
+    /// Its letters, capitals A to Z.
+    pub letters: Vec<u8>,
+}
+
+/// Which tiles leave a rack.
+#[derive(Drop)]
+pub enum Leaving {
+    /// None, or none that are known.
+    Nothing,
+    /// A play puts them on the board.
+    Plays(Counts),
+    /// They are exchanged.
+    Exchanges(Counts),
+}
+
+/// What a line shows of a rack.
+#[derive(Drop)]
+pub struct RackLine {
+    /// The line.
+    pub line: u32,
+    /// The tiles that it shows.
+    pub shown: Counts,
+    /// Which of them leave the rack.
+    pub leaves: Leaving,
+}
+
+/// How many tiles of a kind a line shows.
+#[derive(Drop)]
+pub struct KindLine {
+    /// The line.
+    pub line: u32,
+    /// Whose rack it shows.
+    pub player: Seat,
+    /// How many tiles of the kind it shows on the rack.
+    pub shown: usize,
+    /// How many of them it plays.
+    pub played: usize,
+}
+
+/// An exchange.
+#[derive(Drop)]
+pub struct ExchangeLine {
+    /// The line.
+    pub line: u32,
+    /// Who exchanges.
+    pub player: Seat,
+    /// How many tiles.
+    pub tiles: usize,
+}
+
+/// What is said of a record as a whole, or of one event: a sentence each.
+#[derive(Drop)]
+pub enum Fact {
+    /// The record has no event.
+    NoEvent,
+    /// The rules allow every event, and a deal of the tiles gives the players every rack that is shown.
+    Legal,
+    /// The rules allow every event; neither such a deal was found, nor a proof that there is none.
+    Unsettled,
+    /// The rules do not allow an event before this one, so this one was not judged.
+    NotJudged {
+        /// The line of the first event that they do not allow.
+        refused: u32,
+    },
+    /// The rules allow the event.
+    Allowed,
+    /// It is the other player's turn.
+    OthersTurn {
+        /// The player of the event.
+        player: Seat,
+        /// The other player.
+        other: Seat,
+    },
+    /// A player is out, so the last rack has to be on a line of that player.
+    OthersLine {
+        /// The player of the event.
+        player: Seat,
+        /// The player who is out.
+        out: Seat,
+    },
+    /// The game is complete: the last racks are in.
+    Complete,
+    /// A player is out, so there are no more turns; what is missing is the other player's last rack.
+    Out {
+        /// The player who is out.
+        out: Seat,
+        /// The other player.
+        holder: Seat,
+    },
+    /// A player has lost the points of a rack, so there are no more turns; what is missing is the other player's last rack.
+    RackLost {
+        /// The player whose points are lost.
+        player: Seat,
+        /// The other player.
+        holder: Seat,
+    },
+    /// No last rack is due: no player is out, and there were fewer turns without a play that stands than end a game.
+    NoRackDue {
+        /// How many such turns in a row end a game.
+        limit: usize,
+        /// How many there were before the event.
+        turns: usize,
+    },
+    /// A play leaves the board.
+    LeavesBoard {
+        /// Its first square.
+        at: Square,
+        /// Its direction.
+        dir: Dir,
+        /// How many squares it covers.
+        squares: usize,
+        /// How many there are from the first one to the end of the line.
+        room: usize,
+    },
+    /// A play has a dot on an empty square.
+    DotOnEmpty {
+        /// The square.
+        square: Square,
+    },
+    /// A play has another letter than the tile on the square.
+    OtherLetter {
+        /// The square.
+        square: Square,
+        /// The letter of the play, as it is written.
+        written: u8,
+        /// The letter that the tile shows, a capital.
+        shown: u8,
+    },
+    /// Every square of the play already has a tile.
+    NoNewTile,
+    /// A play puts down more tiles than a rack has.
+    ManyTiles {
+        /// How many.
+        tiles: usize,
+    },
+    /// A tile lies directly before a play.
+    TileBefore {
+        /// Its square.
+        square: Square,
+        /// The letter that it shows, a capital.
+        letter: u8,
+    },
+    /// A tile lies directly behind a play.
+    TileAfter {
+        /// Its square.
+        square: Square,
+        /// The letter that it shows, a capital.
+        letter: u8,
+    },
+    /// The line of a play has to name the whole word.
+    NotWhole,
+    /// The first play of a game does not cover 8H.
+    MissesCentre,
+    /// A play makes no word of two letters or more.
+    TooShort,
+    /// No tile of a play touches a tile that is already on the board.
+    Apart,
+    /// What a play scores.
+    PlayScore {
+        /// The right score.
+        right: i32,
+        /// The score that is written.
+        written: i32,
+    },
+    /// What a pass scores.
+    PassScore {
+        /// The right score.
+        right: i32,
+        /// The score that is written.
+        written: i32,
+    },
+    /// What an exchange scores.
+    ExchangeScore {
+        /// The right score.
+        right: i32,
+        /// The score that is written.
+        written: i32,
+    },
+    /// What a withdrawal scores: it takes the points of the play off again.
+    WithdrawalScore {
+        /// The right score.
+        right: i32,
+        /// The score that is written.
+        written: i32,
+    },
+    /// What a last rack scores.
+    LastRackScore {
+        /// The player who gets or loses the points.
+        player: Seat,
+        /// Whether the player is out and gets twice the points; if not, the points are lost.
+        is_doubled: bool,
+        /// The tiles of the rack.
+        tiles: Counts,
+        /// The right score.
+        right: i32,
+        /// The score that is written.
+        written: i32,
+    },
+    /// What any other event scores.
+    OtherScore {
+        /// The right score.
+        right: i32,
+        /// The score that is written.
+        written: i32,
+    },
+    /// The same letters have the written score elsewhere.
+    ElsewhereScore {
+        /// The score that is written.
+        written: i32,
+        /// Where they have it: the first places.
+        spots: Vec<Spot>,
+        /// How many more places there are.
+        others: usize,
+    },
+    /// How a total is made.
+    WrongTotal {
+        /// The player.
+        player: Seat,
+        /// The total before the event.
+        had: i32,
+        /// The score of the event.
+        score: i32,
+        /// Both together.
+        right: i32,
+        /// The total that is written.
+        written: i32,
+    },
+    /// The written total leaves out the score of the event.
+    LeavesOutOwn,
+    /// The written total leaves out the score of an earlier event.
+    LeavesOut {
+        /// Its line.
+        line: u32,
+        /// Its score.
+        score: i32,
+    },
+    /// A penalty for time is a negative multiple of a number of points.
+    TimeStep {
+        /// That number.
+        step: usize,
+        /// The penalty that is written.
+        written: i32,
+    },
+    /// The player already has a penalty for time.
+    SecondTime {
+        /// The player.
+        player: Seat,
+        /// The line of the earlier penalty.
+        line: u32,
+    },
+    /// The play before stands, since each of its words is in the word list.
+    PlayStands {
+        /// The line of the play.
+        line: u32,
+        /// Its words.
+        words: Vec<Spelled>,
+    },
+    /// The challenge of the play before succeeds, since none of its words is in the word list.
+    NoWordListed {
+        /// The line of the play.
+        line: u32,
+        /// Its words.
+        words: Vec<Spelled>,
+    },
+    /// The play before is the other player's, so it cannot be taken back.
+    OthersPlay {
+        /// The line of the play.
+        line: u32,
+        /// The player of the event.
+        player: Seat,
+        /// The player of the play.
+        other: Seat,
+    },
+    /// The play before is the other player's, so its bonus cannot go to the player of the event.
+    OthersBonus {
+        /// The line of the play.
+        line: u32,
+        /// The player of the event.
+        player: Seat,
+        /// The player of the play.
+        other: Seat,
+    },
+    /// No play comes right before the event, so there is nothing to take back.
+    NothingToTakeBack {
+        /// Whether the event is the first.
+        is_first: bool,
+    },
+    /// No play comes right before the event, so there is nothing to challenge.
+    NothingToChallenge {
+        /// Whether the event is the first.
+        is_first: bool,
+    },
+    /// Which bonus a challenge gives.
+    Bonus {
+        /// How many points each challenged word in the list gives.
+        unit: usize,
+        /// How many words of the play are in the list.
+        listed: usize,
+        /// The amounts that are allowed: for one word, for two, up to all of these.
+        amounts: Vec<usize>,
+        /// The bonus that is written.
+        written: i32,
+    },
+    /// A play uses more tiles than its player has.
+    TooManyUsed {
+        /// The player.
+        player: Seat,
+        /// How many tiles the play uses.
+        used: usize,
+        /// How many the player has.
+        has: usize,
+    },
+    /// An exchange is allowed only while the bag has enough tiles.
+    ExchangeRefused {
+        /// How many tiles the bag has.
+        bag: usize,
+        /// How many it has to have.
+        least: usize,
+    },
+    /// An exchange of more tiles than there are.
+    ExchangeSize {
+        /// How many tiles are exchanged.
+        tiles: usize,
+        /// The player.
+        player: Seat,
+        /// How many tiles the player has.
+        has: usize,
+        /// How many the bag has.
+        bag: usize,
+    },
+    /// A last rack of more or fewer tiles than its holder has.
+    LastRackSize {
+        /// How many tiles are shown.
+        shown: usize,
+        /// Whose rack it is.
+        holder: Seat,
+        /// How many tiles that player has.
+        has: usize,
+    },
+    /// A rack would have to hold more tiles than it has.
+    RackTooBig {
+        /// Whose rack it is.
+        player: Seat,
+        /// How many tiles it has.
+        size: usize,
+        /// The tiles that it would have to hold.
+        needed: Counts,
+        /// The lines that show them.
+        lines: Vec<RackLine>,
+    },
+    /// There would have to be more tiles of a kind than the game has.
+    TilesShort {
+        /// The kind.
+        kind: Kind,
+        /// How many the game has.
+        all: usize,
+        /// How many there would have to be.
+        needed: usize,
+        /// How many of these are on the board.
+        laid: usize,
+        /// How many are on the first player's rack.
+        first: usize,
+        /// How many are on the second player's rack.
+        second: usize,
+        /// The lines that show them.
+        lines: Vec<KindLine>,
+    },
+    /// No deal of the tiles gives the players the racks that the lines show.
+    NoDeal {
+        /// The exchanges up to the line.
+        exchanges: Vec<ExchangeLine>,
+    },
+}

@@ -1,0 +1,23 @@
+//! Facts about an event that explain what the rules say of it: each is a value with its numbers, squares, tiles, players and lines; the
+//! words of its play with what each square adds; and the board before it with the squares of the play marked.
+#![tactic(auto)]
+
+mod boards;
+mod challenges;
+mod facts;
+mod play_faults;
+mod racks;
+mod rule_faults;
+mod scenes;
+mod scores;
+mod tiles;
+mod totals;
+mod turns;
+mod words;
+
+pub use boards::{ShownSquare, shown_board};
+pub use facts::{ExchangeLine, Fact, KindLine, Leaving, RackLine, Spelled};
+pub use racks::{no_deal, rack_too_big, tiles_short};
+pub use rule_faults::tell_rule_fault;
+pub use scenes::Scene;
+pub use words::{PlayedSquare, PlayedWord, PlayedWords, ScoredPlay, scored_play};

@@ -1,0 +1,171 @@
+//! A score that is not the right one, and where it would be right.
+ghost use Rattle.std.specs.Prelude.{◌≡◌, ◌-◌, All, OnOk, IfOk, IfSome, Some, take, length, filter};
+ghost use Rattle.gcg_read.specs.declared.events.EventKind.TheVariants as kind;
+ghost use Rattle.game_turns.specs.Checks.{fault_in};
+ghost use Rattle.game_turns.specs.Machines.{state_of};
+ghost use Rattle.game_turns.specs.declared.faults.RuleFault.TheVariants as fault;
+ghost use Rattle.event_facts.specs.Moments.{moment_of};
+ghost use Rattle.event_facts.specs.Facts.{IsTrue};
+ghost use Rattle.event_facts.specs.Elsewhere.{is_listed_at, places};
+
+use crate::facts::Fact;
+use crate::play_faults::tell_some;
+use crate::scenes::{Scene, tell};
+use game_facts::{Spot, scoring_spots};
+use game_turns::{all_listed, legal_play};
+use gcg_read::EventKind;
+use lex_list::WordList;
+use ref_board::{Board, Dir, Square};
+use ref_play::words;
+use ref_tiles::Symbol;
+use std::alloc::{AllocError, Global};
+
+/// How many places are named at the most.
+const NAMED: usize = 3;
+
+/// What an event scores.
+#[tactic(auto, using(crate::proofs::Numbers::score_told))]
+pub(crate) fn score_fact(scene: &Scene<'_>, right: i32) -> Fact
+    requires fails { fault_in scene.now.rules.now scene.now.list.now (state_of scene.now.machine.now) scene.now.event.now ≡ Some (fault.WrongScore right) }
+    ensures { IsTrue (moment_of scene.now) result }
+{
+    let written = scene.event.score.value();
+    match &scene.event.kind {
+        EventKind::Play { .. } => Fact::PlayScore { right, written },
+        EventKind::Pass => Fact::PassScore { right, written },
+        EventKind::Exchange(_) => Fact::ExchangeScore { right, written },
+        EventKind::ExchangeUnknown(_) => Fact::ExchangeScore { right, written },
+        EventKind::Withdraw => Fact::WithdrawalScore { right, written },
+        EventKind::LastRack(tiles) => Fact::LastRackScore {
+            player: scene.event.player,
+            is_doubled: scene.machine.out().is_some(),
+            tiles: *tiles,
+            right,
+            written,
+        },
+        EventKind::Challenge | EventKind::Time => Fact::OtherScore { right, written },
+    }
+}
+
+/// Whether each word that a text forms at a spot is in the word list.
+#[tactic(auto, unfolding(crate::specs::Elsewhere::is_listed_at))]
+fn is_listed_at(board: &Board, list: &WordList, word: &[Symbol], spot: &Spot) -> bool
+    ensures { result ≡ is_listed_at board.now list.now word.now spot.now }
+{
+    match legal_play(board, spot.at, spot.dir, word) {
+        Ok(play) => all_listed(list, &words(board, &play)),
+        Err(_) => false,
+    }
+}
+
+/// The spots at which each word that a text forms is in the word list.
+fn listed_spots(
+    alloc: Global,
+    board: &Board,
+    list: &WordList,
+    word: &[Symbol],
+    spots: &[Spot],
+) -> Result<Vec<Spot>, AllocError>
+    ensures { IfOk result (λ listed. listed.items ≡ filter (is_listed_at board.now list.now word.now) spots.now) }
+{
+    let mut listed = Vec::new(alloc);
+    for spot in spots {
+        if is_listed_at(board, list, word, spot) {
+            listed.push(*spot)?;
+        }
+    }
+    Ok(listed)
+}
+
+/// Where the text of a play has the written score: the spots at which each word is in the word list, where there is one, and else all.
+#[tactic(auto, unfolding(crate::specs::Elsewhere::places))]
+fn places(alloc: Global, scene: &Scene<'_>, word: &[Symbol]) -> Result<Vec<Spot>, AllocError>
+    ensures { IfOk result (λ spots. spots.items ≡ places (moment_of scene.now) word.now) }
+{
+    let board = scene.machine.board();
+    let spots = scoring_spots(alloc, scene.rules, board, word, scene.event.score)?;
+    let listed = listed_spots(alloc, board, scene.list, word, spots.as_slice())?;
+    if listed.is_empty() {
+        return Ok(spots);
+    }
+    Ok(listed)
+}
+
+/// The first of some spots, and how many more there are.
+#[derive(Drop)]
+struct Named {
+    spots: Vec<Spot>,
+    others: usize,
+}
+
+/// The spots that are named.
+fn first_named(alloc: Global, spots: &[Spot]) -> Result<Named, AllocError>
+    ensures { IfOk result (λ n. (n.spots.items ≡ take 3 spots.now) × (n.others ≡ length spots.now - 3)) }
+{
+    let many = spots.len().min(NAMED);
+    Ok(Named {
+        spots: Vec::from_slice(alloc, &spots[..many])?,
+        others: spots.len() - many,
+    })
+}
+
+/// Where the text of a play has the written score, where it has it anywhere.
+#[tactic(auto, using(crate::proofs::Plays::of_play, crate::proofs::Places::all_score))]
+fn elsewhere(
+    alloc: Global,
+    scene: &Scene<'_>,
+    at: Square,
+    dir: Dir,
+    word: &[Symbol],
+) -> Result<Option<Fact>, AllocError>
+    requires { scene.now.event.now.kind ≡ kind.Play at dir word.now }
+    ensures { IfOk result (λ fact. IfSome fact (IsTrue (moment_of scene.now))) }
+{
+    let spots = places(alloc, scene, word)?;
+    if spots.is_empty() {
+        return Ok(None);
+    }
+    let named = first_named(alloc, spots.as_slice())?;
+    Ok(Some(Fact::ElsewhereScore {
+        written: scene.event.score.value(),
+        spots: named.spots,
+        others: named.others,
+    }))
+}
+
+/// Adds where the text of a play has the written score, where it has it anywhere.
+pub(crate) fn tell_elsewhere(
+    alloc: Global,
+    facts: &mut Vec<Fact>,
+    scene: &Scene<'_>,
+    at: Square,
+    dir: Dir,
+    word: &[Symbol],
+) -> Result<(), AllocError>
+    requires told { All (IsTrue (moment_of scene.now)) facts.old.items }
+    requires play { scene.now.event.now.kind ≡ kind.Play at dir word.now }
+    ensures { OnOk result (All (IsTrue (moment_of scene.now)) facts.new.items) }
+{
+    let fact = elsewhere(alloc, scene, at, dir, word)?;
+    tell_some(facts, scene, fact)
+}
+
+/// Adds what an event scores, and of a play where it would score what is written.
+pub(crate) fn tell_score(
+    alloc: Global,
+    facts: &mut Vec<Fact>,
+    scene: &Scene<'_>,
+    right: i32,
+) -> Result<(), AllocError>
+    requires told { All (IsTrue (moment_of scene.now)) facts.old.items }
+    requires fails { fault_in scene.now.rules.now scene.now.list.now (state_of scene.now.machine.now) scene.now.event.now ≡ Some (fault.WrongScore right) }
+    ensures { OnOk result (All (IsTrue (moment_of scene.now)) facts.new.items) }
+{
+    tell(facts, scene, score_fact(scene, right))?;
+    match &scene.event.kind {
+        EventKind::Play { at, dir, word } => {
+            tell_elsewhere(alloc, facts, scene, *at, *dir, word.as_slice())
+        }
+        _ => Ok(()),
+    }
+}

@@ -1,0 +1,84 @@
+//! Events with more tiles than there are.
+ghost use Rattle.std.specs.Prelude.{◌≡◌, IfSome};
+ghost use Rattle.event_facts.specs.Moments.{moment_of};
+ghost use Rattle.event_facts.specs.Facts.{IsTrue, exchanged, holder_at};
+
+use crate::facts::Fact;
+use crate::scenes::Scene;
+use game_facts::new_tiles;
+use gcg_read::{EventKind, Seat};
+
+/// How many tiles a play uses, and how many its player has.
+#[tactic(auto, using(crate::proofs::Plays::of_play))]
+pub(crate) fn too_many_used(scene: &Scene<'_>) -> Option<Fact>
+    ensures { IfSome result (IsTrue (moment_of scene.now)) }
+{
+    let EventKind::Play { at, dir, word } = &scene.event.kind else {
+        return None;
+    };
+    let used = new_tiles(scene.machine.board(), *at, *dir, word.as_slice())?;
+    Some(Fact::TooManyUsed {
+        player: scene.event.player,
+        used,
+        has: scene.machine.rack_size(scene.event.player),
+    })
+}
+
+/// How many tiles the bag has, and how many an exchange needs.
+pub(crate) fn exchange_refused(scene: &Scene<'_>) -> Option<Fact>
+    ensures { IfSome result (IsTrue (moment_of scene.now)) }
+{
+    Some(Fact::ExchangeRefused {
+        bag: scene.machine.bag_size(),
+        least: scene.rules.exchange_min as usize,
+    })
+}
+
+/// How many tiles an event exchanges.
+fn exchanged(kind: &EventKind) -> usize
+    ensures { result ≡ exchanged kind.now }
+{
+    match kind {
+        EventKind::Exchange(tiles) => tiles.total(),
+        EventKind::ExchangeUnknown(many) => *many as usize,
+        _ => 0,
+    }
+}
+
+/// How many tiles are exchanged, and how many there are.
+pub(crate) fn exchange_size(scene: &Scene<'_>) -> Option<Fact>
+    ensures { IfSome result (IsTrue (moment_of scene.now)) }
+{
+    Some(Fact::ExchangeSize {
+        tiles: exchanged(&scene.event.kind),
+        player: scene.event.player,
+        has: scene.machine.rack_size(scene.event.player),
+        bag: scene.machine.bag_size(),
+    })
+}
+
+/// Whose last rack an event shows: the other player's once the player is out, and else the own.
+fn holder(scene: &Scene<'_>) -> Seat
+    ensures { result ≡ holder_at (moment_of scene.now) }
+{
+    match scene.machine.out() {
+        Some(out) => out.other(),
+        None => scene.event.player,
+    }
+}
+
+/// How many tiles a last rack shows, and how many its holder has.
+#[tactic(auto, using(crate::proofs::Plays::of_last_rack))]
+pub(crate) fn last_rack_size(scene: &Scene<'_>) -> Option<Fact>
+    ensures { IfSome result (IsTrue (moment_of scene.now)) }
+{
+    let EventKind::LastRack(tiles) = &scene.event.kind else {
+        return None;
+    };
+    let holder = holder(scene);
+    Some(Fact::LastRackSize {
+        shown: tiles.total(),
+        holder,
+        has: scene.machine.rack_size(holder),
+    })
+}

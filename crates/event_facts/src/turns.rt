@@ -1,0 +1,75 @@
+//! Whose turn it is, and whether there are any more.
+ghost use Rattle.std.specs.Prelude.{IfSome};
+ghost use Rattle.event_facts.specs.Moments.{moment_of};
+ghost use Rattle.event_facts.specs.Facts.{IsTrue};
+
+use crate::facts::Fact;
+use crate::scenes::Scene;
+use gcg_read::{EventKind, Seat};
+
+/// On whose line a last rack has to be.
+fn others_line(scene: &Scene<'_>) -> Option<Fact>
+    ensures { IfSome result (IsTrue (moment_of scene.now)) }
+{
+    let out = scene.machine.out()?;
+    Some(Fact::OthersLine {
+        player: scene.event.player,
+        out,
+    })
+}
+
+/// Whose turn it is, or on whose line a last rack has to be.
+pub(crate) fn not_your_turn(scene: &Scene<'_>) -> Option<Fact>
+    ensures { IfSome result (IsTrue (moment_of scene.now)) }
+{
+    if matches!(scene.event.kind, EventKind::LastRack(_)) {
+        return others_line(scene);
+    }
+    Some(Fact::OthersTurn {
+        player: scene.event.player,
+        other: scene.event.player.other(),
+    })
+}
+
+/// That a player has lost the points of a rack, where that is so.
+fn rack_lost(scene: &Scene<'_>, player: Seat) -> Option<Fact>
+    ensures { IfSome result (IsTrue (moment_of scene.now)) }
+{
+    if !scene.machine.has_ended(player) {
+        return None;
+    }
+    Some(Fact::RackLost {
+        player,
+        holder: player.other(),
+    })
+}
+
+/// Why there are no more turns, and what is missing.
+pub(crate) fn game_over(scene: &Scene<'_>) -> Option<Fact>
+    ensures { IfSome result (IsTrue (moment_of scene.now)) }
+{
+    if scene.machine.finished() {
+        return Some(Fact::Complete);
+    }
+    if let Some(out) = scene.machine.out() {
+        return Some(Fact::Out {
+            out,
+            holder: out.other(),
+        });
+    }
+    let player = scene.event.player;
+    if scene.machine.has_ended(player) {
+        return rack_lost(scene, player);
+    }
+    rack_lost(scene, player.other())
+}
+
+/// Why no last rack is due.
+pub(crate) fn not_over(scene: &Scene<'_>) -> Option<Fact>
+    ensures { IfSome result (IsTrue (moment_of scene.now)) }
+{
+    Some(Fact::NoRackDue {
+        limit: scene.rules.zero_limit as usize,
+        turns: scene.machine.idle_turns(),
+    })
+}

@@ -1,0 +1,36 @@
+-- What the line of an event tells of its best play, by the value of it.
+use Rattle.std.proofs.Common.{ℕ, ℤ, List, ◌∷◌, ◌++◌, codes, refl, ap, ◌∙◌, Option, Some, None}
+use Rattle.std.specs.Fmt.{signed_decimal}
+use Rattle.ref_tiles.specs.declared.tiles.Tile.{Tile}
+use Rattle.ref_tiles.specs.declared.rulebook.Rules.{Rules}
+use Rattle.ref_play.specs.Notations.{Written, notation_of}
+use Rattle.game_report.specs.BestPlays.{full_rack, notation_text, TellsByRack}
+use Rattle.event_notes.specs.declared.bests.TurnBest.{TurnBest}
+use Rattle.event_notes.specs.declared.bests.TurnBest.TheVariants as best
+use Rattle.event_notes.specs.Bests.{IsBestBy, IsBestByRack}
+use Rattle.event_notes.specs.Tellings.{best_told, BestsAreTold}
+
+told_by : (rules : Rules) (list : List (List ℕ)) (board : List (Option Tile)) (rack : List ℕ) (gave : ℤ) (b : TurnBest) → IsBestBy rules list board rack gave b
+    → TellsByRack rules list board (Some rack) (best_told b)
+told_by rules list board rack gave best.NoTurn is = absurd is
+told_by rules list board rack gave best.NotShown is = absurd is
+told_by rules list board rack gave best.NoPlay is = (None, is, refl)
+told_by rules list board rack gave (best.Best b) is =
+    let given = is.0 in (
+      Some given,
+      is.1,
+      ap (λ (w : Written). codes " best " ++ notation_text w ++ 32 ∷ signed_decimal b.score) is.2.notation
+          ∙ ap (λ (n : ℤ). codes " best " ++ notation_text (notation_of board given.tiles) ++ 32 ∷ signed_decimal n) is.2.score,
+    )
+
+told_by_rack : (rules : Rules) (list : List (List ℕ)) (board : List (Option Tile)) (gave : ℤ) (rack : Option (List ℕ)) (b : TurnBest) → IsBestByRack rules list board gave rack b
+    → TellsByRack rules list board rack (best_told b)
+told_by_rack rules list board gave None b is = ap best_told is
+told_by_rack rules list board gave (Some rack) b is = told_by rules list board rack gave b is
+
+pub tells_best : BestsAreTold
+tells_best rules list s e gave b is =
+    record {
+      judged = λ turn. told_by_rack rules list s.board gave (full_rack s e) b (is.turn turn);
+      silent = λ idle. ap best_told (is.idle idle);
+    }

@@ -1,0 +1,3 @@
+pub mod Bests
+pub mod Tellings
+pub mod Unlisted

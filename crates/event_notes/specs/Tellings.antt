@@ -1,0 +1,24 @@
+-- What the line of an event tells of its best play, by the value of it.
+use Rattle.std.specs.Prelude.{ℕ, ℤ, List, [], ◌∷◌, ◌++◌, codes}
+use Rattle.std.specs.Fmt.{signed_decimal}
+use Rattle.ref_tiles.specs.declared.rulebook.Rules.{Rules}
+use Rattle.ref_play.specs.Notations.{written}
+use Rattle.gcg_read.specs.declared.events.Event.{Event}
+use Rattle.game_turns.specs.Tallies.{State}
+use Rattle.game_report.specs.BestPlays.{notation_text, TellsBest}
+use Rattle.event_notes.specs.declared.bests.TurnBest.{TurnBest}
+use Rattle.event_notes.specs.declared.bests.TurnBest.TheVariants as best
+use Rattle.event_notes.specs.Bests.{IsTurnBest}
+
+-- what a line tells of the best play
+abbrev pub best_told : TurnBest → List ℕ
+best_told best.NoTurn = []
+best_told best.NotShown = codes " best -"
+best_told best.NoPlay = codes " best none"
+best_told (best.Best b) = codes " best " ++ notation_text (written b.written) ++ 32 ∷ signed_decimal b.score
+
+-- ---- laws
+
+-- What is told by the value of a best play is what the line of the event tells.
+abbrev pub BestsAreTold : Type 0
+BestsAreTold = (rules : Rules) (list : List (List ℕ)) (s : State) (e : Event) (gave : ℤ) (b : TurnBest) → IsTurnBest rules list s e gave b → TellsBest rules list s e (best_told b)

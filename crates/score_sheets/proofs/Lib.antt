@@ -1,0 +1,4 @@
+pub mod WalkRows
+pub mod SheetRows
+pub mod BoardSteps
+pub mod SameTurns

@@ -1,0 +1,4 @@
+pub mod Pictures
+pub mod Boards
+pub mod Rows
+pub mod Sheets

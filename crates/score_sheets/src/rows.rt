@@ -1,0 +1,218 @@
+//! The rows of a score sheet.
+ghost use Rattle.std.specs.Prelude.{◌≡◌, ◌<◌, ℕ, List, Some, length, slice_get, IfOk, OnOk};
+ghost use Rattle.std.specs.Option.{option_copied};
+ghost use Rattle.ref_tiles.specs.declared.rulebook.Rules.{Rules};
+ghost use Rattle.gcg_read.specs.declared.events.Event.{Event};
+ghost use Rattle.lex_check.specs.Pairs.{list_in};
+ghost use Rattle.game_notes.specs.Following.{Follows};
+ghost use Rattle.game_rows.specs.Walks.{IsWalk};
+ghost use Rattle.score_sheets.specs.Rows.{should_be, numbers_behind, HasNumbersAt, IsBeforeAt, IsBestAt, IsNotedAt, IsSheetRowAt, AreSheetRows};
+
+use crate::boards::is_taken_back;
+use event_notes::{SpelledWord, TurnBest, best_of_turn, unlisted_of};
+use game_notes::Follow;
+use game_rows::{Numbers, Row, Stop, Walk};
+use game_turns::{Machine, legal_play};
+use gcg_read::{Event, EventKind, Points};
+use lex_check::Checked;
+use lex_list::WordList;
+use ref_tiles::Rules;
+use std::alloc::{AllocError, Global};
+
+/// What a score sheet says of an event beside its line.
+#[derive(Drop)]
+pub struct SheetRow {
+    /// What the score should be, where it is not that.
+    pub score: Option<Points>,
+    /// What the total should be, where it is not that.
+    pub total: Option<Points>,
+    /// What is said of the best play, where the rules allow the events before with their right numbers.
+    pub best: Option<TurnBest>,
+    /// Whether the rules allow the event and those before it with their right numbers.
+    pub allowed: bool,
+    /// The words of a play that stands which are not in the list, where the event is allowed.
+    pub unlisted: Vec<SpelledWord>,
+    /// Whether the next event takes it back.
+    pub taken_back: bool,
+}
+
+/// What a number should be, where it is not that.
+fn should_be(written: Points, right: Points) -> Option<Points>
+    ensures { result ≡ should_be written right }
+{
+    if written.value() == right.value() {
+        None
+    } else {
+        Some(right)
+    }
+}
+
+/// The row of a walk at a place.
+#[tactic(auto, using(crate::proofs::WalkRows::copied_row))]
+fn row_there(walk: &Walk, place: usize) -> Option<&Row>
+    ensures { option_copied result ≡ slice_get walk.now.rows.items place }
+{
+    walk.rows.as_slice().get(place)
+}
+
+/// The numbers of an event that a walk has no row for: those that it is refused with, where the walk stops at it, and else its own.
+fn numbers_behind(stopped: &Option<Stop>, is_next: bool, event: &Event) -> Numbers
+    ensures { result ≡ numbers_behind stopped.now is_next event.now }
+{
+    match (stopped, is_next) {
+        (Some(stop), true) => stop.numbers,
+        _ => Numbers {
+            score: event.score,
+            total: event.total,
+        },
+    }
+}
+
+/// The score and the total that the event at a place should have; its own where the rules do not say.
+fn right_numbers(walk: &Walk, place: usize, event: &Event) -> Numbers
+    ensures { (rules : Rules) (list : List (List ℕ)) (written right : List Event) → IsWalk rules list written right walk.now
+        → slice_get written place ≡ Some event.now → HasNumbersAt right place result }
+{
+    match row_there(walk, place) {
+        Some(row) => row.right,
+        None => {
+            let rows = walk.rows.as_slice();
+            numbers_behind(&walk.stopped, place == rows.len(), event)
+        }
+    }
+}
+
+/// The game before the event at a place, where the rules allow those before it with their right numbers.
+fn game_before(walk: &Walk, place: usize) -> Option<&Machine>
+    ensures { (rules : Rules) (list : List (List ℕ)) (written right : List Event) → IsWalk rules list written right walk.now
+        → place < length written → IsBeforeAt rules list right place result }
+{
+    if place == 0 {
+        return Some(&walk.start);
+    }
+    match row_there(walk, place - 1) {
+        Some(row) => Some(&row.behind),
+        None => None,
+    }
+}
+
+/// What is said of the best play of the event at a place, whose score should be this one.
+fn best_at(
+    rules: &Rules,
+    pair: &Checked<'_>,
+    walk: &Walk,
+    follow: &Follow,
+    place: usize,
+    event: &Event,
+    gave: Points,
+) -> Option<TurnBest>
+    requires { Follows rules.now (list_in pair.now) follow.now }
+    ensures { (written right : List Event) → IsWalk rules.now (list_in pair.now) written right walk.now
+        → place < length written → IsBestAt rules.now (list_in pair.now) right place event.now gave result }
+{
+    match game_before(walk, place) {
+        Some(machine) => { Some(best_of_turn(rules, pair, machine, follow, event, gave.value())) }
+        None => None,
+    }
+}
+
+/// What is noted of an event behind it.
+#[derive(Drop)]
+struct Noted {
+    /// Whether it and those before it are allowed.
+    allowed: bool,
+    /// The words of a play that stands which are not in the list.
+    unlisted: Vec<SpelledWord>,
+}
+
+/// What is noted of the event at a place, behind it.
+fn noted_at(alloc: Global, list: &WordList, walk: &Walk, place: usize) -> Result<Noted, AllocError>
+    ensures { IfOk result (λ noted. (rules : Rules) (written right : List Event) → IsWalk rules list.now written right walk.now
+        → place < length written → IsNotedAt rules list.now right place noted.allowed noted.unlisted.items) }
+{
+    let Some(row) = row_there(walk, place) else {
+        return Ok(Noted {
+            allowed: false,
+            unlisted: Vec::new(alloc),
+        });
+    };
+    let unlisted = unlisted_of(alloc, list, row.behind.standing_words())?;
+    Ok(Noted {
+        allowed: true,
+        unlisted,
+    })
+}
+
+/// The row of the event at a place.
+fn row_at(
+    alloc: Global,
+    rules: &Rules,
+    pair: &Checked<'_>,
+    events: &[Event],
+    walk: &Walk,
+    follow: &Follow,
+    place: usize,
+) -> Result<SheetRow, AllocError>
+    requires place { place < length events.now }
+    requires follows { Follows rules.now (list_in pair.now) follow.now }
+    ensures { IfOk result (λ row. (right : List Event) → IsWalk rules.now (list_in pair.now) events.now right walk.now
+        → IsSheetRowAt rules.now (list_in pair.now) events.now right place row) }
+{
+    let event = &events[place];
+    let right = right_numbers(walk, place, event);
+    let best = best_at(rules, pair, walk, follow, place, event, right.score);
+    let noted = noted_at(alloc, pair.list(), walk, place)?;
+    Ok(SheetRow {
+        score: should_be(event.score, right.score),
+        total: should_be(event.total, right.total),
+        best,
+        allowed: noted.allowed,
+        unlisted: noted.unlisted,
+        taken_back: is_taken_back(events, place),
+    })
+}
+
+/// Lays the play of an event on the board that follows, where it is one that stands and can be laid.
+fn follow_play(
+    rules: &Rules,
+    pair: &Checked<'_>,
+    event: &Event,
+    taken_back: bool,
+    follow: &mut Follow,
+)
+    requires { Follows rules.now (list_in pair.now) follow.old }
+    ensures { Follows rules.now (list_in pair.now) follow.new }
+{
+    if taken_back {
+        return;
+    }
+    let EventKind::Play { at, dir, word } = &event.kind else {
+        return;
+    };
+    if let Ok(play) = legal_play(follow.board(), *at, *dir, word.as_slice()) {
+        follow.apply(rules, pair, &play);
+    }
+}
+
+/// The rows of a score sheet, one for each event in order, by a walk over the events.
+///
+/// It fails only where memory runs out.
+pub fn rows_of(
+    alloc: Global,
+    rules: &Rules,
+    pair: &Checked<'_>,
+    events: &[Event],
+    walk: &Walk,
+) -> Result<Vec<SheetRow>, AllocError>
+    ensures { IfOk result (λ rows. (right : List Event) → IsWalk rules.now (list_in pair.now) events.now right walk.now
+        → AreSheetRows rules.now (list_in pair.now) events.now right (length events.now) rows.items) }
+{
+    let mut follow = Follow::new(rules, pair);
+    let mut rows = Vec::new(alloc);
+    for place in 0..events.len() {
+        let row = row_at(alloc, rules, pair, events, walk, &follow, place)?;
+        follow_play(rules, pair, &events[place], row.taken_back, &mut follow);
+        rows.push(row)?;
+    }
+    Ok(rows)
+}

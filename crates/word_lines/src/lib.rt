@@ -1,0 +1,8 @@
+//! The lines of a text that are words of a list: word lists with other lines among the words.
+#![tactic(auto)]
+
+mod lines;
+mod reading;
+
+pub use lines::Others;
+pub use reading::WordLines;
