@@ -1,11 +1,11 @@
 #!/usr/bin/env bash
 # Proves the program and leaves it as crates/referee/out/referee: extra/prove.sh [PROCESSORS [CRATE]]
 #
-# The program's crates are proved side by side, on all processors or on so many, each crate once those below it are. That is what `rt run`
-# proves in crates/referee, which takes one crate after the other; tests and the edits that must fail are tried by the gate, `.ci/run`.
-# A line tells of each crate when it is proved, with how many are left. Where one is not, crates that do not stand on it are still proved,
-# then its name and the end of what the prover said are printed, and the status is 1. What is proved is kept in out/ of its crate: after a change,
-# or where this was stopped, the next run goes on from there. With CRATE that crate is proved, and those below it.
+# It copies the crates that the program stands on, without the edits that must fail, and has `rt ci` prove the copy: crates side by side, on all
+# processors or on so many, each crate once those below it are. A line tells of each crate when it is proved. Tests and edits are tried by the
+# gate, `.ci/run`. What is proved is kept on this machine by the checksums of all that was read, as the gate keeps it: after a change, or where
+# this was stopped, the next run goes on from there, and the gate takes it from there. Where a crate is not proved, what the prover said of
+# it is printed, and the status is 1. With CRATE that crate is proved, and those below it.
 set -u
 cd "$(dirname "$0")/.." || exit 2
 processors=${1:-$(nproc)}
@@ -36,39 +36,36 @@ want "$top"
 
 room=$(mktemp -d) || exit 2
 trap 'rm -rf "$room"' EXIT
-
-# Reads what rt prints: of each crate that has ended `== NAME` and what the prover said, and last `== summary` and a line for each crate.
-tell() {
-    local line name=rt ended=0
-    while IFS= read -r line; do
-        if [[ $line = "== "* ]]; then
-            name=${line#== }
-            ended=$((ended + 1))
-        elif [[ $line = logic=proved* ]]; then
-            echo "$name is proved after $((SECONDS / 60)) min, $((${#wanted[@]} - ended)) of ${#wanted[@]} crates are left"
-        elif [[ $line = logic=not-proved* ]]; then
-            echo "$name is NOT PROVED; crates that do not stand on it go on"
-        fi
-        echo "$line" >> "$room/$name"
+mkdir -p "$room/copy/crates"
+cp HANDLES "$room/copy"
+for name in "${!wanted[@]}"; do
+    echo "$name:${uses[$name]}" >> "$room/copy/crates.txt"
+    mkdir "$room/copy/crates/$name"
+    for part in src specs proofs args status stdin stdout data; do
+        [ ! -e "crates/$name/$part" ] || cp -r "crates/$name/$part" "$room/copy/crates/$name"
     done
-}
-
-# Tells of each crate that failed; of rt itself, where it came to none.
-tell_failures() {
-    local name
-    for name in $(sed -n 's/^\([a-z_]*\): failed.*/\1/p' "$room/summary" 2> /dev/null || echo rt); do
-        echo "extra/prove.sh: $name FAILED. The end of what was said of it:"
-        tail -n 20 "$room/$name"
-    done
-} >&2
+done
+git init -q "$room/copy"
 
 echo "${#wanted[@]} crates are to be proved, $processors at a time"
-(cd "crates/$top" && rt all check --jobs "$processors") 2>&1 | tell
+# Shows which crates are proved, and keeps all that was said.
+show() {
+    local line done=0
+    while IFS= read -r line; do
+        echo "$line" >> "$room/said"
+        [[ $line =~ ^rt:\ ([a-z_]+)\ (proved|is\ kept) ]] || continue
+        done=$((done + 1))
+        echo "${BASH_REMATCH[1]} ${BASH_REMATCH[2]}, $done of ${#wanted[@]}, after $((SECONDS / 60)) min"
+    done
+}
+(cd "$room/copy" && RT_JOBS=$processors exec rt ci) 2>&1 | show
 if [ "${PIPESTATUS[0]}" != 0 ]; then
-    tell_failures
+    echo "extra/prove.sh: not all is proved. What was said beside that something is:" >&2
+    grep -vE '^statements |: proved|modules loaded|^rt: .* (proved|is kept)|^empty contracts' "$room/said" | tail -n 60 >&2
     exit 1
 fi
 if [ "$top" = referee ]; then
-    (cd crates/referee && rt run -- --version > /dev/null) || exit 1
+    mkdir -p crates/referee/out
+    cp "$room/copy/crates/referee/out/referee" crates/referee/out/referee || exit 1
     echo "crates/referee/out/referee is proved and built, after $((SECONDS / 60)) min"
 fi

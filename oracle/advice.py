@@ -6,7 +6,7 @@ from explains import record_text
 from records import Fault, number, read
 
 BOM = b"\xef\xbb\xbf"
-SETTLE = b"unsettled: `judge --settle` searches for a deal that yields the racks\n"
+SETTLE = b"referee: unsettled: `judge --settle` searches for a deal that yields the racks\n"
 BLANK = re.compile(b"[ \t]+")
 INDENTED = "its lines begin with blanks before the >"
 OTHER = "no line begins with >"

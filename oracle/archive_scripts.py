@@ -59,12 +59,12 @@ class Scripts:
         (folder / "bin" / "referee").symlink_to(Path(program).resolve())
         self.lines = folder / "lines.tsv"
 
-    def run(self, heading, number=0):
-        """Runs a script of a section, and gives what it printed."""
+    def run(self, heading, number=0, error=""):
+        """Runs a script of a section, which says nothing on standard error unless that is given, and gives what it printed."""
         more = {**os.environ, "PATH": f"{self.folder}/bin:{os.environ['PATH']}"}
         words = ["bash", "-c", self.scripts[heading][number]]
         ran = subprocess.run(words, cwd=self.folder, env=more, capture_output=True, text=True, check=False, timeout=600)
-        self.expect(ran.stderr == "", heading, ran.stderr)
+        self.expect(ran.stderr == error, heading, ran.stderr)
         return ran.stdout
 
     def expect(self, good, *what):
@@ -88,7 +88,7 @@ class Scripts:
         whole = self.lines.read_bytes()
         for cut in (0, 1, len(whole) // 2, len(whole) - 1, len(whole), whole.index(b"back") + 10):
             self.lines.write_bytes(whole[:cut])
-            self.run("Going on after a stop")
+            self.go_on()
             self.compare(f"Going on after a stop at {cut}")
         self.lines.unlink()
         self.run("All cores of one machine")
@@ -102,6 +102,16 @@ class Scripts:
         self.expect(admitted == [tab_line(it).split("\t")[0] for it in wanted], "admitted", admitted)
         left = (self.folder / "left_out.tsv").read_text().splitlines()
         self.expect(len(admitted) + len(left) == len(first), "left out", len(left))
+
+    def go_on(self):
+        """Goes on after a stop: where the last line is a part, the program says so and leaves it, and it is dropped first."""
+        left = self.lines.read_bytes()
+        if left and not left.endswith(b"\n"):
+            number = left.count(b"\n") + 1
+            self.run("Going on after a stop", error=f"referee: lines.tsv ends with part of line {number}: drop that part, and run this again\n")
+            self.expect(self.lines.read_bytes() == left, "lines behind a part")
+            self.run("Going on after a stop", 1)
+        self.run("Going on after a stop")
 
     def several_machines(self):
         if shutil.which("parallel") is None:

@@ -32,16 +32,22 @@ def taken(game, event, following, listed):
             event = other
 
 
-def corrected(events, listed, rules=ENGLISH):
-    """The events with the right numbers, up to the first that is refused for something else, and whether none is."""
+def corrected_to(events, listed, rules=ENGLISH):
+    """The events with the right numbers, up to the first that is refused for something else, and its place, or None where none is."""
     game, right = Game(rules), []
     for place, event in enumerate(events):
         following = events[place + 1] if place + 1 < len(events) else None
         game, event, allowed = taken(game, event, following, listed)
         right.append(event)
         if not allowed:
-            return right + events[place + 1 :], False
-    return right, True
+            return right + events[place + 1 :], place
+    return right, None
+
+
+def corrected(events, listed, rules=ENGLISH):
+    """The events with the right numbers, up to the first that is refused for something else, and whether none is."""
+    right, stop = corrected_to(events, listed, rules)
+    return right, stop is None
 
 
 def last_totals(events):

@@ -119,7 +119,7 @@ BAD = {  # what is said of the first fault of a file that is no record
     "returns-alone": "referee: returns-alone line 1: There are more than 5 fields after the colon, but an event has 3 to 5."
     " (its lines end in CR alone, and not in LF or CR LF)",
 }
-SETTLE = "unsettled: `judge --settle` searches for a deal that yields the racks"
+SETTLE = "referee: unsettled: `judge --settle` searches for a deal that yields the racks"
 FOURTEEN = with_counts(lambda kind, count: "AADEEINORRSTTW".count(kind))
 WORD = ">A: DORWAAE 8E WORD +16 16\n"
 PASSES = "".join(f">{'AB'[k % 2]}: - +0 0\n" for k in range(6))
@@ -130,6 +130,7 @@ BY_HAND = "\ufeff#title Final, table 3\r\n#player1 A  Ann  Lee \r\n>A:\tDORWAAE 
 OTHERS = "\t\r\n\r\n>A: - +0 016"
 
 TEXTS = {
+    "people": "\ufeffAT\r\nit's\n\nAT 4\nA\nABCDEFGHIJKLMNOP\n# it\nit",
     "by-hand": f"{BY_HAND}>B: AT 9G AT +10 +010{OTHERS}",
     "word": "WORD\n",
     "at": "AT\n",
@@ -769,6 +770,60 @@ def fielded(run):
         run.row(words, 64, error=None)
 
 
+def skipped(run):
+    """`--skip-others`, of every command that reads WORDS, and with `--first-field`, which comes before it."""
+    told = 'referee: {}: lines that are no words, passed over: {}; the first is line {}, "{}"'
+    plain, fielded = told.format("people", 5, 2, "it's"), told.format("people", 3, 2, "it's")
+    run.row(["build", "--skip-others", "people", "out"], 0, error=plain, wrote=AT_IT_FILE)
+    run.row(["build", "--skip-others", "--first-field", "people", "out"], 0, error=fielded, wrote=AT_IT_FILE)
+    run.row(["check", "--skip-others", "people", "it-at.gad"], 0, "ok 2\n", error=plain)
+    run.row(["check", "--skip-others", "-", "it-at.gad"], 0, "ok 2\n", error=told.format("standard input", 5, 2, "it's"), stdin=TEXTS["people"])
+    run.row(["check", "--skip-others", "it-at", "it-at.gad"], 0, "ok 2\n", error="")
+    run.row(["check", "--json", "--skip-others", "people", "it-at.gad"], 0, refusal("ok", words=2), error=plain)
+    run.row(["top", "--json", "--skip-others", "people", "it-at.gad", "nothing", "A1"], 3, refusal("bad rack"), error="")
+    run.row(["top", "--json", "--skip-others", "people", "it-at.gad", "with-blank", "--before", "9"], 3, refusal("bad line"), error=plain)
+    run.row(["check", "people", "it-at.gad"], 3, "bad word list line 2: BadLetter\n")
+    run.row(["check", "--skip-others", "people", "nowhere"], 4, error="referee: cannot open nowhere: no such file")
+    for command, out in (("judge", "legal unfinished\n1 A - +0 0 best 8G At 2\n"), ("audit", "legal unfinished\n"), ("explain", f"legal unfinished\n{STANDS}"),
+                         ("archive", "with-blank\tlegal\tunfinished\t-\t-\t1\tA\t0\t-\t-\t0\n")):
+        run.row([command, "--skip-others", "people", "it-at.gad", "with-blank"], 0, None if command == "judge" else out, error=plain)
+    run.row(["page", "--skip-others", "people", "it-at.gad", "with-blank", "out"], 0, "legal unfinished\n", error=plain)
+    run.row(["top", "--skip-others", "people", "it-at.gad", "nothing", "?A"], 0, "8G At 2\n8H At 2\nH7 At 2\nH8 At 2\n", error=plain)
+    for words in (["tidy", "--skip-others", "line"], ["convert", "--skip-others", "gad2", "at.gad", "out"], ["board", "--skip-others", "line"],
+                  ["check", "--skip-others", "--skip-others", "at", "at.gad"]):
+        run.row(words, 64, error=None)
+
+
+def words_ruled(run):
+    """`word`: the answer is for all words together, and with `--each` a line a word."""
+    at, both = ["at", "at.gad"], ["it-at", "it-at.gad"]
+    for words in (["AT"], ["at"], ["aT", "At", "AT"]):
+        run.row(["word", *at, *words], 0, "acceptable\n", error="")
+        run.row(["word", "--each", *at, *words], 0, "AT acceptable\n" * len(words), error="")
+    run.row(["word", *both, "it", "at"], 0, "acceptable\n")
+    for words in (["IT"], ["at", "it"], ["it", "at"], ["ABCDEFGHIJKLMNO"], ["TA"], ["ATA"]):
+        run.row(["word", *at, *words], 1, "not acceptable\n", error="")
+    run.row(["word", "--each", *at, "it", "At", "ta"], 1, "IT not acceptable\nAT acceptable\nTA not acceptable\n", error="")
+    for bad in ("A", "", "ABCDEFGHIJKLMNOP", "A1", "A T", "it's", "\u00e9t\u00e9"):
+        for more in ([], ["--each"]):
+            run.row(["word", *more, "nowhere", "at.gad", "at", bad, "1"], 3, "bad word\n", error=f'referee: "{bad}" is no word of 2 to 15 letters')
+    run.row(["word", "digit", "at.gad", "at"], 3, "bad word list line 2: BadLetter\n")
+    run.row(["word", "it-at", "at.gad", "at"], 3, "bad lexicon: Missing I+T\n", error=None)
+    run.row(["word", "at", "nowhere", "at"], 4, error="referee: cannot open nowhere: no such file")
+    run.row(["word", "folder", "at.gad", "at"], 4, error="referee: read failed: folder: is a folder")
+    run.row(["word", "-", "at.gad", "at"], 0, "acceptable\n", stdin="AT\n")
+    Path(run.folder, "scored").write_text("# of a club\nAT 2\nIT\t2 a pronoun\n")
+    run.row(["word", "--first-field", "scored", "it-at.gad", "it"], 0, "acceptable\n")
+    run.row(["word", "--skip-others", "people", "it-at.gad", "it"], 0, "acceptable\n",
+            error='referee: people: lines that are no words, passed over: 5; the first is line 2, "it\'s"')
+    for words in ([], ["at"], ["--loud", *at, "at"], ["--rules", "english.rules", *at, "at"]):
+        run.row(["word", *words], 64, error=None)
+    run.row(["word", *at], 64, error=None)
+    run.row(["word", "--each", "--each", *at, "at"], 64, error=None)
+    if os.path.exists("/dev/full"):
+        run.row(["word", *at, "at"], 4, error="referee: write failed: standard output: no space left, error 28 of the system", stdout="/dev/full")
+
+
 def unreadable(run):
     """Standard input that cannot be read is named so."""
     folder = os.open(run.folder, os.O_RDONLY)
@@ -1062,7 +1117,7 @@ def archived_again(run):
         run.row(["archive", "--skip", "done", "word", "word.gad", "--", "line", "line"], 0, lines[0] * 2 if done == 0 else "")
         part = lines[done][:-1] if done < len(names) else "x"
         Path(run.folder, "done").write_text("".join(lines[:done]) + part)
-        run.row(["archive", "-0", "--skip", "done", *null], status, left, error=f"referee: done ends with part of line {done + 1}, which does not count")
+        run.row(["archive", "-0", "--skip", "done", *null], 3, error=f"referee: done ends with part of line {done + 1}: drop that part, and run this again")
     Path(run.folder, "done").write_text(lines[0] + "line\n")
     run.row(["archive", "--skip", "done", "word", "word.gad", "turn"], 3, error="referee: done line 2 is not a line of an archive")
     run.row(["archive", "--skip", "nowhere", "word", "word.gad", "line"], 4, error="referee: cannot open nowhere: no such file")
@@ -1424,6 +1479,122 @@ def hinted(run):
     run.row(["check", "-", "it-at.gad"], 3, "bad lexicon: Extra I\n", error=other.format("it-at.gad", "standard input"), stdin="AT\n")
 
 
+def refusal(verdict, line=None, fault=None, **more):
+    """The object of an answer that is no report."""
+    return json.dumps({"verdict": verdict, "line": line, "fault": fault} | more, separators=(",", ":")) + "\n"
+
+
+def in_json(run):
+    """`judge`, `audit`, `explain`, `top`, `board` and `check` with `--json`: one object, whatever happened."""
+    run.row(["check", "--json", "at", "at.gad"], 0, refusal("ok", words=1))
+    run.row(["check", "--json", "at", "extra.gad"], 3, refusal("bad lexicon", fault={"name": "Extra", "path": "A"}))
+    run.row(["check", "--json", "it-at", "at.gad"], 3, refusal("bad lexicon", fault={"name": "Missing", "path": "I+T"}))
+    run.row(["check", "--json", "digit", "folder"], 3, refusal("bad word list", 2, {"name": "BadLetter"}))
+    run.row(["judge", "--json", "long-list", "at.gad", "line"], 3, refusal("bad word list", fault={"name": "TooLong"}))
+    run.row(["judge", "--json", "word", "word.gad", "third"], 3, refusal("bad record", 3, {"name": "ThirdPlayer"}))
+    run.row(["judge", "--json", "--rules", "line", "word", "word.gad", "line"], 3, refusal("bad rules", 1, {"name": "Unknown"}))
+    player = '{"nick":%s,"name":null,"left":%s}'
+    start = '{"line":1,"player":1,"nick":"A","rack":"AADEORW","kind":"play","place":"8E","direction":"across","text":"WORD",'
+    legal = f'{start}"word":"WORD","tiles":"WORD","number":null,"score":16,"total":16,"turn":"best play",'
+    best = '"best":{"place":"8E","direction":"across","text":"WORD","score":16,"more":0},"unlisted":[]}'
+    head = '{"verdict":"legal","line":null,"fault":null,"ending":"unfinished","players":'
+    both = f'[{player % (chr(34) + "A" + chr(34), 0)},{player % ("null", 0)}]'
+    for more in ([], ["--settle"]):
+        run.row(["judge", "--json", *more, "word", "word.gad", "line"], 0, f'{head}{both},"events":[{legal}{best}]}}\n')
+    head = '{"verdict":"illegal","line":1,"fault":{"name":"WrongScore","expected":16},"ending":null,"players":'
+    both = f'[{player % (chr(34) + "A" + chr(34), "null")},{player % ("null", "null")}]'
+    wrong = f'{start}"word":null,"tiles":null,"number":null,"score":18,"total":18,"turn":null,"best":null,"unlisted":null}}'
+    run.row(["judge", "--json", "word", "word.gad", "line-18"], 1, f'{head}{both},"events":[{wrong}]}}\n')
+    told = lambda words: json.loads(subprocess.run([run.program, *words], cwd=run.folder, capture_output=True, check=False).stdout)
+    game = told(["judge", "--json", "word-at-ra", "word-at-ra.gad", "withdrawn"])
+    run.expect("the tiles of a play and of its withdrawal", [event["tiles"] for event in game["events"]] == ["WORD", "AT", "AT", "AT"])
+    run.expect("the words that are not listed", [event["unlisted"] for event in game["events"]] == [[], [], [], ["DT"]])
+    game = told(["judge", "--json", "at", "at.gad", "with-blank"])
+    run.expect("a best play with a blank", game["events"][0]["best"] == {"place": "8G", "direction": "across", "text": "At", "score": 2, "more": 2})
+    run.expect("what the best play would have given more", [player["left"] for player in game["players"]] == [2, 0])
+    game = told(["judge", "--json", "at", "at.gad", "big-rack"])
+    run.expect("racks that no deal yields", [game["verdict"], game["line"], game["fault"]] == ["illegal", 3, {"name": "RackTooBig"}])
+    run.expect("no report beside an object", told(["judge", "--json", "word", "word.gad", "one-q"])["verdict"] == "unsettled")
+    run.row(["judge", "--json", "word", "word.gad", "nowhere"], 4, refusal("cannot open", file="nowhere"), error="referee: cannot open nowhere: no such file")
+    run.row(["judge", "--json", "word", "folder", "line"], 4, refusal("read failed", file="folder"), error="referee: read failed: folder: is a folder")
+    run.row(["check", "--json", "at", "nowhere"], 4, refusal("cannot open", file="nowhere"), error="referee: cannot open nowhere: no such file")
+    if os.path.exists("/dev/full"):
+        run.row(["check", "--json", "at", "at.gad"], 4, error="referee: write failed: standard output: no space left, error 28 of the system", stdout="/dev/full")
+    run.row(["check", "--json", "--json", "at", "at.gad"], 64, error=None)
+    audit = ["audit", "--json", "word", "word.gad"]
+    keys = '{"verdict":"%s","line":%s,"fault":%s,"ending":%s,"players":[{"nick":"A","name":null},{"nick":null,"name":null}],"wrong":[%s]}\n'
+    event = '"line":1,"player":1,"nick":"A","kind":"play","place":"8E","direction":"across","text":"WORD"'
+    score, total = f'{{"wrong":"score",{event},"written":18,"sum":null,"right":16}}', '"kind":null,"place":null,"direction":null,"text":null'
+    last = f'{{"wrong":"last total","line":null,"player":1,"nick":"A",{total},"written":%d,"sum":null,"right":16}}'
+    good = ("legal", "null", "null", '"unfinished"')
+    run.row([*audit, "line"], 0, keys % (*good, ""))
+    run.row([*audit, "line-18"], 1, keys % (*good, f"{score},{last % 18}"))
+    run.row([*audit, "score-and-sum"], 1, keys % (*good, f'{score},{{"wrong":"sum",{event},"written":19,"sum":18,"right":16}},{last % 19}'))
+    game = told([*audit, "sum-then-turn"])
+    run.expect("a sum before the line at which the correction stops", [game["wrong"][0][key] for key in ("written", "sum", "right")] == [15, 16, 16])
+    run.expect("a sum on that line", [game["wrong"][1][key] for key in ("line", "kind", "written", "sum", "right")] == [2, "time", 4, 0, None])
+    run.expect("no last total without a correction", [it["wrong"] for it in game["wrong"]] == ["sum", "sum"] and game["line"] == 2)
+    run.row([*audit, "nothing"], 3, '{"verdict":"no game","line":null,"fault":null,"ending":null,"players":[%s,%s],"wrong":[]}\n' % (('{"nick":null,"name":null}',) * 2))
+    run.row([*audit, "third"], 3, refusal("bad record", 3, {"name": "ThirdPlayer"}))
+    run.row([*audit, "nowhere"], 4, refusal("cannot open", file="nowhere"), error="referee: cannot open nowhere: no such file")
+    run.row([*audit, "--corrected", "out", "line"], 64, error=None)
+    top, at = ["top", "--json"], ["at", "at.gad"]
+    play = '{"place":"%s","direction":"%s","text":"%s","score":2}'
+    plays = ",".join(play % it for it in (("8G", "across", "At"), ("8H", "across", "At"), ("H7", "down", "At"), ("H8", "down", "At")))
+    both = '{"verdict":"ok","line":null,"fault":null,"rack":"A?","plays":[%s]}\n'
+    run.row([*top, *at, "nothing", "?A"], 0, both % plays)
+    run.row([*top, "--number", "1", *at, "nothing", "?A"], 0, both % (play % ("8G", "across", "At")))
+    run.row([*top, *at, "nothing", "ZZ"], 0, '{"verdict":"ok","line":null,"fault":null,"rack":"ZZ","plays":[]}\n')
+    run.row([*top, *at, "nothing", "A1"], 3, refusal("bad rack"))
+    run.row([*top, *at, "nowhere", "A1"], 4, refusal("cannot open", file="nowhere"), error="referee: cannot open nowhere: no such file")
+    run.row([*top, "--before", "9", *at, "with-blank"], 3, refusal("bad line"))
+    run.row([*top, "word", "word.gad", "line-18", "A"], 1, refusal("illegal", 1, {"name": "WrongScore", "expected": 16}))
+    run.row([*top, "digit", "folder", "line", "A"], 3, refusal("bad word list", 2, {"name": "BadLetter"}))
+    run.row([*top, *at, "third", "A"], 3, refusal("bad record", 3, {"name": "ThirdPlayer"}))
+    board = told(["board", "--json", "line"])
+    run.expect("the keys of a board", list(board) == ["verdict", "line", "fault", "before", "rows", "players", "rack", "off_board"])
+    run.expect("a row of a board", board["rows"][7] == "=..'WORD...'..=" and len(board["rows"]) == 15)
+    run.expect("the tiles that are not on the board", board["off_board"]["number"] == 96 and board["off_board"]["kinds"][3] == {"tile": "D", "number": 3})
+    run.expect("the totals of a board", [player["total"] for player in board["players"]] == [16, 0])
+    board = told(["board", "--json", "--before", "1", "line"])
+    run.expect("the board before a line", [board["before"], board["rack"], board["rows"][7]] == [1, "AADEORW", "=..'...-...'..="])
+    run.row(["board", "--json", "--before", "9", "line"], 3, refusal("bad line"))
+    run.row(["board", "--json", "third"], 3, refusal("bad record", 3, {"name": "ThirdPlayer"}))
+    run.row(["board", "--json", "--rules", "line", "line"], 3, refusal("bad rules", 1, {"name": "Unknown"}))
+    run.row(["board", "--json", "nowhere"], 4, refusal("cannot open", file="nowhere"), error="referee: cannot open nowhere: no such file")
+    run.row(["board", "--json", "folder"], 4, refusal("read failed", file="folder"), error="referee: read failed: folder: is a folder")
+    explained_in_json(run, told)
+
+
+def explained_in_json(run, told):
+    """`explain --json`: facts, words and the board as values."""
+    said = told(["explain", "--json", "word", "word.gad", "line-18"])
+    keys = ["verdict", "line", "fault", "ending", "explained", "text", "facts", "play", "board", "unknown_since"]
+    run.expect("the keys of an explanation", list(said) == keys)
+    run.expect("what is explained", [said["line"], said["explained"], said["text"]] == [1, 1, ">A: DORWAAE 8E WORD +18 18"])
+    run.expect("a wrong score as a fact", said["facts"] == [{"name": "PlayScore", "right": 16, "written": 18}])
+    word = said["play"]["words"][0]
+    run.expect("a word and its sum", [word[key] for key in ("word", "listed", "sum", "factor", "score")] == ["WORD", True, 8, 2, 16])
+    first = {"square": "8E", "tile": "W", "new": True, "points": 4, "premium": None, "factor": 1, "adds": 4}
+    run.expect("a square of a word", word["squares"][0] == first and [it["adds"] for it in word["squares"]] == [4, 1, 1, 2])
+    run.expect("the score of a play", [said["play"]["bonus"], said["play"]["score"]] == [None, 16])
+    run.expect("the squares of a play", said["board"]["marked"] == ["8E", "8F", "8G", "8H"] and said["board"]["rows"][7] == "=..'...-...'..=")
+    said = told(["explain", "--json", "word", "word.gad", "line-8d"])
+    centre, spots = {"name": "MissesCentre"}, [{"square": square, "direction": "across"} for square in ("8E", "8F", "8G")]
+    run.expect("other places as a fact", said["facts"] == [centre, {"name": "ElsewhereScore", "written": 16, "places": spots, "more_places": 5}])
+    said = told(["explain", "--json", "word", "word.gad", "blanks"])
+    lines = [{"line": 1, "player": 1, "number_shown": 2, "number_played": 0}, {"line": 2, "player": 2, "number_shown": 1, "number_played": 0}]
+    short = {"name": "TilesShort", "tile": "?", "number": 3, "limit": 2, "on_board": 0, "on_racks": [2, 1], "lines": lines}
+    run.expect("tiles that are short as a fact", said["facts"] == [short] and said["play"] is None)
+    said = told(["explain", "--json", "word", "word.gad", "line"])
+    run.expect("a legal record as a whole", [said["verdict"], said["explained"], said["facts"], said["board"]] == ["legal", None, [{"name": "Legal"}], None])
+    run.row(["explain", "--json", "word", "word.gad", "line", "9"], 3, refusal("bad line"))
+    run.row(["explain", "--json", "word", "word.gad", "nothing"], 3, refusal("no game"), error="")
+    run.row(["explain", "--json", "word", "word.gad", "third"], 3, refusal("bad record", 3, {"name": "ThirdPlayer"}))
+    run.row(["explain", "--json", "digit", "folder", "line"], 3, refusal("bad word list", 2, {"name": "BadLetter"}))
+    run.row(["explain", "--json", "word", "word.gad", "nowhere"], 4, refusal("cannot open", file="nowhere"), error="referee: cannot open nowhere: no such file")
+
+
 def helped(run):
     """Help and the version, on standard output. The text of help is not fixed, but there is some."""
     run.row(["--version"], 0, "referee 1.0.0\nrecords: GCG\nword lists: one word a line\nlexicons: GAD1, GAD2\n")
@@ -1431,7 +1602,7 @@ def helped(run):
     run.row(["rules"], 0, ENGLISH_RULES)
     for words in (["help"], ["--help"], ["-h"], ["judge", "--help"], ["judge", "-h"], ["help", "help"]):
         run.row(words, 0, None)
-    for command in ("judge", "archive", "audit", "explain", "page", "board", "build", "check", "convert", "top", "tidy", "rules"):
+    for command in ("judge", "archive", "audit", "explain", "page", "board", "build", "check", "word", "convert", "top", "tidy", "rules"):
         run.row(["help", command], 0, None)
         run.row([command, "--help"], 0, None)
     if os.path.exists("/dev/full"):
@@ -1462,7 +1633,7 @@ def main():
     with tempfile.TemporaryDirectory() as folder:
         files(folder)
         run = Runner(os.path.abspath(sys.argv[1]), folder)
-        for part in (judged, settled, built_and_checked, converted, topped, topped_before, ruled, tidied, boarded, widest, from_standard_input, fielded, archived, audited, explained, paged, put_out, overwritten, hinted, broken, helped, misused):
+        for part in (judged, settled, built_and_checked, converted, topped, topped_before, ruled, tidied, boarded, widest, from_standard_input, fielded, skipped, words_ruled, archived, audited, explained, paged, in_json, put_out, overwritten, hinted, broken, helped, misused):
             part(run)
         if sys.argv[2:] == ["large"]:
             converted_large(run)

@@ -1,1 +1,3 @@
 pub mod ReadBack
+pub mod ToldNumbers
+pub mod Answering

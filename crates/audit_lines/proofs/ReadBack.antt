@@ -12,7 +12,6 @@ use Rattle.game_sheets.specs.Corrections.{IsRenumbered, AreRenumbered, HasPoints
 use Rattle.game_sheets.specs.Auditing.{IsAudited}
 use Rattle.game_sheets.proofs.Numbers.{same_event}
 use Rattle.engine.specs.declared.audits.Audit.{Audit}
-use Rattle.engine.specs.Auditing.{IsAuditOfRecord}
 use Rattle.audit_lines.specs.Corrected.{IsReadBack}
 
 -- the events of an audit are those that are written, with other numbers

@@ -1,3 +1,4 @@
+pub mod Refusals
 pub mod Readings
 pub mod Giving
 pub mod Deciding

@@ -1,5 +1,6 @@
 pub mod Telling
 pub mod Reports
+pub mod InputFaults
 pub mod Lexicons
 pub mod Reading
 pub mod Sparing

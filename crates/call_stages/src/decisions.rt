@@ -1,7 +1,9 @@
 //! A verdict with its report.
-ghost use Rattle.std.specs.Prelude.{IfOk};
+ghost use Rattle.std.specs.Prelude.{◌≡◌, IfOk, is_some};
+ghost use Rattle.call_stages.specs.InputFaults.{input_verdict, input_line, is_bad_input, verdict_with, report_with};
 ghost use Rattle.call_stages.specs.Telling.{IsTold};
 
+use crate::input_faults::{InputFault, input_line, input_verdict};
 use crate::verdicts::Verdict;
 use std::alloc::{AllocError, Global};
 
@@ -12,14 +14,24 @@ pub struct Decision {
     pub verdict: Verdict,
     /// The bytes that report it.
     pub report: Vec<u8>,
+    /// What is wrong with an input, exactly where the verdict is that one is bad; then the report is the line that tells it.
+    pub fault: Option<InputFault>,
+    pub ghost bad: { is_bad_input verdict ≡ is_some fault },
+    pub ghost verdict_is: { verdict ≡ verdict_with fault verdict },
+    pub ghost report_is: { report.items ≡ report_with fault report.items },
 }
 
 impl Decision {
-    /// A verdict that is told by one line, whatever the inputs are.
-    pub fn told(alloc: Global, verdict: Verdict, line: &[u8]) -> Result<Decision, AllocError>
-        ensures { IfOk result (λ d. IsTold verdict line.now d.verdict d.report.items) }
+    /// The verdict that an input is bad, which tells what is wrong with it.
+    #[tactic(auto, using(crate::proofs::Refusals::each_is_bad))]
+    pub fn refused(alloc: Global, fault: InputFault) -> Result<Decision, AllocError>
+        ensures { IfOk result (λ d. IsTold (input_verdict fault) (input_line fault) d.verdict d.report.items) }
     {
-        let report = Vec::from_slice(alloc, line)?;
-        Ok(Decision { verdict, report })
+        let report = input_line(alloc, &fault)?;
+        Ok(Decision {
+            verdict: input_verdict(&fault),
+            report,
+            fault: Some(fault),
+        })
     }
 }

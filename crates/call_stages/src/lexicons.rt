@@ -9,9 +9,8 @@ ghost use Rattle.call_stages.specs.Stages.{IsRead, IsPairOf};
 
 use crate::decisions::Decision;
 use crate::faults::RunFault;
-use crate::reports::bad_file_line;
+use crate::input_faults::InputFault;
 use crate::transfers::read_text;
-use crate::verdicts::Verdict;
 use devices::Input;
 use lex_check::{Checked, Mismatch, Path, pair};
 use lex_file::{FileFault, LexFile, MAX_FILE_BYTES};
@@ -60,22 +59,18 @@ pub fn read_lexicon<L: Input>(alloc: Global, lexicon: &mut L) -> Result<Vec<u8>,
 }
 
 /// The verdict that names a fault.
-pub fn bad_file(alloc: Global, fault: &LexiconFault) -> Result<Decision, AllocError>
-    ensures { IfOk result (λ d. IsRefusedFile fault.now d) }
+pub fn bad_file(alloc: Global, fault: LexiconFault) -> Result<Decision, AllocError>
+    ensures { IfOk result (λ d. IsRefusedFile fault d) }
 {
-    let report = bad_file_line(alloc, fault)?;
-    Ok(Decision {
-        verdict: Verdict::BadFile,
-        report,
-    })
+    Decision::refused(alloc, InputFault::Lexicon(fault))
 }
 
 /// The verdict that names a fault, in place of a list and a lexicon.
 fn refused<'a>(
     alloc: Global,
-    fault: &LexiconFault,
+    fault: LexiconFault,
 ) -> Result<Result<Checked<'a>, Decision>, AllocError>
-    ensures { IfOk result (λ read. IsRefusedPair fault.now read) }
+    ensures { IfOk result (λ read. IsRefusedPair fault read) }
 {
     let decision = bad_file(alloc, fault)?;
     Ok(Err(decision))
@@ -92,13 +87,13 @@ pub fn pair_file<'a>(
 {
     let file = match open_within(bytes) {
         Ok(file) => file,
-        Err(first) => return refused(alloc, &LexiconFault::Form(first)),
+        Err(first) => return refused(alloc, LexiconFault::Form(first)),
     };
     match pair(alloc, list, file) {
         Ok(checked) => Ok(Ok(checked)),
-        Err(Mismatch::Missing(path)) => refused(alloc, &LexiconFault::Missing(path)),
-        Err(Mismatch::Extra(path)) => refused(alloc, &LexiconFault::Extra(path)),
-        Err(Mismatch::WordCount) => refused(alloc, &LexiconFault::WordCount),
+        Err(Mismatch::Missing(path)) => refused(alloc, LexiconFault::Missing(path)),
+        Err(Mismatch::Extra(path)) => refused(alloc, LexiconFault::Extra(path)),
+        Err(Mismatch::WordCount) => refused(alloc, LexiconFault::WordCount),
         Err(Mismatch::NoMemory) => Err(AllocError),
     }
 }

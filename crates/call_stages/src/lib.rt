@@ -14,6 +14,7 @@
 mod decisions;
 mod doors;
 mod faults;
+mod input_faults;
 mod lexicons;
 mod meanings;
 mod questions;
@@ -27,6 +28,7 @@ pub use deal_search::Earlier;
 pub use decisions::Decision;
 pub use doors::ask;
 pub use faults::RunFault;
+pub use input_faults::{InputFault, input_line, input_verdict};
 pub use lexicons::{LexiconFault, bad_file, open_within, pair_file, read_lexicon};
 pub use meanings::{
     game_from, list_from, read_list, read_record, read_rules, record_from, rules_from,
@@ -34,8 +36,8 @@ pub use meanings::{
 pub use questions::{Answer, Given, Question};
 pub use records::{AskedGame, GameQuestion, decide_by_pair};
 pub use reports::{
-    bad_file_line, bad_list_line, bad_record_line, bad_rules_line, fault_text, illegal_line,
-    legal_line, ok_line, unsettled_line,
+    bad_file_line, bad_line_line, bad_list_line, bad_rack_line, bad_record_line, bad_rules_line,
+    fault_text, illegal_line, legal_line, ok_line, too_many_arcs_line, unsettled_line,
 };
 pub use rules_sources::{KnownRules, RulesInput, RulesSource};
 pub use transfers::{finish, read_text};

@@ -11,9 +11,8 @@ ghost use Rattle.call_stages.specs.Telling.{IsTold};
 
 use crate::decisions::Decision;
 use crate::faults::RunFault;
-use crate::reports::{bad_list_line, bad_record_line, bad_rules_line};
+use crate::input_faults::InputFault;
 use crate::transfers::read_text;
-use crate::verdicts::Verdict;
 use devices::Input;
 use gcg_read::{ReadFault, Record, Why};
 use lex_list::{ListFault, ListWhy, WordList};
@@ -24,11 +23,7 @@ use std::alloc::{AllocError, Global};
 fn bad_list(alloc: Global, fault: &ListFault) -> Result<Decision, AllocError>
     ensures { IfOk result (λ d. IsTold verdict.BadList (reports.bad_list_line fault.now) d.verdict d.report.items) }
 {
-    let report = bad_list_line(alloc, fault)?;
-    Ok(Decision {
-        verdict: Verdict::BadList,
-        report,
-    })
+    Decision::refused(alloc, InputFault::Words(*fault))
 }
 
 /// The word list of a text, or the verdict that it is none.
@@ -68,11 +63,7 @@ pub fn read_list<W: Input>(
 fn bad_rules(alloc: Global, fault: &RulesFault) -> Result<Decision, AllocError>
     ensures { IfOk result (λ d. IsTold verdict.BadRules (reports.bad_rules_line fault.now) d.verdict d.report.items) }
 {
-    let report = bad_rules_line(alloc, fault)?;
-    Ok(Decision {
-        verdict: Verdict::BadRules,
-        report,
-    })
+    Decision::refused(alloc, InputFault::Rules(*fault))
 }
 
 /// The rules of a text, or the verdict that it states none.
@@ -109,11 +100,7 @@ pub fn read_rules<R: Input>(
 fn bad_record(alloc: Global, fault: &ReadFault) -> Result<Decision, AllocError>
     ensures { IfOk result (λ d. IsTold verdict.BadRecord (reports.bad_record_line fault.now) d.verdict d.report.items) }
 {
-    let report = bad_record_line(alloc, fault)?;
-    Ok(Decision {
-        verdict: Verdict::BadRecord,
-        report,
-    })
+    Decision::refused(alloc, InputFault::Game(*fault))
 }
 
 /// The record of a text, or its first fault.

@@ -3,7 +3,7 @@ ghost use Rattle.std.specs.Prelude.{◌≡◌, ◌++◌, ◌∷◌, [], OnOk, If
 ghost use Rattle.std.specs.Fmt.{signed_decimal};
 ghost use Rattle.ref_tiles.specs.Kinds.{kind_byte};
 ghost use Rattle.lex_check.specs.Checks.{symbol_of};
-ghost use Rattle.call_stages.specs.Reports.{rule_text, fault_text, line_text, illegal_line, unsettled_line, bad_record_line, bad_rules_line, bad_list_line, lexicon_text, bad_file_line, ok_line, legal_line};
+ghost use Rattle.call_stages.specs.Reports.{rule_text, fault_text, line_text, illegal_line, unsettled_line, bad_record_line, bad_rules_line, bad_list_line, lexicon_text, bad_file_line, too_many_arcs_line, bad_rack_line, bad_line_line, ok_line, legal_line};
 
 use crate::lexicons::LexiconFault;
 use crate::verdicts::GameFault;
@@ -176,6 +176,30 @@ pub fn bad_file_line(alloc: Global, fault: &LexiconFault) -> Result<Vec<u8>, All
     push_lexicon_fault(&mut text, fault)?;
     text.extend_from_slice(b"\n")?;
     Ok(text)
+}
+
+/// The line that a lexicon would have more arcs, or words, than its format can number.
+#[tactic(auto, unfolding(crate::specs::Reports::too_many_arcs_line))]
+pub fn too_many_arcs_line(alloc: Global) -> Result<Vec<u8>, AllocError>
+    ensures { IfOk result (λ text. text.items ≡ too_many_arcs_line) }
+{
+    Vec::from_slice(alloc, b"bad lexicon: TooManyArcs\n")
+}
+
+/// `bad rack`.
+#[tactic(auto, unfolding(crate::specs::Reports::bad_rack_line))]
+pub fn bad_rack_line(alloc: Global) -> Result<Vec<u8>, AllocError>
+    ensures { IfOk result (λ text. text.items ≡ bad_rack_line) }
+{
+    Vec::from_slice(alloc, b"bad rack\n")
+}
+
+/// The line that no event stands on the line that was asked for, or after it.
+#[tactic(auto, unfolding(crate::specs::Reports::bad_line_line))]
+pub fn bad_line_line(alloc: Global) -> Result<Vec<u8>, AllocError>
+    ensures { IfOk result (λ text. text.items ≡ bad_line_line) }
+{
+    Vec::from_slice(alloc, b"bad line: no event is on it or after it\n")
 }
 
 /// `ok N`, the number of words.

@@ -13,6 +13,8 @@ pub enum Form {
     Last,
     /// All words at the end.
     Several,
+    /// All words at the end, of which the command needs one.
+    SomeNeeded,
     /// An option without a value.
     Flag,
     /// An option without a value, which has a letter or a digit too.
@@ -59,6 +61,10 @@ impl Argument {
             Form::Needed => argument.required(true),
             Form::Last => argument,
             Form::Several => argument.action(ArgAction::Append).num_args(1..),
+            Form::SomeNeeded => argument
+                .required(true)
+                .action(ArgAction::Append)
+                .num_args(1..),
             Form::Flag => argument.long(self.id).action(ArgAction::SetTrue),
             Form::Letter(letter) => argument
                 .short(letter)

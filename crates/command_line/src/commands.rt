@@ -24,6 +24,9 @@ pub const PROGRAM: &str = "referee 1.0.0";
 /// The name of the option by which the first field of each line of a word list is read.
 pub const FIRST_FIELD: &str = "first-field";
 
+/// The name of the option by which lines of a word list that are no words are passed over.
+pub const SKIP_OTHERS: &str = "skip-others";
+
 /// How many best plays may be asked for.
 pub const MOST_PLAYS: u32 = 100;
 
@@ -134,6 +137,15 @@ const FIRST_FIELD_OPTION: Argument = flag!(
     None
 );
 
+/// The answer of a command as an object.
+const JSON: Argument = flag!("json", "write the answer as a JSON object", None);
+
+const SKIP_OTHERS_OPTION: Argument = flag!(
+    SKIP_OTHERS,
+    "pass over the lines of WORDS that are no words of 2 to 15 letters",
+    None
+);
+
 /// What help says behind the arguments of a command: an example, and the exit statuses, of which every command has the last two.
 macro_rules! behind {
     ($example:literal, $heading:literal, $($status:literal),+) => {
@@ -150,7 +162,7 @@ macro_rules! behind {
 }
 
 /// The commands, in the order in which help shows them.
-const COMMANDS: [CommandRow; 13] = [
+const COMMANDS: [CommandRow; 14] = [
     JUDGE,
     ARCHIVE,
     INDEX,
@@ -159,6 +171,7 @@ const COMMANDS: [CommandRow; 13] = [
     PAGE,
     BUILD,
     CHECK,
+    WORD,
     CONVERT,
     TOP,
     TIDY,
@@ -166,7 +179,7 @@ const COMMANDS: [CommandRow; 13] = [
     ENGLISH_RULES,
 ];
 
-/// `judge [--first-field] [--settle] [--rules FILE] WORDS LEXICON GAME`.
+/// `judge [--first-field] [--skip-others] [--settle] [--json] [--rules FILE] WORDS LEXICON GAME`.
 const JUDGE: CommandRow = CommandRow {
     name: "judge",
     about: "Judges a game, and prints the best play of each turn",
@@ -187,12 +200,14 @@ const JUDGE: CommandRow = CommandRow {
             "search for a deal, or a proof that there is none, where the game would be unsettled",
             None
         ),
+        JSON,
         FIRST_FIELD_OPTION,
+        SKIP_OTHERS_OPTION,
         RULES,
     ],
 };
 
-/// `archive [--first-field] [--rules FILE] [--names FILE] [--null] [--skip LINES] [--json] [--pages FOLDER] [--progress|--quiet] WORDS LEXICON [GAME...]`.
+/// `archive [--first-field] [--skip-others] [--rules FILE] [--names FILE] [--null] [--skip LINES] [--json] [--pages FOLDER] [--progress|--quiet] WORDS LEXICON [GAME...]`.
 const ARCHIVE: CommandRow = CommandRow {
     name: "archive",
     about: "Judges many games as judge --settle does, one line for each",
@@ -247,6 +262,7 @@ const ARCHIVE: CommandRow = CommandRow {
         ),
         flag!("quiet", "do not show how many games are done", None),
         FIRST_FIELD_OPTION,
+        SKIP_OTHERS_OPTION,
         RULES,
     ],
 };
@@ -275,7 +291,7 @@ const INDEX: CommandRow = CommandRow {
     ],
 };
 
-/// `audit [--first-field] [--rules FILE] [--corrected OUT] WORDS LEXICON GAME`.
+/// `audit [--first-field] [--skip-others] [--json] [--rules FILE] [--corrected OUT] WORDS LEXICON GAME`.
 const AUDIT: CommandRow = CommandRow {
     name: "audit",
     about: "Prints every wrong score and sum of a sheet, and can write the corrected record",
@@ -296,12 +312,17 @@ const AUDIT: CommandRow = CommandRow {
             "corrected",
             "write the corrected record to this file, where nothing else is wrong; - is standard output"
         ),
+        Argument {
+            against: Some("corrected"),
+            ..JSON
+        },
         FIRST_FIELD_OPTION,
+        SKIP_OTHERS_OPTION,
         RULES,
     ],
 };
 
-/// `explain [--first-field] [--rules FILE] WORDS LEXICON GAME [LINE]`.
+/// `explain [--first-field] [--skip-others] [--json] [--rules FILE] WORDS LEXICON GAME [LINE]`.
 const EXPLAIN: CommandRow = CommandRow {
     name: "explain",
     about: "Explains the verdict on a game, or one of its lines, in plain words",
@@ -325,12 +346,14 @@ const EXPLAIN: CommandRow = CommandRow {
                 "the line of the record to be explained, counted from 1; without it the one that the verdict names"
             )
         },
+        JSON,
         FIRST_FIELD_OPTION,
+        SKIP_OTHERS_OPTION,
         RULES,
     ],
 };
 
-/// `page [--first-field] [--rules FILE] WORDS LEXICON GAME OUT`.
+/// `page [--first-field] [--skip-others] [--rules FILE] WORDS LEXICON GAME OUT`.
 const PAGE: CommandRow = CommandRow {
     name: "page",
     about: "Writes a game as a web page: its verdict, its board and its sheet",
@@ -352,11 +375,12 @@ const PAGE: CommandRow = CommandRow {
             "the page to be written; - is standard output"
         ),
         FIRST_FIELD_OPTION,
+        SKIP_OTHERS_OPTION,
         RULES,
     ],
 };
 
-/// `build [--first-field] WORDS OUT`.
+/// `build [--first-field] [--skip-others] WORDS OUT`.
 const BUILD: CommandRow = CommandRow {
     name: "build",
     about: "Writes the compiled lexicon of a word list",
@@ -366,10 +390,10 @@ const BUILD: CommandRow = CommandRow {
         "0   OUT has the lexicon",
         "3   the word list is bad; the line that says so is in OUT"
     ),
-    arguments: &[WORDS, LEXICON_OUT, FIRST_FIELD_OPTION],
+    arguments: &[WORDS, LEXICON_OUT, FIRST_FIELD_OPTION, SKIP_OTHERS_OPTION],
 };
 
-/// `check [--first-field] WORDS LEXICON`.
+/// `check [--first-field] [--skip-others] [--json] WORDS LEXICON`.
 const CHECK: CommandRow = CommandRow {
     name: "check",
     about: "Says whether a file is exactly the lexicon of a word list",
@@ -379,7 +403,38 @@ const CHECK: CommandRow = CommandRow {
         "0   it is, and ok is printed with the number of words",
         "3   it is not, or the word list is bad"
     ),
-    arguments: &[WORDS, LEXICON_FILE, FIRST_FIELD_OPTION],
+    arguments: &[
+        WORDS,
+        LEXICON_FILE,
+        JSON,
+        FIRST_FIELD_OPTION,
+        SKIP_OTHERS_OPTION,
+    ],
+};
+
+/// `word [--each] [--first-field] [--skip-others] WORDS LEXICON WORD...`.
+const WORD: CommandRow = CommandRow {
+    name: "word",
+    about: "Says whether words that are challenged are acceptable: whether all of them are in the list",
+    behind: behind!(
+        "referee word words.txt words.gad able about",
+        "Exit status:",
+        "0   each word is in the list",
+        "1   a word is not in the list",
+        "3   a word is none of 2 to 15 letters, or the word list or the lexicon is bad"
+    ),
+    arguments: &[
+        WORDS,
+        LEXICON,
+        argument!(
+            Form::SomeNeeded,
+            "WORD",
+            "the words, in letters of either case"
+        ),
+        flag!("each", "print a line for each word", None),
+        FIRST_FIELD_OPTION,
+        SKIP_OTHERS_OPTION,
+    ],
 };
 
 /// `convert FORMAT LEXICON OUT`.
@@ -402,7 +457,7 @@ const CONVERT: CommandRow = CommandRow {
     ],
 };
 
-/// `top [--first-field] [--rules FILE] [--number N] [--before LINE] WORDS LEXICON GAME [RACK]`.
+/// `top [--first-field] [--skip-others] [--json] [--rules FILE] [--number N] [--before LINE] WORDS LEXICON GAME [RACK]`.
 const TOP: CommandRow = CommandRow {
     name: "top",
     about: "Prints the best plays with RACK after the last event of a record, or before one of its lines",
@@ -434,7 +489,9 @@ const TOP: CommandRow = CommandRow {
             )
         },
         BEFORE,
+        JSON,
         FIRST_FIELD_OPTION,
+        SKIP_OTHERS_OPTION,
         RULES,
     ],
 };
@@ -452,7 +509,7 @@ const TIDY: CommandRow = CommandRow {
     arguments: &[GAME],
 };
 
-/// `board [--rules FILE] [--before LINE] GAME`.
+/// `board [--json] [--rules FILE] [--before LINE] GAME`.
 const BOARD: CommandRow = CommandRow {
     name: "board",
     about: "Shows the board after the last event of a record, or before one of its lines",
@@ -462,7 +519,7 @@ const BOARD: CommandRow = CommandRow {
         "0   the board is printed",
         "3   the rules text or the record is bad, or no event is on the line or after it"
     ),
-    arguments: &[GAME, BEFORE, RULES],
+    arguments: &[GAME, BEFORE, JSON, RULES],
 };
 
 /// `rules`.

@@ -1,6 +1,6 @@
 //! What a command line asks for.
 
-use crate::commands::{FIRST_FIELD, command};
+use crate::commands::{FIRST_FIELD, SKIP_OTHERS, command};
 use clap::error::ErrorKind;
 use clap::{ArgMatches, Error};
 use lex_file::Format;
@@ -19,6 +19,8 @@ pub struct WordsFile<'a> {
     pub name: &'a str,
     /// Whether the first field of each line is read, and not the whole line.
     pub first_field: bool,
+    /// Whether lines that are no words are passed over.
+    pub skip_others: bool,
 }
 
 /// The names of the files of a word list and of its lexicon.
@@ -106,9 +108,10 @@ pub struct Archive<'a> {
 /// What the command line asks for. Files are given by their names, a rack by its tiles.
 #[derive(Drop)]
 pub enum Request<'a> {
-    /// To judge the game of a record, and to search for a deal where `settle` says so.
+    /// To judge the game of a record, and to search for a deal where `settle` says so; `json` asks for an object.
     Judge {
         settle: bool,
+        json: bool,
         files: GameFiles<'a>,
     },
     /// To judge many games, and to write a line for each.
@@ -118,15 +121,17 @@ pub enum Request<'a> {
         lines: &'a str,
         out: &'a str,
     },
-    /// To audit the sheet of a record, and to write the corrected record to the file `out` where there is one.
+    /// To audit the sheet of a record, and to write the corrected record to the file `out` where there is one; `json` asks for an object.
     Audit {
         files: GameFiles<'a>,
         out: Option<&'a str>,
+        json: bool,
     },
-    /// To explain the verdict on a record, or the event on a line where one is named.
+    /// To explain the verdict on a record, or the event on a line where one is named; `json` asks for an object.
     Explain {
         files: GameFiles<'a>,
         line: Option<u32>,
+        json: bool,
     },
     /// To write the page of a game to the file `out`.
     Page {
@@ -138,28 +143,39 @@ pub enum Request<'a> {
         words: WordsFile<'a>,
         out: &'a str,
     },
-    /// To compare a lexicon with a word list.
-    Check(PairFiles<'a>),
+    /// To compare a lexicon with a word list; `json` asks for an object.
+    Check {
+        json: bool,
+        pair: PairFiles<'a>,
+    },
     /// To write a lexicon in a format to the file `out`.
     Convert {
         format: Format,
         lexicon: &'a str,
         out: &'a str,
     },
-    /// To write the best plays by a rack on a board of a record.
+    /// To write the best plays by a rack on a board of a record; `json` asks for an object.
     Top {
         files: GameFiles<'a>,
         plays: PlaysAsked<'a>,
+        json: bool,
     },
     /// To write the normal form of a record.
     Tidy {
         game: &'a str,
     },
-    /// To write the board of a record, before a line where one is named.
+    /// To write the board of a record, before a line where one is named; `json` asks for an object.
     Board {
         rules: Option<&'a str>,
         before: Option<u32>,
         game: &'a str,
+        json: bool,
+    },
+    /// To say whether words are acceptable, all together or each.
+    Word {
+        pair: PairFiles<'a>,
+        each: bool,
+        words: Vec<&'a str>,
     },
     /// To write the English rules text.
     Rules,
@@ -226,6 +242,7 @@ fn request_of<'a>(
     match command {
         "archive" => archive_of(alloc, names),
         "index" => Ok(index_of(names)),
+        "word" => word_of(alloc, names),
         "build" | "check" | "convert" => Ok(lexicon_request_of(command, names)),
         _ => Ok(game_request_of(command, names)),
     }
@@ -255,6 +272,18 @@ fn archive_of<'a>(
     })))
 }
 
+/// What the matches of `word` ask for.
+fn word_of<'a>(alloc: Global, names: &ArgMatches<'a>) -> Result<Option<Request<'a>>, AllocError> {
+    let Some(pair) = pair_files(names) else {
+        return Ok(None);
+    };
+    Ok(Some(Request::Word {
+        pair,
+        each: names.get_flag("each"),
+        words: Vec::from_slice(alloc, names.get_strs("WORD").unwrap_or(&[]))?,
+    }))
+}
+
 /// What the matches of `index` ask for.
 fn index_of<'a>(names: &ArgMatches<'a>) -> Option<Request<'a>> {
     Some(Request::Index {
@@ -279,15 +308,18 @@ fn game_request_of<'a>(command: &str, names: &ArgMatches<'a>) -> Option<Request<
     match command {
         "judge" => Some(Request::Judge {
             settle: names.get_flag("settle"),
+            json: names.get_flag("json"),
             files: game_files(names)?,
         }),
         "audit" => Some(Request::Audit {
             files: game_files(names)?,
             out: names.get_str("corrected"),
+            json: names.get_flag("json"),
         }),
         "explain" => Some(Request::Explain {
             files: game_files(names)?,
             line: names.get_one::<u32>("LINE"),
+            json: names.get_flag("json"),
         }),
         "page" => Some(Request::Page {
             files: game_files(names)?,
@@ -300,6 +332,7 @@ fn game_request_of<'a>(command: &str, names: &ArgMatches<'a>) -> Option<Request<
                 number: names.get_one::<u32>("number"),
                 before: names.get_one::<u32>("before"),
             },
+            json: names.get_flag("json"),
         }),
         "tidy" => Some(Request::Tidy {
             game: names.get_str("GAME")?,
@@ -309,6 +342,7 @@ fn game_request_of<'a>(command: &str, names: &ArgMatches<'a>) -> Option<Request<
             rules: names.get_str("rules"),
             before: names.get_one::<u32>("before"),
             game: names.get_str("GAME")?,
+            json: names.get_flag("json"),
         }),
         _ => None,
     }
@@ -321,7 +355,10 @@ fn lexicon_request_of<'a>(command: &str, names: &ArgMatches<'a>) -> Option<Reque
             words: words_file(names)?,
             out: names.get_str("OUT")?,
         }),
-        "check" => Some(Request::Check(pair_files(names)?)),
+        "check" => Some(Request::Check {
+            json: names.get_flag("json"),
+            pair: pair_files(names)?,
+        }),
         "convert" => Some(Request::Convert {
             format: format_of(names.get_str("FORMAT")?)?,
             lexicon: names.get_str("LEXICON")?,
@@ -336,6 +373,7 @@ fn words_file<'a>(names: &ArgMatches<'a>) -> Option<WordsFile<'a>> {
     Some(WordsFile {
         name: names.get_str("WORDS")?,
         first_field: names.get_flag(FIRST_FIELD),
+        skip_others: names.get_flag(SKIP_OTHERS),
     })
 }
 

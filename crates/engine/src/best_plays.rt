@@ -28,6 +28,7 @@ fn tell_top(
     Ok(Decision {
         verdict: Verdict::Done,
         report,
+        fault: None,
     })
 }
 

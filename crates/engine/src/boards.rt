@@ -8,7 +8,7 @@ ghost use Rattle.call_stages.specs.Runs.{Decides, IsRun};
 ghost use Rattle.call_stages.specs.Sources.{rules_source, game_source};
 ghost use Rattle.call_stages.specs.Telling.{IsTold};
 
-use call_stages::{Decision, RunFault, Verdict, finish, read_record, read_rules};
+use call_stages::{Decision, InputFault, RunFault, Verdict, finish, read_record, read_rules};
 use devices::{Input, Output};
 use game_board::{board_text, lay_plays, place_of_line};
 use gcg_read::{Event, Record};
@@ -16,15 +16,10 @@ use ref_tiles::Rules;
 use std::alloc::{AllocError, Global};
 
 /// The verdict that no event stands on the line or behind it.
-#[tactic(auto, unfolding(call_stages::specs::Reports::bad_line_line))]
 pub(crate) fn bad_line(alloc: Global) -> Result<Decision, AllocError>
     ensures { IfOk result (λ d. IsTold verdict.BadLine reports.bad_line_line d.verdict d.report.items) }
 {
-    Decision::told(
-        alloc,
-        Verdict::BadLine,
-        b"bad line: no event is on it or after it\n",
-    )
+    Decision::refused(alloc, InputFault::Line)
 }
 
 /// The place that is asked for: that of a line, or behind the last event.
@@ -54,6 +49,7 @@ pub fn show_board(
     Ok(Decision {
         verdict: Verdict::Done,
         report,
+        fault: None,
     })
 }
 

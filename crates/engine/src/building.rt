@@ -8,18 +8,17 @@ ghost use Rattle.call_stages.specs.Runs.{Decides, IsRun};
 ghost use Rattle.call_stages.specs.Sources.{words_source};
 ghost use Rattle.call_stages.specs.Telling.{IsTold};
 
-use call_stages::{Decision, RunFault, Verdict, finish, read_list};
+use call_stages::{Decision, InputFault, RunFault, Verdict, finish, read_list};
 use devices::{Input, Output};
 use lex_build::{BuildFault, build};
 use lex_list::WordList;
 use std::alloc::{AllocError, Global};
 
 /// The verdict that the file which is asked for would have more arcs, or words, than its format can number.
-#[tactic(auto, unfolding(call_stages::specs::Reports::too_many_arcs_line))]
 pub(crate) fn too_many_arcs(alloc: Global) -> Result<Decision, AllocError>
     ensures { IfOk result (λ d. IsTold verdict.BadFile reports.too_many_arcs_line d.verdict d.report.items) }
 {
-    Decision::told(alloc, Verdict::BadFile, b"bad lexicon: TooManyArcs\n")
+    Decision::refused(alloc, InputFault::TooManyArcs)
 }
 
 /// The lexicon of a word list, or the verdict that it has too many arcs.
@@ -31,6 +30,7 @@ fn build_list(alloc: Global, list: &WordList) -> Result<Decision, AllocError>
         Ok(report) => Ok(Decision {
             verdict: Verdict::Done,
             report,
+            fault: None,
         }),
         Err(BuildFault::TooManyArcs) => too_many_arcs(alloc),
         Err(BuildFault::NoMemory) => Err(AllocError),

@@ -26,6 +26,7 @@ fn tell_number(alloc: Global, pair: &Checked<'_>) -> Result<Decision, AllocError
     Ok(Decision {
         verdict: Verdict::Done,
         report,
+        fault: None,
     })
 }
 

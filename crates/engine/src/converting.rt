@@ -21,12 +21,13 @@ fn convert_bytes(alloc: Global, bytes: &[u8], format: Format) -> Result<Decision
 {
     let file = match open_within(bytes) {
         Ok(file) => file,
-        Err(first) => return bad_file(alloc, &LexiconFault::Form(first)),
+        Err(first) => return bad_file(alloc, LexiconFault::Form(first)),
     };
     match convert(alloc, &file, format) {
         Ok(report) => Ok(Decision {
             verdict: Verdict::Done,
             report,
+            fault: None,
         }),
         Err(BuildFault::TooManyArcs) => too_many_arcs(alloc),
         Err(BuildFault::NoMemory) => Err(AllocError),

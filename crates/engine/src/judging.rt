@@ -25,6 +25,7 @@ pub fn illegal(alloc: Global, line: u32, fault: GameFault) -> Result<Decision, A
     Ok(Decision {
         verdict: Verdict::Illegal { line, fault },
         report,
+        fault: None,
     })
 }
 
@@ -37,6 +38,7 @@ fn legal(alloc: Global, passed: &Passed<'_>, pair: &Checked<'_>) -> Result<Decis
     Ok(Decision {
         verdict: Verdict::Legal { complete },
         report,
+        fault: None,
     })
 }
 
@@ -48,6 +50,7 @@ fn unsettled(alloc: Global) -> Result<Decision, AllocError>
     Ok(Decision {
         verdict: Verdict::Unsettled,
         report,
+        fault: None,
     })
 }
 

@@ -31,6 +31,7 @@ fn tidy(alloc: Global, game: &Record) -> Result<Decision, AllocError>
     Ok(Decision {
         verdict: Verdict::Done,
         report,
+        fault: None,
     })
 }
 

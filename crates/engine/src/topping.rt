@@ -12,18 +12,17 @@ ghost use Rattle.engine.specs.Topping.{IsTopped, IsToppedByText, RefusesRack};
 
 use crate::asking::run_question;
 use crate::best_plays::BestPlays;
-use call_stages::{Decision, KnownRules, RunFault, Verdict, finish};
+use call_stages::{Decision, InputFault, KnownRules, RunFault, Verdict, finish};
 use devices::{Input, Output};
 use gcg_read::read_rack;
 use ref_tiles::Rules;
 use std::alloc::{AllocError, Global};
 
 /// The verdict that a rack is none.
-#[tactic(auto, unfolding(call_stages::specs::Reports::bad_rack_line))]
 pub(crate) fn bad_rack(alloc: Global) -> Result<Decision, AllocError>
     ensures { IfOk result (λ d. IsTold verdict.BadRack reports.bad_rack_line d.verdict d.report.items) }
 {
-    Decision::told(alloc, Verdict::BadRack, b"bad rack\n")
+    Decision::refused(alloc, InputFault::Rack)
 }
 
 /// The same as what is decided of a call.

@@ -87,6 +87,7 @@ fn tell_first(
     Ok(Decision {
         verdict: Verdict::Done,
         report,
+        fault: None,
     })
 }
 

@@ -1,16 +1,16 @@
 //! Plays that are taken back or challenged, and their words.
 
-use crate::scenes::Scene;
-use gcg_read::same_seat;
-use ref_play::Word;
+use crate::names::nick;
+use event_facts::{Fact, Spelled};
+use gcg_read::{Players, Seat};
 use sentence_parts::{Part, say, say_of_line};
 use std::alloc::AllocError;
 
 /// Appends words, with a comma or an `and` between two.
-fn push_words(text: &mut Vec<u8>, words: &[Word]) -> Result<(), AllocError> {
+fn push_words(text: &mut Vec<u8>, words: &[Spelled]) -> Result<(), AllocError> {
     let mut left = words.len();
     for word in words {
-        text.extend_from_slice(word.as_slice())?;
+        text.extend_from_slice(word.letters.as_slice())?;
         left = left.saturating_sub(1);
         say(
             text,
@@ -24,48 +24,25 @@ fn push_words(text: &mut Vec<u8>, words: &[Word]) -> Result<(), AllocError> {
     Ok(())
 }
 
-/// The line of the play before, or 0.
-fn line_before(scene: &Scene<'_, '_>) -> u32 {
-    match scene.past.last() {
-        None => 0,
-        Some(event) => event.line,
-    }
-}
-
 /// Appends what the word list says of the play before, and the words of that play.
-fn push_ruled(text: &mut Vec<u8>, scene: &Scene<'_, '_>, stands: bool) -> Result<(), AllocError> {
-    let (play, rule) = if stands {
-        (
-            "The play on line ",
-            " stands, since each of its words is in the word list: ",
-        )
-    } else {
-        (
-            "The challenge of the play on line ",
-            " succeeds, since none of its words is in the word list: ",
-        )
-    };
-    say_of_line(text, play, line_before(scene), rule)?;
-    push_words(text, scene.machine.latest_words())?;
+fn push_ruled(
+    text: &mut Vec<u8>,
+    front: &'static str,
+    line: u32,
+    rule: &'static str,
+    words: &[Spelled],
+) -> Result<(), AllocError> {
+    say_of_line(text, front, line, rule)?;
+    push_words(text, words)?;
     text.extend_from_slice(b".\nPerhaps the game was played with another word list.\n")
 }
 
-/// Appends that the words of the play before are all in the list, so that it cannot be taken back.
-pub fn push_valid(text: &mut Vec<u8>, scene: &Scene<'_, '_>) -> Result<(), AllocError> {
-    push_ruled(text, scene, true)
-}
-
-/// Appends that no word of the challenged play is in the list.
-pub fn push_phony(text: &mut Vec<u8>, scene: &Scene<'_, '_>) -> Result<(), AllocError> {
-    push_ruled(text, scene, false)
-}
-
-/// Appends that the play before is the other player's, and what follows of that.
+/// Appends that the play before is the other player's.
 fn push_others_play(
     text: &mut Vec<u8>,
-    scene: &Scene<'_, '_>,
+    players: &Players,
     line: u32,
-    so: &[Part<'_>],
+    other: Seat,
 ) -> Result<(), AllocError> {
     say(
         text,
@@ -73,16 +50,15 @@ fn push_others_play(
             Part::Say("The play on line "),
             Part::Line(line),
             Part::Say(" is "),
-            Part::Raw(scene.other_nick()),
+            Part::Raw(nick(players, other)),
             Part::Say("'s, so "),
         ],
-    )?;
-    say(text, so)
+    )
 }
 
 /// Appends that no play comes right before the event, so that there is none to be taken back or challenged.
-fn push_no_play(text: &mut Vec<u8>, scene: &Scene<'_, '_>, act: &str) -> Result<(), AllocError> {
-    let why = if scene.past.is_empty() {
+fn push_no_play(text: &mut Vec<u8>, is_first: bool, act: &str) -> Result<(), AllocError> {
+    let why = if is_first {
         "This is the first event"
     } else {
         "The event before this one is not a play"
@@ -98,48 +74,8 @@ fn push_no_play(text: &mut Vec<u8>, scene: &Scene<'_, '_>, act: &str) -> Result<
     )
 }
 
-/// Appends why there is no play to be taken back.
-pub fn push_nothing_to_withdraw(
-    text: &mut Vec<u8>,
-    scene: &Scene<'_, '_>,
-) -> Result<(), AllocError> {
-    match scene.play_before() {
-        Some(play) if !same_seat(play.player, scene.event.player) => {
-            let so = [
-                Part::Raw(scene.nick()),
-                Part::Say(" cannot take it back.\n"),
-            ];
-            push_others_play(text, scene, play.line, &so)
-        }
-        _ => push_no_play(text, scene, "take back"),
-    }
-}
-
-/// Appends which bonus a challenge gives, or that there is no play to be challenged.
-pub fn push_wrong_bonus(text: &mut Vec<u8>, scene: &Scene<'_, '_>) -> Result<(), AllocError> {
-    match scene.play_before() {
-        Some(play) if same_seat(play.player, scene.event.player) => push_bonus(text, scene),
-        Some(play) => {
-            let so = [
-                Part::Say("its bonus cannot go to "),
-                Part::Raw(scene.nick()),
-                Part::Say(".\n"),
-            ];
-            push_others_play(text, scene, play.line, &so)
-        }
-        None => push_no_play(text, scene, "challenge"),
-    }
-}
-
-/// Appends which bonus is allowed.
-fn push_bonus(text: &mut Vec<u8>, scene: &Scene<'_, '_>) -> Result<(), AllocError> {
-    let listed = scene
-        .machine
-        .latest_words()
-        .iter()
-        .filter(|word| scene.sheet.list.has(word.as_slice()))
-        .count();
-    let unit = scene.sheet.rules.challenge_unit as usize;
+/// Appends how many words of a play are in the word list.
+fn push_listed(text: &mut Vec<u8>, unit: usize, listed: usize) -> Result<(), AllocError> {
     say(
         text,
         &[
@@ -153,31 +89,95 @@ fn push_bonus(text: &mut Vec<u8>, scene: &Scene<'_, '_>) -> Result<(), AllocErro
                 " words of the play are, so the bonus can be "
             }),
         ],
-    )?;
-    push_amounts(text, unit, listed)?;
+    )
+}
+
+/// Appends the amounts of a bonus.
+fn push_amounts(text: &mut Vec<u8>, amounts: &[usize]) -> Result<(), AllocError> {
+    for (k, amount) in amounts.iter().enumerate() {
+        let front = if k == 0 {
+            ""
+        } else if k.saturating_add(1) == amounts.len() {
+            " or "
+        } else {
+            ", "
+        };
+        say(text, &[Part::Say(front), Part::Many(*amount)])?;
+    }
+    Ok(())
+}
+
+/// Appends the bonus that is written, behind those that are allowed.
+fn push_written(text: &mut Vec<u8>, written: i32) -> Result<(), AllocError> {
     say(
         text,
         &[
             Part::Say(", but "),
-            Part::Points(scene.event.score.value()),
+            Part::Points(written),
             Part::Say(" is written.\n"),
         ],
     )
 }
 
-/// Appends the amounts of a bonus for one word or more.
-fn push_amounts(text: &mut Vec<u8>, unit: usize, listed: usize) -> Result<(), AllocError> {
-    let mut amount = 0usize;
-    for k in 0..listed {
-        amount = amount.saturating_add(unit);
-        let front = if k == 0 {
-            ""
-        } else if k + 1 == listed {
-            " or "
-        } else {
-            ", "
-        };
-        say(text, &[Part::Say(front), Part::Many(amount)])?;
+/// Appends a fact about another player's play.
+fn push_others(text: &mut Vec<u8>, players: &Players, fact: &Fact) -> Result<(), AllocError> {
+    match fact {
+        Fact::OthersPlay {
+            line,
+            player,
+            other,
+        } => {
+            push_others_play(text, players, *line, *other)?;
+            text.extend_from_slice(nick(players, *player))?;
+            text.extend_from_slice(b" cannot take it back.\n")
+        }
+        Fact::OthersBonus {
+            line,
+            player,
+            other,
+        } => {
+            push_others_play(text, players, *line, *other)?;
+            text.extend_from_slice(b"its bonus cannot go to ")?;
+            text.extend_from_slice(nick(players, *player))?;
+            text.extend_from_slice(b".\n")
+        }
+        _ => Ok(()),
     }
-    Ok(())
+}
+
+/// Appends a fact about a play that is taken back or challenged.
+pub fn push_challenge_fact(
+    text: &mut Vec<u8>,
+    players: &Players,
+    fact: &Fact,
+) -> Result<(), AllocError> {
+    match fact {
+        Fact::PlayStands { line, words } => push_ruled(
+            text,
+            "The play on line ",
+            *line,
+            " stands, since each of its words is in the word list: ",
+            words.as_slice(),
+        ),
+        Fact::NoWordListed { line, words } => push_ruled(
+            text,
+            "The challenge of the play on line ",
+            *line,
+            " succeeds, since none of its words is in the word list: ",
+            words.as_slice(),
+        ),
+        Fact::NothingToTakeBack { is_first } => push_no_play(text, *is_first, "take back"),
+        Fact::NothingToChallenge { is_first } => push_no_play(text, *is_first, "challenge"),
+        Fact::Bonus {
+            unit,
+            listed,
+            amounts,
+            written,
+        } => {
+            push_listed(text, *unit, *listed)?;
+            push_amounts(text, amounts.as_slice())?;
+            push_written(text, *written)
+        }
+        _ => push_others(text, players, fact),
+    }
 }

@@ -1,53 +1,9 @@
 //! What is wrong with the text or the placement of a play.
 
-use game_facts::{first_misfit, new_tiles};
-use ref_board::{Board, Dir, SIDE, Square, follows_tile, precedes_tile};
-use ref_play::{PlayFault, along};
-use ref_tiles::Symbol;
+use event_facts::Fact;
+use ref_board::{Dir, Square};
 use sentence_parts::{Part, say};
 use std::alloc::AllocError;
-
-/// A play as its line has it: where its text begins, its direction and its text.
-#[derive(Clone, Copy)]
-pub struct Written<'a> {
-    /// The first square.
-    pub at: Square,
-    /// The direction.
-    pub dir: Dir,
-    /// The text.
-    pub word: &'a [Symbol],
-}
-
-/// Appends what is wrong with a play on the board before it.
-pub fn push_play_fault(
-    text: &mut Vec<u8>,
-    board: &Board,
-    play: &Written<'_>,
-    fault: PlayFault,
-) -> Result<(), AllocError> {
-    match fault {
-        PlayFault::OffBoard => push_off_board(text, play),
-        PlayFault::Mismatch => push_mismatch(text, board, play),
-        PlayFault::NoNewTile => {
-            text.extend_from_slice(
-                b"Every square of the play already has a tile, so no tile is new.\n",
-            )
-        }
-        PlayFault::TooManyTiles => push_too_many(text, board, play),
-        PlayFault::NotWhole => push_not_whole(text, board, play),
-        PlayFault::MissesCentre => {
-            text.extend_from_slice(
-                b"The first play of a game has to cover 8H, and this one does not.\n",
-            )
-        }
-        PlayFault::TooShort => {
-            text.extend_from_slice(b"The play makes no word of two letters or more.\n")
-        }
-        PlayFault::Apart => text.extend_from_slice(
-            b"No tile of the play touches a tile that is already on the board.\n",
-        ),
-    }
-}
 
 /// The name of a line of a direction.
 fn line_name(dir: Dir) -> &'static str {
@@ -57,18 +13,23 @@ fn line_name(dir: Dir) -> &'static str {
     }
 }
 
-/// Appends that a text leaves the board.
-fn push_off_board(text: &mut Vec<u8>, play: &Written<'_>) -> Result<(), AllocError> {
-    let room = SIDE - play.at.place(play.dir);
+/// Appends that a play leaves the board.
+fn push_off_board(
+    text: &mut Vec<u8>,
+    at: Square,
+    dir: Dir,
+    squares: usize,
+    room: usize,
+) -> Result<(), AllocError> {
     say(
         text,
         &[
             Part::Say("The play leaves the board: it covers "),
-            Part::Many(play.word.len()),
+            Part::Many(squares),
             Part::Say(" squares, and from "),
-            Part::At(play.at),
+            Part::At(at),
             Part::Say(" to the end of the "),
-            Part::Say(line_name(play.dir)),
+            Part::Say(line_name(dir)),
             Part::Say(if room == 1 {
                 " there is only "
             } else {
@@ -80,47 +41,41 @@ fn push_off_board(text: &mut Vec<u8>, play: &Written<'_>) -> Result<(), AllocErr
     )
 }
 
-/// Appends the first square on which a text does not agree with the board.
-fn push_mismatch(text: &mut Vec<u8>, board: &Board, play: &Written<'_>) -> Result<(), AllocError> {
-    let Some(k) = first_misfit(board, play.at, play.dir, play.word) else {
-        return Ok(());
-    };
-    let Some(symbol) = play.word.get(k) else {
-        return Ok(());
-    };
-    if play.at.place(play.dir) + k >= SIDE {
-        return Ok(());
-    }
-    let square = along(play.at, play.dir, k);
-    match board.at(square) {
-        None => say(
-            text,
-            &[
-                Part::Say("The play has a dot on "),
-                Part::At(square),
-                Part::Say(", as if a tile were there, but the square is empty.\n"),
-            ],
-        ),
-        Some(tile) => say(
-            text,
-            &[
-                Part::Say("The play has "),
-                Part::Letter(symbol.byte()),
-                Part::Say(" on "),
-                Part::At(square),
-                Part::Say(", but the tile there shows "),
-                Part::Letter(tile.shown.capital()),
-                Part::Say(".\n"),
-            ],
-        ),
-    }
+/// Appends that a play has a dot on an empty square.
+fn push_dot(text: &mut Vec<u8>, square: Square) -> Result<(), AllocError> {
+    say(
+        text,
+        &[
+            Part::Say("The play has a dot on "),
+            Part::At(square),
+            Part::Say(", as if a tile were there, but the square is empty.\n"),
+        ],
+    )
+}
+
+/// Appends that a play has another letter than the tile on a square.
+fn push_other_letter(
+    text: &mut Vec<u8>,
+    square: Square,
+    written: u8,
+    shown: u8,
+) -> Result<(), AllocError> {
+    say(
+        text,
+        &[
+            Part::Say("The play has "),
+            Part::Letter(written),
+            Part::Say(" on "),
+            Part::At(square),
+            Part::Say(", but the tile there shows "),
+            Part::Letter(shown),
+            Part::Say(".\n"),
+        ],
+    )
 }
 
 /// Appends how many tiles a play puts down.
-fn push_too_many(text: &mut Vec<u8>, board: &Board, play: &Written<'_>) -> Result<(), AllocError> {
-    let Some(tiles) = new_tiles(board, play.at, play.dir, play.word) else {
-        return Ok(());
-    };
+fn push_too_many(text: &mut Vec<u8>, tiles: usize) -> Result<(), AllocError> {
     say(
         text,
         &[
@@ -131,37 +86,18 @@ fn push_too_many(text: &mut Vec<u8>, board: &Board, play: &Written<'_>) -> Resul
     )
 }
 
-/// Appends which tiles lie directly before and behind a text.
-fn push_not_whole(text: &mut Vec<u8>, board: &Board, play: &Written<'_>) -> Result<(), AllocError> {
-    let place = play.at.place(play.dir);
-    let line = play.at.line(play.dir);
-    let end = place + play.word.len().min(SIDE);
-    if place > 0 && follows_tile(board, play.dir, play.at) {
-        let square = Square::on_line(play.dir, line, place - 1);
-        push_beside(text, board, square, "before")?;
-    }
-    if end < SIDE && precedes_tile(board, play.dir, play.at, play.word.len().min(SIDE)) {
-        let square = Square::on_line(play.dir, line, end);
-        push_beside(text, board, square, "after")?;
-    }
-    text.extend_from_slice(b"The line has to name the whole word.\n")
-}
-
-/// Appends the tile that lies directly before or behind a text.
+/// Appends the tile that lies directly before or behind a play.
 fn push_beside(
     text: &mut Vec<u8>,
-    board: &Board,
     square: Square,
+    letter: u8,
     side: &str,
 ) -> Result<(), AllocError> {
-    let Some(tile) = board.at(square) else {
-        return Ok(());
-    };
     say(
         text,
         &[
             Part::Say("The tile "),
-            Part::Letter(tile.shown.capital()),
+            Part::Letter(letter),
             Part::Say(" on "),
             Part::At(square),
             Part::Say(" is directly "),
@@ -169,4 +105,46 @@ fn push_beside(
             Part::Say(" the play.\n"),
         ],
     )
+}
+
+/// Appends a fact that has no number.
+fn push_plain(text: &mut Vec<u8>, fact: &Fact) -> Result<(), AllocError> {
+    match fact {
+        Fact::NoNewTile => text.extend_from_slice(
+            b"Every square of the play already has a tile, so no tile is new.\n",
+        ),
+        Fact::NotWhole => text.extend_from_slice(b"The line has to name the whole word.\n"),
+        Fact::MissesCentre => text.extend_from_slice(
+            b"The first play of a game has to cover 8H, and this one does not.\n",
+        ),
+        Fact::TooShort => {
+            text.extend_from_slice(b"The play makes no word of two letters or more.\n")
+        }
+        Fact::Apart => text.extend_from_slice(
+            b"No tile of the play touches a tile that is already on the board.\n",
+        ),
+        _ => Ok(()),
+    }
+}
+
+/// Appends a fact about the text or the placement of a play.
+pub fn push_play_fact(text: &mut Vec<u8>, fact: &Fact) -> Result<(), AllocError> {
+    match fact {
+        Fact::LeavesBoard {
+            at,
+            dir,
+            squares,
+            room,
+        } => push_off_board(text, *at, *dir, *squares, *room),
+        Fact::DotOnEmpty { square } => push_dot(text, *square),
+        Fact::OtherLetter {
+            square,
+            written,
+            shown,
+        } => push_other_letter(text, *square, *written, *shown),
+        Fact::ManyTiles { tiles } => push_too_many(text, *tiles),
+        Fact::TileBefore { square, letter } => push_beside(text, *square, *letter, "before"),
+        Fact::TileAfter { square, letter } => push_beside(text, *square, *letter, "after"),
+        _ => push_plain(text, fact),
+    }
 }

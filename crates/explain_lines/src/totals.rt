@@ -1,98 +1,118 @@
 //! A total that is not the right one, and penalties for time.
 
-use crate::scenes::Scene;
-use game_facts::latest_with;
-use gcg_read::{Event, EventKind, Seat, same_seat};
+use crate::names::nick;
+use event_facts::Fact;
+use gcg_read::{Players, Seat};
 use sentence_parts::{Part, say};
 use std::alloc::AllocError;
 
-/// Appends how a total is made, and the turn that it leaves out, where it is right but for one.
-pub fn push_wrong_total(
-    text: &mut Vec<u8>,
-    scene: &Scene<'_, '_>,
+/// The numbers of a total.
+#[derive(Clone, Copy)]
+struct Total {
+    had: i32,
+    score: i32,
     right: i32,
+    written: i32,
+}
+
+/// Appends how a total is made.
+fn push_total(
+    text: &mut Vec<u8>,
+    players: &Players,
+    player: Seat,
+    total: &Total,
 ) -> Result<(), AllocError> {
-    let written = scene.event.total.value();
     say(
         text,
         &[
-            Part::Raw(scene.nick()),
+            Part::Raw(nick(players, player)),
             Part::Say(" had "),
-            Part::Points(scene.machine.total(scene.event.player)),
+            Part::Points(total.had),
             Part::Say(" and scores "),
-            Part::Points(scene.event.score.value()),
+            Part::Points(total.score),
             Part::Say(" on this line, which makes "),
-            Part::Points(right),
+            Part::Points(total.right),
             Part::Say(", but "),
-            Part::Points(written),
+            Part::Points(total.written),
             Part::Say(" is written.\n"),
         ],
-    )?;
-    match right.checked_sub(written) {
-        None => Ok(()),
-        Some(short) => push_left_out(text, scene, short),
-    }
+    )
 }
 
-/// Appends the turn that a total leaves out, where it is right but for that one.
-fn push_left_out(text: &mut Vec<u8>, scene: &Scene<'_, '_>, short: i32) -> Result<(), AllocError> {
-    if scene.event.score.value() == short {
-        return text.extend_from_slice(b"The written total leaves out the score of this line.\n");
-    }
-    match latest_with(scene.past, scene.event.player, short) {
-        None => Ok(()),
-        Some(line) => say(
-            text,
-            &[
-                Part::Say("The written total leaves out line "),
-                Part::Line(line),
-                Part::Say(", which scores "),
-                Part::Points(short),
-                Part::Say(".\n"),
-            ],
-        ),
-    }
-}
-
-/// The line of a player's time penalty among some events.
-fn time_line(events: &[Event], player: Seat) -> Option<u32> {
-    for event in events {
-        if same_seat(event.player, player) && matches!(event.kind, EventKind::Time) {
-            return Some(event.line);
-        }
-    }
-    None
+/// Appends the turn that a total leaves out.
+fn push_left_out(text: &mut Vec<u8>, line: u32, score: i32) -> Result<(), AllocError> {
+    say(
+        text,
+        &[
+            Part::Say("The written total leaves out line "),
+            Part::Line(line),
+            Part::Say(", which scores "),
+            Part::Points(score),
+            Part::Say(".\n"),
+        ],
+    )
 }
 
 /// Appends which penalties for time there are.
-pub fn push_bad_time(text: &mut Vec<u8>, scene: &Scene<'_, '_>) -> Result<(), AllocError> {
-    if scene.machine.is_timed(scene.event.player) {
-        return push_second_time(text, scene);
-    }
+fn push_step(text: &mut Vec<u8>, step: usize, written: i32) -> Result<(), AllocError> {
     say(
         text,
         &[
             Part::Say("A penalty for time is a negative multiple of "),
-            Part::Many(scene.sheet.rules.time_step as usize),
+            Part::Many(step),
             Part::Say(", but "),
-            Part::Points(scene.event.score.value()),
+            Part::Points(written),
             Part::Say(" is written.\n"),
         ],
     )
 }
 
 /// Appends that a player has a penalty for time already.
-fn push_second_time(text: &mut Vec<u8>, scene: &Scene<'_, '_>) -> Result<(), AllocError> {
-    let Some(line) = time_line(scene.past, scene.event.player) else {
-        return Ok(());
-    };
+fn push_second_time(
+    text: &mut Vec<u8>,
+    players: &Players,
+    player: Seat,
+    line: u32,
+) -> Result<(), AllocError> {
     say(
         text,
         &[
-            Part::Raw(scene.nick()),
+            Part::Raw(nick(players, player)),
             Part::Say(" already has a penalty for time, on line "),
             Part::Line(line),
             Part::Say(", and a player has one at most.\n"),
         ],
     )
+}
+
+/// Appends a fact about a total or a penalty.
+pub fn push_total_fact(
+    text: &mut Vec<u8>,
+    players: &Players,
+    fact: &Fact,
+) -> Result<(), AllocError> {
+    match fact {
+        Fact::WrongTotal {
+            player,
+            had,
+            score,
+            right,
+            written,
+        } => {
+            let total = Total {
+                had: *had,
+                score: *score,
+                right: *right,
+                written: *written,
+            };
+            push_total(text, players, *player, &total)
+        }
+        Fact::LeavesOutOwn => {
+            text.extend_from_slice(b"The written total leaves out the score of this line.\n")
+        }
+        Fact::LeavesOut { line, score } => push_left_out(text, *line, *score),
+        Fact::TimeStep { step, written } => push_step(text, *step, *written),
+        Fact::SecondTime { player, line } => push_second_time(text, players, *player, *line),
+        _ => Ok(()),
+    }
 }

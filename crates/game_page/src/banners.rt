@@ -1,37 +1,36 @@
 //! The top of a page: names, result and verdict.
 
 use crate::heads::{name_of, names_of};
-use crate::pieces::{Piece, write};
-use crate::sheets::Sheet;
-use engine::{Case, Finding, case_line};
-use explain_lines::push_reason;
-use game_sheets::last_total;
-use gcg_read::Seat;
-use html_text::push_text;
+use crate::shown::Shown;
+use engine::Finding;
+use gcg_read::{Player, Points};
+use page_pieces::{PageText, Piece};
 use std::alloc::AllocError;
 
 /// Appends a player's name and last written total.
-fn push_total(page: &mut Vec<u8>, sheet: &Sheet<'_>, seat: Seat) -> Result<(), AllocError> {
-    write(
-        sheet.alloc,
-        page,
-        &[name_of(sheet, seat), Piece::Markup(" ")],
-    )?;
-    match last_total(sheet.events(), seat) {
-        Some(total) => write(sheet.alloc, page, &[Piece::Points(total.value())]),
-        None => page.extend_from_slice(b"0"),
+fn push_total(
+    page: &mut PageText,
+    shown: &Shown<'_>,
+    player: &Player,
+    total: Option<Points>,
+) -> Result<(), AllocError> {
+    page.push(&[name_of(shown, player), Piece::Markup(" ")])?;
+    match total {
+        Some(total) => page.push(&[Piece::Number(i64::from(total.value()))]),
+        None => page.push(&[Piece::Markup("0")]),
     }
 }
 
 /// Appends names and totals.
-fn push_result(page: &mut Vec<u8>, sheet: &Sheet<'_>) -> Result<(), AllocError> {
-    page.extend_from_slice(b"<header>\n<h1>")?;
-    write(sheet.alloc, page, &names_of(sheet))?;
-    page.extend_from_slice(b"</h1>\n<p class=\"result\">")?;
-    push_total(page, sheet, Seat::First)?;
-    page.extend_from_slice(b", ")?;
-    push_total(page, sheet, Seat::Second)?;
-    page.extend_from_slice(b"</p>\n</header>\n")
+fn push_result(page: &mut PageText, shown: &Shown<'_>) -> Result<(), AllocError> {
+    let sheet = &shown.sheet;
+    page.push(&[Piece::Markup("<header>\n<h1>")])?;
+    page.push(&names_of(shown))?;
+    page.push(&[Piece::Markup("</h1>\n<p class=\"result\">")])?;
+    push_total(page, shown, &sheet.players.first, sheet.first_total)?;
+    page.push(&[Piece::Markup(", ")])?;
+    push_total(page, shown, &sheet.players.second, sheet.second_total)?;
+    page.push(&[Piece::Markup("</p>\n</header>\n")])
 }
 
 /// The class of what is found.
@@ -44,20 +43,13 @@ fn class_of(finding: &Finding) -> &'static str {
 }
 
 /// Appends names, totals, the verdict and what explains it.
-pub fn push_banner(page: &mut Vec<u8>, sheet: &Sheet<'_>, case: &Case) -> Result<(), AllocError> {
-    push_result(page, sheet)?;
-    let line = case_line(sheet.alloc, case)?;
-    let mut reason = Vec::new(sheet.alloc);
-    push_reason(
-        sheet.alloc,
-        &mut reason,
-        sheet.rules,
-        sheet.pair.list(),
-        case,
-    )?;
-    page.extend_from_slice(class_of(sheet.finding).as_bytes())?;
-    push_text(sheet.alloc, page, line.as_slice().trim_ascii_end())?;
-    page.extend_from_slice(b"</strong>")?;
-    let reason = Piece::Recorded(reason.as_slice().trim_ascii_end(), sheet.encoding);
-    write(sheet.alloc, page, &[reason, Piece::Markup("</p>\n")])
+pub fn push_banner(page: &mut PageText, shown: &Shown<'_>) -> Result<(), AllocError> {
+    push_result(page, shown)?;
+    page.push(&[
+        Piece::Markup(class_of(&shown.finding)),
+        Piece::Text(shown.verdict.as_slice().trim_ascii_end()),
+        Piece::Markup("</strong>"),
+        Piece::Recorded(shown.reason.as_slice().trim_ascii_end(), shown.encoding),
+        Piece::Markup("</p>\n"),
+    ])
 }

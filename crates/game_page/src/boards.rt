@@ -1,26 +1,12 @@
 //! A board as a table.
 ghost use Rattle.std.specs.Prelude.{◌<◌};
 
-use crate::pieces::{Piece, write};
-use crate::sheets::Sheet;
 use game_board::tile_mark;
-use ref_board::{Board, Dir, SIDE, Square};
-use ref_tiles::{Kind, Premium};
-use sentence_parts::Stretch;
+use page_pieces::{PageText, Piece};
+use ref_board::{Dir, SIDE, Square};
+use ref_tiles::{Kind, Premium, Rules};
+use score_sheets::Picture;
 use std::alloc::AllocError;
-
-/// A board, and which of its squares are marked.
-#[derive(Clone, Copy)]
-pub struct Picture<'a> {
-    /// The sheet, for the points and premiums of its rules.
-    pub sheet: Sheet<'a>,
-    /// The board.
-    pub board: &'a Board,
-    /// The board without its new tiles.
-    pub before: &'a Board,
-    /// The squares of a play that cannot be laid.
-    pub marked: Option<Stretch>,
-}
 
 /// The markup of an empty square.
 fn empty_square(premium: Premium, is_marked: bool) -> &'static str {
@@ -48,68 +34,57 @@ fn tile_begin(kind: Kind, is_marked: bool) -> &'static str {
     }
 }
 
-/// Whether a square has a new tile, or is one of a play that cannot be laid.
-fn is_marked(picture: &Picture<'_>, square: Square) -> bool {
-    match picture.marked {
-        Some(stretch) => stretch.has(square),
-        None => picture.board.at(square).is_some() && picture.before.at(square).is_none(),
-    }
-}
-
 /// Appends a square: its tile with the points, or the first letters of its premium.
 fn push_square(
-    page: &mut Vec<u8>,
-    picture: &Picture<'_>,
+    page: &mut PageText,
+    rules: &Rules,
+    picture: &Picture,
     square: Square,
 ) -> Result<(), AllocError> {
-    let rules = picture.sheet.rules;
-    let is_marked = is_marked(picture, square);
+    let is_marked = picture.is_marked(square);
     let Some(tile) = picture.board.at(square) else {
         let premium = rules.premium(square.number());
-        return page.extend_from_slice(empty_square(premium, is_marked).as_bytes());
+        return page.push(&[Piece::Markup(empty_square(premium, is_marked))]);
     };
     let letter = [tile_mark(&tile)];
-    write(
-        picture.sheet.alloc,
-        page,
-        &[
-            Piece::Markup(tile_begin(tile.kind, is_marked)),
-            Piece::Text(&letter),
-            Piece::Markup("<sub>"),
-            Piece::Points(i32::from(rules.points_of(tile.kind))),
-            Piece::Markup("</sub></td>"),
-        ],
-    )
+    page.push(&[
+        Piece::Markup(tile_begin(tile.kind, is_marked)),
+        Piece::Text(&letter),
+        Piece::Markup("<sub>"),
+        Piece::Number(i64::from(rules.points_of(tile.kind))),
+        Piece::Markup("</sub></td>"),
+    ])
 }
 
 /// Appends a row, its number first.
-fn push_row(page: &mut Vec<u8>, picture: &Picture<'_>, row: usize) -> Result<(), AllocError>
+fn push_row(
+    page: &mut PageText,
+    rules: &Rules,
+    picture: &Picture,
+    row: usize,
+) -> Result<(), AllocError>
     requires { row < 15 }
 {
-    write(
-        picture.sheet.alloc,
-        page,
-        &[
-            Piece::Markup("<tr><th>"),
-            Piece::Many(row + 1),
-            Piece::Markup("</th>"),
-        ],
-    )?;
+    page.push(&[
+        Piece::Markup("<tr><th>"),
+        Piece::Many(row + 1),
+        Piece::Markup("</th>"),
+    ])?;
     for column in 0..SIDE {
         let square = Square::on_line(Dir::Across, row, column);
-        push_square(page, picture, square)?;
+        push_square(page, rules, picture, square)?;
     }
-    page.extend_from_slice(b"</tr>\n")
+    page.push(&[Piece::Markup("</tr>\n")])
 }
 
 /// Appends a board as a table: its columns A to O, its rows 1 to 15, each tile with its points, and each empty premium square with the
 /// first letters of its name.
-pub fn push_board(page: &mut Vec<u8>, picture: &Picture<'_>) -> Result<(), AllocError> {
-    page.extend_from_slice(
-        b"<table class=\"board\">\n<tr><td></td><th>A</th><th>B</th><th>C</th><th>D</th><th>E</th><th>F</th><th>G</th><th>H</th><th>I</th><th>J</th><th>K</th><th>L</th><th>M</th><th>N</th><th>O</th></tr>\n",
-    )?;
+pub fn push_board(page: &mut PageText, rules: &Rules, picture: &Picture) -> Result<(), AllocError> {
+    page.push(&[Piece::Markup(
+        "<table class=\"board\">\n<tr><td></td><th>A</th><th>B</th><th>C</th><th>D</th><th>E</th><th>F</th><th>G</th><th>H</th><th>I</th><th>J</th><th>K</th><th>L</th><th>M</th><th>N</th><th>O</th></tr>\n",
+    )])?;
     for row in 0..SIDE {
-        push_row(page, picture, row)?;
+        push_row(page, rules, picture, row)?;
     }
-    page.extend_from_slice(b"</table>\n")
+    page.push(&[Piece::Markup("</table>\n")])
 }

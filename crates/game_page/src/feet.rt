@@ -1,7 +1,7 @@
 //! The foot of a page: what it was made by.
 
-use crate::pieces::{Piece, write};
-use std::alloc::{AllocError, Global};
+use page_pieces::{PageText, Piece};
+use std::alloc::AllocError;
 
 /// What a page was made by.
 #[derive(Clone, Copy)]
@@ -16,57 +16,49 @@ pub struct Maker {
     pub rules: Option<[u8; 32]>,
 }
 
-/// Appends a byte by two digits from 0 to f.
-fn push_byte(page: &mut Vec<u8>, byte: u8) -> Result<(), AllocError> {
+/// A byte by two digits from 0 to f.
+fn digits_of(byte: u8) -> [u8; 2] {
     let digits = b"0123456789abcdef";
-    page.push(digits[usize::from(byte / 16)])?;
-    page.push(digits[usize::from(byte % 16)])?;
-    Ok(())
+    [
+        digits[usize::from(byte / 16)],
+        digits[usize::from(byte % 16)],
+    ]
 }
 
 /// Appends a digest.
-fn push_digest(page: &mut Vec<u8>, digest: &[u8; 32]) -> Result<(), AllocError> {
-    page.extend_from_slice(b"<code>")?;
+fn push_digest(page: &mut PageText, digest: &[u8; 32]) -> Result<(), AllocError> {
+    page.push(&[Piece::Markup("<code>")])?;
     for byte in digest {
-        push_byte(page, *byte)?;
+        page.push(&[Piece::Text(&digits_of(*byte))])?;
     }
-    page.extend_from_slice(b"</code>")
+    page.push(&[Piece::Markup("</code>")])
 }
 
 /// Appends by which rules the page was made.
-fn push_rules(page: &mut Vec<u8>, rules: Option<&[u8; 32]>) -> Result<(), AllocError> {
+fn push_rules(page: &mut PageText, rules: Option<&[u8; 32]>) -> Result<(), AllocError> {
     match rules {
-        None => page.extend_from_slice(b"Rules: the English game."),
+        None => page.push(&[Piece::Markup("Rules: the English game.")]),
         Some(digest) => {
-            page.extend_from_slice(b"Rules: a text with the SHA-256 ")?;
+            page.push(&[Piece::Markup("Rules: a text with the SHA-256 ")])?;
             push_digest(page, digest)?;
-            page.push(b'.')?;
-            Ok(())
+            page.push(&[Piece::Markup(".")])
         }
     }
 }
 
 /// Appends the legend of the boards, and what the page was made by.
-pub fn push_foot(alloc: Global, page: &mut Vec<u8>, maker: &Maker) -> Result<(), AllocError> {
-    write(
-        alloc,
-        page,
-        &[
-            Piece::Markup("<footer>\n<p>Word list: "),
-            Piece::Many(maker.words),
-            Piece::Markup(" words, SHA-256 "),
-        ],
-    )?;
+pub fn push_foot(page: &mut PageText, maker: &Maker) -> Result<(), AllocError> {
+    page.push(&[
+        Piece::Markup("<footer>\n<p>Word list: "),
+        Piece::Many(maker.words),
+        Piece::Markup(" words, SHA-256 "),
+    ])?;
     push_digest(page, &maker.list)?;
-    page.extend_from_slice(b". ")?;
+    page.push(&[Piece::Markup(". ")])?;
     push_rules(page, maker.rules.as_ref())?;
-    write(
-        alloc,
-        page,
-        &[
-            Piece::Markup(" Made by "),
-            Piece::Text(maker.program.as_bytes()),
-            Piece::Markup(".</p>\n</footer>\n"),
-        ],
-    )
+    page.push(&[
+        Piece::Markup(" Made by "),
+        Piece::Text(maker.program.as_bytes()),
+        Piece::Markup(".</p>\n</footer>\n"),
+    ])
 }

@@ -1,9 +1,9 @@
 //! The head of a page: its title and its style.
 
-use crate::pieces::{Piece, write};
-use crate::sheets::Sheet;
-use gcg_read::Seat;
-use std::alloc::{AllocError, Global};
+use crate::shown::Shown;
+use gcg_read::{Player, Players};
+use page_pieces::{PageText, Piece};
+use std::alloc::AllocError;
 
 /// How a page looks, in light and in dark, at each width and on paper.
 const STYLE: &str = "\
@@ -42,33 +42,33 @@ footer,.key{color:var(--faint);font-size:.85rem}code{overflow-wrap:anywhere}\n\
 @media print{body{max-width:none;padding:0}details:not([open]){display:none}.board td,.sheet,.verdict{print-color-adjust:exact}}\n";
 
 /// A player's name: the full name, or the nickname where there is none.
-pub fn name_of<'a>(sheet: &Sheet<'a>, seat: Seat) -> Piece<'a> {
-    let player = sheet.record.players.of(seat);
+pub fn name_of<'a>(shown: &Shown<'_>, player: &'a Player) -> Piece<'a> {
     let full = player.full.as_bytes();
     let name = if full.is_empty() {
         player.nick.as_bytes()
     } else {
         full
     };
-    Piece::Recorded(name, sheet.encoding)
+    Piece::Recorded(name, shown.encoding)
 }
 
 /// Both names.
-pub fn names_of<'a>(sheet: &Sheet<'a>) -> [Piece<'a>; 3] {
+pub fn names_of<'a>(shown: &Shown<'a>) -> [Piece<'a>; 3] {
+    let players: &'a Players = shown.sheet.players;
     [
-        name_of(sheet, Seat::First),
+        name_of(shown, &players.first),
         Piece::Markup(" and "),
-        name_of(sheet, Seat::Second),
+        name_of(shown, &players.second),
     ]
 }
 
 /// Appends the head of a page with a title, up to the beginning of its body.
-pub fn push_head(alloc: Global, page: &mut Vec<u8>, title: &[Piece<'_>]) -> Result<(), AllocError> {
-    page.extend_from_slice(
-        b"<!DOCTYPE html>\n<html lang=\"en\">\n<head>\n<meta charset=\"utf-8\">\n<meta name=\"viewport\" content=\"width=device-width, initial-scale=1\">\n<title>",
-    )?;
-    write(alloc, page, title)?;
-    page.extend_from_slice(b"</title>\n<style>\n")?;
-    page.extend_from_slice(STYLE.as_bytes())?;
-    page.extend_from_slice(b"</style>\n</head>\n<body>\n")
+pub fn push_head(page: &mut PageText, title: &[Piece<'_>]) -> Result<(), AllocError> {
+    page.push(&[Piece::Markup(
+        "<!DOCTYPE html>\n<html lang=\"en\">\n<head>\n<meta charset=\"utf-8\">\n<meta name=\"viewport\" content=\"width=device-width, initial-scale=1\">\n<title>",
+    )])?;
+    page.push(title)?;
+    page.push(&[Piece::Markup("</title>\n<style>\n")])?;
+    page.push(&[Piece::Markup(STYLE)])?;
+    page.push(&[Piece::Markup("</style>\n</head>\n<body>\n")])
 }

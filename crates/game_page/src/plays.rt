@@ -1,24 +1,8 @@
-//! Plays and events in words.
+//! Events in words.
 
-use crate::pieces::{Piece, write};
 use gcg_read::{Event, EventKind};
-use gcg_write::play_text;
-use ref_board::{Dir, Square};
-use ref_tiles::Symbol;
-use std::alloc::{AllocError, Global};
-
-/// Appends a play: where it begins and its text.
-pub fn push_play(
-    page: &mut Vec<u8>,
-    at: Square,
-    dir: Dir,
-    word: &[Symbol],
-) -> Result<(), AllocError> {
-    match play_text(at, dir, word, page) {
-        Ok(()) => Ok(()),
-        Err(_) => Err(AllocError),
-    }
-}
+use page_pieces::{PageText, Piece};
+use std::alloc::AllocError;
 
 /// What an event other than a play is called, before its tiles where it has any.
 fn words_of(kind: &EventKind) -> &'static str {
@@ -35,16 +19,16 @@ fn words_of(kind: &EventKind) -> &'static str {
 }
 
 /// Appends what happened in an event.
-pub fn push_event(alloc: Global, page: &mut Vec<u8>, event: &Event) -> Result<(), AllocError> {
-    page.extend_from_slice(words_of(&event.kind).as_bytes())?;
+pub fn push_event(page: &mut PageText, event: &Event) -> Result<(), AllocError> {
+    page.push(&[Piece::Markup(words_of(&event.kind))])?;
     match &event.kind {
-        EventKind::Play { at, dir, word } => push_play(page, *at, *dir, word.as_slice()),
+        EventKind::Play { at, dir, word } => {
+            page.push(&[Piece::Play(*at, *dir, word.as_slice())])
+        }
         EventKind::Exchange(tiles) | EventKind::LastRack(tiles) => {
-            write(alloc, page, &[Piece::Tiles(tiles)])
+            page.push(&[Piece::Tiles(tiles)])
         }
-        EventKind::ExchangeUnknown(number) => {
-            write(alloc, page, &[Piece::Many(usize::from(*number))])
-        }
+        EventKind::ExchangeUnknown(number) => page.push(&[Piece::Number(i64::from(*number))]),
         EventKind::Pass | EventKind::Withdraw | EventKind::Challenge | EventKind::Time => Ok(()),
     }
 }

@@ -9,4 +9,5 @@ mod top_plays;
 
 pub use best_plays::{full_rack, is_judged};
 pub use event_lines::push_event_lines;
+pub use replaying::follow_event;
 pub use top_plays::{MOST_PLAYS, best_lines, top_report};

@@ -3,27 +3,8 @@
 //! Exit statuses: 0 legal, done or help, 1 illegal, 2 unsettled, 3 bad input, 4 a device or memory, 64 the command line.
 #![tactic(auto)]
 
-mod advice;
-mod archiving;
-mod auditing;
-mod done;
-mod explaining;
-mod files;
-mod folders;
-mod games;
-mod indexing;
-mod inputs;
-mod lexicons;
-mod names;
-mod pages;
-mod paging;
-mod progress;
-mod read_lines;
 mod running;
 mod same_files;
-mod sheets;
-mod sources;
-mod telling;
 
 use crate::running::run_program;
 use std::io::IsTerminal;

@@ -1,19 +1,17 @@
 //! What the program does: it takes the command line for a request, has it done, and says what kept it from its end.
 
-use crate::archiving::archive;
-use crate::files::STANDARD_OUTPUT;
-use crate::games::{board, judge, tidy, top};
-use crate::indexing::index;
-use crate::inputs::write;
-use crate::lexicons::{build, check, convert};
 use crate::same_files::lost_input;
-use crate::sheets::{SheetTask, answer_sheet};
+use archive_commands::{archive, index};
 use clap::Error;
 use clap::error::ErrorKind;
+use command_files::{STANDARD_OUTPUT, write};
 use command_line::{PROGRAM_NAME, Request, mistake, parse_arguments};
-use engine::Verdict;
+use engine::{Judging, Verdict};
 use exit_statuses::{Exit, Trouble};
+use game_commands::{board, build, check, convert, judge, tidy, top, word};
+use json_commands::{AnswerTask, answer_in_json, board_in_json, check_in_json, top_in_json};
 use ref_tiles::ENGLISH_TEXT;
+use sheet_commands::{SheetTask, answer_sheet};
 use std::alloc::AllocError;
 use std::rt::Runtime;
 use std::{env, io};
@@ -78,29 +76,67 @@ fn answer<R: Runtime + AllocGlobal>(rt: &R, request: Request<'_>, watched: bool)
     let outcome = match request {
         Request::Archive(games) => archive(rt, &games, watched),
         Request::Index { lines, out } => index(rt, lines, out),
-        Request::Judge { settle, files } => ended(judge(rt, settle, files)),
-        Request::Audit { files, out } => answer_sheet(rt, files, SheetTask::Audit(out)),
-        Request::Explain { files, line } => answer_sheet(rt, files, SheetTask::Explain(line)),
+        Request::Judge {
+            settle,
+            json: true,
+            files,
+        } => answer_in_json(rt, files, AnswerTask::Judge(judging(settle))),
+        Request::Judge { settle, files, .. } => ended(judge(rt, settle, files)),
+        Request::Audit {
+            files,
+            json: true,
+            ..
+        } => answer_in_json(rt, files, AnswerTask::Audit),
+        Request::Audit { files, out, .. } => answer_sheet(rt, files, SheetTask::Audit(out)),
+        Request::Explain {
+            files,
+            line,
+            json: true,
+        } => answer_in_json(rt, files, AnswerTask::Explain(line)),
+        Request::Explain { files, line, .. } => answer_sheet(rt, files, SheetTask::Explain(line)),
         Request::Page { files, out } => answer_sheet(rt, files, SheetTask::Page(out)),
         Request::Build { words, out } => ended(build(rt, words, out)),
-        Request::Check(pair) => ended(check(rt, pair)),
+        Request::Check { json: true, pair } => check_in_json(rt, pair),
+        Request::Check { pair, .. } => ended(check(rt, pair)),
         Request::Convert {
             format,
             lexicon,
             out,
         } => ended(convert(rt, format, lexicon, out)),
-        Request::Top { files, plays } => ended(top(rt, files, plays)),
+        Request::Top {
+            files,
+            plays,
+            json: true,
+        } => top_in_json(rt, files, plays),
+        Request::Top { files, plays, .. } => ended(top(rt, files, plays)),
         Request::Tidy { game } => ended(tidy(rt, game)),
         Request::Board {
             rules,
             before,
             game,
+            json: true,
+        } => board_in_json(rt, rules, before, game),
+        Request::Board {
+            rules,
+            before,
+            game,
+            ..
         } => ended(board(rt, rules, before, game)),
+        Request::Word { pair, each, words } => word(rt, pair, &words, each),
         Request::Rules => print_rules(rt),
     };
     match outcome {
         Ok(exit) => exit,
         Err(trouble) => give_up(rt, trouble),
+    }
+}
+
+/// How a game is judged, with a search or without.
+fn judging(settle: bool) -> Judging {
+    if settle {
+        Judging::BySearch
+    } else {
+        Judging::ByRule
     }
 }
 

@@ -17,6 +17,7 @@ pub fn lost_input<R: Runtime>(rt: &R, request: &Request<'_>) -> Option<&'static 
         Request::Audit {
             files,
             out: Some(out),
+            ..
         } => lost_of_game(rt, out, files),
         _ => None,
     }

@@ -1,0 +1,74 @@
+//! Plays as objects.
+
+use crate::texts::text_of;
+use gcg_write::play_text;
+use ref_board::{Dir, Square};
+use ref_play::Placed;
+use ref_tiles::{Kind, Symbol};
+use serde::Serialize;
+use std::alloc::{AllocError, Global};
+
+/// Where a play stands, and its text.
+#[derive(Drop)]
+pub struct PlayFields {
+    /// The position, as event lines have it.
+    pub place: String,
+    /// `across` or `down`.
+    pub direction: &'static str,
+    /// The text, as event lines have it: a dot for a tile that lay there, and a small letter for a blank.
+    pub text: String,
+}
+
+/// The name of a direction.
+pub fn direction_of(dir: Dir) -> &'static str {
+    match dir {
+        Dir::Across => "across",
+        Dir::Down => "down",
+    }
+}
+
+/// Where a play stands, and its text.
+pub fn play_fields(
+    alloc: Global,
+    at: Square,
+    dir: Dir,
+    word: &[Symbol],
+) -> Result<PlayFields, AllocError> {
+    let mut both = Vec::new(alloc);
+    play_text(at, dir, word, &mut both)?;
+    let mut parts = both.as_slice().split(|byte| *byte == b' ');
+    let place = parts.next().unwrap_or(&[]);
+    let text = parts.next().unwrap_or(&[]);
+    Ok(PlayFields {
+        place: text_of(alloc, place)?,
+        direction: direction_of(dir),
+        text: text_of(alloc, text)?,
+    })
+}
+
+/// The byte of a tile that is put down: a capital, or a small letter for a blank.
+fn tile_byte(placed: &Placed) -> u8 {
+    match placed.tile.kind {
+        Kind::Letter(letter) => Symbol::Letter(letter).byte(),
+        Kind::Blank => Symbol::Blank(placed.tile.shown).byte(),
+    }
+}
+
+/// The tiles that are put down, in the order of their squares.
+pub fn placed_text(alloc: Global, tiles: &[Placed]) -> Result<String, AllocError> {
+    let mut text = Vec::new(alloc);
+    for placed in tiles {
+        text.push(tile_byte(placed))?;
+    }
+    text_of(alloc, text.as_slice())
+}
+
+/// The best play of a turn.
+#[derive(Drop, Serialize)]
+pub struct BestObject {
+    pub place: String,
+    pub direction: &'static str,
+    pub text: String,
+    pub score: i32,
+    pub more: i64,
+}

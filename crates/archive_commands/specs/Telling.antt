@@ -1,0 +1,19 @@
+-- What is told of many games, once what they are judged by is read.
+use Rattle.std.proofs.Common.{ℕ, List, [], ◌∷◌, Result, Ok, Err}
+use Rattle.call_stages.specs.declared.decisions.Decision.{Decision}
+use Rattle.call_stages.specs.declared.verdicts.Verdict.{Verdict}
+use Rattle.call_stages.specs.declared.verdicts.Verdict.TheVariants as verdict
+use Rattle.call_stages.specs.Reading.{ReadsNoMore}
+use Rattle.call_stages.specs.Telling.{IsTold, IsLater}
+use Rattle.command_files.specs.Later.{later_as}
+
+-- nothing more is read, and many games are told
+abbrev pub AreGamesTold : {T : Type 0} → Result T Decision → (texts : List (List ℕ)) → Verdict → List ℕ → Type 0
+AreGamesTold (Ok told) texts v report = ReadsNoMore (IsTold verdict.Done []) texts v report
+AreGamesTold (Err d) texts v report = ⊥
+
+-- it is not that an input before them is bad
+pub games_later : {T : Type 0} (x : Result T Decision) (texts : List (List ℕ)) (v : Verdict) (report : List ℕ) → AreGamesTold x texts v report → IsLater v
+games_later (Ok told) [] v report is = later_as v is.verdict_is
+games_later (Ok told) (text ∷ rest) v report is = absurd is
+games_later (Err d) texts v report is = absurd is

@@ -1,0 +1,62 @@
+//! The games of an archive that have a line already.
+
+use crate::archiving::buffered;
+use crate::read_lines::{ArchiveLines, NextLine};
+use command_files::{open_source, shown};
+use exit_statuses::Trouble;
+use std::alloc::{AllocError, Global};
+use std::collections::BTreeSet;
+use std::rt::Runtime;
+
+/// The names that have a line.
+#[derive(Drop)]
+pub struct Done {
+    names: BTreeSet<String>,
+}
+
+impl Done {
+    /// The names that have a line in a file, or none where no file is named. Where something in it is no line of an archive, that is
+    /// said on standard error, and there is no answer. Part of a line at the end is none: a shell that appends would join a line to it.
+    pub fn read<'a, R: Runtime + AllocGlobal>(
+        rt: &R,
+        file: Option<&'a str>,
+    ) -> Result<Option<Done>, Trouble<'a>> {
+        let mut done = Done {
+            names: BTreeSet::new(rt.alloc()),
+        };
+        let Some(file) = file else {
+            return Ok(Some(done));
+        };
+        let reader = buffered(rt.alloc(), open_source(rt, file)?)?;
+        let mut lines = ArchiveLines::new(rt.alloc(), reader, shown(file));
+        for _ in 0..u64::MAX {
+            match lines.next_line(rt.alloc())? {
+                NextLine::End => break,
+                NextLine::Whole(line) => match done.names.insert(line.name) {
+                    Ok(_) => {}
+                    Err(_) => return Err(Trouble::NoMemory),
+                },
+                NextLine::NoLine => {
+                    lines.tell_no_line(rt);
+                    return Ok(None);
+                }
+                NextLine::Part => {
+                    lines.tell_part(rt);
+                    return Ok(None);
+                }
+            }
+        }
+        Ok(Some(done))
+    }
+
+    /// Whether a game of this name has a line. A line has a name that is not UTF-8 as text with U+FFFD.
+    pub fn has<'a>(&self, alloc: Global, name: &[u8]) -> Result<bool, Trouble<'a>> {
+        if self.names.is_empty() {
+            return Ok(false);
+        }
+        match String::from_utf8_lossy(alloc, name) {
+            Ok(name) => Ok(self.names.contains(name.as_str())),
+            Err(AllocError) => Err(Trouble::NoMemory),
+        }
+    }
+}

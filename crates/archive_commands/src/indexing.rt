@@ -1,0 +1,84 @@
+//! `index`: the index of the pages of one run or many, by the lines of the runs.
+
+use crate::archiving::buffered;
+use crate::read_lines::{ArchiveLines, NextLine};
+use archive_lines::LineRead;
+use command_files::{open_source, shown, write_out};
+use exit_statuses::{Exit, Trouble};
+use game_page::{IndexPlayer, IndexRow, push_index_end, push_index_head, push_index_row};
+use page_pieces::PageText;
+use std::alloc::{AllocError, Global};
+use std::io::BufRead;
+use std::rt::Runtime;
+
+/// Writes the index of the pages that lines of archives name to the file `out`, with a row for each line. Where something is no line of
+/// an archive, that is said on standard error, and `out` is not touched.
+pub fn index<'a, R: Runtime + AllocGlobal>(
+    rt: &R,
+    lines: &'a str,
+    out: &'a str,
+) -> Result<Exit, Trouble<'a>> {
+    let reader = buffered(rt.alloc(), open_source(rt, lines)?)?;
+    let mut lines = ArchiveLines::new(rt.alloc(), reader, shown(lines));
+    let Some(page) = page_of(rt, &mut lines)? else {
+        return Ok(Exit::BadInput);
+    };
+    write_out(rt, out, page.as_slice())?;
+    Ok(Exit::Fine)
+}
+
+/// The index of these lines; none where one is no line of an archive, which is said.
+fn page_of<'a, R: Runtime + AllocGlobal, B: BufRead + Drop>(
+    rt: &R,
+    lines: &mut ArchiveLines<'a, B>,
+) -> Result<Option<PageText>, Trouble<'a>> {
+    let mut page = PageText::new(rt.alloc());
+    if push_index_head(&mut page).is_err() {
+        return Err(Trouble::NoMemory);
+    }
+    for _ in 0..u64::MAX {
+        let pushed = match lines.next_line(rt.alloc())? {
+            NextLine::Whole(line) => push_row(rt.alloc(), &mut page, &line),
+            NextLine::End => break,
+            NextLine::NoLine | NextLine::Part => {
+                lines.tell_no_line(rt);
+                return Ok(None);
+            }
+        };
+        if pushed.is_err() {
+            return Err(Trouble::NoMemory);
+        }
+    }
+    match push_index_end(&mut page) {
+        Ok(()) => Ok(Some(page)),
+        Err(_) => Err(Trouble::NoMemory),
+    }
+}
+
+/// Appends the row of a line.
+fn push_row(alloc: Global, page: &mut PageText, line: &LineRead) -> Result<(), AllocError> {
+    let row = IndexRow {
+        game: line.name.as_str(),
+        page: line.page_name(),
+        answer: line.verdict.name(),
+        line: line.line,
+        why: text_of(match &line.ending {
+            Some(_) => &line.ending,
+            None => &line.fault,
+        }),
+        first: IndexPlayer {
+            nick: text_of(&line.player1),
+            total: line.total1,
+        },
+        second: IndexPlayer {
+            nick: text_of(&line.player2),
+            total: line.total2,
+        },
+    };
+    push_index_row(alloc, page, &row)
+}
+
+/// The text, where there is one.
+fn text_of(text: &Option<String>) -> Option<&str> {
+    text.as_ref().map(|text| text.as_str())
+}

@@ -1,0 +1,13 @@
+//! The commands that are about many games: `archive` and `index`.
+#![tactic(auto)]
+
+mod archiving;
+mod done;
+mod indexing;
+mod names;
+mod pages;
+mod progress;
+mod read_lines;
+
+pub use archiving::archive;
+pub use indexing::index;

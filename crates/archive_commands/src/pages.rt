@@ -1,0 +1,215 @@
+//! The pages of an archive: one for each game, and their index.
+
+use crate::archiving::unread_by;
+use archive_lines::{Fields, PageField, Unread};
+use command_files::{has_page, unopened, write_whole_file};
+use devices::FromRead;
+use engine::{Case, open_case};
+use exit_statuses::Trouble;
+use game_page::{
+    Contents, IndexPlayer, IndexRow, Maker, push_index_end, push_index_head, push_index_row,
+    push_page,
+};
+use lex_check::Checked;
+use name_texts::Encoding;
+use page_names::push_page_name;
+use page_pieces::PageText;
+use ref_tiles::Rules;
+use std::alloc::{AllocError, Global};
+use std::fs;
+use std::io::{self, Read};
+use std::path::Path;
+use std::rt::Runtime;
+
+/// The file of the index in the folder.
+const INDEX: &str = "index.html";
+
+/// The pages of a run over many games: where they go, what they are made by, and their index so far.
+#[derive(Drop)]
+pub struct Pages<'a> {
+    folder: &'a str,
+    maker: Maker,
+    /// The page of the game that is being judged. The games share its memory.
+    page: PageText,
+    /// The index up to the last game that is done.
+    index: PageText,
+}
+
+impl<'a> Pages<'a> {
+    /// Pages in a folder, which is made where it is not there.
+    pub fn open<R: Runtime + AllocGlobal>(
+        rt: &R,
+        folder: &'a str,
+        maker: Maker,
+    ) -> Result<Pages<'a>, Trouble<'a>> {
+        match fs::create_dir_all(rt, folder) {
+            Ok(()) => {}
+            Err(error) => return Err(unopened(folder, &error)),
+        }
+        match Pages::empty(rt.alloc(), folder, maker) {
+            Ok(pages) => Ok(pages),
+            Err(_) => Err(Trouble::NoMemory),
+        }
+    }
+
+    /// Pages of no game yet.
+    fn empty(alloc: Global, folder: &'a str, maker: Maker) -> Result<Pages<'a>, AllocError> {
+        let mut index = PageText::new(alloc);
+        push_index_head(&mut index)?;
+        Ok(Pages {
+            folder,
+            maker,
+            page: PageText::new(alloc),
+            index,
+        })
+    }
+
+    /// Judges the open game of this name, and writes its page: what its line says.
+    pub fn found<'n, R: Runtime + AllocGlobal, F: Read + Drop>(
+        &mut self,
+        rt: &R,
+        rules: &Rules,
+        pair: &Checked<'_>,
+        name: &'n str,
+        game: F,
+    ) -> Fields<'n> {
+        let mut game = FromRead::new(game);
+        let case = match open_case(rt.alloc(), rules, pair, &mut game) {
+            Ok(case) => case,
+            Err(fault) => return Fields::unread(name, unread_by(rt, name, fault)),
+        };
+        let Ok(mut fields) = fields_of(rt.alloc(), name, &case) else {
+            return Fields::unread(name, Unread::NoMemory);
+        };
+        fields.page = match self.write_page(rt, rules, pair, name, &case) {
+            Ok(page) => Some(page),
+            Err(_) => Some(PageField::NoMemory),
+        };
+        fields
+    }
+
+    /// Makes the page of a case and writes it, where its text is a record with an event.
+    fn write_page<R: Runtime + AllocGlobal>(
+        &mut self,
+        rt: &R,
+        rules: &Rules,
+        pair: &Checked<'_>,
+        name: &str,
+        case: &Case,
+    ) -> Result<PageField, AllocError> {
+        if !has_page(case) {
+            return Ok(PageField::Missing);
+        }
+        let alloc = rt.alloc();
+        self.page.clear();
+        let contents = Contents {
+            rules,
+            pair,
+            case,
+            maker: &self.maker,
+        };
+        push_page(alloc, &mut self.page, &contents)?;
+        let file = page_of(alloc, name)?;
+        let path = path_in(alloc, self.folder, file.as_str())?;
+        if put_page(rt, path.as_str(), self.page.as_slice())? {
+            Ok(PageField::Written(file))
+        } else {
+            Ok(PageField::CannotWrite)
+        }
+    }
+
+    /// Adds the row of a game to the index. Where there is no memory for it, the line of the game says so.
+    pub fn add(&mut self, alloc: Global, fields: &mut Fields<'_>) {
+        let before = self.index.len();
+        if push_index_row(alloc, &mut self.index, &row_of(fields)).is_err() {
+            self.index.truncate(before);
+            fields.page = Some(PageField::NoMemory);
+        }
+        if fields.page.is_none() {
+            fields.page = Some(PageField::Missing);
+        }
+    }
+
+    /// Writes the index.
+    pub fn end<R: Runtime + AllocGlobal>(&mut self, rt: &R) -> Result<(), Trouble<'a>> {
+        let (Ok(()), Ok(path)) = (
+            push_index_end(&mut self.index),
+            path_in(rt.alloc(), self.folder, INDEX),
+        ) else {
+            return Err(Trouble::NoMemory);
+        };
+        match write_whole_file(rt, path.as_str(), self.index.as_slice()) {
+            Ok(()) => Ok(()),
+            Err(Trouble::CannotOpen(_, reason) | Trouble::WriteFailed(_, reason)) => {
+                Err(Trouble::WriteFailed(self.folder, reason))
+            }
+            Err(_) => Err(Trouble::NoMemory),
+        }
+    }
+}
+
+/// What the line of a case says of its game.
+fn fields_of<'n>(alloc: Global, name: &'n str, case: &Case) -> Result<Fields<'n>, AllocError> {
+    match &case.read {
+        Ok(entry) => { Fields::of_entry(alloc, name, entry, Encoding::of(case.text.as_slice())) }
+        Err(fault) => Ok(Fields::bad_record(name, fault)),
+    }
+}
+
+/// What the index says of a game.
+fn row_of<'f>(fields: &'f Fields<'_>) -> IndexRow<'f> {
+    let fault = fields.fault.as_ref().map(|fault| fault.as_str());
+    IndexRow {
+        game: fields.name,
+        page: fields.page.as_ref().and_then(|page| page.name()),
+        answer: fields.verdict.name(),
+        line: fields.line,
+        why: match fields.ending {
+            Some(ending) => Some(ending.name()),
+            None => fault,
+        },
+        first: IndexPlayer {
+            nick: fields.player1.as_ref().map(|nick| nick.as_str()),
+            total: fields.total1,
+        },
+        second: IndexPlayer {
+            nick: fields.player2.as_ref().map(|nick| nick.as_str()),
+            total: fields.total2,
+        },
+    }
+}
+
+/// The page of a game: its path in the folder of the pages.
+fn page_of(alloc: Global, name: &str) -> Result<String, AllocError> {
+    let mut page = Vec::new(alloc);
+    push_page_name(&mut page, name.as_bytes())?;
+    String::from_utf8_lossy(alloc, page.as_slice())
+}
+
+/// The path of a file in a folder.
+fn path_in(alloc: Global, folder: &str, file: &str) -> Result<String, AllocError> {
+    let mut path = String::from_str(alloc, folder)?;
+    path.push('/')?;
+    path.push_str(file)?;
+    Ok(path)
+}
+
+/// Writes a page to the file of a path, whose folders are made where they are not there, and says whether it was done.
+fn put_page<R: Runtime + AllocGlobal>(
+    rt: &R,
+    path: &str,
+    bytes: &[u8],
+) -> Result<bool, AllocError> {
+    if let Some(folder) = Path::new(path).parent() {
+        match fs::create_dir_all(rt, folder.as_str()) {
+            Ok(()) => {}
+            Err(error) if error.kind() == io::ErrorKind::OutOfMemory => return Err(AllocError),
+            Err(_) => return Ok(false),
+        }
+    }
+    match write_whole_file(rt, path, bytes) {
+        Ok(()) => Ok(true),
+        Err(Trouble::NoMemory) => Err(AllocError),
+        Err(_) => Ok(false),
+    }
+}

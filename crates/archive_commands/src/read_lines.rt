@@ -1,0 +1,82 @@
+//! The lines of archives that are done, one after the other.
+
+use archive_lines::LineRead;
+use exit_statuses::Trouble;
+use std::alloc::Global;
+use std::io::{self, BufRead};
+use std::rt::Runtime;
+use watching::Reason;
+
+/// The lines of a text.
+#[derive(Drop)]
+pub struct ArchiveLines<'a, B> {
+    reader: B,
+    /// What messages name the text.
+    name: &'a str,
+    /// The line that was read last.
+    line: Vec<u8>,
+    /// Its number.
+    number: u64,
+}
+
+/// What is read next.
+#[derive(Drop)]
+pub enum NextLine {
+    /// A line of an archive.
+    Whole(LineRead),
+    /// A line that is none.
+    NoLine,
+    /// The text ends without an LF.
+    Part,
+    /// Nothing.
+    End,
+}
+
+impl<'a, B: BufRead + Drop> ArchiveLines<'a, B> {
+    /// The lines of the text that is read here, of this name.
+    pub fn new(alloc: Global, reader: B, name: &'a str) -> ArchiveLines<'a, B> {
+        ArchiveLines {
+            reader,
+            name,
+            line: Vec::new(alloc),
+            number: 0,
+        }
+    }
+
+    /// Reads the next line.
+    pub fn next_line(&mut self, alloc: Global) -> Result<NextLine, Trouble<'a>> {
+        self.line.clear();
+        match self.reader.read_until(b'\n', &mut self.line) {
+            Ok(0) => return Ok(NextLine::End),
+            Ok(_) => self.number = self.number.saturating_add(1),
+            Err(error) if error.kind() == io::ErrorKind::OutOfMemory => {
+                return Err(Trouble::NoMemory);
+            }
+            Err(error) => return Err(Trouble::ReadFailed(self.name, Reason::of(&error))),
+        }
+        let [line @ .., b'\n'] = self.line.as_slice() else {
+            return Ok(NextLine::Part);
+        };
+        match LineRead::of(alloc, line) {
+            Ok(Some(line)) => Ok(NextLine::Whole(line)),
+            Ok(None) => Ok(NextLine::NoLine),
+            Err(_) => Err(Trouble::NoMemory),
+        }
+    }
+
+    /// Tells that the last line is none of an archive.
+    pub fn tell_no_line<R: Runtime>(&self, rt: &R) {
+        let (name, number) = (self.name, self.number);
+        let _ = rt.eprintln(format_args!(
+            "referee: {name} line {number} is not a line of an archive"
+        ));
+    }
+
+    /// Tells that the text ends with part of a line.
+    pub fn tell_part<R: Runtime>(&self, rt: &R) {
+        let (name, number) = (self.name, self.number);
+        let _ = rt.eprintln(format_args!(
+            "referee: {name} ends with part of line {number}: drop that part, and run this again"
+        ));
+    }
+}

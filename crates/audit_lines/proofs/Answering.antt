@@ -1,0 +1,44 @@
+-- The answer to an audit, from the audit.
+use Rattle.std.proofs.Common.{◌≡◌, ℕ, List, Ok, sym, subst, ◌∙◌, ap}
+use Rattle.std.specs.List.{flat_map}
+use Rattle.devices.specs.Devices.{Device}
+use Rattle.ref_tiles.specs.declared.rulebook.Rules.{Rules}
+use Rattle.gcg_read.specs.Laws.{LinesRise}
+use Rattle.call_stages.specs.Stages.{IsRead}
+use Rattle.engine.specs.declared.audits.Audit.{Audit}
+use Rattle.engine.specs.Auditing.{IsAuditOfRecord}
+use Rattle.audit_lines.specs.declared.answers.AuditAnswer.{AuditAnswer}
+use Rattle.audit_lines.specs.Told.{stop_of, AreTold}
+use Rattle.audit_lines.specs.Numbers.{told_number, told_numbers}
+use Rattle.audit_lines.specs.Answers.{IsAuditAnswer}
+use Rattle.audit_lines.proofs.ToldNumbers.{audit_told}
+
+-- the answer by the numbers that were found
+by_numbers : (rules : Rules) (list : List (List ℕ)) (text : List ℕ) (a : AuditAnswer) → LinesRise → IsAuditOfRecord rules list text a.audit
+    → a.numbers.items ≡ flat_map (told_number (stop_of a.audit.entry.finding) a.audit.entry.record.events) a.audit.wrong.items → IsAuditAnswer rules list text a
+by_numbers rules list text a rises is same =
+    let stop = stop_of a.audit.entry.finding in
+    let right = a.audit.entry.record.events in
+    record {
+      audit = is;
+      told =
+          subst (AreTold rules list stop is.written.events right) (sym same)
+          (audit_told rules list stop is.written.events right a.audit.wrong.items (rises text is.written is.means) is.audit.audited);
+    }
+
+pub answered : (rules : Rules) (list : List (List ℕ)) (text : List ℕ) (audit : Audit) (a : AuditAnswer) → LinesRise → IsAuditOfRecord rules list text audit → a.audit ≡ audit
+    → a.numbers.items ≡ told_numbers audit → IsAuditAnswer rules list text a
+unfolding told_numbers
+answered rules list text audit a rises is same numbers =
+    by_numbers rules list text a rises (subst (IsAuditOfRecord rules list text) (sym same) is) (numbers ∙ ap told_numbers (sym same))
+
+-- an input that was read, and taken for more
+pub read_on : {A B : Type 0} (limit : ℕ) (old new : Device) (Means : List ℕ → A → Type 0) (More : List ℕ → B → Type 0) (a : A) (b : B) → IsRead limit old new Means (Ok a)
+    → ((text : List ℕ) → Means text a → More text b) → IsRead limit old new More (Ok b)
+read_on limit old new Means More a b is more =
+    record {
+      taken = record { text = is.taken.text; given = is.taken.given; means = more is.taken.text is.taken.means };
+      worked = is.worked;
+      gave_up = tt;
+      within = is.within;
+    }

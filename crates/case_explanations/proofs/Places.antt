@@ -1,0 +1,44 @@
+-- The place of the event that is asked for.
+use Rattle.std.proofs.Common.{◌≡◌, ℕ, ◌<◌, List, [], ◌∷◌, length, Option, Some, None, sym, subst}
+use Rattle.std.proofs.lemmas.List.Quantifiers.{position-Some}
+use Rattle.ref_tiles.specs.declared.rulebook.Rules.{Rules}
+use Rattle.gcg_read.specs.declared.events.Event.{Event}
+use Rattle.game_board.specs.Places.{is_from, place_of_line}
+use Rattle.case_openings.specs.Openings.{place_of_fault}
+use Rattle.engine.specs.declared.entries.Entry.{Entry}
+use Rattle.engine.specs.declared.findings.Finding.{Finding}
+use Rattle.engine.specs.declared.findings.Finding.TheVariants as finding
+use Rattle.explanations.specs.declared.explaining.Explanation.{Explanation}
+use Rattle.explanations.specs.Explaining.{ExplainsEvent}
+use Rattle.case_explanations.specs.Explaining.{whole_facts, Explains, IsExplanationAt}
+
+-- the place of an event stands within the record
+pub line_within : (events : List Event) (line place : ℕ) → place_of_line events line ≡ Some place → place < length events
+line_within [] line place is = cc
+line_within (e ∷ events) line place is = (position-Some (is_from line) (e ∷ events) place e is).0
+
+pub fault_within : (events : List Event) (found : Finding) (place : ℕ) → place_of_fault events found ≡ Some place → place < length events
+fault_within events finding.NoGame place is = cc
+fault_within events (finding.Legal complete) place is = cc
+fault_within events (finding.Illegal line why) place is = line_within events line place is
+fault_within events finding.Unsettled place is = cc
+
+-- ---- what explains it
+
+pub explains_whole : (rules : Rules) (list : List (List ℕ)) (entry : Entry) (asked : Option ℕ) (x : Explanation) → asked ≡ None → x.players.now ≡ entry.record.players → x.line ≡ None
+    → x.facts.items ≡ whole_facts entry.finding → x.picture ≡ None → Explains rules list entry asked x
+explains_whole rules list entry asked x none players line facts picture =
+    subst (λ (a : Option ℕ). Explains rules list entry a x) (sym none) (record { players = players; told = (line, facts, picture) })
+
+pub explains_at : (rules : Rules) (list : List (List ℕ)) (entry : Entry) (asked : Option ℕ) (place : ℕ) (x : Explanation) → asked ≡ Some place → x.players.now ≡ entry.record.players
+    → ExplainsEvent rules list entry.record.events place x → Explains rules list entry asked x
+explains_at rules list entry asked place x some players told =
+    subst (λ (a : Option ℕ). Explains rules list entry a x) (sym some) (record { players = players; told = told })
+
+pub asked_none : (rules : Rules) (list : List (List ℕ)) (entry : Entry) (asked : Option ℕ) → asked ≡ None → IsExplanationAt rules list entry asked None
+asked_none rules list entry asked none = none
+
+pub asked_some : (rules : Rules) (list : List (List ℕ)) (entry : Entry) (asked : Option ℕ) (place : ℕ) (x : Explanation) → asked ≡ Some place → x.players.now ≡ entry.record.players
+    → ExplainsEvent rules list entry.record.events place x → IsExplanationAt rules list entry asked (Some x)
+asked_some rules list entry asked place x some players told =
+    subst (λ (a : Option ℕ). IsExplanationAt rules list entry a (Some x)) (sym some) (record { players = players; told = told })

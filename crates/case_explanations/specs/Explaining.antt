@@ -1,0 +1,42 @@
+-- What explains a record, or its event on a line.
+use Rattle.std.specs.Prelude.{◌≡◌, ℕ, List, [], ◌∷◌, Option, Some, None}
+use Rattle.ref_tiles.specs.declared.rulebook.Rules.{Rules}
+use Rattle.game_board.specs.Places.{place_of_line}
+use Rattle.case_openings.specs.Openings.{place_of_fault}
+use Rattle.engine.specs.declared.entries.Entry.{Entry}
+use Rattle.engine.specs.declared.findings.Finding.{Finding}
+use Rattle.engine.specs.declared.findings.Finding.TheVariants as finding
+use Rattle.event_facts.specs.declared.facts.Fact.{Fact}
+use Rattle.event_facts.specs.declared.facts.Fact.TheVariants as fact
+use Rattle.explanations.specs.declared.explaining.Explanation.{Explanation}
+use Rattle.explanations.specs.Explaining.{ExplainsEvent}
+
+-- what is said of a record as a whole
+abbrev pub whole_facts : Finding → List Fact
+whole_facts finding.NoGame = fact.NoEvent ∷ []
+whole_facts (finding.Legal complete) = fact.Legal ∷ []
+whole_facts (finding.Illegal line why) = []
+whole_facts finding.Unsettled = fact.Unsettled ∷ []
+
+-- what explains the event at a place, or the record as a whole
+abbrev pub ExplainsAt : Rules → (list : List (List ℕ)) → Entry → Option ℕ → Explanation → Type 0
+ExplainsAt rules list entry None x = (x.line ≡ None) × (x.facts.items ≡ whole_facts entry.finding) × (x.picture ≡ None)
+ExplainsAt rules list entry (Some place) x = ExplainsEvent rules list entry.record.events place x
+
+-- by the players of the record
+pub record Explains (rules : Rules) (list : List (List ℕ)) (entry : Entry) (place : Option ℕ) (x : Explanation) : Type 0 where
+  pub players : x.players.now ≡ entry.record.players
+  pub told : ExplainsAt rules list entry place x
+
+-- what is explained of an event on a line or behind it; none where no event is there
+abbrev pub IsExplanationAt : Rules → (list : List (List ℕ)) → Entry → (place : Option ℕ) → Option Explanation → Type 0
+IsExplanationAt rules list entry place None = place ≡ None
+IsExplanationAt rules list entry None (Some x) = ⊥
+IsExplanationAt rules list entry (Some place) (Some x) = Explains rules list entry (Some place) x
+
+-- What explains an entry: without a line the event that is not allowed, or the record as a whole; with one the first event on it or behind it,
+-- or that there is none.
+abbrev pub IsExplanation : Rules → (list : List (List ℕ)) → Entry → (line : Option ℕ) → Option Explanation → Type 0
+IsExplanation rules list entry None None = ⊥
+IsExplanation rules list entry None (Some x) = Explains rules list entry (place_of_fault entry.record.events entry.finding) x
+IsExplanation rules list entry (Some line) x = IsExplanationAt rules list entry (place_of_line entry.record.events line) x

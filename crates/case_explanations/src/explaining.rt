@@ -1,0 +1,101 @@
+//! What explains a record, or its event on a line.
+ghost use Rattle.std.specs.Prelude.{◌≡◌, ◌<◌, ◌∷◌, [], None, IfOk, length};
+ghost use Rattle.explanations.specs.Explaining.{ExplainsEvent};
+ghost use Rattle.case_explanations.specs.Explaining.{whole_facts, IsExplanation};
+
+use case_openings::place_of_fault;
+use engine::{Entry, Finding, GameFault};
+use event_facts::Fact;
+use explanations::{Explanation, explain_event};
+use game_board::place_of_line;
+use lex_list::WordList;
+use ref_tiles::Rules;
+use std::alloc::{AllocError, Global};
+
+/// The list of one fact.
+fn one_fact(alloc: Global, fact: Fact) -> Result<Vec<Fact>, AllocError>
+    ensures { IfOk result (λ facts. facts.items ≡ fact ∷ []) }
+{
+    let mut facts = Vec::new(alloc);
+    facts.push(fact)?;
+    Ok(facts)
+}
+
+/// What is said of a record as a whole, by what was found of it.
+fn whole_facts(alloc: Global, finding: &Finding) -> Result<Vec<Fact>, AllocError>
+    ensures { IfOk result (λ facts. facts.items ≡ whole_facts finding.now) }
+{
+    match finding {
+        Finding::NoGame => one_fact(alloc, Fact::NoEvent),
+        Finding::Legal { .. } => one_fact(alloc, Fact::Legal),
+        Finding::Unsettled => one_fact(alloc, Fact::Unsettled),
+        Finding::Illegal { .. } => Ok(Vec::new(alloc)),
+    }
+}
+
+/// The fault that a finding has on a line.
+fn fault_on(finding: &Finding, line: u32) -> Option<&GameFault> {
+    match finding {
+        Finding::Illegal { line: on, fault } if *on == line => Some(fault),
+        _ => None,
+    }
+}
+
+/// What explains a record as a whole.
+fn whole<'a>(alloc: Global, entry: &'a Entry) -> Result<Explanation<'a>, AllocError>
+    ensures players { IfOk result (λ x. x.players.now ≡ entry.now.record.players) }
+    ensures line { IfOk result (λ x. x.line ≡ None) }
+    ensures facts { IfOk result (λ x. x.facts.items ≡ whole_facts entry.now.finding) }
+    ensures picture { IfOk result (λ x. x.picture ≡ None) }
+{
+    let facts = whole_facts(alloc, &entry.finding)?;
+    Ok(Explanation {
+        players: &entry.record.players,
+        line: None,
+        facts,
+        picture: None,
+    })
+}
+
+/// What explains the event at a place.
+fn explained<'a>(
+    alloc: Global,
+    rules: &Rules,
+    list: &WordList,
+    entry: &'a Entry,
+    place: usize,
+) -> Result<Explanation<'a>, AllocError>
+    requires { place < length entry.now.record.events }
+    ensures players { IfOk result (λ x. x.players.now ≡ entry.now.record.players) }
+    ensures explains { IfOk result (ExplainsEvent rules.now list.now entry.now.record.events place) }
+{
+    let line = entry.record.events.as_slice()[place].line;
+    let fault = fault_on(&entry.finding, line);
+    explain_event(alloc, rules, list, &entry.record, place, fault)
+}
+
+/// What explains the verdict on a record, or its event on a line or behind it; none where no event is there.
+///
+/// It fails only where memory runs out.
+#[tactic(auto, using(crate::proofs::Places::fault_within, crate::proofs::Places::explains_whole, crate::proofs::Places::explains_at, crate::proofs::Places::asked_none, crate::proofs::Places::asked_some))]
+pub fn explain<'a>(
+    alloc: Global,
+    rules: &Rules,
+    list: &WordList,
+    entry: &'a Entry,
+    line: Option<u32>,
+) -> Result<Option<Explanation<'a>>, AllocError>
+    ensures { IfOk result (IsExplanation rules.now list.now entry.now line) }
+{
+    let events = entry.record.events.as_slice();
+    let Some(line) = line else {
+        return match place_of_fault(events, &entry.finding) {
+            None => Ok(Some(whole(alloc, entry)?)),
+            Some(place) => Ok(Some(explained(alloc, rules, list, entry, place)?)),
+        };
+    };
+    match place_of_line(events, line) {
+        None => Ok(None),
+        Some(place) => Ok(Some(explained(alloc, rules, list, entry, place)?)),
+    }
+}

@@ -1,0 +1,141 @@
+//! The files of a command line that are read: word lists and records, which may be standard input, and what is known of their bytes.
+ghost use Rattle.std.specs.Prelude.{IfOk};
+ghost use Rattle.devices.specs.Devices.{HasRoom};
+
+use crate::files::open;
+use command_line::{PROGRAM_NAME, STANDARD_INPUT, WordsFile};
+use devices::{FromRead, Input};
+use digesting::Digesting;
+use either::Either;
+use exit_statuses::Trouble;
+use first_fields::FirstFields;
+use std::alloc::{AllocError, Global};
+use std::io::{self, Read};
+use std::rt::{Files, Runtime};
+use watching::WatchedRead;
+use word_lines::{Others, WordLines};
+
+/// How many bytes of a word list are kept: its beginning shows what it is.
+const WORDS_FRONT: usize = 64;
+
+/// A file, or standard input.
+pub type Source<R> = Either<<R as Files>::File, <R as io::Input>::Reader>;
+
+/// Opens the file of this name to be read, or standard input where it is `-`.
+pub fn open_source<'a, R: Runtime>(rt: &R, name: &'a str) -> Result<Source<R>, Trouble<'a>> {
+    if name == STANDARD_INPUT {
+        return Ok(Either::Right(rt.reader()));
+    }
+    Ok(Either::Left(open(rt, name)?))
+}
+
+/// A reader, which digests its bytes where that is asked for.
+pub type Digested<F> = Either<F, Digesting<F>>;
+
+/// A reader that digests its bytes, or as it is.
+pub fn digested<F: Read + Drop>(reader: F, digests: bool) -> Digested<F> {
+    if digests {
+        Either::Right(Digesting::new(reader))
+    } else {
+        Either::Left(reader)
+    }
+}
+
+/// The SHA-256 of the bytes that a reader handed out, where it digests them.
+pub fn digest_of<F: Read + Drop>(reader: &Digested<F>) -> Result<Option<[u8; 32]>, AllocError> {
+    match reader {
+        Either::Left(_) => Ok(None),
+        Either::Right(reader) => Ok(Some(reader.digest()?)),
+    }
+}
+
+/// A reader that may digest its bytes, and is watched.
+pub type Seen<F> = WatchedRead<Digested<F>>;
+
+/// The lines of a word list, or their first fields.
+pub type ListLines<S> = Either<Seen<S>, FirstFields<Seen<S>>>;
+
+/// A word list, or the lines of it that are words.
+pub type Words<S> = Either<ListLines<S>, WordLines<ListLines<S>>>;
+
+/// Opens a word list to be read, whose bytes are digested where that is asked for.
+pub fn open_words<'a, R: Runtime + AllocGlobal>(
+    rt: &R,
+    words: WordsFile<'a>,
+    digests: bool,
+) -> Result<Words<Source<R>>, Trouble<'a>> {
+    let source = digested(open_source(rt, words.name)?, digests);
+    let source = WatchedRead::new(rt.alloc(), source, WORDS_FRONT);
+    let lines = if words.first_field {
+        Either::Right(FirstFields::new(source))
+    } else {
+        Either::Left(source)
+    };
+    if words.skip_others {
+        Ok(Either::Right(WordLines::new(rt.alloc(), lines)))
+    } else {
+        Ok(Either::Left(lines))
+    }
+}
+
+/// A record, all of which is kept.
+pub type SheetFile<S> = FromRead<WatchedRead<S>>;
+
+/// A reader of a record, which keeps all of it.
+pub fn sheet_of<S: Read + Drop>(alloc: Global, source: S) -> SheetFile<S>
+    ensures { HasRoom (⟦<SheetFile<S> as Input>⟧.device result) }
+{
+    FromRead::new(WatchedRead::new(alloc, source, gcg_read::MAX_BYTES + 1))
+}
+
+/// Opens a record, or standard input where its name is `-`.
+pub fn open_sheet<'a, R: Runtime + AllocGlobal>(
+    rt: &R,
+    name: &'a str,
+) -> Result<SheetFile<Source<R>>, Trouble<'a>>
+    ensures { IfOk result (λ game. HasRoom (⟦<SheetFile<Source<R>> as Input>⟧.device game)) }
+{
+    Ok(sheet_of(rt.alloc(), open_source(rt, name)?))
+}
+
+/// The watched bytes of a word list.
+pub fn seen_words<S: Read + Drop>(words: &FromRead<Words<S>>) -> &Seen<S> {
+    let lines = match words.inner() {
+        Either::Left(lines) => lines,
+        Either::Right(words) => words.inner(),
+    };
+    match lines {
+        Either::Left(lines) => lines,
+        Either::Right(fields) => fields.inner(),
+    }
+}
+
+/// Says which lines of a word list were passed over, where any were.
+pub fn tell_others<R: Runtime + AllocGlobal, S: Read + Drop>(
+    rt: &R,
+    name: &str,
+    words: &FromRead<Words<S>>,
+) {
+    let Either::Right(words) = words.inner() else {
+        return;
+    };
+    let Others { count, line, text } = words.others();
+    if *count == 0 {
+        return;
+    }
+    if let Ok(text) = String::from_utf8_lossy(rt.alloc(), text) {
+        let _ = rt.eprintln(format_args!(
+            "{PROGRAM_NAME}: {}: lines that are no words, passed over: {count}; the first is line {line}, {text:?}",
+            shown(name)
+        ));
+    }
+}
+
+/// How messages name a file or standard input.
+pub fn shown(name: &str) -> &str {
+    if name == STANDARD_INPUT {
+        "standard input"
+    } else {
+        name
+    }
+}

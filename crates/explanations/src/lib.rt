@@ -1,0 +1,10 @@
+//! What explains an event of a record, as a value: the facts that a director needs, each with its numbers, squares and lines; the words of its
+//! play with what each square adds; and the board before it.
+//!
+//! A rendering of it, as text or as JSON, asks nothing of the game and adds up nothing.
+#![tactic(auto)]
+
+mod explaining;
+mod sheets;
+
+pub use explaining::{Explanation, Picture, Shown, explain_event};

@@ -1,0 +1,163 @@
+//! What is said of an event of a record.
+ghost use Rattle.std.specs.Prelude.{◌≡◌, ◌+◌, ◌<◌, All, Some, IfOk, IfSome, length, slice_get};
+ghost use Rattle.game_turns.specs.Machines.{state_of};
+ghost use Rattle.game_turns.specs.Tallies.{tally_at};
+ghost use Rattle.game_turns.specs.Places.{AreAllowedTo, IsRefusedBefore, fault_at};
+ghost use Rattle.event_facts.specs.Racks.{IsRackTrue};
+ghost use Rattle.game_deal.specs.Recorded.{steps_of};
+ghost use Rattle.explanations.specs.Explaining.{IsTrueAt};
+
+use call_stages::GameFault;
+use event_facts::{Fact, Scene, no_deal, rack_too_big, tell_rule_fault, tiles_short};
+use game_deal::all_steps;
+use game_turns::{Machine, RuleFault, play_events, play_through};
+use gcg_read::{Event, Record};
+use lex_list::WordList;
+use ref_tiles::Rules;
+use std::alloc::{AllocError, Global};
+
+/// A sheet of which an event is explained: a record, its rules and its word list, and what is wrong with the racks up to the event.
+#[derive(Clone, Copy)]
+pub(crate) struct Sheet<'a> {
+    /// The rules.
+    pub rules: &'a Rules,
+    /// The word list.
+    pub list: &'a WordList,
+    /// The record.
+    pub record: &'a Record,
+    /// What is wrong up to the event, where that is not the event itself.
+    pub fault: Option<&'a GameFault>,
+}
+
+/// What is wrong with the racks up to the event at a place.
+fn rack_fact(
+    alloc: Global,
+    sheet: &Sheet<'_>,
+    place: usize,
+    fault: &GameFault,
+) -> Result<Option<Fact>, AllocError>
+    ensures { IfOk result (λ fact. IfSome fact (IsRackTrue sheet.now.rules.now (steps_of sheet.now.rules.now sheet.now.record.now.events) place)) }
+{
+    let Ok(passed) = play_through(sheet.rules, sheet.record, sheet.list) else {
+        return Ok(None);
+    };
+    let all = all_steps(alloc, &passed)?;
+    let steps = all.as_slice();
+    match fault {
+        GameFault::Rule(_) => Ok(None),
+        GameFault::RackTooBig => rack_too_big(alloc, sheet.rules, steps, place),
+        GameFault::TilesShort(kind) => tiles_short(alloc, sheet.rules, steps, place, *kind),
+        GameFault::NoDeal { .. } => no_deal(alloc, sheet.rules, steps, place),
+    }
+}
+
+/// The list of a fact that is true of an event.
+fn one_fact(
+    alloc: Global,
+    sheet: &Sheet<'_>,
+    place: usize,
+    fact: Fact,
+) -> Result<Vec<Fact>, AllocError>
+    requires { IsTrueAt sheet.now.rules.now sheet.now.list.now sheet.now.record.now.events place fact }
+    ensures { IfOk result (λ facts. All (IsTrueAt sheet.now.rules.now sheet.now.list.now sheet.now.record.now.events place) facts.items) }
+{
+    let _ = sheet;
+    let _ = place;
+    let mut facts = Vec::new(alloc);
+    facts.push(fact)?;
+    Ok(facts)
+}
+
+/// The list of a fact that is true of an event, where there is one.
+fn listed(
+    alloc: Global,
+    sheet: &Sheet<'_>,
+    place: usize,
+    fact: Option<Fact>,
+) -> Result<Vec<Fact>, AllocError>
+    requires { IfSome fact (IsTrueAt sheet.now.rules.now sheet.now.list.now sheet.now.record.now.events place) }
+    ensures { IfOk result (λ facts. All (IsTrueAt sheet.now.rules.now sheet.now.list.now sheet.now.record.now.events place) facts.items) }
+{
+    match fact {
+        None => Ok(Vec::new(alloc)),
+        Some(fact) => one_fact(alloc, sheet, place, fact),
+    }
+}
+
+/// What is said of an event that the rules allow: that they do, or what is wrong with the racks.
+fn allowed_facts(alloc: Global, sheet: &Sheet<'_>, place: usize) -> Result<Vec<Fact>, AllocError>
+    requires { AreAllowedTo sheet.now.rules.now sheet.now.list.now sheet.now.record.now.events (place + 1) }
+    ensures { IfOk result (λ facts. All (IsTrueAt sheet.now.rules.now sheet.now.list.now sheet.now.record.now.events place) facts.items) }
+{
+    let Some(fault) = sheet.fault else {
+        return listed(alloc, sheet, place, Some(Fact::Allowed));
+    };
+    let fact = rack_fact(alloc, sheet, place, fault)?;
+    listed(alloc, sheet, place, fact)
+}
+
+/// What is said of an event that the rules refuse.
+#[tactic(auto, using(crate::proofs::Refusing::fails_in, crate::proofs::Refusing::all_at))]
+fn refused_facts(
+    alloc: Global,
+    sheet: &Sheet<'_>,
+    machine: &Machine,
+    event: &Event,
+    place: usize,
+    why: &RuleFault,
+) -> Result<Vec<Fact>, AllocError>
+    requires within { place < length sheet.now.record.now.events }
+    requires stands { slice_get sheet.now.record.now.events place ≡ Some event.now }
+    requires state { state_of machine.now ≡ tally_at sheet.now.rules.now sheet.now.record.now.events place }
+    requires fails { fault_at sheet.now.rules.now sheet.now.list.now sheet.now.record.now.events place ≡ Some why.now }
+    ensures { IfOk result (λ facts. All (IsTrueAt sheet.now.rules.now sheet.now.list.now sheet.now.record.now.events place) facts.items) }
+{
+    let events = sheet.record.events.as_slice();
+    let scene = Scene {
+        rules: sheet.rules,
+        list: sheet.list,
+        past: &events[..place],
+        event,
+        machine,
+    };
+    let mut facts = Vec::new(alloc);
+    tell_rule_fault(alloc, &mut facts, &scene, why)?;
+    Ok(facts)
+}
+
+/// That an event was not judged, since the rules refuse an earlier one.
+fn unjudged_facts(
+    alloc: Global,
+    sheet: &Sheet<'_>,
+    place: usize,
+    refused: &(u32, RuleFault),
+) -> Result<Vec<Fact>, AllocError>
+    requires { IsRefusedBefore sheet.now.rules.now sheet.now.list.now sheet.now.record.now.events place refused.now.0 refused.now.1 }
+    ensures { IfOk result (λ facts. All (IsTrueAt sheet.now.rules.now sheet.now.list.now sheet.now.record.now.events place) facts.items) }
+{
+    let fact = Fact::NotJudged { refused: refused.0 };
+    listed(alloc, sheet, place, Some(fact))
+}
+
+/// What is said of the event at a place.
+#[tactic(auto, using(crate::proofs::Refusing::refused_there))]
+pub(crate) fn facts_at(
+    alloc: Global,
+    sheet: &Sheet<'_>,
+    event: &Event,
+    place: usize,
+) -> Result<Vec<Fact>, AllocError>
+    requires within { place < length sheet.now.record.now.events }
+    requires stands { slice_get sheet.now.record.now.events place ≡ Some event.now }
+    ensures { IfOk result (λ facts. All (IsTrueAt sheet.now.rules.now sheet.now.list.now sheet.now.record.now.events place) facts.items) }
+{
+    let events = sheet.record.events.as_slice();
+    let machine = match play_events(sheet.rules, events, sheet.list, place) {
+        Ok(machine) => machine,
+        Err(refused) => return unjudged_facts(alloc, sheet, place, &refused),
+    };
+    match play_events(sheet.rules, events, sheet.list, place + 1) {
+        Ok(_) => allowed_facts(alloc, sheet, place),
+        Err((_, why)) => refused_facts(alloc, sheet, &machine, event, place, &why),
+    }
+}

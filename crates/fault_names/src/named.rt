@@ -1,0 +1,43 @@
+//! A fault by its name.
+
+use ref_tiles::Kind;
+
+/// A fault by its name, with what a report has behind it.
+#[derive(Clone, Copy, Debug, PartialEq, Eq)]
+pub struct NamedFault {
+    /// The name, as reports print it.
+    pub name: &'static str,
+    /// The number that was expected, where one was.
+    pub expected: Option<i32>,
+    /// The kind of tile that is short, where one is.
+    pub kind: Option<Kind>,
+}
+
+impl NamedFault {
+    ghost use Rattle.std.specs.Prelude.{◌≡◌, Some, None};
+    ghost use Rattle.fault_names.specs.Named.{IsBare};
+
+    /// A fault of this name, with nothing behind it.
+    pub(crate) fn bare(name: &'static str) -> NamedFault
+        ensures { IsBare name.now result }
+    {
+        NamedFault {
+            name,
+            expected: None,
+            kind: None,
+        }
+    }
+
+    /// A fault of this name, with the number that was expected.
+    pub(crate) fn expecting(name: &'static str, expected: i32) -> NamedFault
+        ensures name { result.name.now ≡ name.now }
+        ensures expected { result.expected ≡ Some expected }
+        ensures kind { result.kind ≡ None }
+    {
+        NamedFault {
+            name,
+            expected: Some(expected),
+            kind: None,
+        }
+    }
+}

@@ -1,0 +1,9 @@
+pub mod Tellings
+pub mod AnswerLaws
+pub mod Lines
+pub mod LeftLaws
+pub mod VerdictLaws
+pub mod PlayLaws
+pub mod TopLaws
+pub mod BoardTexts
+pub mod BoardLaws

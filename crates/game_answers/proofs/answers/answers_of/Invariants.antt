@@ -1,0 +1,14 @@
+use Rattle.std.proofs.Common.{◌≡◌, length}
+use Rattle.game_turns.specs.Passing.{rules_in, record_in}
+use Rattle.lex_check.specs.Pairs.{list_in}
+use Rattle.game_report.specs.Beside.{StandAt}
+use Rattle.game_answers.specs.Answers.{AreAnswersTo}
+use Rattle.game_answers.proofs.answers.answers_of.Given as goal
+
+abbrev pub invariant-loop-place : goal.invariant-loop-place
+invariant-loop-place l =
+    record {
+      stand : StandAt (rules_in l.passed) (list_in l.pair) (record_in l.passed).events l.place l.machine l.follow;
+      answers : AreAnswersTo (rules_in l.passed) (list_in l.pair) (record_in l.passed).events l.place l.answers.items;
+      many : length l.answers.items ≡ l.place;
+    }

@@ -1,0 +1,12 @@
+pub mod Given
+pub mod Letters
+pub mod Answers
+pub mod Reports
+pub mod Bounds
+pub mod Leaving
+pub mod Games
+pub mod Counting
+pub mod Plays
+pub mod Tops
+pub mod BoardTexts
+pub mod Boards

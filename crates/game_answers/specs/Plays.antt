@@ -1,0 +1,39 @@
+-- The best plays by a rack, as values.
+use Rattle.std.specs.Prelude.{◌≡◌, ℕ, ℤ, List, [], ◌∷◌, ◌++◌, codes, map, Option}
+use Rattle.std.specs.Fmt.{signed_decimal}
+use Rattle.std.specs.List.{flat_map}
+use Rattle.ref_tiles.specs.declared.tiles.Tile.{Tile}
+use Rattle.ref_tiles.specs.declared.rulebook.Rules.{Rules}
+use Rattle.ref_play.specs.Notations.{Written, written, notation_of}
+use Rattle.ref_play.specs.Best.{Given}
+use Rattle.game_notes.specs.Keeping.{AreFirstPlays}
+use Rattle.game_report.specs.BestPlays.{notation_text}
+use Rattle.game_answers.specs.declared.plays.ScoredPlay.{ScoredPlay}
+
+-- a play as it is written, with its score
+abbrev pub told_play : ScoredPlay → Written × ℤ
+told_play p = (written p.written, p.score)
+
+-- the same of a play on a board
+abbrev pub play_on : (board : List (Option Tile)) → Given → Written × ℤ
+play_on board given = (notation_of board given.tiles, given.score)
+
+-- these are plays on a board, in their order
+abbrev pub ArePlaysOn : (board : List (Option Tile)) → List Given → List ScoredPlay → Type 0
+ArePlaysOn board given plays = map told_play plays ≡ map (play_on board) given
+
+-- these are the best so many candidates by a rack on a board, best first: all of them where they are fewer
+abbrev pub AreBestPlays : (number : ℕ) → Rules → (list : List (List ℕ)) → (board : List (Option Tile)) → (rack : List ℕ) → List ScoredPlay → Type 0
+AreBestPlays number rules list board rack plays = (given : List Given) × AreFirstPlays number rules list board rack given × ArePlaysOn board given plays
+
+-- how a report tells a play
+abbrev pub told_line : Written × ℤ → List ℕ
+told_line p = notation_text p.0 ++ 32 ∷ signed_decimal p.1 ++ 10 ∷ []
+
+-- how a report tells plays: a line for each, or that there is none
+abbrev pub told_text : List (Written × ℤ) → List ℕ
+told_text [] = codes "none\n"
+told_text (p ∷ more) = flat_map told_line (p ∷ more)
+
+abbrev pub plays_text : List ScoredPlay → List ℕ
+plays_text plays = told_text (map told_play plays)

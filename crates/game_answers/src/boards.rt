@@ -1,0 +1,226 @@
+//! The board of a record, as a value.
+ghost use Rattle.std.specs.Prelude.{◌≡◌, ◌≤◌, ◌<◌, IfOk, length, slice_get, count_by};
+ghost use Rattle.std.specs.Option.{option_copied};
+ghost use Rattle.devices.specs.Devices.{HasRoom};
+ghost use Rattle.ref_play.specs.Words.{items_of};
+ghost use Rattle.gcg_read.specs.Records.{most_bytes};
+ghost use Rattle.game_board.specs.Tiles.{is_of, off_board};
+ghost use Rattle.call_stages.specs.Stages.{IsRead};
+ghost use Rattle.engine.specs.Boards.{place_asked};
+ghost use Rattle.game_answers.specs.Boards.{mark_at, row_marks, board_marks, kinds_off, line_at, IsShownBoard, IsBoardAt, IsBoardOf};
+
+use crate::tops::{place_asked, shown_rack};
+use arrayvec::ArrayVec;
+use call_stages::{Decision, RunFault, read_text, record_from};
+use devices::Input;
+use game_board::{lay_plays, square_mark, tiles_off};
+use game_sheets::had_before;
+use gcg_read::{Event, MAX_BYTES, Players, Record, Seat};
+use ref_board::{Board, Dir, SIDE, Square};
+use ref_play::PlayFault;
+use ref_tiles::{Counts, KINDS, Rules, Tile};
+use std::alloc::{AllocError, Global};
+
+/// The marks of the squares of a row.
+pub type RowMarks = ArrayVec<u8, SIDE>;
+
+/// The board of a record before one of its events, or behind the last.
+#[derive(Drop)]
+pub struct ShownBoard {
+    /// The line of the event; none behind the last event.
+    pub line: Option<u32>,
+    /// Why the play of the event cannot be laid, where it cannot.
+    pub fault: Option<PlayFault>,
+    /// The marks of the squares, row by row, as [`square_mark`] has them.
+    pub rows: Vec<RowMarks>,
+    /// The players.
+    pub players: Players,
+    /// The last total of the first player that is written before the event; 0 before the first.
+    pub first: i32,
+    /// The same of the other player.
+    pub second: i32,
+    /// The rack of the event, where its line shows one.
+    pub rack: Option<Counts>,
+    /// How many tiles of each kind are not on the board, A to Z and then blanks.
+    pub off: Vec<usize>,
+    /// How many tiles of all kinds are not on the board.
+    pub off_in_all: usize,
+}
+
+/// The mark of a square of a row.
+fn mark_at(rules: &Rules, board: &Board, row: usize, column: usize) -> u8
+    requires row { row < 15 }
+    requires column { column < 15 }
+    ensures { result ≡ mark_at rules.now board.now row column }
+{
+    square_mark(rules, board, Square::on_line(Dir::Across, row, column))
+}
+
+/// The marks of the squares of a row.
+#[tactic(auto, using(ref_play::proofs::Ranges::map_range_more), unfolding(crate::specs::Boards::row_marks))]
+fn row_marks(rules: &Rules, board: &Board, row: usize) -> RowMarks
+    requires { row < 15 }
+    ensures { result.items ≡ row_marks rules.now board.now row 15 }
+{
+    let mut marks = ArrayVec::new();
+    for column in 0..SIDE {
+        marks.push(mark_at(rules, board, row, column));
+    }
+    marks
+}
+
+/// The marks of the squares of all rows.
+#[tactic(auto, using(crate::proofs::BoardLaws::row_more), unfolding(crate::specs::Boards::board_marks))]
+fn board_marks(alloc: Global, rules: &Rules, board: &Board) -> Result<Vec<RowMarks>, AllocError>
+    ensures { IfOk result (λ rows. items_of rows.items ≡ board_marks rules.now board.now 15) }
+{
+    let mut rows = Vec::new(alloc);
+    for row in 0..SIDE {
+        rows.push(row_marks(rules, board, row))?;
+    }
+    Ok(rows)
+}
+
+/// Whether a tile of the kind with this number lies on a square.
+fn is_of(cell: Option<Tile>, number: usize) -> bool
+    ensures { result ≡ is_of number cell }
+{
+    match cell {
+        None => false,
+        Some(tile) => tile.kind.number() == number,
+    }
+}
+
+/// How many tiles of a kind are on the board.
+fn laid_of(board: &Board, number: usize) -> usize
+    ensures { result ≡ count_by (is_of number) board.now }
+{
+    board
+        .cells()
+        .iter()
+        .filter(|cell| is_of(**cell, number))
+        .count()
+}
+
+/// How many tiles of a kind are not on the board.
+#[tactic(auto, unfolding(game_board::specs::Tiles::off_board))]
+fn off_board(rules: &Rules, board: &Board, number: usize) -> usize
+    requires { number < 27 }
+    ensures { result ≡ off_board rules.now board.now number }
+{
+    let numbers = rules.counts.numbers();
+    (numbers[number] as usize).saturating_sub(laid_of(board, number))
+}
+
+/// How many tiles of each kind are not on the board.
+#[tactic(auto, using(ref_play::proofs::Ranges::map_range_more), unfolding(crate::specs::Boards::kinds_off))]
+fn kinds_off(alloc: Global, rules: &Rules, board: &Board) -> Result<Vec<usize>, AllocError>
+    ensures { IfOk result (λ off. off.items ≡ kinds_off rules.now board.now 27) }
+{
+    let mut off = Vec::new(alloc);
+    for number in 0..KINDS {
+        off.push(off_board(rules, board, number))?;
+    }
+    Ok(off)
+}
+
+/// The event at a place, where there is one.
+#[tactic(auto, using(game_turns::proofs::PlaceLaws::copied_get))]
+fn event_at(events: &[Event], place: usize) -> Option<&Event>
+    ensures { option_copied result ≡ slice_get events.now place }
+{
+    events.get(place)
+}
+
+/// The line of an event, where there is one.
+fn line_of(event: Option<&Event>) -> Option<u32>
+    ensures { result ≡ line_at (option_copied event.entry) }
+{
+    match event {
+        Some(event) => Some(event.line),
+        None => None,
+    }
+}
+
+/// The board to which the plays before a place are laid.
+#[tactic(auto, using(crate::proofs::BoardLaws::is_shown))]
+fn board_at(
+    alloc: Global,
+    rules: &Rules,
+    game: Record,
+    place: usize,
+) -> Result<ShownBoard, AllocError>
+    requires { place ≤ length game.events }
+    ensures { IfOk result (IsShownBoard rules.now game place) }
+{
+    let events = game.events.as_slice();
+    let laying = lay_plays(events, place);
+    let event = event_at(events, laying.end);
+    let rows = board_marks(alloc, rules, &laying.board)?;
+    let off = kinds_off(alloc, rules, &laying.board)?;
+    Ok(ShownBoard {
+        line: line_of(event),
+        fault: laying.fault,
+        rows,
+        first: had_before(events, Seat::First, laying.end),
+        second: had_before(events, Seat::Second, laying.end),
+        rack: shown_rack(event),
+        off,
+        off_in_all: tiles_off(rules, &laying.board),
+        players: game.players,
+    })
+}
+
+/// The board before the place that is asked for, where there is one.
+fn board_on_line(
+    alloc: Global,
+    rules: &Rules,
+    game: Record,
+    before: Option<u32>,
+) -> Result<Option<ShownBoard>, AllocError>
+    ensures { IfOk result (IsBoardAt rules.now game (place_asked game.events before)) }
+{
+    match place_asked(game.events.as_slice(), before) {
+        Some(place) => Ok(Some(board_at(alloc, rules, game, place)?)),
+        None => Ok(None),
+    }
+}
+
+/// The board of the record of a text, or the verdict that it is none.
+fn board_from(
+    alloc: Global,
+    rules: &Rules,
+    text: &[u8],
+    before: Option<u32>,
+) -> Result<Result<Option<ShownBoard>, Decision>, AllocError>
+    ensures { IfOk result (IsBoardOf rules.now before text.now) }
+{
+    let written = match record_from(alloc, text)? {
+        Ok(record) => record,
+        Err(decision) => return Ok(Err(decision)),
+    };
+    let shown = board_on_line(alloc, rules, written, before)?;
+    Ok(Ok(shown))
+}
+
+/// Reads a record, and gives its board before the first event on a line or behind it, or without a line behind the last event: what
+/// [`run_board`](engine::run_board) shows, as a value. None where no event stands there. Or the verdict that names the first fault of the
+/// record.
+///
+/// The input is read to its end, or to one byte past 1 MiB and no further.
+///
+/// # Errors
+///
+/// `ReadFailed` comes only where the input failed; `NoMemory` where memory was refused.
+pub fn shown_board<G: Input>(
+    alloc: Global,
+    rules: &Rules,
+    game: &mut G,
+    before: Option<u32>,
+) -> Result<Result<Option<ShownBoard>, Decision>, RunFault>
+    requires { HasRoom (G.device game.old) }
+    ensures { IsRead most_bytes (G.device game.old) (G.device game.new) (IsBoardOf rules.now before) result }
+{
+    let text = read_text(alloc, game, MAX_BYTES)?;
+    Ok(board_from(alloc, rules, &text, before)?)
+}

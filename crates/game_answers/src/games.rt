@@ -1,0 +1,90 @@
+//! The judged game of a record, by the bytes of its input.
+ghost use Rattle.std.specs.Prelude.{IfOk};
+ghost use Rattle.devices.specs.Devices.{HasRoom};
+ghost use Rattle.gcg_read.specs.Records.{most_bytes};
+ghost use Rattle.lex_check.specs.Pairs.{list_in};
+ghost use Rattle.call_stages.specs.Stages.{IsRead};
+ghost use Rattle.game_answers.specs.Games.{IsJudgedGame, IsJudgedGameOf};
+
+use crate::judging::judge_record;
+use crate::leaving::GameAnswers;
+use call_stages::{Decision, RunFault, Verdict, read_text, record_from};
+use devices::Input;
+use engine::Judging;
+use gcg_read::{Events, MAX_BYTES, Players, Record};
+use lex_check::Checked;
+use ref_tiles::Rules;
+use std::alloc::{AllocError, Global};
+
+/// A judged game.
+#[derive(Drop)]
+pub struct JudgedGame {
+    /// The players.
+    pub players: Players,
+    /// The events, as they are written.
+    pub events: Events,
+    /// Whether the game is legal, and what is wrong with it.
+    pub verdict: Verdict,
+    /// What is answered of the events, where the rules allow every one.
+    pub answers: Option<GameAnswers>,
+}
+
+/// The judged game of a record.
+fn judged_game(
+    alloc: Global,
+    rules: &Rules,
+    pair: &Checked<'_>,
+    game: Record,
+    question: Judging,
+) -> Result<JudgedGame, AllocError>
+    ensures { IfOk result (IsJudgedGame question rules.now (list_in pair.now) game) }
+{
+    let found = judge_record(alloc, rules, pair, &game, question)?;
+    Ok(JudgedGame {
+        players: game.players,
+        events: game.events,
+        verdict: found.verdict,
+        answers: found.answers,
+    })
+}
+
+/// The judged game of the record of a text, or the verdict that it is none.
+fn judged_from(
+    alloc: Global,
+    rules: &Rules,
+    pair: &Checked<'_>,
+    text: &[u8],
+    question: Judging,
+) -> Result<Result<JudgedGame, Decision>, AllocError>
+    ensures { IfOk result (IsJudgedGameOf question rules.now (list_in pair.now) text.now) }
+{
+    let written = match record_from(alloc, text)? {
+        Ok(record) => record,
+        Err(decision) => return Ok(Err(decision)),
+    };
+    let judged = judged_game(alloc, rules, pair, written, question)?;
+    Ok(Ok(judged))
+}
+
+/// Reads the record of a game and judges it, by the deal of the rule of completion alone or by a search: what
+/// [`run`](engine::run) or [`run_settled`](engine::run_settled) finds of it, as a value. Or the verdict that names the first fault of the
+/// record.
+///
+/// The input is read to its end, or to one byte past 1 MiB and no further.
+///
+/// # Errors
+///
+/// `ReadFailed` comes only where the input failed; `NoMemory` where memory was refused.
+pub fn judge_game<G: Input>(
+    alloc: Global,
+    rules: &Rules,
+    pair: &Checked<'_>,
+    game: &mut G,
+    question: Judging,
+) -> Result<Result<JudgedGame, Decision>, RunFault>
+    requires { HasRoom (G.device game.old) }
+    ensures { IsRead most_bytes (G.device game.old) (G.device game.new) (IsJudgedGameOf question rules.now (list_in pair.now)) result }
+{
+    let text = read_text(alloc, game, MAX_BYTES)?;
+    Ok(judged_from(alloc, rules, pair, &text, question)?)
+}

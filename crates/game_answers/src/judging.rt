@@ -1,0 +1,74 @@
+//! The verdict on a record, with what is answered of its events.
+ghost use Rattle.std.specs.Prelude.{◌≡◌, IfOk, None};
+ghost use Rattle.game_turns.specs.{Passing.{rules_in, record_in}, Places.{AreAllowed}};
+ghost use Rattle.lex_check.specs.Pairs.{list_in};
+ghost use Rattle.game_answers.specs.Bounds.{refused_verdict};
+ghost use Rattle.game_answers.specs.Games.{IsJudged};
+
+use crate::answers::answers_of;
+use crate::leaving::{GameAnswers, with_left};
+use crate::verdicts::verdict_on;
+use call_stages::{GameFault, Verdict};
+use engine::{Judging, play_through};
+use game_turns::{Passed, RuleFault};
+use gcg_read::Record;
+use lex_check::Checked;
+use ref_tiles::Rules;
+use std::alloc::{AllocError, Global};
+
+/// A verdict on a record, with what is answered of its events.
+#[derive(Drop)]
+pub(crate) struct Judged {
+    pub verdict: Verdict,
+    pub answers: Option<GameAnswers>,
+}
+
+/// The verdict that an event is not allowed.
+fn refused(line: u32, fault: RuleFault) -> Judged
+    ensures verdict { result.verdict ≡ refused_verdict line fault }
+    ensures answers { result.answers ≡ None }
+{
+    Judged {
+        verdict: Verdict::Illegal {
+            line,
+            fault: GameFault::Rule(fault),
+        },
+        answers: None,
+    }
+}
+
+/// The verdict on a record that passed, and what is answered of each event.
+#[tactic(auto, using(crate::proofs::VerdictLaws::judged_with))]
+fn judged_passed(
+    alloc: Global,
+    passed: &Passed<'_>,
+    pair: &Checked<'_>,
+    question: Judging,
+) -> Result<Judged, AllocError>
+    requires { AreAllowed (rules_in passed.now) (list_in pair.now) (record_in passed.now).events }
+    ensures { IfOk result (λ j. IsJudged question (rules_in passed.now) (list_in pair.now) (record_in passed.now) j.verdict j.answers) }
+{
+    let verdict = verdict_on(alloc, passed, pair, question)?;
+    let answers = answers_of(alloc, passed, pair)?;
+    Ok(Judged {
+        verdict,
+        answers: Some(with_left(passed.record().events.as_slice(), answers)),
+    })
+}
+
+/// The verdict on a record, and what is answered of each event where the rules allow every one.
+#[tactic(auto, using(crate::proofs::VerdictLaws::judged_refused))]
+pub(crate) fn judge_record(
+    alloc: Global,
+    rules: &Rules,
+    pair: &Checked<'_>,
+    game: &Record,
+    question: Judging,
+) -> Result<Judged, AllocError>
+    ensures { IfOk result (λ j. IsJudged question rules.now (list_in pair.now) game.now j.verdict j.answers) }
+{
+    match play_through(rules, game, pair.list()) {
+        Ok(passed) => judged_passed(alloc, &passed, pair, question),
+        Err((line, fault)) => Ok(refused(line, fault)),
+    }
+}

@@ -1,0 +1,10 @@
+//! The commands that write the report of one call of the engine: of a game, of a board, of a lexicon.
+#![tactic(auto)]
+
+mod games;
+mod lexicons;
+mod rulings;
+
+pub use games::{board, judge, tidy, top};
+pub use lexicons::{build, check, convert};
+pub use rulings::word;

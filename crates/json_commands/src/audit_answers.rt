@@ -1,0 +1,47 @@
+//! `audit --json`: the wrong numbers of one sheet as an object.
+ghost use Rattle.std.specs.Prelude.{◌∷◌, []};
+ghost use Rattle.devices.specs.Devices.{HasRoom};
+ghost use Rattle.lex_check.specs.Pairs.{list_in};
+ghost use Rattle.call_stages.specs.Runs.{Gives, outcomes};
+ghost use Rattle.call_stages.specs.Sources.{game_source};
+ghost use Rattle.audit_lines.specs.Answers.{IsAuditAnswerOf};
+ghost use Rattle.json_commands.specs.Values.{IsValueTold};
+
+use answer_json::push_audit_answer;
+use audit_lines::{AuditAnswer, answer_audit};
+use command_files::{GivenFiles, SheetFile, Told, write};
+use devices::Input;
+use engine::RunFault;
+use exit_statuses::{Exit, Trouble, exit_of_audit};
+use std::io::Read;
+use std::rt::Runtime;
+
+/// Tells an audit.
+fn tell_audit<R: Runtime + AllocGlobal>(
+    rt: &R,
+    answer: &AuditAnswer,
+) -> Result<Exit, Trouble<'static>> {
+    let mut text = Vec::new(rt.alloc());
+    if push_audit_answer(rt.alloc(), &mut text, answer).is_err() {
+        return Err(Trouble::NoMemory);
+    }
+    write(rt, text.as_slice())?;
+    Ok(exit_of_audit(&answer.audit))
+}
+
+/// Audits a sheet, and tells the audit.
+pub fn audit<R: Runtime + AllocGlobal, F: Read + Drop, S: Read + Drop>(
+    rt: &R,
+    given: &GivenFiles<'_, F, S>,
+    game: &mut SheetFile<S>,
+) -> Result<Told<'static>, RunFault>
+    requires { HasRoom (⟦<SheetFile<S> as Input>⟧.device game.old) }
+    ensures { Gives outcomes (game_source (⟦<SheetFile<S> as Input>⟧.device game.old) (⟦<SheetFile<S> as Input>⟧.device game.new) ∷ [])
+        (IsValueTold (IsAuditAnswerOf given.now.rules.now (list_in given.now.pair.now))) result }
+{
+    match answer_audit(rt.alloc(), given.rules, given.pair, game) {
+        Ok(Ok(answer)) => Ok(Ok(tell_audit(rt, &answer))),
+        Ok(Err(decision)) => Ok(Err(decision)),
+        Err(fault) => Err(fault),
+    }
+}

@@ -1,0 +1,59 @@
+//! `board --json`: the board of a record, as an object.
+
+use crate::objects::{refuse_in_json, told_in_json};
+use answer_json::push_shown_board;
+use command_files::{UsedOutput, given_up, open_rules, open_sheet, used_rules, used_source, write};
+use engine::{RulesSource, Verdict};
+use exit_statuses::{Exit, Trouble};
+use game_answers::{ShownBoard, shown_board};
+use std::rt::Runtime;
+
+/// Tells a board, or that no event is on the line.
+fn tell_board<'a, R: Runtime + AllocGlobal>(
+    rt: &R,
+    shown: &Option<ShownBoard>,
+) -> Result<Exit, Trouble<'a>> {
+    let mut text = Vec::new(rt.alloc());
+    if push_shown_board(rt.alloc(), &mut text, shown).is_err() {
+        return Err(Trouble::NoMemory);
+    }
+    write(rt, text.as_slice())?;
+    match shown {
+        Some(_) => Ok(Exit::Fine),
+        None => Ok(Exit::from(Verdict::BadLine)),
+    }
+}
+
+/// Opens a rules text where one is named, and a record, and tells its board.
+fn show_files<'a, R: Runtime + AllocGlobal>(
+    rt: &R,
+    rules: Option<&'a str>,
+    before: Option<u32>,
+    game: &'a str,
+) -> Result<Exit, Trouble<'a>> {
+    let mut stated = open_rules(rt, rules, false)?;
+    let mut sheet = open_sheet(rt, game)?;
+    let outcome = match stated.read(rt.alloc()) {
+        Ok(Ok(known)) => shown_board(rt.alloc(), &known, &mut sheet, before),
+        Ok(Err(decision)) => Ok(Err(decision)),
+        Err(fault) => Err(fault),
+    };
+    match outcome {
+        Ok(Ok(shown)) => tell_board(rt, &shown),
+        Ok(Err(decision)) => refuse_in_json(rt, &decision),
+        Err(fault) => {
+            let inputs = [used_rules(rules, &stated.text), used_source(game, &sheet)];
+            Err(given_up(fault, &inputs, UsedOutput::NONE))
+        }
+    }
+}
+
+/// The board of a record, before a line where one is named, as a JSON object, also where something keeps the program from its end.
+pub fn board_in_json<'a, R: Runtime + AllocGlobal>(
+    rt: &R,
+    rules: Option<&'a str>,
+    before: Option<u32>,
+    game: &'a str,
+) -> Result<Exit, Trouble<'a>> {
+    told_in_json(rt, show_files(rt, rules, before, game))
+}

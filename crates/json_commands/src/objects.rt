@@ -1,0 +1,60 @@
+//! Objects that every command may write: that an input is bad, and what kept the program from its end.
+
+use answer_json::{push_refusal, push_trouble};
+use command_files::{shown, write};
+use engine::Decision;
+use exit_statuses::{Exit, Trouble};
+use std::alloc::{AllocError, Global};
+use std::rt::Runtime;
+
+/// Tells that an input is bad, as a JSON object.
+pub fn refuse_in_json<'a, R: Runtime + AllocGlobal>(
+    rt: &R,
+    decision: &Decision,
+) -> Result<Exit, Trouble<'a>> {
+    let mut text = Vec::new(rt.alloc());
+    if push_refusal(rt.alloc(), &mut text, decision).is_err() {
+        return Err(Trouble::NoMemory);
+    }
+    write(rt, text.as_slice())?;
+    Ok(Exit::from(decision.verdict))
+}
+
+/// The object of what kept the program from its end.
+fn trouble_text(alloc: Global, trouble: &Trouble<'_>) -> Result<Vec<u8>, AllocError> {
+    let mut text = Vec::new(alloc);
+    match trouble {
+        Trouble::ReadFailed(name, _) => {
+            push_trouble(alloc, &mut text, "read failed", Some(shown(name)))?;
+        }
+        Trouble::WriteFailed(name, _) => {
+            push_trouble(alloc, &mut text, "write failed", Some(shown(name)))?;
+        }
+        Trouble::NoMemory => push_trouble(alloc, &mut text, "no memory", None)?,
+        Trouble::CannotOpen(name, _) => {
+            push_trouble(alloc, &mut text, "cannot open", Some(shown(name)))?;
+        }
+    }
+    Ok(text)
+}
+
+/// Tells what kept the program from its end, as a JSON object, where standard output takes it. Standard error tells it too.
+fn tell_trouble<R: Runtime + AllocGlobal>(rt: &R, trouble: &Trouble<'_>) {
+    if let Ok(text) = trouble_text(rt.alloc(), trouble) {
+        let _ = write(rt, text.as_slice());
+    }
+}
+
+/// What a command came to that tells its answer as a JSON object; what kept it from its end is told so too.
+pub fn told_in_json<'a, R: Runtime + AllocGlobal>(
+    rt: &R,
+    outcome: Result<Exit, Trouble<'a>>,
+) -> Result<Exit, Trouble<'a>> {
+    match outcome {
+        Ok(exit) => Ok(exit),
+        Err(trouble) => {
+            tell_trouble(rt, &trouble);
+            Err(trouble)
+        }
+    }
+}

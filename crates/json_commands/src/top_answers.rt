@@ -1,0 +1,53 @@
+//! `top --json`: the best plays before a line of a record, as an object.
+
+use crate::answers::{AnswerTask, answer_in_json};
+use crate::objects::{refuse_in_json, told_in_json};
+use call_stages::InputFault;
+use command_files::{open_inputs, open_sheet};
+use command_line::{GameFiles, PlaysAsked};
+use engine::{Decision, MOST_PLAYS, TurnPlays};
+use exit_statuses::{Exit, Trouble};
+use gcg_read::read_rack;
+use std::rt::Runtime;
+
+/// How many plays are given where no number is asked for.
+const USUAL_PLAYS: u32 = 10;
+
+/// The question that the command line asks; none where the rack that it names is no rack.
+fn question_of(plays: PlaysAsked<'_>) -> Option<TurnPlays> {
+    let rack = match plays.rack {
+        None => None,
+        Some(rack) => Some(read_rack(rack.as_bytes())?),
+    };
+    let number = plays.number.unwrap_or(USUAL_PLAYS) as usize;
+    Some(TurnPlays {
+        rack,
+        number: number.min(MOST_PLAYS),
+        before: plays.before,
+    })
+}
+
+/// Opens the files of a record, and tells that the rack is none.
+fn refuse_rack<'a, R: Runtime + AllocGlobal>(
+    rt: &R,
+    files: GameFiles<'a>,
+) -> Result<Exit, Trouble<'a>> {
+    open_inputs(rt, files.rules, files.pair, false)?;
+    open_sheet(rt, files.game)?;
+    match Decision::refused(rt.alloc(), InputFault::Rack) {
+        Ok(decision) => refuse_in_json(rt, &decision),
+        Err(_) => Err(Trouble::NoMemory),
+    }
+}
+
+/// The best plays by a rack on a board of a record, as a JSON object, also where something keeps the program from its end.
+pub fn top_in_json<'a, R: Runtime + AllocGlobal>(
+    rt: &R,
+    files: GameFiles<'a>,
+    plays: PlaysAsked<'a>,
+) -> Result<Exit, Trouble<'a>> {
+    match question_of(plays) {
+        Some(question) => answer_in_json(rt, files, AnswerTask::Top(question)),
+        None => told_in_json(rt, refuse_rack(rt, files)),
+    }
+}

@@ -1,0 +1,228 @@
+//! The commands that are about one sheet, by rules, a word list and its lexicon that are read before its record.
+ghost use Rattle.std.specs.Prelude.{◌∷◌, [], refl};
+ghost use Rattle.devices.specs.Devices.{HasRoom};
+ghost use Rattle.lex_check.specs.Pairs.{list_in};
+ghost use Rattle.call_stages.specs.Runs.{Gives, outcomes};
+ghost use Rattle.call_stages.specs.Sources.{game_source};
+ghost use Rattle.command_files.specs.Telling.{IsCaseTold};
+ghost use Rattle.sheet_commands.specs.Telling.{IsAuditTold};
+
+use crate::auditing::tell_audit;
+use crate::explaining::tell_case;
+use crate::paging::write_page;
+use command_files::{
+    Digests, GivenFiles, RulesFile, SheetFile, Told, UsedOutput, Words, advise_bad_record,
+    advise_no_game, digests_of, given_up, is_record, open_inputs, open_sheet, refuse, tell_others,
+    used_source,
+};
+use command_line::{GameFiles, PROGRAM};
+use devices::{FromRead, Input};
+use engine::{Case, Question, RunFault, Verdict, ask, audit_sheet, open_case};
+use exit_statuses::{Exit, Trouble};
+use game_page::{Contents, Maker};
+use std::alloc::{AllocError, Global};
+use std::io::Read;
+use std::rt::Runtime;
+use watching::Front;
+
+/// What is asked of a sheet.
+#[derive(Clone, Copy)]
+pub enum SheetTask<'a> {
+    /// To audit it, and to write the corrected record to a file where one is named.
+    Audit(Option<&'a str>),
+    /// To explain its verdict, or one of its lines.
+    Explain(Option<u32>),
+    /// To write its page to a file.
+    Page(&'a str),
+}
+
+impl<'a> SheetTask<'a> {
+    /// The output that is written beside the report, where there is one.
+    fn out(self) -> Option<&'a str> {
+        match self {
+            SheetTask::Audit(out) => out,
+            SheetTask::Explain(_) => None,
+            SheetTask::Page(out) => Some(out),
+        }
+    }
+}
+
+/// Audits a sheet, and tells the audit.
+fn audit<'a, R: Runtime + AllocGlobal, F: Read + Drop, S: Read + Drop>(
+    rt: &R,
+    given: &GivenFiles<'_, F, S>,
+    game: &mut SheetFile<S>,
+    out: Option<&'a str>,
+) -> Result<Told<'a>, RunFault>
+    requires { HasRoom (⟦<SheetFile<S> as Input>⟧.device game.old) }
+    ensures { Gives outcomes (game_source (⟦<SheetFile<S> as Input>⟧.device game.old) (⟦<SheetFile<S> as Input>⟧.device game.new) ∷ [])
+        (IsAuditTold given.now.rules.now (list_in given.now.pair.now)) result }
+{
+    match audit_sheet(rt.alloc(), given.rules, given.pair, game) {
+        Ok(Ok(audit)) => Ok(Ok(tell_audit(rt, &audit, out))),
+        Ok(Err(decision)) => Ok(Err(decision)),
+        Err(fault) => Err(fault),
+    }
+}
+
+/// Explains a sheet, or one of its lines.
+fn explain<'a, R: Runtime + AllocGlobal, F: Read + Drop, S: Read + Drop>(
+    rt: &R,
+    given: &GivenFiles<'_, F, S>,
+    game: &mut SheetFile<S>,
+    line: Option<u32>,
+) -> Result<Told<'a>, RunFault>
+    requires { HasRoom (⟦<SheetFile<S> as Input>⟧.device game.old) }
+    ensures { Gives outcomes (game_source (⟦<SheetFile<S> as Input>⟧.device game.old) (⟦<SheetFile<S> as Input>⟧.device game.new) ∷ [])
+        (IsCaseTold given.now.rules.now (list_in given.now.pair.now)) result }
+{
+    match open_case(rt.alloc(), given.rules, given.pair, game) {
+        Ok(case) => Ok(Ok(tell_case(rt, given.rules, given.pair.list(), &case, line))),
+        Err(fault) => Err(fault),
+    }
+}
+
+/// What the page of a sheet by these inputs is made by. They are digested.
+fn maker_of<F: Read + Drop, S: Read + Drop>(
+    given: &GivenFiles<'_, F, S>,
+) -> Result<Maker, AllocError> {
+    let Digests { list, rules } = digests_of(given)?;
+    Ok(Maker {
+        program: PROGRAM,
+        words: given.pair.list().len(),
+        list,
+        rules,
+    })
+}
+
+/// Writes the page of a case.
+fn tell_page<'a, R: Runtime + AllocGlobal, F: Read + Drop, S: Read + Drop>(
+    rt: &R,
+    given: &GivenFiles<'_, F, S>,
+    case: &Case,
+    out: &'a str,
+) -> Result<Exit, Trouble<'a>> {
+    let Ok(maker) = maker_of(given) else {
+        return Err(Trouble::NoMemory);
+    };
+    let contents = Contents {
+        rules: given.rules,
+        pair: given.pair,
+        case,
+        maker: &maker,
+    };
+    write_page(rt, &contents, out)
+}
+
+/// Writes the page of a sheet.
+fn page<'a, R: Runtime + AllocGlobal, F: Read + Drop, S: Read + Drop>(
+    rt: &R,
+    given: &GivenFiles<'_, F, S>,
+    game: &mut SheetFile<S>,
+    out: &'a str,
+) -> Result<Told<'a>, RunFault>
+    requires { HasRoom (⟦<SheetFile<S> as Input>⟧.device game.old) }
+    ensures { Gives outcomes (game_source (⟦<SheetFile<S> as Input>⟧.device game.old) (⟦<SheetFile<S> as Input>⟧.device game.new) ∷ [])
+        (IsCaseTold given.now.rules.now (list_in given.now.pair.now)) result }
+{
+    match open_case(rt.alloc(), given.rules, given.pair, game) {
+        Ok(case) => Ok(Ok(tell_page(rt, given, &case, out))),
+        Err(fault) => Err(fault),
+    }
+}
+
+/// What is asked of a sheet, by a runtime to which the answer goes.
+#[derive(Clone, Copy)]
+struct SheetQuestion<'r, 'a, R> {
+    rt: &'r R,
+    task: SheetTask<'a>,
+}
+
+impl<'a, R: Runtime + AllocGlobal, F: Read + Drop, S: Read + Drop> Question<
+    RulesFile<F>,
+    FromRead<Words<S>>,
+    SheetFile<S>,
+> for SheetQuestion<'_, 'a, R> {
+    ghost use Rattle.sheet_commands.specs.Sheets.{IsSheetTold, sheet_later};
+
+    type Answer = Told<'a>;
+
+    ghost sources = { λ old new. game_source (⟦<SheetFile<S> as Input>⟧.device old) (⟦<SheetFile<S> as Input>⟧.device new) ∷ [] };
+
+    ghost is_ready = { λ game. HasRoom (⟦<SheetFile<S> as Input>⟧.device game) };
+
+    ghost is_answer = { λ question rules words x texts v report. IsSheetTold question.task rules words x texts v report };
+
+    fn answer(
+        &self,
+        _alloc: Global,
+        given: &GivenFiles<'_, F, S>,
+        game: &mut SheetFile<S>,
+    ) -> Result<Told<'a>, RunFault> {
+        match self.task {
+            SheetTask::Audit(out) => audit(self.rt, given, game, out),
+            SheetTask::Explain(line) => explain(self.rt, given, game, line),
+            SheetTask::Page(out) => page(self.rt, given, game, out),
+        }
+    }
+
+    ghost still = { λ game. (refl, tt) };
+
+    ghost later = { λ question rules words x texts v report is. sheet_later question.task rules words x texts v report is };
+}
+
+/// Opens the files of a sheet, reads what it is judged by, and does what is asked of it.
+pub fn answer_sheet<'a, R: Runtime + AllocGlobal>(
+    rt: &R,
+    files: GameFiles<'a>,
+    task: SheetTask<'a>,
+) -> Result<Exit, Trouble<'a>> {
+    let mut inputs = open_inputs(
+        rt,
+        files.rules,
+        files.pair,
+        matches!(task, SheetTask::Page(_)),
+    )?;
+    let mut game = open_sheet(rt, files.game)?;
+    let question = SheetQuestion { rt, task };
+    let answer = ask(
+        rt.alloc(),
+        &question,
+        &mut inputs.rules,
+        &mut inputs.words,
+        &mut inputs.lexicon,
+        &mut game,
+    );
+    tell_others(rt, files.pair.words.name, &inputs.words);
+    match answer {
+        Ok(Ok(told)) => {
+            let exit = told?;
+            if exit == Exit::BadInput {
+                advise(rt, files.game, task, game.inner().front());
+            }
+            Ok(exit)
+        }
+        Ok(Err(decision)) => {
+            let exit = refuse(rt, task.out(), &decision, &inputs.known(files.pair))?;
+            if decision.verdict == Verdict::BadRecord {
+                advise_bad_record(rt, files.game, game.inner().front());
+            }
+            Ok(exit)
+        }
+        Err(fault) => {
+            let [rules, words, lexicon] = inputs.used(files.rules, files.pair);
+            let game = used_source(files.game, &game);
+            let inputs = [rules, words, lexicon, game];
+            Err(given_up(fault, &inputs, UsedOutput::NONE))
+        }
+    }
+}
+
+/// Says beside what was told of a sheet why its file is no game. `explain` tells itself what is wrong with a bad record.
+fn advise<R: Runtime + AllocGlobal>(rt: &R, name: &str, task: SheetTask<'_>, game: &Front) {
+    if is_record(rt.alloc(), game) {
+        advise_no_game(rt, name, game);
+    } else if !matches!(task, SheetTask::Explain(_)) {
+        advise_bad_record(rt, name, game);
+    }
+}
