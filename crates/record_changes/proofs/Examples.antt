@@ -1,0 +1,106 @@
+-- Records with a change, as the definitions give them, computed. Squares are numbered row by row from 1A, which is 0: 8E is 109, 10F is
+-- 140, and F10, with row and column the other way round, would be 6J, which is 84.
+use Rattle.std.proofs.Common.{ℕ, ℤ, pos, negsuc, true, false, List, [], ◌∷◌, get_or, None, refl}
+use Rattle.std.specs.Prelude.{codes}
+use Rattle.first_faults.proofs.Rows.{Agree}
+use Rattle.ref_tiles.specs.declared.kinds.Kind.TheVariants as kind_of_tile
+use Rattle.ref_tiles.specs.declared.symbols.Symbol.{Symbol}
+use Rattle.ref_tiles.specs.declared.symbols.Symbol.TheVariants as symbol
+use Rattle.ref_tiles.specs.Letters.{letter_at}
+use Rattle.ref_board.specs.declared.directions.Dir.TheVariants.{Across, Down}
+use Rattle.gcg_read.specs.declared.events.Event.{Event}
+use Rattle.gcg_read.specs.declared.events.EventKind.{EventKind}
+use Rattle.gcg_read.specs.declared.events.EventKind.TheVariants as kind
+use Rattle.gcg_read.specs.declared.events.Seat.{Seat}
+use Rattle.gcg_read.specs.declared.events.Seat.TheVariants.{First, Second}
+use Rattle.gcg_read.specs.Texts.{symbols_of}
+use Rattle.record_changes.specs.declared.slips.Slip.{Slip}
+use Rattle.record_changes.specs.declared.slips.Slip.TheVariants as slip
+use Rattle.record_changes.specs.declared.slips.PositionSlip.TheVariants as position
+use Rattle.record_changes.specs.declared.slips.SpellingSlip.TheVariants as spelling
+use Rattle.record_changes.specs.declared.slips.CodeSlip.TheVariants as code
+use Rattle.record_changes.specs.declared.slips.TilesOf.TheVariants as tiles_of
+use Rattle.record_changes.specs.declared.slips.TileSlip.TheVariants as tile
+use Rattle.record_changes.specs.declared.slips.MissingLine.TheVariants as line
+use Rattle.record_changes.specs.Splices.{spliced}
+use Rattle.record_changes.specs.Applied.{applied}
+use Rattle.record_changes.specs.Weights.{weight_of}
+
+abbrev word : List ℕ → List Symbol
+word letters = symbols_of letters
+
+-- an event on a line: whose, what happened, its score and the total
+abbrev event_on : ℕ → Seat → EventKind → ℤ → ℤ → Event
+event_on at player what score total = record { line = at; player = player; rack = None; kind = what; score = score; total = total }
+
+-- 8E WORD by the first player, 10F AT by the second, and a pass
+abbrev word_play : Event
+word_play = event_on 1 First (kind.Play 109 Across (word (codes "WORD"))) (pos 16) (pos 16)
+
+abbrev at_play : Event
+at_play = event_on 2 Second (kind.Play 140 Across (word (codes "AT"))) (pos 2) (pos 2)
+
+abbrev pass : Event
+pass = event_on 3 First kind.Pass (pos 0) (pos 16)
+
+abbrev game : List Event
+game = word_play ∷ at_play ∷ pass ∷ []
+
+abbrev with : ℕ → Slip → List Event
+with place what = applied (record { place = place; slip = what }) game
+
+-- ---- what a record is with a change
+
+-- a play in another place, direction or spelling
+moved : Agree (
+    (with 1 (slip.Position position.OtherDirection), word_play ∷ record at_play { kind = kind.Play 140 Down (word (codes "AT")) } ∷ pass ∷ [])
+    ∷ (with 1 (slip.Position (position.OneOff 141)), word_play ∷ record at_play { kind = kind.Play 141 Across (word (codes "AT")) } ∷ pass ∷ [])
+    ∷ (with 1 (slip.Position position.Interchanged), word_play ∷ record at_play { kind = kind.Play 84 Across (word (codes "AT")) } ∷ pass ∷ [])
+    ∷ (with 2 (slip.Position position.Interchanged), game)
+    ∷ [])
+unfolding spliced letter_at
+moved = refl
+
+-- the first play with another text
+abbrev texted : List ℕ → List Event
+texted letters = record word_play { kind = kind.Play 109 Across (word letters) } ∷ at_play ∷ pass ∷ []
+
+abbrev letter_a : Symbol
+letter_a = get_or (word (codes "A")) 0 symbol.Dot
+
+respelled : Agree (
+    (with 0 (slip.Spelling (spelling.Dot 1)), texted (codes "W.RD"))
+    ∷ (with 0 (slip.Spelling (spelling.OtherLetter 1 letter_a)), texted (codes "WARD"))
+    ∷ (with 0 (slip.Spelling (spelling.Extra 3)), texted (codes "WOR"))
+    ∷ (with 0 (slip.Spelling (spelling.MissingDot 4)), texted (codes "WORD."))
+    ∷ (with 0 (slip.Spelling (spelling.Twisted 1)), texted (codes "WROD"))
+    ∷ (with 0 (slip.Spelling (spelling.Twisted 3)), game)
+    ∷ (with 0 (slip.Spelling (spelling.Laid (word (codes "WO.RD")))), texted (codes "WO.RD"))
+    ∷ [])
+unfolding spliced letter_at
+respelled = refl
+
+-- a line that is another one, that should not be there, that is missing, or that stands in the place of another
+other_lines : Agree (
+    (with 2 slip.OtherPlayer, word_play ∷ at_play ∷ record pass { player = Second } ∷ [])
+    ∷ (with 2 (slip.Code (code.Exchange 3)), word_play ∷ at_play ∷ record pass { kind = kind.ExchangeUnknown 3 } ∷ [])
+    ∷ (with 1 slip.Extra, word_play ∷ pass ∷ [])
+    ∷ (with 0 slip.Swapped, at_play ∷ word_play ∷ pass ∷ [])
+    ∷ (with 0 slip.SwappedOver, pass ∷ at_play ∷ word_play ∷ [])
+    ∷ (with 1 slip.SwappedOver, game)
+    ∷ (with 1 (slip.Missing (line.Withdrawal First)), word_play ∷ event_on 0 First kind.Withdraw (pos 0) (pos 0) ∷ at_play ∷ pass ∷ [])
+    ∷ (with 3 (slip.Missing (line.Time Second (negsuc 9) false)), word_play ∷ at_play ∷ pass ∷ event_on 0 Second kind.Time (negsuc 9) (pos 0) ∷ [])
+    ∷ [])
+unfolding spliced letter_at
+other_lines = refl
+
+-- ---- weights
+weights : Agree (
+    (weight_of slip.Repeated, 1)
+    ∷ (weight_of (slip.Position (position.Further 0)), 3)
+    ∷ (weight_of (slip.Tile tiles_of.LastRack (tile.Extra kind_of_tile.Blank)), 4)
+    ∷ (weight_of (slip.Missing (line.Time First (negsuc 9) true)), 6)
+    ∷ (weight_of (slip.Missing (line.Challenge First (pos 10) true)), 5)
+    ∷ (weight_of slip.Extra, 7)
+    ∷ [])
+weights = refl

@@ -1,0 +1,5 @@
+pub mod Splices
+pub mod TileCounts
+pub mod Applied
+pub mod Weights
+pub mod Laws

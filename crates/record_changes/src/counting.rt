@@ -1,0 +1,29 @@
+//! One tile less or more.
+ghost use Rattle.std.specs.Prelude.{◌≡◌};
+ghost use Rattle.record_changes.specs.TileCounts.{one_less, one_more};
+
+use ref_tiles::{Counts, Kind};
+
+/// One tile of a kind less, where there is one.
+pub fn one_less(counts: &Counts, kind: Kind) -> Counts
+    ensures { result ≡ one_less counts.now kind }
+{
+    let mut less = *counts;
+    if less.count(kind) == 0 {
+        return less;
+    }
+    let _ = less.take(kind);
+    less
+}
+
+/// One tile of a kind more, where there are few enough.
+pub fn one_more(counts: &Counts, kind: Kind) -> Counts
+    ensures { result ≡ one_more counts.now kind }
+{
+    let mut more = *counts;
+    if more.count(kind) >= 255 {
+        return more;
+    }
+    more.add(kind);
+    more
+}

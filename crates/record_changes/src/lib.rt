@@ -1,0 +1,19 @@
+//! A single change of a record: a slip of the pen on one line, what it weighs, and the record without it.
+#![tactic(auto)]
+
+mod applying;
+mod copying;
+mod counting;
+mod laws;
+mod righting;
+mod slips;
+mod splices;
+mod weights;
+
+pub use applying::{apply, right_events, wrong_events};
+pub use counting::{one_less, one_more};
+pub use laws::law_of_changes;
+pub use slips::{
+    Change, CodeSlip, MissingLine, PositionSlip, Slip, SpellingSlip, TileSlip, TilesOf,
+};
+pub use weights::weight_of;
