@@ -1,7 +1,6 @@
 //! Each module has the tables of one question, each table shows one rule.
 
 mod archiving;
-mod best_plays;
 mod boards;
 mod callers;
 mod converting;

@@ -7,7 +7,6 @@ use gcg_read::{ReadFault, Record, Why};
 use name_texts::Encoding;
 use std::alloc::Global;
 use std::process::Abort;
-use tab_lines::push_escaped;
 
 /// The line of these fields, in both forms.
 fn lines_of(rt: &impl Abort, alloc: Global, fields: &Fields<'_>) -> (Vec<u8>, Vec<u8>) {
@@ -16,23 +15,6 @@ fn lines_of(rt: &impl Abort, alloc: Global, fields: &Fields<'_>) -> (Vec<u8>, Ve
     let mut object = Vec::new(alloc);
     push_json_line(alloc, &mut object, fields).expect(rt, "an object");
     (tabs, object)
-}
-
-#[test]
-fn names_in_lines(rt: HostRuntime) {
-    let rows: [(&str, &str); 6] = [
-        ("a.gcg", "a.gcg"),
-        ("", ""),
-        ("a\tb", "a\\tb"),
-        ("a\nb", "a\\nb"),
-        ("a\\tb", "a\\\\tb"),
-        ("\\\t\n\u{e9}", "\\\\\\t\\n\u{e9}"),
-    ];
-    for (name, want) in rows {
-        let mut line = Vec::new(rt.alloc());
-        push_escaped(&mut line, name.as_bytes()).expect(&rt, "a name");
-        assert_eq!(rt; line.as_slice(), want.as_bytes(), "{want}");
-    }
 }
 
 #[test]

@@ -39,38 +39,6 @@ fn whole_board(rt: HostRuntime) {
 }
 
 #[test]
-fn first_lines(rt: HostRuntime) {
-    // The scores, the totals, the turns and the racks of these records are wrong, and it does not matter.
-    let rows: [(&str, Option<u32>, &str); 8] = [
-        ("", None, "board after the last event\n"),
-        (">A: 8E WORD +1 1\n", None, "board after the last event\n"),
-        (">A: 8E WORD +1 1\n", Some(0), "board before line 1\n"),
-        ("#x\n\n>A: 8E WORD +1 1\n", Some(2), "board before line 3\n"),
-        (
-            ">A: 8D WORD +1 1\n",
-            None,
-            "board before line 1, whose play cannot be laid: MissesCentre\n",
-        ),
-        (">A: 8D WORD +1 1\n", Some(1), "board before line 1\n"),
-        (
-            ">A: 8E WORD +1 1\n>A: 8E CORD +1 1\n>A: -7 +0 3\n",
-            Some(3),
-            "board before line 2, whose play cannot be laid: Mismatch\n",
-        ),
-        (
-            ">A: 8E WORD +1 1\n>A: -- +0 0\n>B: 8E CORD +1 1\n>B: -- +0 0\n>B: 15A AT +1 1\n",
-            None,
-            "board before line 5, whose play cannot be laid: MissesCentre\n",
-        ),
-    ];
-    for (game, before, want) in rows {
-        let (verdict, text) = shown(&rt, rt.alloc(), game.as_bytes(), before);
-        assert_eq!(rt; verdict, Verdict::Done, "{want}");
-        assert!(rt; text.as_slice().starts_with(want.as_bytes()), "{want}");
-    }
-}
-
-#[test]
 fn no_boards(rt: HostRuntime) {
     let rows: [(&str, Option<u32>, Verdict, &str); 4] = [
         (

@@ -3,7 +3,6 @@
 use super::games::{Row, report_all, report_with, told_by};
 use super::turns::SHORT;
 use engine::{Earlier, GameFault, Verdict};
-use ref_tiles::Kind;
 use test_calls::{Call, GameRules};
 
 /// No player has shown more tiles than came to the rack, and both together no more of a kind than the game has.
@@ -98,22 +97,4 @@ pub const WHOLE_SETS: [Row; 3] = [
 #[test]
 fn whole_sets(rt: HostRuntime) {
     report_with(&rt, rt.alloc(), SHORT, 7, &[&WHOLE_SETS]);
-}
-
-#[test]
-fn verdicts(rt: HostRuntime) {
-    let wants = [
-        Verdict::Illegal {
-            line: 2,
-            fault: GameFault::TilesShort(Kind::Blank),
-        },
-        Verdict::Illegal {
-            line: 3,
-            fault: GameFault::RackTooBig,
-        },
-    ];
-    for (row, want) in BOUNDS.iter().zip(wants) {
-        let (verdict, _report) = row.judged(&rt, rt.alloc(), GameRules::English);
-        assert_eq!(rt; verdict, want);
-    }
 }

@@ -1,8 +1,5 @@
-//! Inputs that are no word list or no record, and the verdicts.
-use super::games::{Row, judged, report_all};
-use engine::{GameFault, Verdict};
-use game_turns::RuleFault;
-use ref_play::PlayFault;
+//! Inputs that are no word list or no record.
+use super::games::{Row, report_all};
 use test_calls::GameRules;
 
 /// The first line that is no word is told, and no other input is read.
@@ -66,26 +63,4 @@ fn bad_inputs(rt: HostRuntime) {
         GameRules::English,
         &[&BAD_LISTS, &BAD_RECORDS],
     );
-}
-
-#[test]
-fn verdicts(rt: HostRuntime) {
-    let too_short = Verdict::Illegal {
-        line: 1,
-        fault: GameFault::Rule(RuleFault::Play(PlayFault::TooShort)),
-    };
-    let rows: [(&[u8], &[u8], Verdict); 4] = [
-        (
-            b"WORD",
-            b">A: DORWAAE 8E WORD +16 16\n",
-            Verdict::Legal { complete: false },
-        ),
-        (b"WORD", b">A: 8H A +0 0\n", too_short),
-        (b"WORD", b">A\n", Verdict::BadRecord),
-        (b"W", b">A\n", Verdict::BadList),
-    ];
-    for (words, game, want) in rows {
-        let (verdict, _report) = judged(&rt, rt.alloc(), GameRules::English, words, game);
-        assert_eq!(rt; verdict, want);
-    }
 }

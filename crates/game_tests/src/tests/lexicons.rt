@@ -9,7 +9,7 @@ use engine::{Verdict, run_check};
 use std::alloc::Global;
 use std::process::Abort;
 use test_calls::{Call, Inputs, NO_INPUTS};
-use test_samples::{AT, AT_IT, EMPTY, many_walks};
+use test_samples::{AT, AT_IT, EMPTY};
 
 /// Asserts a verdict and what was written.
 pub fn expect(rt: &impl Abort, told: &(Verdict, Vec<u8>), verdict: Verdict, written: &[u8]) {
@@ -97,73 +97,6 @@ fn checks(rt: HostRuntime) {
         let told = checked_bytes(&rt, rt.alloc(), row.words.as_bytes(), row.lexicon);
         expect(&rt, &told, row.verdict, row.report.as_bytes());
     }
-}
-
-/// A place in the file of AT, the bytes that stand from it on in place of its own, and what is written of the check.
-type Change = (usize, &'static [u8], &'static str);
-
-const CHANGES: [Change; 10] = [
-    (0, &[0x48], "bad lexicon: Magic\n"),
-    (8, &[0x05], "bad lexicon: Root\n"),
-    (8, &[0x00], "bad lexicon: Root\n"),
-    (12, &[0x02], "bad lexicon: WordCount\n"),
-    (16, &[0x7b, 0x00, 0x00, 0x00], "bad lexicon: Label\n"),
-    (32, &[0xc1, 0x01, 0x00, 0x00], "bad lexicon: Order\n"),
-    (20, &[0x40, 0x01, 0x00, 0x00], "bad lexicon: Target\n"),
-    (16, &[0x54, 0x00, 0x00, 0x00], "bad lexicon: DeadArc\n"),
-    (32, &[0x94, 0x01, 0x00, 0x00], "bad lexicon: OpenRun\n"),
-    (28, &[0x21, 0x01, 0x00, 0x00], "bad lexicon: Extra A\n"),
-];
-
-/// The file of AT with a change.
-fn changed(rt: &impl Abort, at: usize, bytes: &[u8]) -> [u8; 36] {
-    let mut file = AT;
-    for (place, byte) in bytes.iter().enumerate() {
-        assert!(rt; place < 8 && at < 36 - place);
-        file[at + place] = *byte;
-    }
-    file
-}
-
-/// Asserts what is written of a bad file by the list AT: where it is checked, and where a record is judged by it.
-pub fn expect_bad(rt: &impl Abort, alloc: Global, file: &[u8], report: &str) {
-    let told = checked_bytes(rt, alloc, b"AT", file);
-    expect(rt, &told, Verdict::BadFile, report.as_bytes());
-    let inputs = Inputs {
-        words: b"AT",
-        lexicon: file,
-        game: b">A: AEI -5 +0 0\n",
-        ..NO_INPUTS
-    };
-    let told = judged_by(rt, alloc, &inputs);
-    expect(rt, &told, Verdict::BadFile, report.as_bytes());
-}
-
-#[test]
-fn changed_files(rt: HostRuntime) {
-    for (at, bytes, report) in &CHANGES {
-        let file = changed(&rt, *at, bytes);
-        expect_bad(&rt, rt.alloc(), &file, report);
-    }
-}
-
-#[test]
-fn cut_files(rt: HostRuntime) {
-    for len in 0..AT.len() {
-        let want = if len < 16 {
-            "bad lexicon: Short\n"
-        } else {
-            "bad lexicon: Length\n"
-        };
-        expect_bad(&rt, rt.alloc(), &AT[..len], want);
-    }
-}
-
-#[test]
-fn many_strings(rt: HostRuntime) {
-    let file = many_walks(rt.alloc()).expect(&rt, "memory");
-    let told = checked_bytes(&rt, rt.alloc(), b"AT", &file);
-    expect(&rt, &told, Verdict::BadFile, b"bad lexicon: Missing A+T\n");
 }
 
 /// An input of zeros without an end. It counts them as it gives them.

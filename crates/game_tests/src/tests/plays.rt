@@ -120,7 +120,7 @@ const TOTALS: [Row; 2] = [
 ];
 
 /// Words that are not in the list stand where nobody challenges them, and are told.
-pub const UNLISTED: [Row; 5] = [
+const UNLISTED: [Row; 5] = [
     Row {
         words: "",
         game: ">A: DORWAAE 8E WORD +16 16\n",

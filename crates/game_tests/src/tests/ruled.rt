@@ -1,9 +1,9 @@
 //! Games that are judged, and best plays that are told, by the rules of a text.
 use super::deals::WHOLE_SETS;
-use super::games::{Row, judged, lexicon_of, report_all};
+use super::games::{Row, lexicon_of, report_all};
 use super::inputs::{BAD_LISTS, BAD_RECORDS};
 use super::pieces::{told_in_pieces, told_of};
-use super::plays::{PLACES, UNLISTED};
+use super::plays::PLACES;
 use super::topping::assert_bad_rack;
 use super::turns::OUT;
 use bstr::ByteSlice;
@@ -19,12 +19,6 @@ const SHORT_TILES: &[u8] = b"tile A 2 1\ntile B 0 3\ntile C 0 3\ntile D 1 2\ntil
 tile F 0 4\ntile G 0 2\ntile H 0 4\ntile I 1 1\ntile J 0 8\ntile K 0 5\ntile L 0 1\n\
 tile M 0 3\ntile N 1 1\ntile O 1 1\ntile P 0 3\ntile Q 0 10\ntile R 2 1\ntile S 1 1\n\
 tile T 2 1\ntile U 0 1\ntile V 0 4\ntile W 1 4\ntile X 0 8\ntile Y 0 4\ntile Z 0 10\ntile ? 0 0\n";
-
-/// The tiles of two English sets, 200 in all.
-const TWO_SETS: &[u8] = b"tile A 18 1\ntile B 4 3\ntile C 4 3\ntile D 8 2\ntile E 24 1\n\
-tile F 4 4\ntile G 6 2\ntile H 4 4\ntile I 18 1\ntile J 2 8\ntile K 2 5\ntile L 8 1\n\
-tile M 4 3\ntile N 12 1\ntile O 16 1\ntile P 4 3\ntile Q 2 10\ntile R 12 1\ntile S 8 1\n\
-tile T 12 1\ntile U 8 1\ntile V 4 4\ntile W 4 4\ntile X 2 8\ntile Y 4 4\ntile Z 2 10\ntile ? 4 0\n";
 
 /// The English rules as a text.
 const ENGLISH: GameRules<'static> = GameRules::Text(ENGLISH_TEXT);
@@ -54,58 +48,12 @@ fn a_game_of_14_tiles(rt: HostRuntime) {
     );
 }
 
-/// With two sets there are four blanks.
-const LONG_GAMES: [Row; 2] = [
-    Row {
-        words: "AT",
-        game: ">A: ?? - +0 0\n>B: ? - +0 0\n",
-        report: "legal unfinished\n1 A - +0 0 best -\n2 B - +0 0 best -\n",
-    },
-    Row {
-        words: "AT",
-        game: ">A: ?? - +0 0\n>B: ??? - +0 0\n",
-        report: "illegal line 2: TilesShort ?\n",
-    },
-];
-
-#[test]
-fn a_game_of_200_tiles(rt: HostRuntime) {
-    let text = text_with(&rt, rt.alloc(), TWO_SETS);
-    report_all(&rt, rt.alloc(), GameRules::Text(&text), &[&LONG_GAMES]);
-}
-
-/// The English text gives what the English rules give.
-#[test]
-fn english_games(rt: HostRuntime) {
-    report_all(&rt, rt.alloc(), ENGLISH, &[&UNLISTED]);
-}
-
-/// Asserts that a rules text has a fault, and the line that tells it. The words are no list, but the rules text is read first.
-fn assert_bad(rt: &impl Abort, alloc: Global, rules: &[u8], want: &str) {
-    let (verdict, report) = judged(rt, alloc, GameRules::Text(rules), b"A1", b"");
-    assert_eq!(rt; verdict, Verdict::BadRules, "{want}");
-    assert_eq!(rt; report.as_slice(), want.as_bytes(), "{want}");
-}
-
-/// The first fault of a rules text is told, on its line or on none.
-#[test]
-fn bad_rules(rt: HostRuntime) {
-    let alloc = rt.alloc();
-    let many = text_with(&rt, alloc, TWO_SETS)
-        .as_slice()
-        .replace(alloc, b"tile A 18 1", b"tile A 19 1")
-        .expect(&rt, "memory");
-    let rowless = ENGLISH_TEXT
-        .replace(alloc, b"row 8 T..d...D...d..T\n", b"")
-        .expect(&rt, "memory");
-    let fronted = joined(&rt, alloc, b"tile ? 2 1\n", ENGLISH_TEXT);
-    let doubled = joined(&rt, alloc, ENGLISH_TEXT, b"bonus 50");
-    assert_bad(&rt, alloc, &many, "bad rules: Limits\n");
-    assert_bad(&rt, alloc, &rowless, "bad rules: Missing\n");
-    assert_bad(&rt, alloc, &fronted, "bad rules line 1: Number\n");
-    assert_bad(&rt, alloc, &doubled, "bad rules line 48: Twice\n");
-    assert_bad(&rt, alloc, b"tiles A 9 1", "bad rules line 1: Unknown\n");
-}
+/// A game with three blanks.
+const BLANKS: [Row; 1] = [Row {
+    words: "AT",
+    game: ">A: ?? - +0 0\n>B: ? - +0 0\n",
+    report: "illegal line 2: TilesShort ?\n",
+}];
 
 /// By good rules the other inputs are judged as ever.
 #[test]
@@ -165,7 +113,7 @@ fn long_texts(rt: HostRuntime) {
     for _ in text.len()..MAX_RULES_BYTES {
         text.push(b'\n').expect(&rt, "memory");
     }
-    report_all(&rt, rt.alloc(), GameRules::Text(&text), &[&LONG_GAMES[1..]]);
+    report_all(&rt, rt.alloc(), GameRules::Text(&text), &[&BLANKS]);
     text.extend_from_slice(b"\nmore").expect(&rt, "memory");
     for piece in [1, 7, usize::MAX] {
         assert_long(&rt, rt.alloc(), &text, piece);

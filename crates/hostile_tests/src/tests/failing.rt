@@ -2,48 +2,10 @@
 ghost use Rattle.std.specs.Prelude.{◌<◌};
 
 use super::jobs::{JUDGED, Job, OTHERS, attempt, working};
-use engine::{RunFault, Verdict};
-use gcg_read::{EventKind, read};
+use engine::RunFault;
 use std::alloc::Global;
 use std::process::Abort;
 use test_calls::{Call, Mishap, NEVER};
-
-/// Whether tiles are exchanged in the record of a job.
-fn has_exchange(rt: &impl Abort, alloc: Global, job: &Job<'_>) -> bool {
-    let record = read(alloc, job.game).expect(rt, "a record");
-    record.events.as_slice().iter().any(|event| {
-        matches!(
-            event.kind,
-            EventKind::Exchange(_) | EventKind::ExchangeUnknown(_)
-        )
-    })
-}
-
-/// A record without an exchange is settled.
-#[test]
-fn unsettled_jobs(rt: HostRuntime) {
-    for job in JUDGED.iter().chain(&OTHERS) {
-        if job.verdict == Verdict::Unsettled {
-            assert!(rt; has_exchange(&rt, rt.alloc(), job), "{:?}", job.game);
-        }
-    }
-}
-
-/// Asserts that a job with working devices does what it is to do, however few bytes they move at once.
-fn assert_done(rt: &impl Abort, alloc: Global, job: &Job<'_>) {
-    for piece in [1, 7, 8192] {
-        let outcome = attempt(alloc, job, &working(piece));
-        assert_eq!(rt; outcome.answer, Ok(job.verdict));
-        assert_eq!(rt; outcome.out.as_slice(), job.wrote);
-    }
-}
-
-#[test]
-fn few_bytes_at_once(rt: HostRuntime) {
-    for job in JUDGED.iter().chain(&OTHERS) {
-        assert_done(&rt, rt.alloc(), job);
-    }
-}
 
 /// Whether a job reads the words, the lexicon, the record and the rules text.
 fn inputs_of(job: &Job<'_>) -> [bool; 4] {

@@ -90,15 +90,6 @@ fn lists(rt: HostRuntime) {
     }
 }
 
-/// Each request for memory that is refused is answered as such: `rt try --test --fail-alloc N` refuses the N-th.
-#[test]
-fn refused_memory(rt: HostRuntime) {
-    let outcome = compare(rt.alloc(), b"AT\nIT", &AT_IT);
-    assert!(rt; outcome != Outcome::Different);
-    let outcome = rebuild(rt.alloc(), LISTS[4]);
-    assert!(rt; outcome != Outcome::Different);
-}
-
 /// The next number of a linear congruential generator.
 fn next(state: u32) -> u32 {
     state.wrapping_mul(1_664_525).wrapping_add(1_013_904_223)

@@ -1,5 +1,5 @@
 //! Word lists: what they hold, their faults and limits.
-use lex_list::{ListFault, ListWhy, MAX_BYTES, MAX_WORDS, WordList, law_of_lists, law_of_paths};
+use lex_list::{ListFault, ListWhy, MAX_WORDS, WordList, law_of_lists, law_of_paths};
 use std::alloc::Global;
 use std::process::Abort;
 
@@ -132,19 +132,6 @@ fn distinct_lines(rt: &impl Abort, alloc: Global, lines: u32) -> Vec<u8> {
     text
 }
 
-/// The same number of lines, in the order of bytes.
-fn rising_lines(rt: &impl Abort, alloc: Global, lines: u32) -> Vec<u8> {
-    let mut text = Vec::new(alloc);
-    for line in 0..lines {
-        for unit in [17_576, 676, 26, 1] {
-            text.push(b'A' + (line / unit % 26) as u8)
-                .expect(rt, "memory");
-        }
-        text.push(b'\n').expect(rt, "memory");
-    }
-    text
-}
-
 /// Asserts that a text has as many words as a list may have, and that with more text behind it a line has one word too many.
 fn assert_limit(rt: &impl Abort, alloc: Global, text: &mut Vec<u8>, more: &[u8], line: u32) {
     let list = list_of(rt, alloc, text);
@@ -161,35 +148,4 @@ fn limit_of_words(rt: HostRuntime) {
     let mut text = distinct_lines(&rt, rt.alloc(), 400_000);
     text.extend_from_slice(b"baaa\n").expect(&rt, "memory");
     assert_limit(&rt, rt.alloc(), &mut text, b"\nQI\nA1", 400_003);
-}
-
-#[test]
-fn limit_of_words_in_order(rt: HostRuntime) {
-    let mut text = rising_lines(&rt, rt.alloc(), 400_000);
-    assert_limit(&rt, rt.alloc(), &mut text, b"ZZZZZ", 400_001);
-}
-
-#[test]
-fn limit_of_words_in_order_but_the_last(rt: HostRuntime) {
-    let mut text = rising_lines(&rt, rt.alloc(), 400_000);
-    text.extend_from_slice(b"aaaa\naaab\n")
-        .expect(&rt, "memory");
-    assert_limit(&rt, rt.alloc(), &mut text, b"QI\nA1", 400_003);
-}
-
-fn feeds(rt: &impl Abort, alloc: Global, number: usize) -> Vec<u8> {
-    let mut text = Vec::new(alloc);
-    for _ in 0..number {
-        text.push(b'\n').expect(rt, "memory");
-    }
-    text
-}
-
-#[test]
-fn limit_of_bytes(rt: HostRuntime) {
-    let mut text = feeds(&rt, rt.alloc(), MAX_BYTES);
-    assert_eq!(rt; list_of(&rt, rt.alloc(), &text).len(), 0);
-    text.push(b'\n').expect(&rt, "memory");
-    let one_more = fault(0, ListWhy::TooLong);
-    assert_eq!(rt; fault_of(rt.alloc(), &text), Some(one_more));
 }

@@ -1,5 +1,5 @@
 //! Files of the second format: whether they are those of a list, and their nodes.
-use lex_check::{Mismatch, check, text_of};
+use lex_check::{Mismatch, check};
 use lex_file::{Format, LexFile};
 use lex_list::WordList;
 use std::alloc::Global;
@@ -11,18 +11,6 @@ fn outcome(alloc: Global, file: &[u8]) -> Option<Result<(), Mismatch>> {
     let list = WordList::read(alloc, b"AT").ok()?;
     let lexicon = LexFile::open(file).ok()?;
     Some(check(alloc, &list, &lexicon))
-}
-
-#[test]
-fn answers(rt: HostRuntime) {
-    let same = outcome(rt.alloc(), &AT_BY_NODES);
-    assert!(rt; matches!(same, Some(Ok(()))), "{:?}", same);
-    let mut bytes = AT_BY_NODES;
-    bytes[56] = 0x02;
-    let Some(Err(Mismatch::Extra(path))) = outcome(rt.alloc(), &bytes) else {
-        panic!(rt; "A is accepted");
-    };
-    assert_eq!(rt; text_of(&path).as_slice(), b"A".as_slice());
 }
 
 #[test]

@@ -1,6 +1,6 @@
-//! Cross-sets that are kept up by puts and lifts: a tile between two others, and boards whose tiles, or whose plays, are put and
-//! lifted in several orders, all values beside those that are made afresh.
-use super::boards::{Laid, TWO, at, has_letter, laid, list_of, text_of};
+//! Cross-sets that are kept up by puts and lifts: boards whose tiles, or whose plays, are put and lifted in several orders, all
+//! values beside those that are made afresh.
+use super::boards::{Laid, at, list_of, text_of};
 use gcg_read::Text;
 use gen_cross::Cross;
 use lex_check::SortedPaths;
@@ -9,14 +9,6 @@ use ref_play::{Play, from_text};
 use ref_tiles::{Letter, Rules, Tile, english_rules};
 use std::process::Abort;
 use test_samples::PlayText;
-
-/// What squares of row 8 have for a play down: the column, the letters and the points beside.
-type Beside = (usize, &'static [u8], u16);
-
-const APART: [Beside; 3] = [(5, b"T", 1), (7, b"", 2), (9, b"T", 1)];
-
-/// The same with a B between the two, on 8H.
-const JOINED: [Beside; 3] = [(5, b"T", 5), (7, b"", 0), (9, b"S", 5)];
 
 /// The tile of a capital.
 fn tile_of(rt: &impl Abort, byte: u8) -> Tile {
@@ -45,16 +37,6 @@ fn turn(
     }
 }
 
-/// Asserts what a square has for a play down.
-fn assert_beside(rt: &impl Abort, cross: &Cross, beside: Beside) {
-    let square = at(rt, 7, beside.0);
-    assert_eq!(rt; cross.side(Dir::Down, square), beside.2, "{:?}", square);
-    for (letter, may) in cross.mask(Dir::Down, square).iter().enumerate() {
-        let listed = has_letter(beside.1, letter);
-        assert_eq!(rt; *may, listed, "{:?} {}", square, letter);
-    }
-}
-
 /// Asserts that two crosses have one value of a square.
 fn assert_value(rt: &impl Abort, kept: &Cross, made: &Cross, dir: Dir, square: Square) {
     let held = (kept.mask(dir, square), kept.side(dir, square));
@@ -69,26 +51,6 @@ fn assert_same(rt: &impl Abort, kept: &Cross, made: &Cross) {
         assert_value(rt, kept, made, Dir::Across, square);
         assert_value(rt, kept, made, Dir::Down, square);
     }
-}
-
-#[test]
-fn tile_between_two(rt: HostRuntime) {
-    let rules = english_rules();
-    let list = list_of(&rt, rt.alloc(), b"AT\nTA\nABAS\nTABA\n");
-    let paths = SortedPaths::new(rt.alloc(), &list).expect(&rt, "the paths");
-    let mut board = laid(&rt, &TWO);
-    let before = Cross::scratch(&rules, &board, &paths);
-    let mut cross = before;
-    let middle = (7, 7, b'B');
-    for beside in APART {
-        assert_beside(&rt, &cross, beside);
-    }
-    turn(&rt, &rules, &mut board, &mut cross, &paths, middle);
-    for beside in JOINED {
-        assert_beside(&rt, &cross, beside);
-    }
-    turn(&rt, &rules, &mut board, &mut cross, &paths, middle);
-    assert_same(&rt, &cross, &before);
 }
 
 /// 8E WORD, 9G AT and 9F E.

@@ -199,9 +199,3 @@ fn tiles_taken_back(rt: HostRuntime) {
     }
     law_of_undoing();
 }
-
-#[test]
-fn names(rt: HostRuntime) {
-    assert_eq!(rt; OffBoard.name(), "OffBoard");
-    assert_eq!(rt; Apart.name(), "Apart");
-}

@@ -3,8 +3,8 @@ use super::plays::text_of;
 use Code::{Challenge, Exchange, LastRack, Pass, Time, Unknown, Withdraw};
 use gcg_read::Seat::{First, Second};
 use gcg_read::{
-    Event, EventKind, Events, MAX_BYTES, MAX_EVENTS, Name, Player, Players, Points, ReadFault,
-    Record, Seat, Text, Why, law_of_faults, law_of_lines, read,
+    Event, EventKind, Events, Name, Player, Players, Points, ReadFault, Record, Seat, Text, Why,
+    law_of_faults, law_of_lines, read,
 };
 use ref_tiles::{Counts, Symbol};
 use std::alloc::Global;
@@ -502,30 +502,4 @@ fn unnamed_players(rt: HostRuntime) {
     assert_player(&rt, &Players::unnamed(rt.alloc()).second, NOBODY);
     assert_player(&rt, &Player::unnamed(rt.alloc()), NOBODY);
     assert!(rt; Events::new(rt.alloc()).is_empty());
-}
-
-fn repeated(rt: &impl Abort, alloc: Global, text: &[u8], times: usize) -> Vec<u8> {
-    let mut bytes = Vec::new(alloc);
-    for _ in 0..times {
-        bytes.extend_from_slice(text).expect(rt, "memory");
-    }
-    bytes
-}
-
-#[test]
-fn most_events(rt: HostRuntime) {
-    let mut text = repeated(&rt, rt.alloc(), b">A: 8E A 0 0\n", MAX_EVENTS);
-    assert_eq!(rt; events_in(rt.alloc(), &text), Ok(1_000));
-    text.extend_from_slice(b"\n>").expect(&rt, "memory");
-    let one_more = fault(1_002, Why::TooManyEvents);
-    assert_eq!(rt; events_in(rt.alloc(), &text), Err(one_more));
-}
-
-#[test]
-fn most_bytes(rt: HostRuntime) {
-    let mut text = repeated(&rt, rt.alloc(), &[b'\n'; 16], MAX_BYTES / 16);
-    assert_eq!(rt; events_in(rt.alloc(), &text), Ok(0));
-    text.push(b'\n').expect(&rt, "memory");
-    let one_more = fault(0, Why::TooLong);
-    assert_eq!(rt; events_in(rt.alloc(), &text), Err(one_more));
 }

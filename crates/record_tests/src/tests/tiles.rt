@@ -73,19 +73,6 @@ fn english_tiles(rt: HostRuntime) {
     assert_eq!(rt; rules.counts.total(), 100);
 }
 
-/// What a play of seven tiles scores on top; the rules come by reference, so that their limits are proved.
-fn bonus(rules: &Rules) -> u16 {
-    rules.bonus
-}
-
-#[test]
-fn english_numbers(rt: HostRuntime) {
-    let rules = english_rules();
-    assert_eq!(rt; bonus(&rules), 50);
-    assert_eq!(rt; (rules.exchange_min, rules.zero_limit), (7, 6));
-    assert_eq!(rt; (rules.challenge_unit, rules.time_step), (5, 5));
-}
-
 #[test]
 fn english_premiums(rt: HostRuntime) {
     let rules = english_rules();
