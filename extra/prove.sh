@@ -3,9 +3,8 @@
 #
 # It copies the crates that the program stands on, without the edits that must fail, and has `rt ci` prove the copy: crates side by side, on all
 # processors or on so many, each crate once those below it are. A line tells of each crate when it is proved. Tests and edits are tried by the
-# gate, `.ci/run`. What is proved is kept on this machine by the checksums of all that was read, as the gate keeps it: after a change, or where
-# this was stopped, the next run goes on from there, and the gate takes it from there. Where a crate is not proved, what the prover said of
-# it is printed, and the status is 1. With CRATE that crate is proved, and those below it.
+# gate, `.ci/run`. Where `rt ci` keeps what it proved (docs/GATE.md), the next run goes on from there. Where a crate is not proved, what the
+# prover said of it is printed, and the status is 1. With CRATE that crate is proved, and those below it.
 set -u
 cd "$(dirname "$0")/.." || exit 2
 processors=${1:-$(nproc)}
