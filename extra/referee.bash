@@ -8,13 +8,14 @@ _referee() {
         fi
     done
     case $command in
-        "") options="-h --help -V --version" values="judge archive index audit explain page build check word convert top tidy board rules help" ;;
+        "") options="-h --help -V --version" values="judge archive index audit explain page annotate build check word convert top tidy board rules help" ;;
         judge) options="--first-field --json --skip-others --settle --rules -h --help" ;;
         archive) options="--first-field --skip-others --names -0 --null --skip --json --pages --progress --quiet --rules -h --help" ;;
         index) options="-h --help" ;;
         audit) options="--first-field --json --skip-others --corrected --rules -h --help" ;;
         explain) options="--first-field --json --skip-others --rules -h --help" ;;
         page) options="--first-field --skip-others --rules -h --help" ;;
+        annotate) options="--first-field --skip-others --rules --top -h --help" ;;
         build) options="--first-field --skip-others -h --help" ;;
         check) options="--first-field --json --skip-others -h --help" ;;
         word) options="--each --first-field --skip-others -h --help" ;;
@@ -23,7 +24,7 @@ _referee() {
         tidy) options="-h --help" ;;
         board) options="--before --json --rules -h --help" ;;
         rules) options="-h --help" ;;
-        help) values="judge archive index audit explain page build check word convert top tidy board rules help" ;;
+        help) values="judge archive index audit explain page annotate build check word convert top tidy board rules help" ;;
     esac
     [[ $command != convert || ${COMP_WORDS[COMP_CWORD - 1]} != convert ]] || values="gad1 gad2"
     if [[ $word == -* ]]; then

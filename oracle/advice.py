@@ -2,8 +2,8 @@
 import re
 
 from archive import states_latin, text_of
-from explains import record_text
-from records import Fault, number, read
+from explains import missing, record_text
+from records import Fault, read
 
 BOM = b"\xef\xbb\xbf"
 SETTLE = b"referee: unsettled: `judge --settle` searches for a deal that yields the racks\n"
@@ -42,22 +42,6 @@ def kind_of(text):
     return OTHER
 
 
-def missing(written, why):
-    """What a line lacks that is no line of a record."""
-    if why == "NoColon":
-        nick, colon, _ = written[1:].partition(b":")
-        names = fields_of(nick)
-        return b" Write " + b"_".join(names) + b"." if colon and len(names) > 1 else b""
-    fields = fields_of(written.partition(b":")[2])
-    if why not in ("Fields", "Rack", "Position", "Word", "Code") or not 1 <= len(fields) <= 5:
-        return b""
-    if number(fields[-1]) is None:
-        return b" The score and the total are missing."
-    if len(fields) == 1 or number(fields[-2]) is None:
-        return b" The score or the total is missing: an event ends with both."
-    return b" The play or the code before the score is missing." if len(fields) == 2 else b""
-
-
 def bad_record(name, game):
     """What is said of the first fault of a text that is no record."""
     try:
@@ -88,4 +72,4 @@ def advice(command, output, name, game):
         return b""
     if command == "top" and not game:
         return b""
-    return no_game(name, game) if command in ("judge", "top", "tidy", "board", "audit", "explain", "page") else b""
+    return no_game(name, game) if command in ("judge", "top", "tidy", "board", "audit", "explain", "page", "annotate") else b""

@@ -109,15 +109,17 @@ def audited(words, lexicon, game, text=None):
     return answers if isinstance(answers, list) else [answers]
 
 
-def explained(words, lexicon, game, asked, told, text=None):
-    """What `explain` is to print of a record, or of a line where one is asked for, where its first line is `told`, if that can be."""
+def explained(words, lexicon, game, asked, printed, text=None):
+    """What `explain` is to print of a record, or of a line where one is asked for, with the verdict that was printed, if that can be. Where no deal gives the
+    racks, what was printed says whether one was found for the events before."""
+    told, dealt = printed.split(b"\n")[0], b"\nUp to line " in printed
 
     def sentences(listed, players, events, rules):
         if not events:
             return NO_GAME
         verdicts = [audits.on_line(verdict, lines_of(game)) for verdict in settled_verdicts(events, listed, rules)]
         verdict = told.decode("latin-1") if told.decode("latin-1") in verdicts else verdicts[0]
-        said = explains.explained(verdict, game, players, events, lines_of(game), listed, rules, asked)
+        said = explains.explained(verdict, game, players, events, lines_of(game), listed, rules, asked, dealt)
         return said.decode("latin-1").encode() if states_latin(game) else said
 
     def fault_told(fault):

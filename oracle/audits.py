@@ -57,29 +57,36 @@ def last_totals(events):
     return totals
 
 
-def wrong_numbers(events, right, whole, numbers=None, nicks="AB"):
-    """The lines of the wrong scores and sums of a sheet, and of the last totals where it has a correction."""
+def wrong_numbers(events, right, stop, numbers=None, nicks="AB"):
+    """The lines of the wrong scores and sums of a sheet, and of the last totals where it has a correction: where that does not stop at a place."""
     numbers = numbers or range(1, len(events) + 1)
     told, had = [], {}
-    for number, written, other in zip(numbers, events, right):
+    for place, (number, written, other) in enumerate(zip(numbers, events, right)):
+        event = f"{nicks[written.player]}, {written.text}"
         if written.score != other.score:
-            told.append(f"line {number}: score {written.score}, should be {other.score}")
+            told.append(f"line {number}: score {written.score}, should be {other.score} ({event})")
         total = had.get(written.player, 0) + written.score
         if written.total != total:
-            told.append(f"line {number}: sum {written.total}, should be {total}")
+            known = stop is None or place < stop
+            told.append(f"line {number}: sum {written.total}, should be {total} ({event}{corrected_total(total, other.total) if known else ''})")
         had[written.player] = written.total
     rights = last_totals(right)
-    told += [f"total of {nicks[k]}: {had[k]}, should be {rights[k]}" for k in sorted(had) if whole and had[k] != rights[k]]
+    told += [f"total of {nicks[k]}: {had[k]}, should be {rights[k]}" for k in sorted(had) if stop is None and had[k] != rights[k]]
     return told
+
+
+def corrected_total(total, right):
+    """The total on the corrected sheet, where it is another one than the sum."""
+    return f"; on the corrected sheet {right}" if total != right else ""
 
 
 def ways(events, listed, rules=ENGLISH, numbers=None, nicks="AB"):
     """The wrong numbers of a sheet, and the verdict lines of which one has to follow."""
-    right, whole = corrected(events, listed, rules)
+    right, stop = corrected_to(events, listed, rules)
     verdicts = settled_verdicts(right, listed, rules)
     if numbers:
         verdicts = [on_line(verdict, numbers) for verdict in verdicts]
-    return wrong_numbers(events, right, whole, numbers, nicks), verdicts
+    return wrong_numbers(events, right, stop, numbers, nicks), verdicts
 
 
 def on_line(verdict, numbers):

@@ -34,14 +34,16 @@ def with_wrong_score(events):
     event = events[place]
     changed = shifted(events, place, by)
     changed[place] = replace(changed[place], score=event.score + by)
-    return changed, [(place, 0, f"line {place + 1}: score {event.score + by}, should be {event.score}")], {event.player: by}
+    return changed, [(place, 0, f"line {place + 1}: score {event.score + by}, should be {event.score} ({'AB'[event.player]}, {event.text})")], {event.player: by}
 
 
-def with_wrong_sum(events, but=None):
-    """One total that is not the sum, carried on; and what is to be told of it."""
+def with_wrong_sum(events, right, but=None):
+    """One total that is not the sum, carried on; and what is to be told of it, beside the right events."""
     place, by = choose([k for k in range(len(events)) if k != but]), choose([-100, -10, -1, 1, 9, 10, 100])
     event = events[place]
-    return shifted(events, place, by), [(place, 1, f"line {place + 1}: sum {event.total + by}, should be {event.total}")], {event.player: by}
+    other = "" if right[place].total == event.total else f"; on the corrected sheet {right[place].total}"
+    told = f"line {place + 1}: sum {event.total + by}, should be {event.total} ({'AB'[event.player]}, {event.text}{other})"
+    return shifted(events, place, by), [(place, 1, told)], {event.player: by}
 
 
 def spoil(events, kind):
@@ -49,10 +51,10 @@ def spoil(events, kind):
     if kind == "score":
         changed, told, shift = with_wrong_score(events)
     elif kind == "sum":
-        changed, told, shift = with_wrong_sum(events)
+        changed, told, shift = with_wrong_sum(events, events)
     else:
         first, told, shift = with_wrong_score(events)
-        changed, more, other = with_wrong_sum(first, told[0][0])
+        changed, more, other = with_wrong_sum(first, events, told[0][0])
         told = told + more
         shift = {player: shift.get(player, 0) + other.get(player, 0) for player in (0, 1)}
     lines = [text for _, _, text in sorted(told)]

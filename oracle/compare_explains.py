@@ -31,7 +31,7 @@ class Explaining(Differences):
         first = ran.stdout.split(b"\n")[0]
         if asked is None:
             self.seen[first.decode("latin-1").split(": ")[-1].split(" ")[0]] += 1
-        told = explained(words, lexicon, game, asked, first, text)
+        told = explained(words, lexicon, game, asked, ran.stdout, text)
         if ran.stdout != told or ran.returncode != status_of(told) or ran.stderr != advice("explain", told, "game", game):
             self.differences += 1
             print("line", asked, "status", ran.returncode, ran.stderr, ran.stdout.decode("latin-1"), "for", told.decode("latin-1"), game.decode("latin-1"), sep="\n")

@@ -1,9 +1,10 @@
 """Compares `referee page` with the second judge: compare_pages.py PROGRAM CASES SEED
 
 Each case is a game that nobody dealt, or one that was dealt for real with mistakes of a director's day (`mistakes.py`), some by players
-whose names are full of signs that mean something in HTML. The page is read strictly (`web.py`), and everything on it is compared with what
-the second judge says of the record: names, totals, verdict, reason, boards, rows and foot. The same game gives the same bytes, and the page
-of a game of up to 30 events has less than 300 kB.
+whose names are full of signs that mean something in HTML, and some with notes, titles and names of lexicons of that kind. The page is read
+strictly (`web.py`), and everything on it is compared with what the second judge says of the record: names, totals, result, the record's own
+words, verdict, reason, sum, boards and links, rows, notes and foot. The same game gives the same bytes, and the page of a game of up to 30
+events has less than 150 kB.
 """
 import random
 
@@ -20,6 +21,17 @@ from records import Fault, read
 
 choose = random.choice
 NAMES = [b"A", b"<b>", b"</td>", b"&amp;", b"\"'", b"x\xff\xfe", b"<script>alert(1)</script>", b"&#39;", "Zoë".encode(), b"-->", b"]]>"]
+
+
+def worded(game):
+    """A record with notes and other words of its own, before its events and between them."""
+    said = lambda: choose([b"", b" ", b"\t"]) + choose(NAMES) + choose([b"", b" and more "])
+    lines = [choose([b"#title ", b"#event ", b"#lexicon ", b"#description ", b"#title", b"#Title "]) + said() for _ in range(random.randrange(4))]
+    for line in game.split(b"\n"):
+        lines.append(line)
+        if likely(0.2):
+            lines.append(choose([b"#note ", b"#note\t", b"#note ", b"#notes ", b"#note", b"note "]) + said() + choose([b"", b"\r"]))
+    return b"\n".join(lines)
 
 
 def named(game, first, second):
@@ -44,6 +56,7 @@ class Pages(Differences):
         rules, events, words, _, text = some_inputs(self.put)
         game = "".join(map(line, events)).encode()
         names = random.sample([it for it in NAMES if b":" not in it and b" " not in it], 2)
+        game = worded(game) if likely(0.5) else game
         game = self.put("game", named(game, *names) if likely(0.7) else game)
         self.compare(words, game, text, rules)
 
@@ -72,8 +85,10 @@ class Pages(Differences):
         self.expect(verdict in verdicts and ran.returncode == status_of(ran.stdout) and not ran.stderr, ran, verdicts[:3], game)
         if page is None or verdict not in verdicts:
             return self.expect(False, "no page", ran)
-        self.expect(len(events) > 30 or len(page) < 300_000, len(page), "bytes")
-        told = differences(page, expected(verdict, [in_utf8(game, player) for player in players], events, lines, listed, rules, words, text))
+        self.expect(len(events) > 30 or len(page) < 150_000, len(page), "bytes")
+        players = [in_utf8(game, player) for player in players]
+        wanted = expected(verdict, players, events, lines, listed, rules, words, text, game, states_latin(game), b"Up to line " in page)
+        told = differences(page, wanted | {"back": None})
         self.expect(not told, *told[:5], game.decode("latin-1"))
         return self.expect(self.page(by)[1] == page, "another page")
 

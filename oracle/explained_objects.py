@@ -8,6 +8,7 @@ from deals import course, epoch
 from games import Game, step
 from rules import RACK, SIDE
 from sheets import lay, square_text
+from slips import notes_of, order_of, slips_of
 
 PREMIUMS = {"DL": "double letter", "TL": "triple letter", "DW": "double word", "TW": "triple word"}
 
@@ -103,6 +104,32 @@ def not_whole(scene):
     return [*said, fact("NotWhole")]
 
 
+def slip_facts(scene, is_wrong):
+    """Which tiles are not on the rack, what may have been misread, and what may be a blank."""
+    slips, facts = slips_of(scene, is_wrong), []
+    rack = "".join(sorted(scene.event.rack, key=lambda tile: (tile == "?", tile)))
+    for kind, played, has in slips.missing:
+        facts.append(fact("NotOnRack", tile=kind, rack=rack, number=played, limit=has))
+    for it in slips.readings:
+        facts.append(fact("Misread", square=named(it.square), letter=it.letter, read=it.read, score=it.score, written=scene.event.score, words=it.words))
+    for it in slips.blanks:
+        facts.append(fact("AsBlank", square=named(it.square), letter=it.letter, read=it.read, score=it.score))
+    return facts
+
+
+def order_facts(scene):
+    """What seems to be wrong with the order of the lines."""
+    name, points = order_of(scene)
+    lines, at, other = scene.lines, scene.at, 2 - scene.event.player
+    facts = {
+        "StandsTwice": lambda: fact(name, line=lines[at - 1]),
+        "WrongWay": lambda: fact(name, on_lines=lines[at : at + 2]),
+        "Missing": lambda: fact(name, player=other, score=points, on_lines=lines[at - 1 : at + 1]),
+        "AllowedFor": lambda: fact(name, player=other),
+    }
+    return [facts[name]()] if name else []
+
+
 def play_facts(scene, name):
     event = scene.event
     if name == "OffBoard":
@@ -118,7 +145,7 @@ def play_facts(scene, name):
 def score_facts(scene, right):
     event, numbers = scene.event, {"right": right, "written": scene.event.score}
     if event.kind == "play":
-        return [fact("PlayScore", **numbers), *elsewhere(scene)]
+        return [fact("PlayScore", **numbers), *slip_facts(scene, True), *elsewhere(scene)]
     if event.kind == "rack":
         return [fact("LastRackScore", player=event.player + 1, rack=event.tiles, doubled=scene.game.out is not None, **numbers)]
     return [fact({"pass": "PassScore", "withdraw": "WithdrawalScore"}.get(event.kind, "ExchangeScore"), **numbers)]
@@ -199,7 +226,8 @@ def rule_facts(scene, text):
         return [over_fact(scene)]
     if name == "NotYourTurn":
         own = scene.event.kind == "rack"
-        return [fact("OthersLine" if own else "OthersTurn", player=scene.event.player + 1, other=2 - scene.event.player)]
+        turn = fact("OthersLine" if own else "OthersTurn", player=scene.event.player + 1, other=2 - scene.event.player)
+        return [turn, *order_facts(scene)]
     return [time_fact(scene) if name == "BadTime" else number_fact(scene, name)]
 
 
@@ -230,7 +258,7 @@ def exchange_lines(places, now, lines):
             yield {"line": lines[k], "player": it.event.player + 1, "number_exchanged": it.event.size}
 
 
-def rack_facts(events, listed, rules, now, lines, text):
+def rack_facts(events, listed, rules, now, lines, text, dealt):
     places = course(events, listed, rules)
     name, _, kind = text.partition(" ")
     if name == "RackTooBig":
@@ -243,14 +271,15 @@ def rack_facts(events, listed, rules, now, lines, text):
         racks = [told.must_have(places, player, now)[kind] for player in (0, 1)]
         shown = list(kind_lines(places, now, lines, kind))
         return [fact(name, tile=kind, number=laid + sum(racks), limit=rules.tiles[kind], on_board=laid, on_racks=racks, lines=shown)]
-    return [fact(name, lines=list(exchange_lines(places, now, lines)))]
+    before = [fact("DealtTo", line=lines[now - 1])] if dealt and now else []
+    return [fact(name, lines=list(exchange_lines(places, now, lines))), *before]
 
 
 # ---- all of it
 
 
-def facts_at(events, lines, at, listed, rules, verdict):
-    """What is said of the event at a place."""
+def facts_at(events, lines, at, listed, rules, verdict, dealt):
+    """What is said of the event at a place. Where no deal gives the racks, `dealt` says that one was found for the events before."""
     game = Game(rules)
     for k in range(at):
         try:
@@ -260,27 +289,33 @@ def facts_at(events, lines, at, listed, rules, verdict):
     found = re.fullmatch(rf"illegal line {lines[at]}: (.*)", verdict)
     if not found:
         return [fact("Allowed")]
+    scene = told.Scene(game, events, lines, at, listed, ["A", "B"])
     if found[1].split(" ")[0] in ("RackTooBig", "TilesShort", "NoDeal"):
-        return rack_facts(events, listed, rules, at, lines, found[1])
-    return rule_facts(told.Scene(game, events, lines, at, listed, ["A", "B"]), found[1])
+        return [*slip_facts(scene, False), *rack_facts(events, listed, rules, at, lines, found[1], dealt)]
+    return rule_facts(scene, found[1])
 
 
-def whole_fact(verdict, events):
-    return fact("NoEvent" if not events else "Legal" if verdict.startswith("legal") else "Unsettled")
+def whole_facts(verdict, events, lines, listed, rules):
+    if not events:
+        return [fact("NoEvent")]
+    plays, turns, hidden = notes_of(events, lines, listed, rules)
+    unlisted = [{"line": line, "player": player + 1, "words": words} for line, player, words in plays]
+    found = fact("Legal" if verdict.startswith("legal") else "Unsettled")
+    return [found, fact("Unlisted", plays=unlisted), fact("RacksHidden", number=len(hidden), limit=len(turns), on_lines=hidden)]
 
 
-def explained_keys(verdict, game, events, lines, listed, rules, asked):
+def explained_keys(verdict, game, events, lines, listed, rules, asked, dealt=False):
     """The keys of an explanation behind those of the verdict; none where no event is on the line that was asked for, or behind it."""
     illegal = re.match("illegal line ([0-9]+):", verdict)
     wanted = asked if asked is not None else int(illegal[1]) if illegal else None
     nothing = {"play": None, "board": None, "unknown_since": None}
     if wanted is None:
-        return {"explained": None, "text": None, "facts": [whole_fact(verdict, events)]} | nothing
+        return {"explained": None, "text": None, "facts": whole_facts(verdict, events, lines, listed, rules)} | nothing
     at = next((k for k, line in enumerate(lines) if line >= wanted), None)
     if at is None:
         return None
     text = told.line_of(game, lines[at]).decode("utf-8", "replace")
-    keys = {"explained": lines[at], "text": text, "facts": facts_at(events, lines, at, listed, rules, verdict)}
+    keys = {"explained": lines[at], "text": text, "facts": facts_at(events, lines, at, listed, rules, verdict, dealt)}
     board, end, _ = lay(events, at)
     if end < at:
         return keys | nothing | {"unknown_since": lines[end]}

@@ -7,6 +7,7 @@ from games import Game, step
 from records import BLANKS, Fault, number, read
 from rules import ENGLISH, RACK, SIDE
 from sheets import lay, square_text
+from slips import notes_of, order_of, slips_of
 
 BOM = b"\xef\xbb\xbf"
 PREMIUMS = {"DL": ", double letter", "TL": ", triple letter", "DW": ", double word", "TW": ", triple word"}
@@ -45,7 +46,8 @@ def squares_of(event):
 def word_lines(run, after, new, listed, rules):
     """A word with its squares and its sum."""
     letters = "".join(after[square] for square in run).upper()
-    told, points, factor = [letters + ("" if letters in listed else ", which is not in the word list")], 0, 1
+    shown = "".join(letter if square in new else f"({letter})" for square, letter in zip(run, letters)).replace(")(", "")
+    told, points, factor = [shown + ("" if letters in listed else ", which is not in the word list")], 0, 1
     for square in run:
         worth, premium = rules.points.get(after[square], 0), rules.premiums.get(square) if square in new else None
         times = FACTORS[premium] if premium in ("DL", "TL") else 1
@@ -94,6 +96,7 @@ class Scene:
 
     def __init__(self, game, events, lines, at, listed, nicks):
         self.game, self.past, self.lines, self.event, self.listed, self.nicks = game, events[:at], lines, events[at], listed, nicks
+        self.at, self.later = at, events[at + 1 :]
         self.nick, self.other = nicks[self.event.player], nicks[1 - self.event.player]
 
     def play_before(self):
@@ -132,6 +135,45 @@ def spots_text(scene):
     found = listed or found
     where = in_words(found) if len(found) <= 3 else f"{', '.join(found[:3])} and {count(len(found) - 3, 'other place')}"
     return f"The same letters score {event.score} at {where}.\n"
+
+
+def tile_name(letter, blank):
+    return blank if letter.islower() else letter
+
+
+def tile_count(kind, many):
+    if kind == "?":
+        return "A blank is" if many == 1 else f"{many} blanks are"
+    return f"{kind} is" if many == 1 else f"{many} tiles {kind} are"
+
+
+def slips_text(scene, is_wrong):
+    """Which tiles are not on the rack, what may have been misread, and what may be a blank."""
+    slips, written, told = slips_of(scene, is_wrong), scene.event.score, ""
+    rack = "".join(sorted(scene.event.rack, key=lambda tile: (tile == "?", tile)))
+    for kind, played, has in slips.missing:
+        told += f"{tile_count(kind, played)} played, but the rack {rack} has {f'only {has}' if has else 'none'}.\n"
+    for it in slips.readings:
+        tiles = f"{tile_name(it.read, 'a blank')} for {tile_name(it.letter, 'the blank')}"
+        score = f"{it.score}, as is written" if it.score == written else f"{it.score}, but {written} is written"
+        told += f"With {tiles} on {square_name(it.square)} the play makes {in_words(it.words)}, and scores {score}.\n"
+    for it in slips.blanks:
+        what = "as a letter and not a blank" if it.letter.islower() else "as a blank"
+        told += f"With the {it.letter.upper()} on {square_name(it.square)} {what} the play scores {it.score}, as is written.\n"
+    return told
+
+
+def order_text(scene):
+    """What seems to be wrong with the order of the lines."""
+    name, points = order_of(scene)
+    lines, at = scene.lines, scene.at
+    return {
+        None: lambda: "",
+        "StandsTwice": lambda: f"This line says the same as line {lines[at - 1]}: it seems to stand twice.\n",
+        "WrongWay": lambda: f"With lines {lines[at]} and {lines[at + 1]} the other way round the rules allow both.\n",
+        "Missing": lambda: f"A line of {scene.other} with +{points} seems to be missing between lines {lines[at - 1]} and {lines[at]}.\n",
+        "AllowedFor": lambda: f"As a line of {scene.other} the rules allow it.\n",
+    }[name]()
 
 
 def off_board(scene):
@@ -182,7 +224,7 @@ PLAY_FAULTS = {
 def wrong_score(scene, right):
     event, written = scene.event, f"{right}, but {scene.event.score} is written.\n"
     if event.kind == "play":
-        return f"The play scores {written}{spots_text(scene)}"
+        return f"The play scores {written}{slips_text(scene, True)}{spots_text(scene)}"
     if event.kind == "rack":
         what = "gets twice" if scene.game.out is not None else "loses"
         return f"{scene.nick} {what} the points of the rack {event.tiles}: the score is {written}"
@@ -257,8 +299,8 @@ def bad_time(scene):
 
 def not_your_turn(scene):
     if scene.event.kind == "rack":
-        return f"{scene.other} is out, so {scene.nick}'s last rack has to be on a line of {scene.other}, who gets the points.\n"
-    return f"It is {scene.other}'s turn, not {scene.nick}'s.\n"
+        return f"{scene.other} is out, so {scene.nick}'s last rack has to be on a line of {scene.other}, who gets the points.\n{order_text(scene)}"
+    return f"It is {scene.other}'s turn, not {scene.nick}'s.\n{order_text(scene)}"
 
 
 def exchange_refused(scene):
@@ -349,7 +391,7 @@ def tiles_short(places, now, lines, nicks, kind, rules):
     return told
 
 
-def no_deal(places, now, lines, nicks):
+def no_deal(places, now, lines, nicks, dealt):
     told = [
         "No deal of the tiles gives the players the racks that the lines up to this one show, though no line alone shows too much.",
         "Compare the racks with the exchanges:",
@@ -357,10 +399,10 @@ def no_deal(places, now, lines, nicks):
     for k, it in enumerate(places[: now + 1]):
         if it.event.kind in ("exchange", "unknown"):
             told.append(f"  line {lines[k]}: {nicks[it.event.player]} exchanges {count(it.event.size, 'tile')}")
-    return told
+    return told + ([f"Up to line {lines[now - 1]} a deal of the tiles gives the players every rack that is shown."] if dealt and now else [])
 
 
-def rack_text(events, listed, rules, now, lines, nicks, fault):
+def rack_text(events, listed, rules, now, lines, nicks, fault, dealt):
     places = course(events, listed, rules)
     name, _, kind = fault.partition(" ")
     if name == "RackTooBig":
@@ -368,7 +410,7 @@ def rack_text(events, listed, rules, now, lines, nicks, fault):
     elif name == "TilesShort":
         told = tiles_short(places, now, lines, nicks, kind, rules)
     else:
-        told = no_deal(places, now, lines, nicks)
+        told = no_deal(places, now, lines, nicks, dealt)
     return "".join(line + "\n" for line in told)
 
 
@@ -393,6 +435,26 @@ def field_text(written, why):
     bad = -2 if number(fields[-2]) is None else -1
     what = b"score" if bad == -2 else b"total"
     return b"The " + what + b" " + fields[bad] + b" is not a number of 1 to 6 digits, with or without a sign.\n"
+
+
+def bare_fields(text):
+    return [it for it in re.split(b"[ \t]+", text) if it]
+
+
+def missing(written, why):
+    """What a line lacks that is no line of a record."""
+    if why == "NoColon":
+        nick, colon, _ = written[1:].partition(b":")
+        names = bare_fields(nick)
+        return b" Write " + b"_".join(names) + b"." if colon and len(names) > 1 else b""
+    fields = bare_fields(written.partition(b":")[2])
+    if why not in ("Fields", "Rack", "Position", "Word", "Code") or not 1 <= len(fields) <= 5:
+        return b""
+    if number(fields[-1]) is None:
+        return b" The score and the total are missing."
+    if len(fields) == 1 or number(fields[-2]) is None:
+        return b" The score or the total is missing: an event ends with both."
+    return b" The play or the code before the score is missing." if len(fields) == 2 else b""
 
 
 def third_player(game, line, written):
@@ -429,8 +491,9 @@ def line_of(game, line):
     return game.removeprefix(BOM).split(b"\n")[line - 1].removesuffix(b"\r")
 
 
-def judged_text(events, lines, at, listed, rules, nicks, verdict):
-    """What is said of the event at a place: that it is allowed, what is wrong with it, or that it was not judged."""
+def judged_text(events, lines, at, listed, rules, nicks, verdict, dealt=False):
+    """What is said of the event at a place: that it is allowed, what is wrong with it, or that it was not judged. Where no deal gives the racks, `dealt`
+    says that one was found for the events before."""
     game = Game(rules)
     for k in range(at):
         try:
@@ -441,34 +504,49 @@ def judged_text(events, lines, at, listed, rules, nicks, verdict):
     if not told:
         return "The rules allow this event.\n"
     fault = told[1]
+    scene = Scene(game, events, lines, at, listed, nicks)
     if fault.split(" ")[0] in ("RackTooBig", "TilesShort", "NoDeal"):
-        return rack_text(events, listed, rules, at, lines, nicks, fault)
-    return rule_text(Scene(game, events, lines, at, listed, nicks), fault)
+        return slips_text(scene, False) + rack_text(events, listed, rules, at, lines, nicks, fault, dealt)
+    return rule_text(scene, fault)
 
 
-def whole_text(verdict, events):
+def notes_text(events, lines, listed, rules, nicks):
+    """Which plays stand with words that are not in the list, and which turns show no rack."""
+    plays, turns, hidden = notes_of(events, lines, listed, rules)
+    told = "" if plays else "Each word of every play that stands is in the word list.\n"
+    for line, player, words in plays:
+        told += f"Line {line}: {nicks[player]}'s play stands with {in_words(words)}, which {'is' if len(words) == 1 else 'are'} not in the word list.\n"
+    if turns and not hidden:
+        return told + "Every turn shows its rack.\n"
+    if turns and len(hidden) == len(turns):
+        return told + "No turn shows its rack.\n"
+    return told + (f"No rack is shown on {count(len(hidden), 'turn')}: line{'' if len(hidden) == 1 else 's'} {in_words([str(it) for it in hidden])}.\n" if hidden else "")
+
+
+def whole_text(verdict, events, lines, listed, rules, nicks):
     if not events:
         return "The record has no event. Is it a game record?\n"
+    notes = notes_text(events, lines, listed, rules, nicks)
     if verdict.startswith("legal"):
-        return "The rules allow every event, and a deal of the tiles gives the players every rack that is shown.\n"
+        return f"The rules allow every event, and a deal of the tiles gives the players every rack that is shown.\n{notes}"
     return (
         "The rules allow every event. Neither a deal of the tiles that gives the players every rack that is shown was found, "
-        "nor a proof that there is none.\n"
+        f"nor a proof that there is none.\n{notes}"
     )
 
 
-def explained(verdict, game, players, events, lines, listed, rules=ENGLISH, asked=None):
+def explained(verdict, game, players, events, lines, listed, rules=ENGLISH, asked=None, dealt=False):
     """What is to be printed of a record with this settled verdict line, or of the event on a line or after it."""
     illegal = re.match("illegal line ([0-9]+):", verdict)
     wanted = asked if asked is not None else int(illegal[1]) if illegal else None
+    nicks = [player[0].decode("latin-1") if player else "the other player" for player in players]
     if wanted is None:
-        return f"{verdict}\n{whole_text(verdict, events)}".encode("latin-1")
+        return f"{verdict}\n{whole_text(verdict, events, lines, listed, rules, nicks)}".encode("latin-1")
     at = next((k for k, line in enumerate(lines) if line >= wanted), None)
     if at is None:
         return b"bad line: no event is on it or after it\n"
-    nicks = [player[0].decode("latin-1") if player else "the other player" for player in players]
     told = f"{verdict}\nline {lines[at]}: ".encode("latin-1") + line_of(game, lines[at]) + b"\n"
-    told += judged_text(events, lines, at, listed, rules, nicks, verdict).encode("latin-1")
+    told += judged_text(events, lines, at, listed, rules, nicks, verdict, dealt).encode("latin-1")
     board, end, _ = lay(events, at)
     if end < at:
         return told + f"The board before this line is not known, since the play on line {lines[end]} cannot be laid.\n".encode()
@@ -479,4 +557,5 @@ def explained(verdict, game, players, events, lines, listed, rules=ENGLISH, aske
 def explained_fault(game, fault: Fault):
     """What is to be printed of a text that is no record."""
     line = f"line {fault.line}: ".encode() + line_of(game, fault.line) + b"\n" if fault.line else b""
-    return fault.text() + line + record_text(game, fault)
+    lacks = missing(line_of(game, fault.line), fault.why).removeprefix(b" ") if fault.line else b""
+    return fault.text() + line + record_text(game, fault) + (lacks + b"\n" if lacks else b"")

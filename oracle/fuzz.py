@@ -2,7 +2,7 @@
 of it: fuzz.py PROGRAM SECONDS SEED
 
 Each round makes a game that was dealt for real, its list and its lexicon in either format, damages some of them, and runs `judge`,
-`audit`, `explain`, `page`, `check`, `build`, `convert`, `tidy`, `top` and `board` on them; some rounds judge by a rules text, which may be damaged too. Statuses, outputs
+`audit`, `explain`, `page`, `annotate`, `check`, `build`, `convert`, `tidy`, `top` and `board` on them; some rounds judge by a rules text, which may be damaged too. Statuses, outputs
 and the files of `build` and `convert` have to be those of the second judge.
 """
 import random
@@ -14,6 +14,7 @@ from collections import Counter
 from pathlib import Path
 
 import web
+from annotations import annotated
 from answers import NO_GAME, audit_status, audited, boarded, built, checked, converted, error_of, explained, first_fields, judged, settled, status_of, topped, words_of
 from dealing import Dealer, likely, line, words_in_reach
 from lexicons import GAD2, build, convert
@@ -131,8 +132,8 @@ class Fuzzer:
         asked = choose([None, None, random.randint(0, game.count(b"\n") + 2)])
         named = [] if asked is None else [str(asked)]
         line_ = [self.program, "explain", *by, self.words, self.lexicon, self.game, *named]
-        first = subprocess.run(line_, capture_output=True, check=False, timeout=60).stdout.split(b"\n")[0]
-        told = explained(words, lexicon, game, asked, first, text)
+        printed = subprocess.run(line_, capture_output=True, check=False, timeout=60).stdout
+        told = explained(words, lexicon, game, asked, printed, text)
         self.compare(line_[1:], told, status_of(told))
 
     def page(self, by, ways):
@@ -149,6 +150,21 @@ class Fuzzer:
             self.differences += 1
             print(*words, "status", ran.returncode, ran.stdout, ran.stderr, "for", ways[:2], self.game.read_bytes(), sep="\n  ")
 
+    def annotate(self, by, ways, *inputs):
+        """`annotate` has to print the verdict line of one of some answers, and to write the record with its notes where there is one."""
+        self.out.unlink(missing_ok=True)
+        number = choose([1, 1, 3])
+        words = ["annotate", *by, "--top", str(number), self.words, self.lexicon, self.game, self.out]
+        ran = subprocess.run([self.program, *words], capture_output=True, check=False, timeout=60)
+        self.seen[f"annotate {ran.returncode}"] += 1
+        ways = [NO_GAME] if ways == [b"legal unfinished\n"] else ways
+        good = ran.stdout in {it.split(b"\n")[0] + b"\n" for it in ways} and ran.returncode == status_of(ran.stdout) and ran.stderr == error_of(words, ran.stdout, self.game)
+        told = self.out.read_bytes() if self.out.exists() else None
+        wanted = annotated(*inputs, ran.stdout.decode("latin-1").removesuffix("\n"), number, b"Up to line " in (told or b"")) if good else None
+        if not good or told != wanted:
+            self.differences += 1
+            print(*words, "status", ran.returncode, ran.stdout, ran.stderr, told, "for", ways[:2], wanted, self.game.read_bytes(), sep="\n  ")
+
     def round(self, words, lexicon, game, text):
         """One run of each command; a text is that of the rules to play by, None for none."""
         self.fielded = ["--first-field"] if likely(0.3) else []
@@ -164,6 +180,7 @@ class Fuzzer:
         settlings = settled(words, lexicon, game, text)
         self.settle(by, settlings)
         self.page(by, settlings)
+        self.annotate(by, settlings, words, lexicon, game, text)
         self.audit(by, audited(words, lexicon, game, text))
         self.explain(by, words, lexicon, game, text)
         rack = choose(["A", "?E", "AEINRST"])

@@ -52,6 +52,7 @@ compare_audits 60
 compare_objects 30
 compare_explains 60
 compare_pages 40
+compare_annotations 40
 fuzz 60
 END
 else

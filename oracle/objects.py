@@ -194,8 +194,9 @@ def explained_objects(words, lexicon, game, asked=None, text=None):
         if not events:
             return [head("no game")]
         verdicts = [told_of(report.split("\n")[0] + "\n", game, players).decode().removesuffix("\n") for report in settled_ways(events, listed, rules)]
-        keys = [explained_keys(verdict, game, events, lines_of(game), listed, rules, asked) for verdict in verdicts]
-        return [head("bad line") if it is None else verdict_of(verdict) | it for verdict, it in zip(verdicts, keys)]
+        ways = [(verdict, dealt) for verdict in verdicts for dealt in ((False, True) if verdict.endswith(": NoDeal") else (False,))]
+        keys = [explained_keys(verdict, game, events, lines_of(game), listed, rules, asked, dealt) for verdict, dealt in ways]
+        return [head("bad line") if it is None else verdict_of(verdict) | it for (verdict, _), it in zip(ways, keys)]
 
     answer = answered(words, lexicon, game, text, objects)
     return answer if isinstance(answer, list) else [refused(answer)]

@@ -122,6 +122,7 @@ BAD = {  # what is said of the first fault of a file that is no record
 SETTLE = "referee: unsettled: `judge --settle` searches for a deal that yields the racks"
 FOURTEEN = with_counts(lambda kind, count: "AADEEINORRSTTW".count(kind))
 WORD = ">A: DORWAAE 8E WORD +16 16\n"
+MISREAD = ">A: AADEORW 8E XORD +16 16\n"
 PASSES = "".join(f">{'AB'[k % 2]}: - +0 0\n" for k in range(6))
 LOST_RACKS = ">A: AEINRST (AEINRST) -7 -7\n>B: AEINRST (AEINRST) -7 -7\n"
 ON_WORD = WORD + ">B: AT 9G AT +9 9\n"
@@ -142,6 +143,10 @@ TEXTS = {
     "long-list": "\n" * 16_777_217,
     "full-list": "\n" * 16_777_216,
     "line": WORD,
+    "misread": MISREAD,
+    "as-blank": ">A: 8E WORD +8 8\n",
+    "gone": WORD + ">A: - +0 16\n>B: - +0 9\n",
+    "short-line": ">A: 8E WORD +16\n",
     "line-17": WORD.replace("16\n", "17\n"),
     "line-18": WORD.replace("+16 16", "+18 18"),
     "line-8d": WORD.replace("8E", "8D"),
@@ -317,7 +322,7 @@ def told_of(name, text):
     return [name, *(field.replace("_", " ") for field in text.split())]
 
 
-OF_A_GAME = ("judge", "top", "tidy", "board", "audit", "explain", "page")
+OF_A_GAME = ("judge", "top", "tidy", "board", "audit", "explain", "page", "annotate")
 
 
 def advised(words, out, stdin):
@@ -1014,22 +1019,24 @@ def archived_inputs(run):
 
 
 PAGED = [  # a game, its line but for its name and its page, the page, and the verdict and the totals in the index
-    ("line", "legal unfinished - - 1 A 16 - - 0", "line%.html", ["legal: unfinished", "A", "16", "", ""]),
-    ("./line", "legal unfinished - - 1 A 16 - - 0", "%./line%.html", ["legal: unfinished", "A", "16", "", ""]),
-    ("folder/../line", "legal unfinished - - 1 A 16 - - 0", "folder/%../line%.html", ["legal: unfinished", "A", "16", "", ""]),
-    ("index", "legal unfinished - - 1 A 16 - - 0", "index%.html", ["legal: unfinished", "A", "16", "", ""]),
-    ("index.gcg", "legal unfinished - - 1 A 16 - - 0", "index.gcg%.html", ["legal: unfinished", "A", "16", "", ""]),
-    ("r1/final.gcg", "legal unfinished - - 1 A 16 - - 0", "r1/final.html", ["legal: unfinished", "A", "16", "", ""]),
-    ("r2/final.gcg", "illegal - 1 WrongTotal_16 1 A 17 - - -", "r2/final.html", ["illegal line 1: WrongTotal 16", "A", "17", "", ""]),
-    ("r2/100%", "legal unfinished - - 1 A 16 - - 0", "r2/100%25%.html", ["legal: unfinished", "A", "16", "", ""]),
-    ("<b>&\"'.gcg", "legal unfinished - - 1 A 16 - - 0", "<b>&\"'.html", ["legal: unfinished", "A", "16", "", ""]),
-    ("latin-stated", "legal unfinished - - 1 \u00c9va 16 - - 0", "latin-stated%.html", ["legal: unfinished", "\u00c9va", "16", "", ""]),
-    ("turn", "illegal - 2 NotYourTurn 2 A 16 - - -", "turn%.html", ["illegal line 2: NotYourTurn", "A", "16", "", ""]),
-    ("nothing", "no_game - - - 0 - - - - 0", "-", ["no game", "", "", "", ""]),
-    ("third", "bad_record - 3 ThirdPlayer - - - - - -", "-", ["bad record line 3: ThirdPlayer", "", "", "", ""]),
-    ("nowhere", "unread - - cannot_open - - - - - -", "-", ["unread: cannot open", "", "", "", ""]),
-    ("..", "unread - - is_a_folder - - - - - -", "-", ["unread: is a folder", "", "", "", ""]),
+    ("line", "legal unfinished - - 1 A 16 - - 0", "line%.html", ["\u2713 legal: unfinished", "A", "16", "", ""]),
+    ("./line", "legal unfinished - - 1 A 16 - - 0", "%./line%.html", ["\u2713 legal: unfinished", "A", "16", "", ""]),
+    ("folder/../line", "legal unfinished - - 1 A 16 - - 0", "folder/%../line%.html", ["\u2713 legal: unfinished", "A", "16", "", ""]),
+    ("index", "legal unfinished - - 1 A 16 - - 0", "index%.html", ["\u2713 legal: unfinished", "A", "16", "", ""]),
+    ("index.gcg", "legal unfinished - - 1 A 16 - - 0", "index.gcg%.html", ["\u2713 legal: unfinished", "A", "16", "", ""]),
+    ("r1/final.gcg", "legal unfinished - - 1 A 16 - - 0", "r1/final.html", ["\u2713 legal: unfinished", "A", "16", "", ""]),
+    ("r2/final.gcg", "illegal - 1 WrongTotal_16 1 A 17 - - -", "r2/final.html", ["\u2717 illegal line 1: the total is wrong WrongTotal 16", "A", "17", "", ""]),
+    ("r2/100%", "legal unfinished - - 1 A 16 - - 0", "r2/100%25%.html", ["\u2713 legal: unfinished", "A", "16", "", ""]),
+    ("<b>&\"'.gcg", "legal unfinished - - 1 A 16 - - 0", "<b>&\"'.html", ["\u2713 legal: unfinished", "A", "16", "", ""]),
+    ("latin-stated", "legal unfinished - - 1 \u00c9va 16 - - 0", "latin-stated%.html", ["\u2713 legal: unfinished", "\u00c9va", "16", "", ""]),
+    ("unlisted", "legal unfinished - - 2 A 16 B 9 1", "unlisted%.html", ["\u2713 legal: unfinished, 1 play with an unlisted word", "A", "16", "B", "9"]),
+    ("turn", "illegal - 2 NotYourTurn 2 A 16 - - -", "turn%.html", ["\u2717 illegal line 2: it is the other player's turn NotYourTurn", "A", "16", "", ""]),
+    ("nothing", "no_game - - - 0 - - - - 0", "-", ["\u2013 no game", "", "", "", ""]),
+    ("third", "bad_record - 3 ThirdPlayer - - - - - -", "-", ["\u2013 bad record line 3: the nickname is a third one ThirdPlayer", "", "", "", ""]),
+    ("nowhere", "unread - - cannot_open - - - - - -", "-", ["\u2013 unread: cannot open", "", "", "", ""]),
+    ("..", "unread - - is_a_folder - - - - - -", "-", ["\u2013 unread: is a folder", "", "", "", ""]),
 ]
+COUNTED = ["\u2713 10 legal", "\u2717 2 illegal", "\u2013 1 bad record", "\u2013 1 no game", "\u2013 2 unread"]
 
 
 def archived_pages(run):
@@ -1046,8 +1053,12 @@ def archived_pages(run):
     run.expect("the files of a folder", made == sorted(["index.html", *(page for _, _, page, _ in PAGED if page != "-")]))
     for name, text, page, _ in PAGED:
         if page != "-":
-            run.row(["page", "word", "word.gad", name, "out"], int(text.startswith("illegal")), None, wrote=(pages / page).read_bytes())
+            made = (pages / page).read_bytes()
+            back = b"".join([b'<p class="up"><a href="', b"../" * page.count("/"), b'index.html">&lsaquo; All games</a></p>\n'])
+            run.expect(f"the link back of {page}", made.count(back) == 1)
+            run.row(["page", "word", "word.gad", name, "out"], int(text.startswith("illegal")), None, wrote=made.replace(back, b""))
     whole = (pages / "index.html").read_bytes()
+    run.expect("the counts of the index", [it.text() for it in web.read(whole).first("ul", "counts").all("li")] == COUNTED)
     rows = web.read(whole).first("tbody").all("tr")
     run.expect("the rows of the index", [[it.text() for it in row.all("td")] for row in rows] == [[name, *cells] for name, _, _, cells in PAGED])
     links = [[unquote(it.attributes["href"]) for it in row.all("a")] for row in rows]
@@ -1149,18 +1160,18 @@ def audited(run):
     line = WORD.encode()
     for game, status, out, kept in [
         ("line", 0, "legal unfinished\n", line),
-        ("line-18", 1, "line 1: score 18, should be 16\ntotal of A: 18, should be 16\nlegal unfinished\n", line),
-        ("line-17", 1, "line 1: sum 17, should be 16\ntotal of A: 17, should be 16\nlegal unfinished\n", line),
-        ("score-and-sum", 1, "line 1: score 18, should be 16\nline 1: sum 19, should be 18\ntotal of A: 19, should be 16\nlegal unfinished\n", line),
+        ("line-18", 1, "line 1: score 18, should be 16 (A, 8E WORD)\ntotal of A: 18, should be 16\nlegal unfinished\n", line),
+        ("line-17", 1, "line 1: sum 17, should be 16 (A, 8E WORD)\ntotal of A: 17, should be 16\nlegal unfinished\n", line),
+        ("score-and-sum", 1, "line 1: score 18, should be 16 (A, 8E WORD)\nline 1: sum 19, should be 18 (A, 8E WORD; on the corrected sheet 16)\ntotal of A: 19, should be 16\nlegal unfinished\n", line),
         ("untidy", 0, "legal unfinished\n", TEXTS["untidy"].encode()),
-        ("by-hand", 1, "line 5: score 10, should be 9\ntotal of B: 10, should be 9\nlegal unfinished\n", f"{BY_HAND}>B: AT 9G AT +9 9{OTHERS}".encode()),
+        ("by-hand", 1, "line 5: score 10, should be 9 (B, 9G AT)\ntotal of B: 10, should be 9\nlegal unfinished\n", f"{BY_HAND}>B: AT 9G AT +9 9{OTHERS}".encode()),
         ("nothing", 3, "no game\n", None),
         ("page", 3, "no game\n", None),
         ("line-8d", 1, "illegal line 1: MissesCentre\n", None),
         ("turn", 1, "illegal line 2: NotYourTurn\n", None),
         ("blanks", 1, "illegal line 2: TilesShort ?\n", None),
         ("one-q", 1, "illegal line 3: NoDeal\n", None),
-        ("sum-then-turn", 1, "line 1: sum 15, should be 16\nline 2: sum 4, should be 0\nillegal line 2: BadTime\n", None),
+        ("sum-then-turn", 1, "line 1: sum 15, should be 16 (A, 8E WORD)\nline 2: sum 4, should be 0 (B, (time))\nillegal line 2: BadTime\n", None),
     ]:
         Path(run.folder, "out").write_bytes(b"as it was")
         run.row(["audit", "--corrected", "out", "word", "word.gad", game], status, out, wrote=b"as it was" if kept is None else kept)
@@ -1185,18 +1196,22 @@ def audited(run):
         run.row(["audit", "--corrected", "/dev/full", "word", "word.gad", "line"], 4, error="referee: write failed: /dev/full: no space left, error 28 of the system")
 
 
-STANDS = "The rules allow every event, and a deal of the tiles gives the players every rack that is shown.\n"
+DEALT = "The rules allow every event, and a deal of the tiles gives the players every rack that is shown.\n"
+STANDS = DEALT + "Each word of every play that stands is in the word list.\nEvery turn shows its rack.\n"
+HIDDEN = DEALT + "Each word of every play that stands is in the word list.\nNo turn shows its rack.\n"
 WORD_SUMS = "WORD\n  8E W 4\n  8F O 1\n  8G R 1\n  8H D 2, double word\n  sum 8 x 2 = 16\nscore of the play: 16\n"
+XORD_SUMS = "XORD, which is not in the word list\n  8E X 8\n  8F O 1\n  8G R 1\n  8H D 2, double word\n  sum 12 x 2 = 24\nscore of the play: 24\n"
+NOT_AN_EVENT = "8E is not an event: an event is a play with its position, word, score and total, or one of the codes -, --, -TILES, -NUMBER, (challenge), (time) and (TILES).\n"
 AT_SUMS = """\
 AT
   9G A 1 x 2 = 2, double letter
   9H T 1
   sum 3
-RA
+(R)A
   8G R 1, already on the board
   9G A 1 x 2 = 2, double letter
   sum 3
-DT, which is not in the word list
+(D)T, which is not in the word list
   8H D 2, already on the board
   9H T 1
   sum 3
@@ -1217,7 +1232,7 @@ def explained(run):
     run.row(["build", "word-at-ra", "word-at-ra.gad"], 0)
     told = lambda game, status, out, *line: run.row(["explain", "word", "word.gad", game, *line], status, out)
     told("line", 0, f"legal unfinished\n{STANDS}")
-    told("ends", 0, f"legal complete\n{STANDS}")
+    told("ends", 0, f"legal complete\n{HIDDEN}")
     for line in ([], ["0"], ["1"]):
         told("nothing", 3, "no game\n", *line)
         told("page", 3, "no game\n", *line)
@@ -1237,7 +1252,7 @@ def explained(run):
     shown = "  line 1 shows 2 on A's rack\n  line 2 shows 1 on B's rack\n"
     told("blanks", 1, f"illegal line 2: TilesShort ?\nline 2: >B: ? - +0 0\n{short}{shown}" + picture_of(2, False))
     no_deal = "No deal of the tiles gives the players the racks that the lines up to this one show, though no line alone shows too much.\n"
-    exchanged = "Compare the racks with the exchanges:\n  line 1: A exchanges 1 tile\n"
+    exchanged = "Compare the racks with the exchanges:\n  line 1: A exchanges 1 tile\nUp to line 2 a deal of the tiles gives the players every rack that is shown.\n"
     told("one-of-seven", 1, f"illegal line 3: NoDeal\nline 3: >A: BCDFGHJ - +0 0\n{no_deal}{exchanged}" + picture_of(3, False))
     third = "bad record line 3: ThirdPlayer\nline 3: >C: - +0 0\nC is a third nickname: the players are A and B.\n"
     number = "bad record line 1: Number\nline 1: >A: 8E WORD +x 16\nThe score +x is not a number of 1 to 6 digits, with or without a sign.\n"
@@ -1253,6 +1268,14 @@ def explained(run):
     listed = ["explain", "word-at-ra", "word-at-ra.gad"]
     laid = f"legal unfinished\nline 2: >B: AT 9G AT +9 9\n{allowed}{AT_SUMS}" + picture_of(2, True, ROW_OF_WORD, AT_MARKED)
     run.row([*listed, "unlisted", "2"], 0, laid)
+    run.row([*listed, "unlisted"], 0, f"legal unfinished\n{DEALT}Line 2: B's play stands with DT, which is not in the word list.\nEvery turn shows its rack.\n")
+    read = "X is played, but the rack AADEORW has none.\nWith W for X on 8E the play makes WORD, and scores 16, as is written.\n"
+    told("misread", 1, f"illegal line 1: WrongScore 24\nline 1: {MISREAD}The play scores 24, but 16 is written.\n{read}{XORD_SUMS}" + picture_of(1, True, WORD_MARKED))
+    blank = "With the W on 8E as a blank the play scores 8, as is written.\n"
+    told("as-blank", 1, f"illegal line 1: WrongScore 16\nline 1: >A: 8E WORD +8 8\nThe play scores 16, but 8 is written.\n{blank}{WORD_SUMS}" + picture_of(1, True, WORD_MARKED))
+    gone = "It is B's turn, not A's.\nA line of B with +9 seems to be missing between lines 1 and 2.\n"
+    told("gone", 1, f"illegal line 2: NotYourTurn\nline 2: >A: - +0 16\n{gone}" + picture_of(2, False, ROW_OF_WORD))
+    told("short-line", 3, "bad record line 1: Code\nline 1: >A: 8E WORD +16\n" + NOT_AN_EVENT + "The score or the total is missing: an event ends with both.\n")
     back = f"legal unfinished\nline 3: >B: AT -- -9 0\n{allowed}" + picture_of(3, False, ROW_OF_WORD, ROW_OF_AT)
     run.row([*listed, "withdrawn", "3"], 0, back)
     not_judged = "The rules do not allow line 1, so this line was not judged.\n"
@@ -1281,45 +1304,75 @@ def paged(run):
     out = Path(run.folder, "out")
     for game, status, verdict in [("line", 0, "legal unfinished"), ("ends", 0, "legal complete"), ("line-18", 1, "illegal line 1: WrongScore 16"), ("turn", 1, "illegal line 2: NotYourTurn")]:
         run.row(["page", "word", "word.gad", game, "out"], status, f"{verdict}\n")
-        banner = web.read(out.read_bytes()).first("p", "verdict")
-        run.expect(f"the banner of {game}", banner.first("strong").text() == verdict and banner.attributes["class"] == f"verdict {verdict.split()[0]}")
+        banner = web.read(out.read_bytes()).first("section", "verdict")
+        run.expect(f"the banner of {game}", banner.first("h2").text() == verdict and banner.attributes["class"] == f"verdict {verdict.split()[0]}")
     rows = {
-        "line": ["1", "A", "AADEORW", "8E WORD", "16", "16", "8E WORD 16", "0", "", ""],
-        "line-18": ["1 fault", "A", "AADEORW", "8E WORD", "18", "18", "8E WORD 16", "0", "", "score 16 total 16"],
-        "line-17": ["1 fault", "A", "AADEORW", "8E WORD", "16", "17", "8E WORD 16", "0", "", "total 16"],
+        "line": ["1", "A", "8E WORD", "+16", "16", "AADEORW", "best", ""],
+        "line-18": ["1", "A", "8E WORD fault", "+18", "18", "AADEORW", "best", "", "score 16 total 16"],
+        "line-17": ["1", "A", "8E WORD fault", "+16", "17", "AADEORW", "best", "", "total 16"],
     }
     for game, cells in rows.items():
         run.row(["page", "word", "word.gad", game, "out"], int(game != "line"), None)
         row = web.read(out.read_bytes()).first("table", "sheet").first("tbody").first("tr")
-        found = [it.text().strip() for it in row.all("td")]
+        found = [it.text().strip() for it in row.children()[:-1]]
         run.expect(f"the row of {game}", found == cells)
     unread_pages(run, out)
 
 
 def unread_pages(run, out):
     """Where `page` writes no page, and the page that is written again."""
-    out.write_bytes(b"as it was")
-    for words, status, told in [
-        (["word", "word.gad", "third"], 3, "bad record line 3: ThirdPlayer\n"),
-        (["word", "word.gad", "long-game"], 3, "bad record: TooLong\n"),
-        (["digit", "word.gad", "line"], 3, "bad word list line 2: BadLetter\n"),
-        (["--rules", "tiles.rules", "word", "word.gad", "line"], 3, "bad rules line 1: Unknown\n"),
-    ]:
-        run.row(["page", *words, "out"], status, told, wrote=b"as it was")
-    for place, words in enumerate([["nowhere", "word.gad", "line"], ["word", "nowhere", "line"], ["word", "word.gad", "nowhere"]]):
-        run.row(["page", *words, "out"], 4, error="referee: cannot open nowhere: no such file", wrote=b"as it was")
-        words[place] = "folder"
-        run.row(["page", *words, "out"], 4, error="referee: read failed: folder: is a folder", wrote=b"as it was")
-    run.row(["page", "word", "word.gad", "line", "folder"], 4, error="referee: cannot open folder: is a folder")
-    run.row(["page", "many", "at.gad", "line", "out"], 4, error="referee: no memory", wrote=b"as it was", room=1 << 23)
+    unwritten(run, out, "page")
     run.row(["page", "word", "word.gad", "-", "out"], 0, "legal unfinished\n", stdin=WORD)
     page = out.read_bytes()
     for words in (["-", "word.gad", "line"], ["word", "word.gad", "line"]):
         run.row(["page", *words, "out"], 0, "legal unfinished\n", stdin="WORD\n", wrote=page)
     run.row(["page", "-", "word.gad", "-", "out"], 64, error=None)
+
+
+def unwritten(run, out, command):
+    """Where a command makes nothing of a record, so that its output stays as it was."""
+    out.write_bytes(b"as it was")
+    for words, status, told in [
+        (["word", "word.gad", "third"], 3, "bad record line 3: ThirdPlayer\n"),
+        (["word", "word.gad", "long-game"], 3, "bad record: TooLong\n"),
+        (["word", "word.gad", "nothing"], 3, "no game\n"),
+        (["digit", "word.gad", "line"], 3, "bad word list line 2: BadLetter\n"),
+        (["--rules", "tiles.rules", "word", "word.gad", "line"], 3, "bad rules line 1: Unknown\n"),
+    ]:
+        run.row([command, *words, "out"], status, told, wrote=b"as it was")
+    for place, words in enumerate([["nowhere", "word.gad", "line"], ["word", "nowhere", "line"], ["word", "word.gad", "nowhere"]]):
+        run.row([command, *words, "out"], 4, error="referee: cannot open nowhere: no such file", wrote=b"as it was")
+        words[place] = "folder"
+        run.row([command, *words, "out"], 4, error="referee: read failed: folder: is a folder", wrote=b"as it was")
+    run.row([command, "word", "word.gad", "line", "folder"], 4, error="referee: cannot open folder: is a folder")
+    run.row([command, "many", "at.gad", "line", "out"], 4, error="referee: no memory", wrote=b"as it was", room=1 << 23)
     if os.path.exists("/dev/full"):
-        run.row(["page", "word", "word.gad", "line", "/dev/full"], 4, error="referee: write failed: /dev/full: no space left, error 28 of the system")
-        run.row(["page", "word", "word.gad", "line", "out"], 4, error="referee: write failed: standard output: no space left, error 28 of the system", stdout="/dev/full")
+        run.row([command, "word", "word.gad", "line", "/dev/full"], 4, error="referee: write failed: /dev/full: no space left, error 28 of the system")
+        run.row([command, "word", "word.gad", "line", "out"], 4, error="referee: write failed: standard output: no space left, error 28 of the system", stdout="/dev/full")
+
+
+def annotated(run):
+    """`annotate`: the record with notes, in the file that is named or on standard output."""
+    run.row(["build", "word", "word.gad"], 0)
+    run.row(["build", "word-at-ra", "word-at-ra.gad"], 0)
+    by_word, listed = ["annotate", "word", "word.gad"], ["annotate", "word-at-ra", "word-at-ra.gad"]
+    best = f"{WORD}#note best 8E WORD 16\n"
+    run.row([*by_word, "line", "out"], 0, "legal unfinished\n", wrote=best.encode())
+    for words in ([*by_word, "line"], [*by_word, "line", "-"], [*by_word, "-"]):
+        run.row(words, 0, best, error="legal unfinished", stdin=WORD)
+    score = ">A: DORWAAE 8E WORD +18 18\n#note The play scores 16, but 18 is written.\n"
+    run.row([*by_word, "line-18"], 1, score, error="illegal line 1: WrongScore 16")
+    turn = f"{best}>A: - +0 16\n#note It is the other player's turn, not A's.\n"
+    run.row([*by_word, "turn"], 1, turn, error="illegal line 2: NotYourTurn")
+    run.row([*listed, "unlisted"], 0, f"{best}>B: AT 9G AT +9 9\n#note not in the list: DT\n", error="legal unfinished")
+    none = ">A: AEIRSUV - +0 0\n#note no play is possible\n>B: AEINRST - +0 0\n#note best 8G AT 4, 4 more\n"
+    run.row(["annotate", "at", "at.gad", "no-play"], 0, none, error="legal unfinished")
+    three = none.replace("4 more", "4 more; then 8H AT 4, H7 AT 4")
+    run.row(["annotate", "--top", "3", "at", "at.gad", "no-play"], 0, three, error="legal unfinished")
+    for words in (["--top", "0"], ["--top", "101"], ["--top", "x"], ["--number", "3"]):
+        run.row(["annotate", *words, "word", "word.gad", "line"], 64, error=None)
+    run.row(["annotate", "word", "word.gad", "line", "out", "out"], 64, error=None)
+    unwritten(run, Path(run.folder, "out"), "annotate")
 
 
 def broken(run):
@@ -1373,7 +1426,7 @@ def put_out(run):
         ([*page, "-"], (0, Path(run.folder, "out").read_bytes(), b"legal unfinished\n")),
         (["page", "word", "word.gad", "third", "-"], (3, b"", b"bad record line 3: ThirdPlayer\n" + BAD["third"].encode() + b"\n")),
         (["page", "digit", "word.gad", "line", "-"], (3, b"", b"bad word list line 2: BadLetter\n")),
-        (["audit", "--corrected", "-", "word", "word.gad", "line-17"], (1, WORD.encode(), b"line 1: sum 17, should be 16\ntotal of A: 17, should be 16\nlegal unfinished\n")),
+        (["audit", "--corrected", "-", "word", "word.gad", "line-17"], (1, WORD.encode(), b"line 1: sum 17, should be 16 (A, 8E WORD)\ntotal of A: 17, should be 16\nlegal unfinished\n")),
         (["audit", "--corrected", "-", "word", "word.gad", "turn"], (1, b"", b"illegal line 2: NotYourTurn\n")),
         (["audit", "--corrected", "-", "at", "extra.gad", "line"], (3, b"", b"bad lexicon: Extra A\nreferee: extra.gad is the lexicon of another list than at: make its own by referee build\n")),
     ]:
@@ -1566,6 +1619,9 @@ def in_json(run):
     explained_in_json(run, told)
 
 
+WHOLE = [{"name": "Legal"}, {"name": "Unlisted", "plays": []}, {"name": "RacksHidden", "number": 0, "limit": 1, "on_lines": []}]
+
+
 def explained_in_json(run, told):
     """`explain --json`: facts, words and the board as values."""
     said = told(["explain", "--json", "word", "word.gad", "line-18"])
@@ -1587,7 +1643,7 @@ def explained_in_json(run, told):
     short = {"name": "TilesShort", "tile": "?", "number": 3, "limit": 2, "on_board": 0, "on_racks": [2, 1], "lines": lines}
     run.expect("tiles that are short as a fact", said["facts"] == [short] and said["play"] is None)
     said = told(["explain", "--json", "word", "word.gad", "line"])
-    run.expect("a legal record as a whole", [said["verdict"], said["explained"], said["facts"], said["board"]] == ["legal", None, [{"name": "Legal"}], None])
+    run.expect("a legal record as a whole", [said["verdict"], said["explained"], said["facts"], said["board"]] == ["legal", None, WHOLE, None])
     run.row(["explain", "--json", "word", "word.gad", "line", "9"], 3, refusal("bad line"))
     run.row(["explain", "--json", "word", "word.gad", "nothing"], 3, refusal("no game"), error="")
     run.row(["explain", "--json", "word", "word.gad", "third"], 3, refusal("bad record", 3, {"name": "ThirdPlayer"}))
@@ -1633,7 +1689,7 @@ def main():
     with tempfile.TemporaryDirectory() as folder:
         files(folder)
         run = Runner(os.path.abspath(sys.argv[1]), folder)
-        for part in (judged, settled, built_and_checked, converted, topped, topped_before, ruled, tidied, boarded, widest, from_standard_input, fielded, skipped, words_ruled, archived, audited, explained, paged, in_json, put_out, overwritten, hinted, broken, helped, misused):
+        for part in (judged, settled, built_and_checked, converted, topped, topped_before, ruled, tidied, boarded, widest, from_standard_input, fielded, skipped, words_ruled, archived, audited, explained, paged, annotated, in_json, put_out, overwritten, hinted, broken, helped, misused):
             part(run)
         if sys.argv[2:] == ["large"]:
             converted_large(run)

@@ -5,8 +5,7 @@ use crate::read_lines::{ArchiveLines, NextLine};
 use archive_lines::LineRead;
 use command_files::{open_source, shown, write_out};
 use exit_statuses::{Exit, Trouble};
-use game_page::{IndexPlayer, IndexRow, push_index_end, push_index_head, push_index_row};
-use page_pieces::PageText;
+use game_page::{Index, IndexPlayer, IndexRow};
 use std::alloc::{AllocError, Global};
 use std::io::BufRead;
 use std::rt::Runtime;
@@ -20,25 +19,25 @@ pub fn index<'a, R: Runtime + AllocGlobal>(
 ) -> Result<Exit, Trouble<'a>> {
     let reader = buffered(rt.alloc(), open_source(rt, lines)?)?;
     let mut lines = ArchiveLines::new(rt.alloc(), reader, shown(lines));
-    let Some(page) = page_of(rt, &mut lines)? else {
+    let Some(index) = index_of(rt, &mut lines)? else {
         return Ok(Exit::BadInput);
     };
-    write_out(rt, out, page.as_slice())?;
+    match index.to_bytes(rt.alloc()) {
+        Ok(page) => write_out(rt, out, page.as_slice())?,
+        Err(_) => return Err(Trouble::NoMemory),
+    }
     Ok(Exit::Fine)
 }
 
 /// The index of these lines; none where one is no line of an archive, which is said.
-fn page_of<'a, R: Runtime + AllocGlobal, B: BufRead + Drop>(
+fn index_of<'a, R: Runtime + AllocGlobal, B: BufRead + Drop>(
     rt: &R,
     lines: &mut ArchiveLines<'a, B>,
-) -> Result<Option<PageText>, Trouble<'a>> {
-    let mut page = PageText::new(rt.alloc());
-    if push_index_head(&mut page).is_err() {
-        return Err(Trouble::NoMemory);
-    }
+) -> Result<Option<Index>, Trouble<'a>> {
+    let mut index = Index::new(rt.alloc());
     for _ in 0..u64::MAX {
         let pushed = match lines.next_line(rt.alloc())? {
-            NextLine::Whole(line) => push_row(rt.alloc(), &mut page, &line),
+            NextLine::Whole(line) => push_row(rt.alloc(), &mut index, &line),
             NextLine::End => break,
             NextLine::NoLine | NextLine::Part => {
                 lines.tell_no_line(rt);
@@ -49,18 +48,15 @@ fn page_of<'a, R: Runtime + AllocGlobal, B: BufRead + Drop>(
             return Err(Trouble::NoMemory);
         }
     }
-    match push_index_end(&mut page) {
-        Ok(()) => Ok(Some(page)),
-        Err(_) => Err(Trouble::NoMemory),
-    }
+    Ok(Some(index))
 }
 
 /// Appends the row of a line.
-fn push_row(alloc: Global, page: &mut PageText, line: &LineRead) -> Result<(), AllocError> {
+fn push_row(alloc: Global, index: &mut Index, line: &LineRead) -> Result<(), AllocError> {
     let row = IndexRow {
         game: line.name.as_str(),
         page: line.page_name(),
-        answer: line.verdict.name(),
+        answer: line.verdict,
         line: line.line,
         why: text_of(match &line.ending {
             Some(_) => &line.ending,
@@ -74,8 +70,9 @@ fn push_row(alloc: Global, page: &mut PageText, line: &LineRead) -> Result<(), A
             nick: text_of(&line.player2),
             total: line.total2,
         },
+        unlisted: line.unlisted,
     };
-    push_index_row(alloc, page, &row)
+    index.add(alloc, &row)
 }
 
 /// The text, where there is one.

@@ -6,10 +6,7 @@ use command_files::{has_page, unopened, write_whole_file};
 use devices::FromRead;
 use engine::{Case, open_case};
 use exit_statuses::Trouble;
-use game_page::{
-    Contents, IndexPlayer, IndexRow, Maker, push_index_end, push_index_head, push_index_row,
-    push_page,
-};
+use game_page::{Contents, Index, IndexPlayer, IndexRow, Maker, push_page};
 use lex_check::Checked;
 use name_texts::Encoding;
 use page_names::push_page_name;
@@ -32,7 +29,7 @@ pub struct Pages<'a> {
     /// The page of the game that is being judged. The games share its memory.
     page: PageText,
     /// The index up to the last game that is done.
-    index: PageText,
+    index: Index,
 }
 
 impl<'a> Pages<'a> {
@@ -46,21 +43,11 @@ impl<'a> Pages<'a> {
             Ok(()) => {}
             Err(error) => return Err(unopened(folder, &error)),
         }
-        match Pages::empty(rt.alloc(), folder, maker) {
-            Ok(pages) => Ok(pages),
-            Err(_) => Err(Trouble::NoMemory),
-        }
-    }
-
-    /// Pages of no game yet.
-    fn empty(alloc: Global, folder: &'a str, maker: Maker) -> Result<Pages<'a>, AllocError> {
-        let mut index = PageText::new(alloc);
-        push_index_head(&mut index)?;
         Ok(Pages {
             folder,
             maker,
-            page: PageText::new(alloc),
-            index,
+            page: PageText::new(rt.alloc()),
+            index: Index::new(rt.alloc()),
         })
     }
 
@@ -102,14 +89,15 @@ impl<'a> Pages<'a> {
         }
         let alloc = rt.alloc();
         self.page.clear();
+        let file = page_of(alloc, name)?;
         let contents = Contents {
             rules,
             pair,
             case,
+            up: Some(folders_of(file.as_str())),
             maker: &self.maker,
         };
         push_page(alloc, &mut self.page, &contents)?;
-        let file = page_of(alloc, name)?;
         let path = path_in(alloc, self.folder, file.as_str())?;
         if put_page(rt, path.as_str(), self.page.as_slice())? {
             Ok(PageField::Written(file))
@@ -120,9 +108,7 @@ impl<'a> Pages<'a> {
 
     /// Adds the row of a game to the index. Where there is no memory for it, the line of the game says so.
     pub fn add(&mut self, alloc: Global, fields: &mut Fields<'_>) {
-        let before = self.index.len();
-        if push_index_row(alloc, &mut self.index, &row_of(fields)).is_err() {
-            self.index.truncate(before);
+        if self.index.add(alloc, &row_of(fields)).is_err() {
             fields.page = Some(PageField::NoMemory);
         }
         if fields.page.is_none() {
@@ -132,13 +118,13 @@ impl<'a> Pages<'a> {
 
     /// Writes the index.
     pub fn end<R: Runtime + AllocGlobal>(&mut self, rt: &R) -> Result<(), Trouble<'a>> {
-        let (Ok(()), Ok(path)) = (
-            push_index_end(&mut self.index),
+        let (Ok(index), Ok(path)) = (
+            self.index.to_bytes(rt.alloc()),
             path_in(rt.alloc(), self.folder, INDEX),
         ) else {
             return Err(Trouble::NoMemory);
         };
-        match write_whole_file(rt, path.as_str(), self.index.as_slice()) {
+        match write_whole_file(rt, path.as_str(), index.as_slice()) {
             Ok(()) => Ok(()),
             Err(Trouble::CannotOpen(_, reason) | Trouble::WriteFailed(_, reason)) => {
                 Err(Trouble::WriteFailed(self.folder, reason))
@@ -162,7 +148,7 @@ fn row_of<'f>(fields: &'f Fields<'_>) -> IndexRow<'f> {
     IndexRow {
         game: fields.name,
         page: fields.page.as_ref().and_then(|page| page.name()),
-        answer: fields.verdict.name(),
+        answer: fields.verdict,
         line: fields.line,
         why: match fields.ending {
             Some(ending) => Some(ending.name()),
@@ -176,6 +162,7 @@ fn row_of<'f>(fields: &'f Fields<'_>) -> IndexRow<'f> {
             nick: fields.player2.as_ref().map(|nick| nick.as_str()),
             total: fields.total2,
         },
+        unlisted: fields.unlisted,
     }
 }
 
@@ -184,6 +171,11 @@ fn page_of(alloc: Global, name: &str) -> Result<String, AllocError> {
     let mut page = Vec::new(alloc);
     push_page_name(&mut page, name.as_bytes())?;
     String::from_utf8_lossy(alloc, page.as_slice())
+}
+
+/// In how many folders a page is, below that of the index.
+fn folders_of(page: &str) -> usize {
+    page.as_bytes().iter().filter(|byte| **byte == b'/').count()
 }
 
 /// The path of a file in a folder.

@@ -30,6 +30,8 @@ pub struct LineRead {
     pub player2: Option<String>,
     /// The last total of player 2.
     pub total2: Option<i32>,
+    /// How many plays stand with a word that is not listed.
+    pub unlisted: Option<usize>,
     /// The page, or why there is none.
     pub page: Option<String>,
 }
@@ -46,6 +48,8 @@ struct ObjectRead {
     total1: Option<i32>,
     player2: Option<String>,
     total2: Option<i32>,
+    #[serde(default)]
+    unlisted: Option<usize>,
     #[serde(default)]
     page: Option<String>,
 }
@@ -91,6 +95,7 @@ impl LineRead {
             total1: numbers.total1,
             player2: shown_at(alloc, fields, 8)?,
             total2: numbers.total2,
+            unlisted: numbers.unlisted,
             page: shown_at(alloc, fields, FIELDS)?,
         }))
     }
@@ -117,6 +122,7 @@ impl LineRead {
             total1: object.total1,
             player2: object.player2,
             total2: object.total2,
+            unlisted: object.unlisted,
             page: object.page,
         })
     }
@@ -136,17 +142,18 @@ struct Numbers {
     line: Option<u32>,
     total1: Option<i32>,
     total2: Option<i32>,
+    unlisted: Option<usize>,
 }
 
 impl Numbers {
     /// The numbers of these fields; none where one is neither a number nor `-`.
     fn of(fields: &[Vec<u8>]) -> Option<Numbers> {
         let _events = number_at::<u64>(fields, 5)?;
-        let _unlisted = number_at::<u64>(fields, 10)?;
         Some(Numbers {
             line: number_at::<u32>(fields, 3)?.value,
             total1: number_at::<i32>(fields, 7)?.value,
             total2: number_at::<i32>(fields, 9)?.value,
+            unlisted: number_at::<usize>(fields, 10)?.value,
         })
     }
 }

@@ -1,6 +1,6 @@
 pub mod Corrected
 pub mod Standing
-pub mod Lines
 pub mod Told
 pub mod Numbers
+pub mod Lines
 pub mod Answers

@@ -6,6 +6,7 @@
 
 mod answers;
 mod corrected;
+mod kinds;
 mod lines;
 mod standing;
 mod told;

@@ -1,12 +1,15 @@
 //! The lines of an audit.
-ghost use Rattle.std.specs.Prelude.{◌≡◌, ◌++◌, OnOk};
-ghost use Rattle.audit_lines.specs.Lines.{should_be, right_text, both_text, line_text, on_line_text, wrong_text, wrong_texts, audit_text};
+ghost use Rattle.std.specs.Prelude.{◌≡◌, ◌++◌, ◌∷◌, [], OnOk, codes, slice_get};
+ghost use Rattle.std.specs.Fmt.{signed_decimal};
+ghost use Rattle.gcg_read.specs.Players.{player_of};
+ghost use Rattle.audit_lines.specs.Lines.{should_be, right_text, both_text, line_text, numbers_text, wrong_text, end_text, event_text, on_the_sheet, other_total, corrected_total, told_text, told_texts, audit_text};
 ghost use Rattle.engine.specs.Explaining.{finding_line};
 
+use crate::kinds::push_kind;
+use crate::told::{ToldNumber, told_numbers};
 use decimal_text::push_number;
 use engine::{Audit, Finding, finding_line};
-use game_sheets::WrongNumber;
-use gcg_read::Players;
+use gcg_read::{Players, Record, Seat};
 use std::alloc::{AllocError, Global};
 
 /// Appends the lines of an audit: one for each wrong number, and the verdict line of the corrected record.
@@ -16,53 +19,94 @@ use std::alloc::{AllocError, Global};
 pub fn push_audit(alloc: Global, text: &mut Vec<u8>, audit: &Audit) -> Result<(), AllocError>
     ensures { OnOk result (text.new.items ≡ text.old.items ++ audit_text audit.now) }
 {
-    push_numbers(text, &audit.entry.record.players, audit.wrong.as_slice())?;
+    let numbers = told_numbers(alloc, audit)?;
+    push_numbers(text, &audit.entry.record, numbers.as_slice())?;
     push_finding(alloc, text, &audit.entry.finding)
 }
 
 /// Appends the lines of the wrong numbers.
 fn push_numbers(
     text: &mut Vec<u8>,
-    players: &Players,
-    numbers: &[WrongNumber],
+    record: &Record,
+    numbers: &[ToldNumber],
 ) -> Result<(), AllocError>
-    ensures { OnOk result (text.new.items ≡ text.old.items ++ wrong_texts players.now numbers.now) }
+    ensures { OnOk result (text.new.items ≡ text.old.items ++ told_texts record.now.players record.now.events numbers.now) }
 {
-    for wrong in numbers {
-        push_wrong(text, players, wrong)?;
+    for told in numbers {
+        push_told(text, record, told)?;
     }
     Ok(())
 }
 
 /// Appends the line of a wrong number.
-fn push_wrong(text: &mut Vec<u8>, players: &Players, wrong: &WrongNumber) -> Result<(), AllocError>
-    ensures { OnOk result (text.new.items ≡ text.old.items ++ wrong_text players.now wrong.now) }
+fn push_told(text: &mut Vec<u8>, record: &Record, told: &ToldNumber) -> Result<(), AllocError>
+    ensures { OnOk result (text.new.items ≡ text.old.items ++ told_text record.now.players record.now.events told.now) }
 {
-    match wrong {
-        WrongNumber::Score {
+    match told {
+        ToldNumber::Score {
+            place,
             line,
             written,
             right,
-        } => push_on_line(text, *line, b"score ", *written, *right),
-        WrongNumber::Sum {
+            ..
+        } => {
+            push_on_line(text, *line, b"score ", *written, *right)?;
+            push_event_at(text, record, *place)?;
+            push_end(text)
+        }
+        ToldNumber::Sum {
+            place,
             line,
             written,
+            sum,
             right,
-        } => push_on_line(text, *line, b"sum ", *written, *right),
-        WrongNumber::Total {
+            ..
+        } => {
+            push_on_line(text, *line, b"sum ", *written, *sum)?;
+            push_sum_event(text, record, *place, *sum, *right)
+        }
+        ToldNumber::Total {
             player,
             written,
             right,
-        } => {
-            text.extend_from_slice(b"total of ")?;
-            text.extend_from_slice(players.of(*player).nick.as_bytes())?;
-            text.extend_from_slice(b": ")?;
-            push_both(text, *written, *right)
-        }
+        } => push_total(text, &record.players, *player, *written, *right),
     }
 }
 
-/// Appends what is wrong on a line.
+/// Appends the event of a wrong sum, what its total is on the corrected sheet, and what ends the line.
+#[tactic(auto, using(crate::proofs::LineTexts::three))]
+fn push_sum_event(
+    text: &mut Vec<u8>,
+    record: &Record,
+    place: usize,
+    sum: i32,
+    right: Option<i32>,
+) -> Result<(), AllocError>
+    ensures { OnOk result (text.new.items ≡ text.old.items ++ (event_text record.now.players (slice_get record.now.events place) ++ corrected_total sum right ++ end_text)) }
+{
+    push_event_at(text, record, place)?;
+    push_corrected(text, sum, right)?;
+    push_end(text)
+}
+
+/// Appends the line of a last total.
+fn push_total(
+    text: &mut Vec<u8>,
+    players: &Players,
+    player: Seat,
+    written: i32,
+    right: i32,
+) -> Result<(), AllocError>
+    ensures { OnOk result (text.new.items ≡ text.old.items ++ (codes "total of " ++ (player_of players.now player).nick ++ codes ": " ++ both_text written right)) }
+{
+    text.extend_from_slice(b"total of ")?;
+    text.extend_from_slice(players.of(player).nick.as_bytes())?;
+    text.extend_from_slice(b": ")?;
+    push_both(text, written, right)
+}
+
+/// Appends what is wrong on a line, up to its event.
+#[tactic(auto, unfolding(crate::specs::Lines::wrong_text))]
 fn push_on_line(
     text: &mut Vec<u8>,
     line: u32,
@@ -70,11 +114,71 @@ fn push_on_line(
     written: i32,
     right: i32,
 ) -> Result<(), AllocError>
-    ensures { OnOk result (text.new.items ≡ text.old.items ++ on_line_text line what.now written right) }
+    ensures { OnOk result (text.new.items ≡ text.old.items ++ wrong_text line what.now written right) }
 {
     push_line(text, line)?;
     text.extend_from_slice(what)?;
-    push_both(text, written, right)
+    push_wrong(text, written, right)
+}
+
+/// Appends a wrong number and the right one.
+#[tactic(auto, unfolding(crate::specs::Lines::numbers_text))]
+fn push_wrong(text: &mut Vec<u8>, written: i32, right: i32) -> Result<(), AllocError>
+    ensures { OnOk result (text.new.items ≡ text.old.items ++ numbers_text written right) }
+{
+    push_number(text, written)?;
+    push_should_be(text)?;
+    push_number(text, right)?;
+    text.extend_from_slice(b" (")?;
+    Ok(())
+}
+
+/// Appends the event at a place, where there is one.
+fn push_event_at(text: &mut Vec<u8>, record: &Record, place: usize) -> Result<(), AllocError>
+    ensures { OnOk result (text.new.items ≡ text.old.items ++ event_text record.now.players (slice_get record.now.events place)) }
+{
+    match record.events.as_slice().get(place) {
+        None => Ok(()),
+        Some(event) => {
+            text.extend_from_slice(record.players.of(event.player).nick.as_bytes())?;
+            text.extend_from_slice(b", ")?;
+            push_kind(text, &event.kind)
+        }
+    }
+}
+
+/// Appends the total on the corrected sheet, where it is another one than the sum.
+fn push_corrected(text: &mut Vec<u8>, sum: i32, right: Option<i32>) -> Result<(), AllocError>
+    ensures { OnOk result (text.new.items ≡ text.old.items ++ corrected_total sum right) }
+{
+    match right {
+        Some(right) if right != sum => push_other_total(text, right),
+        _ => Ok(()),
+    }
+}
+
+/// Appends a total on the corrected sheet.
+fn push_other_total(text: &mut Vec<u8>, right: i32) -> Result<(), AllocError>
+    ensures { OnOk result (text.new.items ≡ text.old.items ++ other_total right) }
+{
+    push_on_the_sheet(text)?;
+    push_number(text, right)
+}
+
+/// Appends what stands before a total on the corrected sheet.
+#[tactic(auto, unfolding(crate::specs::Lines::on_the_sheet))]
+fn push_on_the_sheet(text: &mut Vec<u8>) -> Result<(), AllocError>
+    ensures { OnOk result (text.new.items ≡ text.old.items ++ on_the_sheet) }
+{
+    text.extend_from_slice(b"; on the corrected sheet ")
+}
+
+/// Appends what ends a line behind its event.
+#[tactic(auto, unfolding(crate::specs::Lines::end_text))]
+fn push_end(text: &mut Vec<u8>) -> Result<(), AllocError>
+    ensures { OnOk result (text.new.items ≡ text.old.items ++ end_text) }
+{
+    text.extend_from_slice(b")\n")
 }
 
 /// Appends a number that is written and the right one, and ends the line.

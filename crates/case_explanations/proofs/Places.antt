@@ -10,7 +10,7 @@ use Rattle.engine.specs.declared.findings.Finding.{Finding}
 use Rattle.engine.specs.declared.findings.Finding.TheVariants as finding
 use Rattle.explanations.specs.declared.explaining.Explanation.{Explanation}
 use Rattle.explanations.specs.Explaining.{ExplainsEvent}
-use Rattle.case_explanations.specs.Explaining.{whole_facts, Explains, IsExplanationAt}
+use Rattle.case_explanations.specs.Explaining.{AreWholeFacts, Explains, IsExplanationAt}
 
 -- the place of an event stands within the record
 pub line_within : (events : List Event) (line place : ℕ) → place_of_line events line ≡ Some place → place < length events
@@ -26,7 +26,7 @@ fault_within events finding.Unsettled place is = cc
 -- ---- what explains it
 
 pub explains_whole : (rules : Rules) (list : List (List ℕ)) (entry : Entry) (asked : Option ℕ) (x : Explanation) → asked ≡ None → x.players.now ≡ entry.record.players → x.line ≡ None
-    → x.facts.items ≡ whole_facts entry.finding → x.picture ≡ None → Explains rules list entry asked x
+    → AreWholeFacts rules list entry.record.events entry.finding x.facts.items → x.picture ≡ None → Explains rules list entry asked x
 explains_whole rules list entry asked x none players line facts picture =
     subst (λ (a : Option ℕ). Explains rules list entry a x) (sym none) (record { players = players; told = (line, facts, picture) })
 

@@ -1,6 +1,8 @@
 -- What explains a record, or its event on a line.
-use Rattle.std.specs.Prelude.{◌≡◌, ℕ, List, [], ◌∷◌, Option, Some, None}
+use Rattle.std.specs.Prelude.{◌≡◌, ℕ, List, [], ◌∷◌, ◌++◌, Option, Some, None}
 use Rattle.ref_tiles.specs.declared.rulebook.Rules.{Rules}
+use Rattle.gcg_read.specs.declared.events.Event.{Event}
+use Rattle.game_turns.specs.Places.{AreAllowed}
 use Rattle.game_board.specs.Places.{place_of_line}
 use Rattle.case_openings.specs.Openings.{place_of_fault}
 use Rattle.engine.specs.declared.entries.Entry.{Entry}
@@ -8,19 +10,39 @@ use Rattle.engine.specs.declared.findings.Finding.{Finding}
 use Rattle.engine.specs.declared.findings.Finding.TheVariants as finding
 use Rattle.event_facts.specs.declared.facts.Fact.{Fact}
 use Rattle.event_facts.specs.declared.facts.Fact.TheVariants as fact
+use Rattle.event_facts.specs.Wholes.{AreNotes}
 use Rattle.explanations.specs.declared.explaining.Explanation.{Explanation}
 use Rattle.explanations.specs.Explaining.{ExplainsEvent}
 
--- what is said of a record as a whole
+-- what is found of a record as a whole
 abbrev pub whole_facts : Finding → List Fact
 whole_facts finding.NoGame = fact.NoEvent ∷ []
 whole_facts (finding.Legal complete) = fact.Legal ∷ []
 whole_facts (finding.Illegal line why) = []
 whole_facts finding.Unsettled = fact.Unsettled ∷ []
 
+-- behind it, of a record whose events the rules allow: its plays that stand with words that are not in the list, and its turns that show no rack
+abbrev pub NotesAre : Rules → (list : List (List ℕ)) → List Event → Finding → (notes : List Fact) → Type 0
+NotesAre rules list events finding.NoGame notes = notes ≡ []
+NotesAre rules list events (finding.Legal complete) notes = AreAllowed rules list events → AreNotes rules list events notes
+NotesAre rules list events (finding.Illegal line why) notes = notes ≡ []
+NotesAre rules list events finding.Unsettled notes = AreAllowed rules list events → AreNotes rules list events notes
+
+-- the same behind other facts
+pub record GoOnWithNotes (rules : Rules) (list : List (List ℕ)) (events : List Event) (old new : List Fact) : Type 0 where
+  pub notes : List Fact
+  pub behind : new ≡ old ++ notes
+  pub are : AreAllowed rules list events → AreNotes rules list events notes
+
+-- what is said of a record as a whole
+pub record AreWholeFacts (rules : Rules) (list : List (List ℕ)) (events : List Event) (found : Finding) (facts : List Fact) : Type 0 where
+  pub notes : List Fact
+  pub behind : facts ≡ whole_facts found ++ notes
+  pub told : NotesAre rules list events found notes
+
 -- what explains the event at a place, or the record as a whole
 abbrev pub ExplainsAt : Rules → (list : List (List ℕ)) → Entry → Option ℕ → Explanation → Type 0
-ExplainsAt rules list entry None x = (x.line ≡ None) × (x.facts.items ≡ whole_facts entry.finding) × (x.picture ≡ None)
+ExplainsAt rules list entry None x = (x.line ≡ None) × AreWholeFacts rules list entry.record.events entry.finding x.facts.items × (x.picture ≡ None)
 ExplainsAt rules list entry (Some place) x = ExplainsEvent rules list entry.record.events place x
 
 -- by the players of the record

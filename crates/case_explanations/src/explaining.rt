@@ -1,13 +1,15 @@
 //! What explains a record, or its event on a line.
-ghost use Rattle.std.specs.Prelude.{◌≡◌, ◌<◌, ◌∷◌, [], None, IfOk, length};
+ghost use Rattle.std.specs.Prelude.{◌≡◌, ◌<◌, ◌∷◌, [], None, IfOk, OnOk, length};
 ghost use Rattle.explanations.specs.Explaining.{ExplainsEvent};
-ghost use Rattle.case_explanations.specs.Explaining.{whole_facts, IsExplanation};
+ghost use Rattle.case_explanations.specs.Explaining.{GoOnWithNotes, AreWholeFacts, IsExplanation};
 
 use case_openings::place_of_fault;
 use engine::{Entry, Finding, GameFault};
-use event_facts::Fact;
+use event_facts::{Fact, push_notes};
 use explanations::{Explanation, explain_event};
 use game_board::place_of_line;
+use game_turns::play_through;
+use gcg_read::Record;
 use lex_list::WordList;
 use ref_tiles::Rules;
 use std::alloc::{AllocError, Global};
@@ -21,14 +23,54 @@ fn one_fact(alloc: Global, fact: Fact) -> Result<Vec<Fact>, AllocError>
     Ok(facts)
 }
 
+/// Adds which plays of a record stand with words that are not in the list, and which of its turns show no rack, where the rules allow every
+/// event.
+#[tactic(auto, using(crate::proofs::Notes::noted, crate::proofs::Notes::refused))]
+fn push_all_notes(
+    alloc: Global,
+    facts: &mut Vec<Fact>,
+    rules: &Rules,
+    list: &WordList,
+    record: &Record,
+) -> Result<(), AllocError>
+    ensures { OnOk result (GoOnWithNotes rules.now list.now record.now.events facts.old.items facts.new.items) }
+{
+    match play_through(rules, record, list) {
+        Ok(passed) => push_notes(alloc, facts, &passed),
+        Err(_) => Ok(()),
+    }
+}
+
+/// A fact, and what is noted of a record whose events the rules allow.
+fn noted(
+    alloc: Global,
+    rules: &Rules,
+    list: &WordList,
+    record: &Record,
+    fact: Fact,
+) -> Result<Vec<Fact>, AllocError>
+    ensures { IfOk result (λ facts. GoOnWithNotes rules.now list.now record.now.events (fact ∷ []) facts.items) }
+{
+    let mut facts = one_fact(alloc, fact)?;
+    push_all_notes(alloc, &mut facts, rules, list, record)?;
+    Ok(facts)
+}
+
 /// What is said of a record as a whole, by what was found of it.
-fn whole_facts(alloc: Global, finding: &Finding) -> Result<Vec<Fact>, AllocError>
-    ensures { IfOk result (λ facts. facts.items ≡ whole_facts finding.now) }
+#[tactic(auto, using(crate::proofs::Notes::legal, crate::proofs::Notes::unsettled, crate::proofs::Notes::no_game, crate::proofs::Notes::illegal))]
+fn whole_facts(
+    alloc: Global,
+    rules: &Rules,
+    list: &WordList,
+    record: &Record,
+    finding: &Finding,
+) -> Result<Vec<Fact>, AllocError>
+    ensures { IfOk result (λ facts. AreWholeFacts rules.now list.now record.now.events finding.now facts.items) }
 {
     match finding {
         Finding::NoGame => one_fact(alloc, Fact::NoEvent),
-        Finding::Legal { .. } => one_fact(alloc, Fact::Legal),
-        Finding::Unsettled => one_fact(alloc, Fact::Unsettled),
+        Finding::Legal { .. } => noted(alloc, rules, list, record, Fact::Legal),
+        Finding::Unsettled => noted(alloc, rules, list, record, Fact::Unsettled),
         Finding::Illegal { .. } => Ok(Vec::new(alloc)),
     }
 }
@@ -42,13 +84,18 @@ fn fault_on(finding: &Finding, line: u32) -> Option<&GameFault> {
 }
 
 /// What explains a record as a whole.
-fn whole<'a>(alloc: Global, entry: &'a Entry) -> Result<Explanation<'a>, AllocError>
+fn whole<'a>(
+    alloc: Global,
+    rules: &Rules,
+    list: &WordList,
+    entry: &'a Entry,
+) -> Result<Explanation<'a>, AllocError>
     ensures players { IfOk result (λ x. x.players.now ≡ entry.now.record.players) }
     ensures line { IfOk result (λ x. x.line ≡ None) }
-    ensures facts { IfOk result (λ x. x.facts.items ≡ whole_facts entry.now.finding) }
+    ensures facts { IfOk result (λ x. AreWholeFacts rules.now list.now entry.now.record.events entry.now.finding x.facts.items) }
     ensures picture { IfOk result (λ x. x.picture ≡ None) }
 {
-    let facts = whole_facts(alloc, &entry.finding)?;
+    let facts = whole_facts(alloc, rules, list, &entry.record, &entry.finding)?;
     Ok(Explanation {
         players: &entry.record.players,
         line: None,
@@ -90,7 +137,7 @@ pub fn explain<'a>(
     let events = entry.record.events.as_slice();
     let Some(line) = line else {
         return match place_of_fault(events, &entry.finding) {
-            None => Ok(Some(whole(alloc, entry)?)),
+            None => Ok(Some(whole(alloc, rules, list, entry)?)),
             Some(place) => Ok(Some(explained(alloc, rules, list, entry, place)?)),
         };
     };

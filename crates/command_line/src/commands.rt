@@ -162,13 +162,14 @@ macro_rules! behind {
 }
 
 /// The commands, in the order in which help shows them.
-const COMMANDS: [CommandRow; 14] = [
+const COMMANDS: [CommandRow; 15] = [
     JUDGE,
     ARCHIVE,
     INDEX,
     AUDIT,
     EXPLAIN,
     PAGE,
+    ANNOTATE,
     BUILD,
     CHECK,
     WORD,
@@ -374,6 +375,41 @@ const PAGE: CommandRow = CommandRow {
             "OUT",
             "the page to be written; - is standard output"
         ),
+        FIRST_FIELD_OPTION,
+        SKIP_OTHERS_OPTION,
+        RULES,
+    ],
+};
+
+/// `annotate [--first-field] [--skip-others] [--rules FILE] [--top N] WORDS LEXICON GAME [OUT]`.
+const ANNOTATE: CommandRow = CommandRow {
+    name: "annotate",
+    about: "Writes a record with a note after each turn: the best play, and how many points more it gives",
+    behind: behind!(
+        "referee annotate words.txt words.gad game.gcg annotated.gcg",
+        "Exit status:",
+        "0   legal",
+        "1   illegal: the note after the faulty line says why, and there is none after that",
+        "2   unsettled: every event stands, but no deal was found",
+        "3   the rules text, the word list, the lexicon or the record is bad; then OUT is not touched"
+    ),
+    arguments: &[
+        WORDS,
+        LEXICON,
+        GAME,
+        argument!(
+            Form::Last,
+            "OUT",
+            "the annotated record to be written; without it, or as -, standard output"
+        ),
+        Argument {
+            value: ValueParser::Unsigned(1, MOST_PLAYS as u64),
+            ..argument!(
+                Form::Option("N"),
+                "top",
+                "how many best plays a note has, 1 to 100; 1 without it"
+            )
+        },
         FIRST_FIELD_OPTION,
         SKIP_OTHERS_OPTION,
         RULES,

@@ -138,6 +138,12 @@ pub enum Request<'a> {
         files: GameFiles<'a>,
         out: &'a str,
     },
+    /// To write a record with notes, which have `number` best plays, to the file `out`.
+    Annotate {
+        files: GameFiles<'a>,
+        number: u32,
+        out: &'a str,
+    },
     /// To write the lexicon of a word list to the file `out`.
     Build {
         words: WordsFile<'a>,
@@ -320,6 +326,11 @@ fn game_request_of<'a>(command: &str, names: &ArgMatches<'a>) -> Option<Request<
             files: game_files(names)?,
             line: names.get_one::<u32>("LINE"),
             json: names.get_flag("json"),
+        }),
+        "annotate" => Some(Request::Annotate {
+            files: game_files(names)?,
+            number: names.get_one::<u32>("top").unwrap_or(1),
+            out: names.get_str("OUT").unwrap_or(STANDARD_OUTPUT_NAME),
         }),
         "page" => Some(Request::Page {
             files: game_files(names)?,

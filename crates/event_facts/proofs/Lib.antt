@@ -4,3 +4,6 @@ pub mod Numbers
 pub mod Places
 pub mod WordLaws
 pub mod RackLaws
+pub mod WholeLaws
+pub mod ReadLaws
+pub mod OrderLaws

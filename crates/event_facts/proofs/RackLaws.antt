@@ -1,12 +1,16 @@
 -- What lines show of racks.
-use Rattle.std.proofs.Common.{◌≡◌, ◌≤◌, length, arith, ℕ, List, take, reverse, slice_get, Some, sym, ap, ◌∙◌}
-use Rattle.std.proofs.lemmas.Option.{same_Some, slice_get_within}
+use Rattle.std.proofs.Common.{◌≡◌, ◌≤◌, ◌<◌, ◌-◌, get_or, refl, length, arith, ℕ, List, take, reverse, slice_get, Some, sym, ap, ◌∙◌}
+use Rattle.std.proofs.lemmas.Option.{same_Some, slice_get_within, slice_get_read}
 use Rattle.gcg_read.specs.declared.events.Seat.{Seat}
 use Rattle.gcg_read.specs.declared.events.Seat.TheVariants.{First, Second}
 use Rattle.deal_steps.specs.declared.steps.Step.{Step}
 use Rattle.deal_steps.specs.declared.known.Known.{Known}
 use Rattle.deal_steps.specs.Piles.{joined}
 use Rattle.deal_steps.specs.Bounds.{gone, low_at}
+use Rattle.ref_tiles.specs.declared.rulebook.Rules.{Rules}
+use Rattle.deal_steps.specs.declared.deals.Held.{Held}
+use Rattle.deal_steps.specs.Fitting.{Fits}
+use Rattle.event_facts.specs.Racks.{IsDealtTo}
 use Rattle.deal_steps.specs.Knowing.{known_of, IsShown, IsShownAt}
 
 of_seat_shown : (s : Step) (past : List Step) (player : Seat) (known : Known) → IsShown s past known → low_at player s past ≡ joined (known_of known player) (gone player past)
@@ -24,3 +28,10 @@ shown_of steps place s player tiles known there is same =
 -- an element stands within its list
 pub within : {X : Type 0} (xs : List X) (place : ℕ) (x : X) → slice_get xs place ≡ Some x → place ≤ length xs
 within xs place x there = let below = slice_get_within xs place x there in omega (arith, below)
+
+-- where racks fit the steps before a place
+pub dealt_to : (rules : Rules) (steps : List Step) (place : ℕ) (step : Step) (racks : List Held) → 0 < place → place ≤ length steps → step ≡ get_or steps (place - 1) step
+    → Fits rules (take place steps) racks → IsDealtTo rules steps place step.line
+dealt_to rules steps place step racks some within is fit =
+    let below : place - 1 < length steps = omega (arith, some, within) in
+    record { step = step; some = some; there = slice_get_read steps (length steps) (place - 1) step refl below is; on_line = refl; racks = racks; fit = fit }

@@ -27,8 +27,10 @@ use Rattle.game_facts.specs.Totals.{latest_with}
 use Rattle.event_facts.specs.declared.facts.Fact.{Fact}
 use Rattle.event_facts.specs.declared.facts.Fact.TheVariants as fact
 use Rattle.event_facts.specs.declared.facts.Spelled.{Spelled}
-use Rattle.event_facts.specs.Moments.{Moment}
+use Rattle.event_facts.specs.Moments.{Moment, last_event}
 use Rattle.event_facts.specs.Elsewhere.{places}
+use Rattle.event_facts.specs.Readings.{IsNotOnRack, IsSwapped, IsMisread}
+use Rattle.event_facts.specs.Orders.{StandsTwice, AreTheOtherWay, IsMissing, IsOthers}
 
 -- ---- what the facts speak of
 
@@ -100,10 +102,6 @@ pub record IsTimeOf (events : List Event) (player : Seat) (line : ℕ) : Type 0 
   pub by : same_seat penalty.player player ≡ true
   pub on_line : penalty.line ≡ line
 
--- the last of some events
-abbrev pub last_event : List Event → Option Event
-last_event events = slice_get events (length events - 1)
-
 abbrev pub where_play : Option Event → Option Event
 where_play None = None
 where_play (Some e) = if is_play e.kind then Some e else None
@@ -161,6 +159,10 @@ IsOtherLetter m at dir word square byte shown =
 -- What is true of an event at its place, fact by fact. Of a record as a whole, and of racks, other words are said.
 abbrev pub IsTrue : Moment → Fact → Type 0
 IsTrue m (fact.OthersTurn player other) = (player ≡ m.event.player) × (other ≡ other_seat player)
+IsTrue m (fact.StandsTwice line) = StandsTwice m line
+IsTrue m (fact.WrongWay line next) = AreTheOtherWay m line next
+IsTrue m (fact.Missing player score before after) = IsMissing m player score before after
+IsTrue m (fact.AllowedFor other) = IsOthers m other
 IsTrue m (fact.OthersLine player out) = (player ≡ m.event.player) × (m.before.out ≡ Some out)
 IsTrue m fact.Complete = m.before.complete ≡ true
 IsTrue m (fact.Out out holder) = (m.before.out ≡ Some out) × (holder ≡ other_seat out)
@@ -190,6 +192,10 @@ IsTrue m (fact.OtherScore right written) = AreScores m right written
 IsTrue m (fact.ElsewhereScore written spots others) =
     OfPlay m.event.kind (λ at dir word. (written ≡ m.event.score) × (spots.items ≡ take 3 (places m word)) × (others ≡ length (places m word) - 3)
     × All (λ spot. scores_at m.rules m.before.board word written spot ≡ true) spots.items)
+IsTrue m (fact.AsBlank square letter read score) = OfPlay m.event.kind (λ at dir word. IsSwapped m at dir word square letter read score)
+IsTrue m (fact.NotOnRack which many has rack) = OfPlay m.event.kind (λ at dir word. IsNotOnRack m at dir word which many has rack)
+IsTrue m (fact.Misread square letter read words score written) =
+    OfPlay m.event.kind (λ at dir word. IsMisread m at dir word square letter read (letters_in words.items) score written)
 IsTrue m (fact.WrongTotal player had score right written) =
     (player ≡ m.event.player) × (had ≡ (side_of m.before.sides player).total) × (score ≡ m.event.score) × (right ≡ had +ℤ score) × (written ≡ m.event.total)
 IsTrue m fact.LeavesOutOwn = m.event.total ≡ (side_of m.before.sides m.event.player).total

@@ -1,6 +1,9 @@
 pub mod Moments
 pub mod Elsewhere
+pub mod Readings
+pub mod Orders
 pub mod Facts
 pub mod Words
 pub mod Boards
 pub mod Racks
+pub mod Wholes

@@ -1,5 +1,5 @@
 -- What is true of racks that cannot be dealt, by the steps of a game.
-use Rattle.std.specs.Prelude.{◌≡◌, ℕ, ◌+◌, ◌<◌, ◌==◌, ◌&&◌, ◌||◌, not, Bool, true, List, [], ◌∷◌, ◌++◌, sum, take, reverse, slice_get, Option, Some, None, if◌then◌else◌}
+use Rattle.std.specs.Prelude.{◌≡◌, ℕ, ◌+◌, ◌-◌, ◌<◌, ◌==◌, ◌&&◌, ◌||◌, not, Bool, true, List, [], ◌∷◌, ◌++◌, sum, take, reverse, slice_get, Option, Some, None, if◌then◌else◌}
 use Rattle.std.specs.List.{flat_map, list_any}
 use Rattle.ref_tiles.specs.declared.rulebook.Rules.{Rules}
 use Rattle.ref_tiles.specs.declared.kinds.Kind.{Kind}
@@ -15,6 +15,8 @@ use Rattle.deal_steps.specs.Piles.{greater, without, joined}
 use Rattle.deal_steps.specs.Steps.{needed, ends_epoch, size_of}
 use Rattle.deal_steps.specs.Bounds.{gone, low_at}
 use Rattle.deal_steps.specs.Knowing.{IsShownAt}
+use Rattle.deal_steps.specs.declared.deals.Held.{Held}
+use Rattle.deal_steps.specs.Fitting.{Fits}
 use Rattle.event_facts.specs.declared.facts.Fact.{Fact}
 use Rattle.event_facts.specs.declared.facts.Fact.TheVariants as fact
 use Rattle.event_facts.specs.declared.facts.RackLine.{RackLine}
@@ -162,9 +164,19 @@ pub record AreExchanges (steps : List Step) (place : ℕ) (lines : List Exchange
   pub there : slice_get steps place ≡ Some step
   pub lines_are : lines ≡ exchange_lines (take place steps) ++ exchange_line step
 
+-- some racks fit the steps before a place, the last of which is on this line
+pub record IsDealtTo (rules : Rules) (steps : List Step) (place line : ℕ) : Type 0 where
+  pub step : Step
+  pub some : 0 < place
+  pub there : slice_get steps (place - 1) ≡ Some step
+  pub on_line : line ≡ step.line
+  pub racks : List Held
+  pub fit : Fits rules (take place steps) racks
+
 -- what is true of the racks up to the step at a place
 abbrev pub IsRackTrue : Rules → List Step → (place : ℕ) → Fact → Type 0
 IsRackTrue rules steps place (fact.RackTooBig player size tiles lines) = IsTooBig steps place player size tiles lines.items
 IsRackTrue rules steps place (fact.TilesShort kind all many laid first second lines) = IsShort rules steps place kind all many laid first second lines.items
+IsRackTrue rules steps place (fact.DealtTo line) = IsDealtTo rules steps place line
 IsRackTrue rules steps place (fact.NoDeal exchanges) = AreExchanges steps place exchanges.items
 IsRackTrue rules steps place other = ⊥

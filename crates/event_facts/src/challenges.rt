@@ -13,8 +13,8 @@ use lex_list::WordList;
 use ref_play::Word;
 use std::alloc::{AllocError, Global};
 
-/// The words of the play before the event.
-fn words_before(alloc: Global, words: &[Word]) -> Result<Vec<Spelled>, AllocError>
+/// The letters of words.
+pub(crate) fn spelled(alloc: Global, words: &[Word]) -> Result<Vec<Spelled>, AllocError>
     ensures { IfOk result (λ kept. letters_in kept.items ≡ items_of words.now) }
 {
     let mut kept = Vec::new(alloc);
@@ -39,7 +39,7 @@ fn play_before<'a>(scene: &Scene<'a>) -> Option<&'a Event>
 pub(crate) fn valid(alloc: Global, scene: &Scene<'_>) -> Result<Option<Fact>, AllocError>
     ensures { IfOk result (λ fact. IfSome fact (IsTrue (moment_of scene.now))) }
 {
-    let words = words_before(alloc, scene.machine.latest_words())?;
+    let words = spelled(alloc, scene.machine.latest_words())?;
     match scene.past.last() {
         None => Ok(None),
         Some(event) => Ok(Some(Fact::PlayStands {
@@ -53,7 +53,7 @@ pub(crate) fn valid(alloc: Global, scene: &Scene<'_>) -> Result<Option<Fact>, Al
 pub(crate) fn phony(alloc: Global, scene: &Scene<'_>) -> Result<Option<Fact>, AllocError>
     ensures { IfOk result (λ fact. IfSome fact (IsTrue (moment_of scene.now))) }
 {
-    let words = words_before(alloc, scene.machine.latest_words())?;
+    let words = spelled(alloc, scene.machine.latest_words())?;
     match scene.past.last() {
         None => Ok(None),
         Some(event) => Ok(Some(Fact::NoWordListed {

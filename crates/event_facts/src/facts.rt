@@ -58,6 +58,17 @@ pub struct ExchangeLine {
     pub tiles: usize,
 }
 
+/// A play that stands with words that are not in the word list.
+#[derive(Drop)]
+pub struct UnlistedPlay {
+    /// Its line.
+    pub line: u32,
+    /// Its player.
+    pub player: Seat,
+    /// Those of its words that are not in the list.
+    pub words: Vec<Spelled>,
+}
+
 /// What is said of a record as a whole, or of one event: a sentence each.
 #[derive(Drop)]
 pub enum Fact {
@@ -67,6 +78,18 @@ pub enum Fact {
     Legal,
     /// The rules allow every event; neither such a deal was found, nor a proof that there is none.
     Unsettled,
+    /// Which plays stand with words that are not in the word list.
+    Unlisted {
+        /// These plays, in the order of the record.
+        plays: Vec<UnlistedPlay>,
+    },
+    /// On which turns no rack is shown.
+    RacksHidden {
+        /// Their lines.
+        lines: Vec<u32>,
+        /// How many turns there are, with a rack or without.
+        turns: usize,
+    },
     /// The rules do not allow an event before this one, so this one was not judged.
     NotJudged {
         /// The line of the first event that they do not allow.
@@ -78,6 +101,34 @@ pub enum Fact {
     OthersTurn {
         /// The player of the event.
         player: Seat,
+        /// The other player.
+        other: Seat,
+    },
+    /// The line before says the same as this one, which seems to stand twice.
+    StandsTwice {
+        /// The line before.
+        line: u32,
+    },
+    /// With this line and the next one the other way round the rules allow both.
+    WrongWay {
+        /// This line.
+        line: u32,
+        /// The next one.
+        next: u32,
+    },
+    /// A line of the other player seems to be missing.
+    Missing {
+        /// The other player.
+        player: Seat,
+        /// What the missing line scores, by the next total of the other player.
+        score: i32,
+        /// The line before it.
+        before: u32,
+        /// The line behind it.
+        after: u32,
+    },
+    /// As a line of the other player the rules allow the event.
+    AllowedFor {
         /// The other player.
         other: Seat,
     },
@@ -221,6 +272,43 @@ pub enum Fact {
         spots: Vec<Spot>,
         /// How many more places there are.
         others: usize,
+    },
+    /// With a letter of the play as a blank, or a blank as a letter, it has the score that is written.
+    AsBlank {
+        /// The square.
+        square: Square,
+        /// The letter of the play there, as it is written: small for a blank.
+        letter: u8,
+        /// What is read there: the same letter, small for a blank.
+        read: u8,
+        /// What the play scores with it, which is the score that is written.
+        score: i32,
+    },
+    /// A play uses more tiles of a kind than the line shows on the rack.
+    NotOnRack {
+        /// The kind.
+        kind: Kind,
+        /// How many of them the play uses.
+        played: usize,
+        /// How many of them the line shows.
+        has: usize,
+        /// The rack that the line shows.
+        rack: Counts,
+    },
+    /// With another tile on one square a play uses only tiles of the rack that the line shows, and each of its words is in the word list.
+    Misread {
+        /// The square.
+        square: Square,
+        /// The letter of the play there, as it is written: small for a blank.
+        letter: u8,
+        /// What is read there: another letter, small for a blank.
+        read: u8,
+        /// The words of the play with it.
+        words: Vec<Spelled>,
+        /// What the play scores with it.
+        score: i32,
+        /// The score that is written.
+        written: i32,
     },
     /// How a total is made.
     WrongTotal {
@@ -374,6 +462,11 @@ pub enum Fact {
         second: usize,
         /// The lines that show them.
         lines: Vec<KindLine>,
+    },
+    /// A deal of the tiles gives the players the racks that the lines up to this one show.
+    DealtTo {
+        /// The line.
+        line: u32,
     },
     /// No deal of the tiles gives the players the racks that the lines show.
     NoDeal {

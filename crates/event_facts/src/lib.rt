@@ -4,20 +4,27 @@
 
 mod boards;
 mod challenges;
+mod dealt;
 mod facts;
+mod orders;
 mod play_faults;
 mod racks;
+mod readings;
 mod rule_faults;
 mod scenes;
 mod scores;
 mod tiles;
 mod totals;
 mod turns;
+mod wholes;
 mod words;
 
 pub use boards::{ShownSquare, shown_board};
-pub use facts::{ExchangeLine, Fact, KindLine, Leaving, RackLine, Spelled};
+pub use dealt::dealt_to;
+pub use facts::{ExchangeLine, Fact, KindLine, Leaving, RackLine, Spelled, UnlistedPlay};
 pub use racks::{no_deal, rack_too_big, tiles_short};
+pub use readings::tell_rack_slip;
 pub use rule_faults::tell_rule_fault;
 pub use scenes::Scene;
+pub use wholes::push_notes;
 pub use words::{PlayedSquare, PlayedWord, PlayedWords, ScoredPlay, scored_play};

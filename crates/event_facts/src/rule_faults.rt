@@ -7,6 +7,7 @@ ghost use Rattle.event_facts.specs.Facts.{IsTrue};
 
 use crate::challenges::{nothing_to_withdraw, phony, valid, wrong_bonus};
 use crate::facts::Fact;
+use crate::orders::order_fact;
 use crate::play_faults::{tell_play_fault, tell_some};
 use crate::scenes::Scene;
 use crate::scores::{tell_elsewhere, tell_score};
@@ -34,8 +35,10 @@ fn one_fact(alloc: Global, scene: &Scene<'_>, fault: &RuleFault) -> Result<Optio
     ensures { IfOk result (λ fact. IfSome fact (IsTrue (moment_of scene.now))) }
 {
     match fault {
-        RuleFault::NotYourTurn => Ok(not_your_turn(scene)),
-        RuleFault::Play(_) | RuleFault::WrongScore(_) | RuleFault::WrongTotal(_) => Ok(None),
+        RuleFault::Play(_)
+        | RuleFault::WrongScore(_)
+        | RuleFault::WrongTotal(_)
+        | RuleFault::NotYourTurn => Ok(None),
         RuleFault::NothingToWithdraw => Ok(nothing_to_withdraw(scene)),
         RuleFault::WithdrawnValid => valid(alloc, scene),
         RuleFault::BonusOnPhony => phony(alloc, scene),
@@ -64,6 +67,16 @@ fn tell_one(
     tell_some(facts, scene, fact)
 }
 
+/// Adds whose turn it is, and what may be wrong with the order of the lines.
+fn tell_turn(alloc: Global, facts: &mut Vec<Fact>, scene: &Scene<'_>) -> Result<(), AllocError>
+    requires { All (IsTrue (moment_of scene.now)) facts.old.items }
+    ensures { OnOk result (All (IsTrue (moment_of scene.now)) facts.new.items) }
+{
+    let fact = order_fact(alloc, scene)?;
+    tell_some(facts, scene, not_your_turn(scene))?;
+    tell_some(facts, scene, fact)
+}
+
 /// Adds what is wrong with an event that the rules refuse.
 pub fn tell_rule_fault(
     alloc: Global,
@@ -76,6 +89,7 @@ pub fn tell_rule_fault(
     ensures { OnOk result (All (IsTrue (moment_of scene.now)) facts.new.items) }
 {
     match fault {
+        RuleFault::NotYourTurn => tell_turn(alloc, facts, scene),
         RuleFault::Play(_) => tell_play(alloc, facts, scene),
         RuleFault::WrongScore(right) => tell_score(alloc, facts, scene, *right),
         RuleFault::WrongTotal(right) => tell_total(facts, scene, *right),

@@ -21,6 +21,8 @@ pub struct Scene<'a> {
     pub past: &'a [Event],
     /// The event.
     pub event: &'a Event,
+    /// The events behind it.
+    pub later: &'a [Event],
     /// The game before it.
     pub machine: &'a Machine,
 }

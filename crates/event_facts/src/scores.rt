@@ -10,6 +10,7 @@ ghost use Rattle.event_facts.specs.Elsewhere.{is_listed_at, places};
 
 use crate::facts::Fact;
 use crate::play_faults::tell_some;
+use crate::readings::tell_slips;
 use crate::scenes::{Scene, tell};
 use game_facts::{Spot, scoring_spots};
 use game_turns::{all_listed, legal_play};
@@ -150,7 +151,7 @@ pub(crate) fn tell_elsewhere(
     tell_some(facts, scene, fact)
 }
 
-/// Adds what an event scores, and of a play where it would score what is written.
+/// Adds what an event scores, and of a play with which other tile and at which other place it would score what is written.
 pub(crate) fn tell_score(
     alloc: Global,
     facts: &mut Vec<Fact>,
@@ -164,7 +165,9 @@ pub(crate) fn tell_score(
     tell(facts, scene, score_fact(scene, right))?;
     match &scene.event.kind {
         EventKind::Play { at, dir, word } => {
-            tell_elsewhere(alloc, facts, scene, *at, *dir, word.as_slice())
+            let (at, dir, word) = (*at, *dir, word.as_slice());
+            tell_slips(alloc, facts, scene, at, dir, word, true)?;
+            tell_elsewhere(alloc, facts, scene, at, dir, word)
         }
         _ => Ok(()),
     }

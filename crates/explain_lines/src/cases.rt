@@ -8,8 +8,9 @@ use case_explanations::explain;
 use case_openings::push_opening;
 use engine::Case;
 use explanations::{Explanation, Picture};
+use gcg_read::ReadFault;
 use lex_list::WordList;
-use record_sentences::push_record_fault;
+use record_sentences::{push_missing, push_record_fault};
 use ref_tiles::Rules;
 use sentence_parts::say_of_line;
 use std::alloc::{AllocError, Global};
@@ -56,17 +57,26 @@ fn sentences_of(
                 push_told(&mut text, &told)?;
             }
         }
-        Err(fault) => {
-            push_record_fault(
-                alloc,
-                &mut text,
-                case.text.as_slice(),
-                fault.line,
-                fault.why,
-            )?;
-        }
+        Err(fault) => push_unread(alloc, &mut text, case.text.as_slice(), *fault)?,
     }
     Ok(text)
+}
+
+/// Appends why a text is no record, and what the line of its fault lacks, where that can be told.
+fn push_unread(
+    alloc: Global,
+    text: &mut Vec<u8>,
+    bytes: &[u8],
+    fault: ReadFault,
+) -> Result<(), AllocError> {
+    push_record_fault(alloc, text, bytes, fault.line, fault.why)?;
+    let mut missing = Vec::new(alloc);
+    push_missing(&mut missing, bytes, fault)?;
+    if let [b' ', sentence @ ..] = missing.as_slice() {
+        text.extend_from_slice(sentence)?;
+        text.push(b'\n')?;
+    }
+    Ok(())
 }
 
 /// Appends an explanation behind its opening: the facts, and what is shown beside them.
@@ -102,8 +112,6 @@ pub fn push_reason(
             None => Ok(()),
             Some(told) => push_facts(text, &told),
         },
-        Err(fault) => {
-            push_record_fault(alloc, text, case.text.as_slice(), fault.line, fault.why)
-        }
+        Err(fault) => push_unread(alloc, text, case.text.as_slice(), *fault),
     }
 }

@@ -1,28 +1,11 @@
 //! Plays that are taken back or challenged, and their words.
 
 use crate::names::nick;
+use crate::spelling::push_words;
 use event_facts::{Fact, Spelled};
 use gcg_read::{Players, Seat};
 use sentence_parts::{Part, say, say_of_line};
 use std::alloc::AllocError;
-
-/// Appends words, with a comma or an `and` between two.
-fn push_words(text: &mut Vec<u8>, words: &[Spelled]) -> Result<(), AllocError> {
-    let mut left = words.len();
-    for word in words {
-        text.extend_from_slice(word.letters.as_slice())?;
-        left = left.saturating_sub(1);
-        say(
-            text,
-            &[Part::Say(match left {
-                0 => "",
-                1 => " and ",
-                _ => ", ",
-            })],
-        )?;
-    }
-    Ok(())
-}
 
 /// Appends what the word list says of the play before, and the words of that play.
 fn push_ruled(

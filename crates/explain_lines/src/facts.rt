@@ -1,12 +1,15 @@
 //! The sentences of facts.
 
 use crate::challenges::push_challenge_fact;
+use crate::orders::push_order_fact;
 use crate::play_faults::push_play_fact;
 use crate::racks::push_rack_fact;
+use crate::readings::push_reading_fact;
 use crate::scores::push_score_fact;
 use crate::tiles::push_tiles_fact;
 use crate::totals::push_total_fact;
 use crate::turns::push_turn_fact;
+use crate::wholes::push_whole_fact;
 use event_facts::Fact;
 use explanations::Explanation;
 use gcg_read::Players;
@@ -47,6 +50,14 @@ fn push_fact(text: &mut Vec<u8>, players: &Players, fact: &Fact) -> Result<(), A
     match fact {
         Fact::NoEvent | Fact::Legal | Fact::Unsettled | Fact::NotJudged { .. } | Fact::Allowed =>
             push_verdict_fact(text, fact),
+        Fact::Unlisted { .. } | Fact::RacksHidden { .. } => push_whole_fact(text, players, fact),
+        Fact::StandsTwice { .. }
+        | Fact::WrongWay { .. }
+        | Fact::Missing { .. }
+        | Fact::AllowedFor { .. } => push_order_fact(text, players, fact),
+        Fact::AsBlank { .. } | Fact::NotOnRack { .. } | Fact::Misread { .. } => {
+            push_reading_fact(text, fact)
+        }
         Fact::OthersTurn { .. }
         | Fact::OthersLine { .. }
         | Fact::Complete
@@ -87,8 +98,9 @@ fn push_fact(text: &mut Vec<u8>, players: &Players, fact: &Fact) -> Result<(), A
         | Fact::ExchangeRefused { .. }
         | Fact::ExchangeSize { .. }
         | Fact::LastRackSize { .. } => push_tiles_fact(text, players, fact),
-        Fact::RackTooBig { .. } | Fact::TilesShort { .. } | Fact::NoDeal { .. } => {
-            push_rack_fact(text, players, fact)
-        }
+        Fact::RackTooBig { .. }
+        | Fact::TilesShort { .. }
+        | Fact::DealtTo { .. }
+        | Fact::NoDeal { .. } => push_rack_fact(text, players, fact),
     }
 }

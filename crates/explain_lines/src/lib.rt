@@ -10,12 +10,16 @@ mod cases;
 mod challenges;
 mod facts;
 mod names;
+mod orders;
 mod play_faults;
 mod racks;
+mod readings;
 mod scores;
+mod spelling;
 mod tiles;
 mod totals;
 mod turns;
+mod wholes;
 mod words;
 
 pub use cases::{push_explanation, push_reason};

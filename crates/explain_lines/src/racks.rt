@@ -184,6 +184,12 @@ pub fn push_rack_fact(
             push_short(text, players, *kind, &many)?;
             push_kind_lines(text, players, lines.as_slice())
         }
+        Fact::DealtTo { line } => say_of_line(
+            text,
+            "Up to line ",
+            *line,
+            " a deal of the tiles gives the players every rack that is shown.\n",
+        ),
         Fact::NoDeal { exchanges } => push_no_deal(text, players, exchanges.as_slice()),
         _ => Ok(()),
     }

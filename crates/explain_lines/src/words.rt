@@ -37,9 +37,32 @@ fn push_bonus(text: &mut Vec<u8>, bonus: Option<u32>) -> Result<(), AllocError> 
     }
 }
 
+/// What stands before a letter of a word: a bracket where the letters that were on the board already begin or end.
+fn bracket(before: bool, here: bool) -> &'static str {
+    match (before, here) {
+        (false, true) => "(",
+        (true, false) => ")",
+        (false, false) | (true, true) => "",
+    }
+}
+
+/// Appends the letters of a word, those that were on the board already in brackets.
+fn push_letters(text: &mut Vec<u8>, word: &PlayedWord) -> Result<(), AllocError> {
+    let mut before = false;
+    for (letter, square) in word.letters.iter().zip(word.squares.iter()) {
+        let here = !square.is_new;
+        say(
+            text,
+            &[Part::Say(bracket(before, here)), Part::Letter(*letter)],
+        )?;
+        before = here;
+    }
+    say(text, &[Part::Say(bracket(before, false))])
+}
+
 /// Appends a word, its squares and its sum.
 fn push_word(text: &mut Vec<u8>, word: &PlayedWord) -> Result<(), AllocError> {
-    text.extend_from_slice(word.letters.as_slice())?;
+    push_letters(text, word)?;
     say(
         text,
         &[Part::Say(if word.is_listed {

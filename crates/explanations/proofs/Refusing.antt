@@ -1,7 +1,7 @@
 -- The event at which a record is refused first.
 use Rattle.std.proofs.Common.{◌≡◌, ℕ, ◌+◌, ◌<◌, nat_lt, get_or, length, Bool, true, false, List, [], ◌∷◌, ◌++◌, All, slice_get, Some, inl, refl, sym, ap, ◌∙◌, subst, arith}
 use Rattle.std.proofs.lemmas.Bool.{ltb-true, ltb-false}
-use Rattle.std.proofs.lemmas.List.Elements.{All-cons, All-nil, All-head, All-tail}
+use Rattle.std.proofs.lemmas.List.Elements.{All-append, All-cons, All-nil, All-head, All-tail}
 use Rattle.std.proofs.lemmas.Option.{slice_get_read}
 use Rattle.first_faults.proofs.CheckLaws.{some_fault}
 use Rattle.ref_tiles.specs.declared.rulebook.Rules.{Rules}
@@ -47,6 +47,10 @@ none_at P facts is = subst (All P) (sym is) (All-nil P)
 
 pub one_at : (P : Fact → Type 0) (old new : List Fact) (f : Fact) → old ≡ [] → new ≡ old ++ f ∷ [] → P f → All P new
 one_at P old new f none is holds = subst (All P) (sym (is ∙ ap (λ (fs : List Fact). fs ++ f ∷ []) none)) (All-cons P f [] holds (All-nil P))
+
+-- a fact behind others that are true
+pub one_behind : (P : Fact → Type 0) (old new : List Fact) (f : Fact) → new ≡ old ++ f ∷ [] → All P old → P f → All P new
+one_behind P old new f is before holds = subst (All P) (sym is) (All-append P old (f ∷ []) before (All-cons P f [] holds (All-nil P)))
 
 -- what is read at a place within a list stands there
 pub read_at : {X : Type 0} (xs : List X) (place : ℕ) (x : X) → place < length xs → x ≡ get_or xs place x → slice_get xs place ≡ Some x

@@ -1,5 +1,5 @@
 //! What is said of an event of a record.
-ghost use Rattle.std.specs.Prelude.{◌≡◌, ◌+◌, ◌<◌, All, Some, IfOk, IfSome, length, slice_get};
+ghost use Rattle.std.specs.Prelude.{◌≡◌, ◌+◌, ◌<◌, All, Some, IfOk, IfSome, OnOk, drop, length, slice_get};
 ghost use Rattle.game_turns.specs.Machines.{state_of};
 ghost use Rattle.game_turns.specs.Tallies.{tally_at};
 ghost use Rattle.game_turns.specs.Places.{AreAllowedTo, IsRefusedBefore, fault_at};
@@ -7,8 +7,10 @@ ghost use Rattle.event_facts.specs.Racks.{IsRackTrue};
 ghost use Rattle.game_deal.specs.Recorded.{steps_of};
 ghost use Rattle.explanations.specs.Explaining.{IsTrueAt};
 
-use call_stages::GameFault;
-use event_facts::{Fact, Scene, no_deal, rack_too_big, tell_rule_fault, tiles_short};
+use call_stages::{Earlier, GameFault};
+use event_facts::{
+    Fact, Scene, dealt_to, no_deal, rack_too_big, tell_rack_slip, tell_rule_fault, tiles_short,
+};
 use game_deal::all_steps;
 use game_turns::{Machine, RuleFault, play_events, play_through};
 use gcg_read::{Event, Record};
@@ -51,6 +53,30 @@ fn rack_fact(
     }
 }
 
+/// Up to which line a deal gives the racks, where none does up to the event at a place and some does before it.
+fn dealt_fact(
+    alloc: Global,
+    sheet: &Sheet<'_>,
+    place: usize,
+    fault: &GameFault,
+) -> Result<Option<Fact>, AllocError>
+    ensures { IfOk result (λ fact. IfSome fact (IsRackTrue sheet.now.rules.now (steps_of sheet.now.rules.now sheet.now.record.now.events) place)) }
+{
+    if !matches!(
+        fault,
+        GameFault::NoDeal {
+            earlier: Earlier::Dealt
+        }
+    ) {
+        return Ok(None);
+    }
+    let Ok(passed) = play_through(sheet.rules, sheet.record, sheet.list) else {
+        return Ok(None);
+    };
+    let all = all_steps(alloc, &passed)?;
+    dealt_to(alloc, sheet.rules, all.as_slice(), place)
+}
+
 /// The list of a fact that is true of an event.
 fn one_fact(
     alloc: Global,
@@ -84,16 +110,100 @@ fn listed(
     }
 }
 
+/// Adds a fact that is true of an event.
+fn push_fact(
+    facts: &mut Vec<Fact>,
+    sheet: &Sheet<'_>,
+    place: usize,
+    fact: Fact,
+) -> Result<(), AllocError>
+    requires told { All (IsTrueAt sheet.now.rules.now sheet.now.list.now sheet.now.record.now.events place) facts.old.items }
+    requires holds { IsTrueAt sheet.now.rules.now sheet.now.list.now sheet.now.record.now.events place fact }
+    ensures { OnOk result (All (IsTrueAt sheet.now.rules.now sheet.now.list.now sheet.now.record.now.events place) facts.new.items) }
+{
+    let _ = sheet;
+    let _ = place;
+    facts.push(fact)?;
+    Ok(())
+}
+
+/// Adds a fact that is true of an event, where there is one.
+fn push_some(
+    facts: &mut Vec<Fact>,
+    sheet: &Sheet<'_>,
+    place: usize,
+    fact: Option<Fact>,
+) -> Result<(), AllocError>
+    requires told { All (IsTrueAt sheet.now.rules.now sheet.now.list.now sheet.now.record.now.events place) facts.old.items }
+    requires holds { IfSome fact (IsTrueAt sheet.now.rules.now sheet.now.list.now sheet.now.record.now.events place) }
+    ensures { OnOk result (All (IsTrueAt sheet.now.rules.now sheet.now.list.now sheet.now.record.now.events place) facts.new.items) }
+{
+    match fact {
+        None => Ok(()),
+        Some(fact) => push_fact(facts, sheet, place, fact),
+    }
+}
+
+/// The events behind a place.
+fn events_behind(events: &[Event], place: usize) -> &[Event]
+    requires { place < length events.now }
+    ensures { result.now ≡ drop (place + 1) events.now }
+{
+    &events[place + 1..]
+}
+
+/// Which tiles of a play are not on the rack that its line shows, where both are more than the player has.
+#[tactic(auto, using(crate::proofs::Refusing::all_at))]
+fn rack_slips(
+    alloc: Global,
+    sheet: &Sheet<'_>,
+    machine: &Machine,
+    event: &Event,
+    place: usize,
+) -> Result<Vec<Fact>, AllocError>
+    requires within { place < length sheet.now.record.now.events }
+    requires stands { slice_get sheet.now.record.now.events place ≡ Some event.now }
+    requires state { state_of machine.now ≡ tally_at sheet.now.rules.now sheet.now.record.now.events place }
+    ensures { IfOk result (λ facts. All (IsTrueAt sheet.now.rules.now sheet.now.list.now sheet.now.record.now.events place) facts.items) }
+{
+    let events = sheet.record.events.as_slice();
+    let later = events_behind(events, place);
+    let scene = Scene {
+        rules: sheet.rules,
+        list: sheet.list,
+        past: &events[..place],
+        event,
+        later,
+        machine,
+    };
+    let mut facts = Vec::new(alloc);
+    tell_rack_slip(alloc, &mut facts, &scene)?;
+    Ok(facts)
+}
+
 /// What is said of an event that the rules allow: that they do, or what is wrong with the racks.
-fn allowed_facts(alloc: Global, sheet: &Sheet<'_>, place: usize) -> Result<Vec<Fact>, AllocError>
-    requires { AreAllowedTo sheet.now.rules.now sheet.now.list.now sheet.now.record.now.events (place + 1) }
+fn allowed_facts(
+    alloc: Global,
+    sheet: &Sheet<'_>,
+    machine: &Machine,
+    event: &Event,
+    place: usize,
+) -> Result<Vec<Fact>, AllocError>
+    requires within { place < length sheet.now.record.now.events }
+    requires stands { slice_get sheet.now.record.now.events place ≡ Some event.now }
+    requires state { state_of machine.now ≡ tally_at sheet.now.rules.now sheet.now.record.now.events place }
+    requires allowed { AreAllowedTo sheet.now.rules.now sheet.now.list.now sheet.now.record.now.events (place + 1) }
     ensures { IfOk result (λ facts. All (IsTrueAt sheet.now.rules.now sheet.now.list.now sheet.now.record.now.events place) facts.items) }
 {
     let Some(fault) = sheet.fault else {
         return listed(alloc, sheet, place, Some(Fact::Allowed));
     };
     let fact = rack_fact(alloc, sheet, place, fault)?;
-    listed(alloc, sheet, place, fact)
+    let mut facts = rack_slips(alloc, sheet, machine, event, place)?;
+    push_some(&mut facts, sheet, place, fact)?;
+    let dealt = dealt_fact(alloc, sheet, place, fault)?;
+    push_some(&mut facts, sheet, place, dealt)?;
+    Ok(facts)
 }
 
 /// What is said of an event that the rules refuse.
@@ -113,11 +223,13 @@ fn refused_facts(
     ensures { IfOk result (λ facts. All (IsTrueAt sheet.now.rules.now sheet.now.list.now sheet.now.record.now.events place) facts.items) }
 {
     let events = sheet.record.events.as_slice();
+    let later = events_behind(events, place);
     let scene = Scene {
         rules: sheet.rules,
         list: sheet.list,
         past: &events[..place],
         event,
+        later,
         machine,
     };
     let mut facts = Vec::new(alloc);
@@ -157,7 +269,7 @@ pub(crate) fn facts_at(
         Err(refused) => return unjudged_facts(alloc, sheet, place, &refused),
     };
     match play_events(sheet.rules, events, sheet.list, place + 1) {
-        Ok(_) => allowed_facts(alloc, sheet, place),
+        Ok(_) => allowed_facts(alloc, sheet, &machine, event, place),
         Err((_, why)) => refused_facts(alloc, sheet, &machine, event, place, &why),
     }
 }

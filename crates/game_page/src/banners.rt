@@ -1,55 +1,271 @@
-//! The top of a page: names, result and verdict.
+//! The top of a page: names, result, the record's own words, and the verdict.
 
-use crate::heads::{name_of, names_of};
+use crate::heads::{is_named, name_of};
+use crate::lines::Line;
+use crate::panels::plus;
+use crate::plays::push_event;
 use crate::shown::Shown;
+use crate::sums::push_sum;
 use engine::Finding;
-use gcg_read::{Player, Points};
+use explanations::Picture;
+use gcg_read::{Event, Points, Seat};
 use page_pieces::{PageText, Piece};
+use record_words::Note;
+use score_sheets::Standing;
 use std::alloc::AllocError;
 
-/// Appends a player's name and last written total.
-fn push_total(
+/// Appends a last written total.
+fn push_total(page: &mut PageText, total: Option<Points>) -> Result<(), AllocError> {
+    let total = match total {
+        Some(total) => i64::from(total.value()),
+        None => 0,
+    };
+    page.push(&[
+        Piece::Markup("<b>"),
+        Piece::Number(total),
+        Piece::Markup("</b>"),
+    ])
+}
+
+/// Appends the name of a player, between two pieces of markup.
+fn push_name(
     page: &mut PageText,
     shown: &Shown<'_>,
-    player: &Player,
-    total: Option<Points>,
+    seat: Seat,
+    before: &'static str,
+    after: &'static str,
 ) -> Result<(), AllocError> {
-    page.push(&[name_of(shown, player), Piece::Markup(" ")])?;
-    match total {
-        Some(total) => page.push(&[Piece::Number(i64::from(total.value()))]),
-        None => page.push(&[Piece::Markup("0")]),
+    let name = name_of(shown, shown.player(seat));
+    page.push(&[Piece::Markup(before), name, Piece::Markup(after)])
+}
+
+/// Appends the first player's name and total, where the record names that player.
+fn push_first(page: &mut PageText, shown: &Shown<'_>) -> Result<(), AllocError> {
+    if !is_named(shown.player(Seat::First)) {
+        return Ok(());
     }
+    push_name(page, shown, Seat::First, "", " ")?;
+    push_total(page, shown.sheet.first_total)
 }
 
-/// Appends names and totals.
-fn push_result(page: &mut PageText, shown: &Shown<'_>) -> Result<(), AllocError> {
-    let sheet = &shown.sheet;
-    page.push(&[Piece::Markup("<header>\n<h1>")])?;
-    page.push(&names_of(shown))?;
-    page.push(&[Piece::Markup("</h1>\n<p class=\"result\">")])?;
-    push_total(page, shown, &sheet.players.first, sheet.first_total)?;
-    page.push(&[Piece::Markup(", ")])?;
-    push_total(page, shown, &sheet.players.second, sheet.second_total)?;
-    page.push(&[Piece::Markup("</p>\n</header>\n")])
+/// Appends the second player's total and name, where the record names that player.
+fn push_second(page: &mut PageText, shown: &Shown<'_>) -> Result<(), AllocError> {
+    if !is_named(shown.player(Seat::Second)) {
+        return Ok(());
+    }
+    page.push(&[Piece::Markup(" <span>&ndash;</span> ")])?;
+    push_total(page, shown.sheet.second_total)?;
+    push_name(page, shown, Seat::Second, " ", "")
 }
 
-/// The class of what is found.
-fn class_of(finding: &Finding) -> &'static str {
+/// Appends the names, each with its total.
+fn push_names(page: &mut PageText, shown: &Shown<'_>) -> Result<(), AllocError> {
+    page.push(&[Piece::Markup("<h1>")])?;
+    push_first(page, shown)?;
+    push_second(page, shown)?;
+    page.push(&[Piece::Markup("</h1>\n")])
+}
+
+/// What stands between the name of the player who is ahead and by how much, and behind it, and what is said where nobody is.
+fn result_words(finding: &Finding) -> [&'static str; 4] {
     match finding {
-        Finding::NoGame | Finding::Legal { .. } => "<p class=\"verdict legal\"><strong>",
-        Finding::Illegal { .. } => "<p class=\"verdict illegal\"><strong>",
-        Finding::Unsettled => "<p class=\"verdict unsettled\"><strong>",
+        Finding::Legal { complete: true } => ["", " won by ", ".", "A tie."],
+        Finding::NoGame | Finding::Legal { complete: false } => {
+            ["Unfinished. ", " is ahead by ", ".", "Unfinished."]
+        }
+        Finding::Illegal { .. } | Finding::Unsettled => [
+            "As it is written, ",
+            " is ahead by ",
+            ".",
+            "As it is written, both have the same.",
+        ],
     }
 }
 
-/// Appends names, totals, the verdict and what explains it.
-pub fn push_banner(page: &mut PageText, shown: &Shown<'_>) -> Result<(), AllocError> {
-    push_result(page, shown)?;
+/// Appends who won, and by how many points; or that the game is unfinished.
+fn push_result(page: &mut PageText, shown: &Shown<'_>) -> Result<(), AllocError> {
+    let words = result_words(&shown.finding);
+    page.push(&[Piece::Markup("<p class=\"result\">")])?;
+    match shown.sheet.standing {
+        Standing::Even => page.push(&[Piece::Markup(words[3])])?,
+        Standing::Ahead(seat, by) => page.push(&[
+            Piece::Markup(words[0]),
+            name_of(shown, shown.player(seat)),
+            Piece::Markup(words[1]),
+            Piece::Number(i64::from(by)),
+            Piece::Markup(words[2]),
+        ])?,
+    }
+    page.push(&[Piece::Markup("</p>\n")])
+}
+
+/// Appends what the record says under a name, where it does.
+fn push_own(
+    page: &mut PageText,
+    shown: &Shown<'_>,
+    name: &'static str,
+    said: Option<&[u8]>,
+) -> Result<(), AllocError> {
+    match said {
+        Some(said) => page.push(&[
+            Piece::Markup("<p class=\"own\">"),
+            Piece::Markup(name),
+            Piece::Markup(" by the record: <q>"),
+            Piece::Recorded(said, shown.encoding),
+            Piece::Markup("</q></p>\n"),
+        ]),
+        None => Ok(()),
+    }
+}
+
+/// Appends the notes that stand before the first event, and gives those behind them.
+fn push_notes<'n, 'a>(
+    page: &mut PageText,
+    shown: &Shown<'_>,
+    notes: &'n [Note<'a>],
+) -> Result<&'n [Note<'a>], AllocError> {
+    let mut left = notes;
+    for note in notes {
+        if note.after > 0 {
+            break;
+        }
+        push_own(page, shown, "Note", Some(note.text))?;
+        left = match left {
+            [_, rest @ ..] => rest,
+            [] => left,
+        };
+    }
+    Ok(left)
+}
+
+/// Appends what the record says of the game as a whole, and gives the notes of its events.
+fn push_words<'n, 'a>(
+    page: &mut PageText,
+    shown: &'n Shown<'a>,
+) -> Result<&'n [Note<'a>], AllocError> {
+    let words = &shown.words;
+    push_own(page, shown, "Title", words.title)?;
+    push_own(page, shown, "Event", words.event)?;
+    push_own(page, shown, "Description", words.description)?;
+    push_own(page, shown, "Lexicon", words.lexicon)?;
+    push_notes(page, shown, words.notes.as_slice())
+}
+
+/// The beginning of the box of a verdict.
+fn box_of(finding: &Finding) -> &'static str {
+    match finding {
+        Finding::NoGame | Finding::Legal { .. } => "<section class=\"verdict legal\">\n<h2>",
+        Finding::Illegal { .. } => "<section class=\"verdict illegal\">\n<h2>",
+        Finding::Unsettled => "<section class=\"verdict unsettled\">\n<h2>",
+    }
+}
+
+/// Appends the line of the faulty event as a link to its row, and its player.
+fn push_link(page: &mut PageText, line: &Line<'_>) -> Result<(), AllocError> {
     page.push(&[
-        Piece::Markup(class_of(&shown.finding)),
+        Piece::Markup("<p class=\"at\"><a href=\"#l"),
+        Piece::Number(i64::from(line.event.line)),
+        Piece::Markup("\">Line "),
+        Piece::Number(i64::from(line.event.line)),
+        Piece::Markup("</a>: "),
+        Piece::Recorded(line.player.nick.as_bytes(), line.encoding),
+        Piece::Markup(" <b>"),
+    ])
+}
+
+/// Appends the score and the total of the faulty event.
+fn push_numbers(page: &mut PageText, event: &Event) -> Result<(), AllocError> {
+    let score = event.score.value();
+    page.push(&[
+        Piece::Markup("</b> "),
+        Piece::Markup(plus(score)),
+        Piece::Number(i64::from(score)),
+        Piece::Markup(" "),
+        Piece::Number(i64::from(event.total.value())),
+        Piece::Markup("</p>\n"),
+    ])
+}
+
+/// Appends the faulty event, with a link to its row.
+fn push_faulty(page: &mut PageText, shown: &Shown<'_>) -> Result<(), AllocError> {
+    let Some(line) = shown.faulty.and_then(|place| shown.line_at(place)) else {
+        return Ok(());
+    };
+    push_link(page, &line)?;
+    push_event(page, line.event, line.laid())?;
+    push_numbers(page, line.event)
+}
+
+/// Appends the sum of the play that the verdict is about, where it is about one.
+fn push_fault_sum(page: &mut PageText, shown: &Shown<'_>) -> Result<(), AllocError> {
+    let Some(explanation) = &shown.explanation else {
+        return Ok(());
+    };
+    let Some(Picture::Shown(picture)) = &explanation.picture else {
+        return Ok(());
+    };
+    match &picture.play {
+        Some(play) => push_sum(page, play),
+        None => Ok(()),
+    }
+}
+
+/// Appends the verdict.
+fn push_line(page: &mut PageText, shown: &Shown<'_>) -> Result<(), AllocError> {
+    page.push(&[
+        Piece::Markup(box_of(&shown.finding)),
         Piece::Text(shown.verdict.as_slice().trim_ascii_end()),
-        Piece::Markup("</strong>"),
+        Piece::Markup("</h2>\n"),
+    ])
+}
+
+/// Appends what explains the verdict.
+fn push_why(page: &mut PageText, shown: &Shown<'_>) -> Result<(), AllocError> {
+    page.push(&[
+        Piece::Markup("<p class=\"why\">"),
         Piece::Recorded(shown.reason.as_slice().trim_ascii_end(), shown.encoding),
         Piece::Markup("</p>\n"),
     ])
+}
+
+/// Appends the verdict, the event that it is about, and what explains it.
+fn push_verdict(page: &mut PageText, shown: &Shown<'_>) -> Result<(), AllocError> {
+    push_line(page, shown)?;
+    push_faulty(page, shown)?;
+    push_why(page, shown)?;
+    push_fault_sum(page, shown)?;
+    page.push(&[Piece::Markup("</section>\n")])
+}
+
+/// Appends so many steps to the folder above.
+fn push_steps(page: &mut PageText, up: usize) -> Result<(), AllocError> {
+    for _ in 0..up {
+        page.push(&[Piece::Markup("../")])?;
+    }
+    Ok(())
+}
+
+/// Appends the link to the index, where there is one.
+fn push_back(page: &mut PageText, up: Option<usize>) -> Result<(), AllocError> {
+    let Some(up) = up else {
+        return Ok(());
+    };
+    page.push(&[Piece::Markup("<p class=\"up\"><a href=\"")])?;
+    push_steps(page, up)?;
+    page.push(&[Piece::Markup("index.html\">&lsaquo; All games</a></p>\n")])
+}
+
+/// Appends names, totals and result, what the record says of the game, the verdict and what explains it. It gives the notes of the events.
+pub fn push_banner<'n, 'a>(
+    page: &mut PageText,
+    shown: &'n Shown<'a>,
+) -> Result<&'n [Note<'a>], AllocError> {
+    page.push(&[Piece::Markup("<header>\n")])?;
+    push_back(page, shown.up)?;
+    push_names(page, shown)?;
+    push_result(page, shown)?;
+    let notes = push_words(page, shown)?;
+    push_verdict(page, shown)?;
+    page.push(&[Piece::Markup("</header>\n")])?;
+    Ok(notes)
 }

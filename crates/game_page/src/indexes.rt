@@ -1,12 +1,25 @@
 //! The index of the pages of many games.
+ghost use Rattle.std.specs.Prelude.{◌<◌};
 
-use crate::heads::push_head;
+use crate::faults::fault_words;
+use crate::heads::{push_start, push_style};
+use archive_lines::Answer;
 use page_pieces::{PageText, Piece};
 use percent_encoding::{AsciiSet, NON_ALPHANUMERIC, ascii_set, utf8_percent_encode};
 use std::alloc::{AllocError, Global};
 
 /// What is written by its number in the address of a page: all but letters, digits and the slashes between its folders.
 const IN_ADDRESS: AsciiSet = ascii_set!(NON_ALPHANUMERIC.remove(b'/'));
+
+/// The answers, in the order in which they are counted.
+const ANSWERS: [Answer; 6] = [
+    Answer::Legal,
+    Answer::Illegal,
+    Answer::Unsettled,
+    Answer::BadRecord,
+    Answer::NoGame,
+    Answer::Unread,
+];
 
 /// A player in the index.
 #[derive(Clone, Copy)]
@@ -24,8 +37,8 @@ pub struct IndexRow<'a> {
     pub game: &'a str,
     /// The path of its page from the folder of the index; none where there is none.
     pub page: Option<&'a str>,
-    /// What was answered of it, in one word or two.
-    pub answer: &'static str,
+    /// What was answered of it.
+    pub answer: Answer,
     /// The line of the fault, where there is one.
     pub line: Option<u32>,
     /// What is said of the answer: the fault, or whether the game has ended.
@@ -34,38 +47,134 @@ pub struct IndexRow<'a> {
     pub first: IndexPlayer<'a>,
     /// The other one.
     pub second: IndexPlayer<'a>,
+    /// How many plays stand with a word that is not listed, where that is known.
+    pub unlisted: Option<usize>,
+}
+
+/// The index of many games, which grows by a row for each.
+#[derive(Drop)]
+pub struct Index {
+    rows: PageText,
+    /// How many games had each answer.
+    counts: [usize; 6],
+}
+
+impl Index {
+    /// The index of no game yet.
+    pub fn new(alloc: Global) -> Index {
+        Index {
+            rows: PageText::new(alloc),
+            counts: [0; 6],
+        }
+    }
+
+    /// Adds the row of a game. Where memory runs out, the index stays as it was.
+    pub fn add(&mut self, alloc: Global, row: &IndexRow<'_>) -> Result<(), AllocError> {
+        let before = self.rows.len();
+        match push_row(alloc, &mut self.rows, row) {
+            Ok(()) => {
+                let place = place_of(row.answer);
+                self.counts[place] = self.counts[place].saturating_add(1);
+                Ok(())
+            }
+            Err(error) => {
+                self.rows.truncate(before);
+                Err(error)
+            }
+        }
+    }
+
+    /// The bytes of the index.
+    ///
+    /// It fails only where memory runs out.
+    pub fn to_bytes(&self, alloc: Global) -> Result<Vec<u8>, AllocError> {
+        let mut head = PageText::new(alloc);
+        push_head(&mut head, &self.counts)?;
+        let mut whole = Vec::from_slice(alloc, head.as_slice())?;
+        whole.extend_from_slice(self.rows.as_slice())?;
+        whole.extend_from_slice(b"</tbody>\n</table>\n</main>\n</body>\n</html>\n")?;
+        Ok(whole)
+    }
+}
+
+/// The place of an answer among those that are counted.
+fn place_of(answer: Answer) -> usize
+    ensures { result < 6 }
+{
+    match answer {
+        Answer::Legal => 0,
+        Answer::Illegal => 1,
+        Answer::Unsettled => 2,
+        Answer::BadRecord => 3,
+        Answer::NoGame => 4,
+        Answer::Unread => 5,
+    }
+}
+
+/// The sign of an answer.
+fn sign_of(answer: Answer) -> &'static str {
+    match answer {
+        Answer::Legal => "&#10003; ",
+        Answer::Illegal => "&#10007; ",
+        Answer::Unsettled => "? ",
+        Answer::BadRecord | Answer::NoGame | Answer::Unread => "&ndash; ",
+    }
+}
+
+/// The class of an answer, as an attribute up to the end of its tag.
+fn class_of(answer: Answer) -> &'static str {
+    match answer {
+        Answer::Legal => " class=\"is-legal\">",
+        Answer::Illegal => " class=\"is-illegal\">",
+        Answer::Unsettled => " class=\"is-unsettled\">",
+        Answer::BadRecord | Answer::NoGame | Answer::Unread => " class=\"is-none\">",
+    }
+}
+
+/// Appends how many games had an answer, where some had.
+fn push_count(page: &mut PageText, answer: Answer, many: usize) -> Result<(), AllocError> {
+    if many == 0 {
+        return Ok(());
+    }
+    page.push(&[
+        Piece::Markup("<li"),
+        Piece::Markup(class_of(answer)),
+        Piece::Markup(sign_of(answer)),
+        Piece::Many(many),
+        Piece::Markup(" "),
+        Piece::Markup(answer.name()),
+        Piece::Markup("</li>\n"),
+    ])
 }
 
 /// Appends the index up to its first row.
-pub fn push_index_head(page: &mut PageText) -> Result<(), AllocError> {
-    push_head(page, &[Piece::Markup("Games")])?;
+fn push_head(page: &mut PageText, counts: &[usize; 6]) -> Result<(), AllocError> {
+    push_start(page)?;
+    page.push(&[Piece::Markup("Games")])?;
+    push_style(page)?;
     page.push(&[Piece::Markup(
-        "<header>\n<h1>Games</h1>\n</header>\n<main>\n<table class=\"sheet\">\n<thead>\n<tr><th>Game</th><th>Verdict</th><th>Player 1</th><th class=\"p\">Total 1</th><th>Player 2</th><th class=\"p\">Total 2</th></tr>\n</thead>\n<tbody>\n",
+        "<body class=\"index\">\n<header>\n<h1>Games</h1>\n<ul class=\"counts\">\n",
+    )])?;
+    for answer in &ANSWERS {
+        push_count(page, *answer, counts[place_of(*answer)])?;
+    }
+    page.push(&[Piece::Markup(
+        "</ul>\n</header>\n<main>\n<table class=\"sheet\">\n<thead>\n<tr><th>Game</th><th>Verdict</th><th>Player 1</th><th class=\"num\">Total</th><th>Player 2</th><th class=\"num\">Total</th></tr>\n</thead>\n<tbody>\n",
     )])
 }
 
 /// Appends the row of a game.
-pub fn push_index_row(
-    alloc: Global,
-    page: &mut PageText,
-    row: &IndexRow<'_>,
-) -> Result<(), AllocError> {
-    page.push(&[Piece::Markup("<tr><td data-name=\"Game\">")])?;
+fn push_row(alloc: Global, page: &mut PageText, row: &IndexRow<'_>) -> Result<(), AllocError> {
+    page.push(&[
+        Piece::Markup("<tr"),
+        Piece::Markup(class_of(row.answer)),
+        Piece::Markup("<td class=\"gm\">"),
+    ])?;
     push_link(alloc, page, row)?;
     push_answer(page, row)?;
-    push_player(
-        page,
-        "</td><td data-name=\"Player 1\">",
-        "</td><td class=\"p\" data-name=\"Total 1\">",
-        &row.first,
-    )?;
-    push_player(
-        page,
-        "</td><td data-name=\"Player 2\">",
-        "</td><td class=\"p\" data-name=\"Total 2\">",
-        &row.second,
-    )?;
-    page.push(&[Piece::Markup("</td></tr>\n")])
+    push_player(page, &row.first)?;
+    push_player(page, &row.second)?;
+    page.push(&[Piece::Markup("</tr>\n")])
 }
 
 /// Appends the beginning of a link to an address.
@@ -91,37 +200,56 @@ fn push_link(alloc: Global, page: &mut PageText, row: &IndexRow<'_>) -> Result<(
 /// Appends what was answered of a game.
 fn push_answer(page: &mut PageText, row: &IndexRow<'_>) -> Result<(), AllocError> {
     page.push(&[
-        Piece::Markup("</td><td data-name=\"Verdict\">"),
-        Piece::Markup(row.answer),
+        Piece::Markup("</td><td class=\"vd\"><b>"),
+        Piece::Markup(sign_of(row.answer)),
+        Piece::Markup(row.answer.name()),
+        Piece::Markup("</b>"),
     ])?;
     if let Some(line) = row.line {
         page.push(&[Piece::Markup(" line "), Piece::Number(i64::from(line))])?;
     }
     if let Some(why) = row.why {
-        page.push(&[Piece::Markup(": "), Piece::Text(why.as_bytes())])?;
+        push_why(page, why)?;
     }
-    Ok(())
+    push_unlisted(page, row.unlisted.unwrap_or(0))
 }
 
-/// Appends a player, with the markup of the two cells.
-fn push_player(
-    page: &mut PageText,
-    nick_cell: &'static str,
-    total_cell: &'static str,
-    player: &IndexPlayer<'_>,
-) -> Result<(), AllocError> {
+/// Appends how many plays stand with a word that is not listed, where some do.
+fn push_unlisted(page: &mut PageText, plays: usize) -> Result<(), AllocError> {
+    match plays {
+        0 => page.push(&[Piece::Markup("</td>")]),
+        1 => page.push(&[Piece::Markup(", 1 play with an unlisted word</td>")]),
+        _ => page.push(&[
+            Piece::Markup(", "),
+            Piece::Many(plays),
+            Piece::Markup(" plays with unlisted words</td>"),
+        ]),
+    }
+}
+
+/// Appends what is said of an answer: a fault in words, with its name.
+fn push_why(page: &mut PageText, why: &str) -> Result<(), AllocError> {
+    match fault_words(why) {
+        Some(words) => page.push(&[
+            Piece::Markup(": "),
+            Piece::Markup(words),
+            Piece::Markup(" <small>"),
+            Piece::Text(why.as_bytes()),
+            Piece::Markup("</small>"),
+        ]),
+        None => page.push(&[Piece::Markup(": "), Piece::Text(why.as_bytes())]),
+    }
+}
+
+/// Appends a player and the last total.
+fn push_player(page: &mut PageText, player: &IndexPlayer<'_>) -> Result<(), AllocError> {
     page.push(&[
-        Piece::Markup(nick_cell),
+        Piece::Markup("<td class=\"pl\">"),
         Piece::Text(player.nick.unwrap_or("").as_bytes()),
-        Piece::Markup(total_cell),
+        Piece::Markup("</td><td class=\"num\">"),
     ])?;
     match player.total {
-        Some(total) => page.push(&[Piece::Number(i64::from(total))]),
-        None => Ok(()),
+        Some(total) => page.push(&[Piece::Number(i64::from(total)), Piece::Markup("</td>")]),
+        None => page.push(&[Piece::Markup("</td>")]),
     }
-}
-
-/// Appends the end of the index.
-pub fn push_index_end(page: &mut PageText) -> Result<(), AllocError> {
-    page.push(&[Piece::Markup("</tbody>\n</table>\n</main>\n</body>\n</html>\n")])
 }

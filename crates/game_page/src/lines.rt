@@ -1,9 +1,9 @@
 //! A line of a sheet.
 
-use event_notes::SpelledWord;
-use gcg_read::{Event, Player};
+use event_notes::{BestPlay, SpelledWord, TurnBest};
+use gcg_read::{Event, EventKind, Player};
 use name_texts::Encoding;
-use score_sheets::SheetRow;
+use score_sheets::{LaidPlay, Picture, Position, SheetRow};
 
 /// An event of a sheet, and what the sheet says of it.
 #[derive(Clone, Copy)]
@@ -16,6 +16,10 @@ pub struct Line<'a> {
     pub event: &'a Event,
     /// What the sheet says of it.
     pub row: &'a SheetRow,
+    /// The board behind it, where the plays up to it can be laid.
+    pub picture: Option<&'a Picture>,
+    /// What is said of that board.
+    pub position: Option<&'a Position>,
     /// Whether it is the faulty line.
     pub is_faulty: bool,
 }
@@ -24,5 +28,31 @@ impl<'a> Line<'a> {
     /// The words that are not in the list.
     pub fn unlisted(&self) -> &'a [SpelledWord] {
         self.row.unlisted.as_slice()
+    }
+
+    /// Its play as it lies on the board, where it does.
+    pub fn laid(&self) -> Option<&'a LaidPlay> {
+        self.position?.play.as_ref()
+    }
+
+    /// Whether it puts down seven tiles.
+    pub fn is_full(&self) -> bool {
+        match self.laid() {
+            Some(play) => play.is_full,
+            None => false,
+        }
+    }
+
+    /// Whether it is a play.
+    pub fn is_play(&self) -> bool {
+        matches!(self.event.kind, EventKind::Play { .. })
+    }
+
+    /// Its best play, where there is one.
+    pub fn best(&self) -> Option<&'a BestPlay> {
+        match &self.row.best {
+            Some(TurnBest::Best(best)) => Some(best),
+            _ => None,
+        }
     }
 }

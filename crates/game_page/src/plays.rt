@@ -1,7 +1,9 @@
 //! Events in words.
 
+use game_board::tile_mark;
 use gcg_read::{Event, EventKind};
 use page_pieces::{PageText, Piece};
+use score_sheets::{LaidPlay, PlayedTile};
 use std::alloc::AllocError;
 
 /// What an event other than a play is called, before its tiles where it has any.
@@ -18,13 +20,64 @@ fn words_of(kind: &EventKind) -> &'static str {
     }
 }
 
-/// Appends what happened in an event.
-pub fn push_event(page: &mut PageText, event: &Event) -> Result<(), AllocError> {
+/// The bracket before a tile of a play: tiles that were on the board already stand in brackets.
+fn bracket(was_new: bool, is_new: bool) -> &'static str {
+    match (was_new, is_new) {
+        (true, false) => "(",
+        (false, true) => ")",
+        (true, true) | (false, false) => "",
+    }
+}
+
+/// Appends a tile of a play by its letter, behind a bracket where one stands there.
+fn push_tile(page: &mut PageText, was_new: bool, tile: &PlayedTile) -> Result<(), AllocError> {
+    let Some(cell) = tile.cell else {
+        return Ok(());
+    };
+    let letter = [tile_mark(&cell)];
+    page.push(&[
+        Piece::Markup(bracket(was_new, tile.is_new)),
+        Piece::Text(&letter),
+    ])
+}
+
+/// Appends the word of a play, in which tiles that were on the board already stand in brackets.
+fn push_word(page: &mut PageText, play: &LaidPlay) -> Result<(), AllocError> {
+    let mut was_new = true;
+    for tile in play.tiles.iter() {
+        push_tile(page, was_new, tile)?;
+        was_new = tile.is_new;
+    }
+    page.push(&[Piece::Markup(bracket(was_new, true))])
+}
+
+/// Appends a play: where it begins and its word, where it lies on the board; else as it is written.
+fn push_play(
+    page: &mut PageText,
+    event: &Event,
+    laid: Option<&LaidPlay>,
+) -> Result<(), AllocError> {
+    let EventKind::Play { at, dir, word } = &event.kind else {
+        return Ok(());
+    };
+    match laid {
+        None => page.push(&[Piece::Play(*at, *dir, word.as_slice())]),
+        Some(play) => {
+            page.push(&[Piece::Play(*at, *dir, &[])])?;
+            push_word(page, play)
+        }
+    }
+}
+
+/// Appends what happened in an event. `laid` is its play as it lies on the board, where it does.
+pub fn push_event(
+    page: &mut PageText,
+    event: &Event,
+    laid: Option<&LaidPlay>,
+) -> Result<(), AllocError> {
     page.push(&[Piece::Markup(words_of(&event.kind))])?;
     match &event.kind {
-        EventKind::Play { at, dir, word } => {
-            page.push(&[Piece::Play(*at, *dir, word.as_slice())])
-        }
+        EventKind::Play { .. } => push_play(page, event, laid),
         EventKind::Exchange(tiles) | EventKind::LastRack(tiles) => {
             page.push(&[Piece::Tiles(tiles)])
         }

@@ -1,179 +1,327 @@
 //! The rows of a sheet.
 
-use crate::boards::push_board;
+use crate::heads::{is_named, name_of};
 use crate::lines::Line;
+use crate::panels::{plus, push_panel};
 use crate::plays::push_event;
 use crate::shown::Shown;
-use event_notes::{SpelledWord, TurnBest};
-use gcg_read::Points;
+use event_notes::{BestPlay, SpelledWord, TurnBest};
+use gcg_read::{Points, Seat};
 use page_pieces::{PageText, Piece};
-use score_sheets::Picture;
+use record_words::Note;
+use score_sheets::SheetRow;
 use std::alloc::AllocError;
 
-/// Appends the head of the table.
-fn push_heading(page: &mut PageText) -> Result<(), AllocError> {
-    page.push(&[Piece::Markup(
-        "<table class=\"sheet\">\n<thead>\n<tr><th>Line</th><th>Player</th><th>Rack</th><th>Play</th><th class=\"p\">Score</th><th class=\"p\">Total</th><th>Best play</th><th class=\"p\">Points more</th><th>Not in the list</th><th>Should be</th></tr>\n</thead>\n<tbody>\n",
-    )])
+/// Which columns a sheet has beside those that every sheet has: those in which something stands.
+#[derive(Clone, Copy)]
+struct Columns {
+    /// Words that are not in the list.
+    unlisted: bool,
+    /// What numbers should be.
+    right: bool,
 }
 
-/// Appends the start of the row of an event: its line, which is marked where it is the faulty one, and its player.
-fn push_start(page: &mut PageText, line: &Line<'_>) -> Result<(), AllocError> {
+/// Whether some number of a row should be another one.
+fn has_right(row: &SheetRow) -> bool {
+    row.score.is_some() || row.total.is_some()
+}
+
+/// The columns of a sheet with these rows.
+fn columns_of(rows: &[SheetRow]) -> Columns {
+    Columns {
+        unlisted: rows.iter().any(|row| !row.unlisted.is_empty()),
+        right: rows.iter().any(|row| has_right(row)),
+    }
+}
+
+/// Appends the head of the table.
+fn push_heading(page: &mut PageText, columns: Columns) -> Result<(), AllocError> {
+    page.push(&[Piece::Markup(
+        "<table class=\"sheet\">\n<thead>\n<tr><th>Line</th><th>Player</th><th>Play</th><th class=\"num\">Score</th><th class=\"num\">Total</th><th>Rack</th><th>Best play</th><th class=\"num\">More</th>",
+    )])?;
     page.push(&[
-        Piece::Markup(if line.is_faulty {
-            "<tr class=\"fault\">"
-        } else {
-            "<tr>"
-        }),
-        Piece::Markup("<td data-name=\"Line\">"),
-        Piece::Number(i64::from(line.event.line)),
-        Piece::Markup(if line.is_faulty {
-            " <span class=\"wrong\">fault</span>"
+        Piece::Markup(if columns.unlisted {
+            "<th>Not in the list</th>"
         } else {
             ""
         }),
-        Piece::Markup("</td><td data-name=\"Player\">"),
+        Piece::Markup(if columns.right {
+            "<th>Should be</th>"
+        } else {
+            ""
+        }),
+        Piece::Markup("<th class=\"pos\">Board</th></tr>\n</thead>\n<tbody>\n"),
+    ])
+}
+
+/// The class of a row: whether it is the faulty one, a play that is taken back, or no play.
+fn class_of(line: &Line<'_>) -> &'static str {
+    match (line.is_faulty, line.row.taken_back, line.is_play()) {
+        (true, true, _) => "\" class=\"fault back\">",
+        (true, false, true) => "\" class=\"fault\">",
+        (true, false, false) => "\" class=\"fault other\">",
+        (false, true, _) => "\" class=\"back\">",
+        (false, false, true) => "\">",
+        (false, false, false) => "\" class=\"other\">",
+    }
+}
+
+/// Appends the start of a row: its line and its player.
+fn push_start(page: &mut PageText, line: &Line<'_>) -> Result<(), AllocError> {
+    page.push(&[
+        Piece::Markup("<tr id=\"l"),
+        Piece::Number(i64::from(line.event.line)),
+        Piece::Markup(class_of(line)),
+        Piece::Markup("<td class=\"no\">"),
+        Piece::Number(i64::from(line.event.line)),
+        Piece::Markup("</td><td class=\"who\">"),
         Piece::Recorded(line.player.nick.as_bytes(), line.encoding),
         Piece::Markup("</td>"),
     ])
 }
 
-/// Appends what an event line says behind its player: the rack, what happened, the score and the total.
+/// The marks behind a play.
+fn tags_of(line: &Line<'_>) -> [Piece<'static>; 3] {
+    [
+        Piece::Markup(if line.is_full() {
+            " <b class=\"tag bingo\">bingo</b>"
+        } else {
+            ""
+        }),
+        Piece::Markup(if line.row.taken_back {
+            " <b class=\"tag phony\">taken back</b>"
+        } else {
+            ""
+        }),
+        Piece::Markup(if line.is_faulty {
+            " <b class=\"tag wrong\">fault</b></td>"
+        } else {
+            "</td>"
+        }),
+    ]
+}
+
+/// Appends what happened, which leads to the position behind it where there is one.
+fn push_play(page: &mut PageText, line: &Line<'_>) -> Result<(), AllocError> {
+    page.push(&[Piece::Markup("<td class=\"play\">")])?;
+    if line.picture.is_none() {
+        push_event(page, line.event, line.laid())?;
+        return page.push(&tags_of(line));
+    }
+    page.push(&[
+        Piece::Markup("<a href=\"#l"),
+        Piece::Number(i64::from(line.event.line)),
+        Piece::Markup("\">"),
+    ])?;
+    push_event(page, line.event, line.laid())?;
+    page.push(&[Piece::Markup("</a>")])?;
+    page.push(&tags_of(line))
+}
+
+/// Appends the score, the total and the rack of a line.
 fn push_written(page: &mut PageText, line: &Line<'_>) -> Result<(), AllocError> {
     let event = line.event;
-    page.push(&[Piece::Markup("<td data-name=\"Rack\">")])?;
-    if let Some(rack) = &event.rack {
-        page.push(&[Piece::Tiles(rack)])?;
-    }
-    page.push(&[Piece::Markup("</td><td data-name=\"Play\">")])?;
-    push_event(page, event)?;
+    let score = event.score.value();
     page.push(&[
-        Piece::Markup("</td><td class=\"p\" data-name=\"Score\">"),
-        Piece::Number(i64::from(event.score.value())),
-        Piece::Markup("</td><td class=\"p\" data-name=\"Total\">"),
+        Piece::Markup("<td class=\"num sc\">"),
+        Piece::Markup(plus(score)),
+        Piece::Number(i64::from(score)),
+        Piece::Markup("</td><td class=\"num to\">"),
         Piece::Number(i64::from(event.total.value())),
-        Piece::Markup("</td>"),
+        Piece::Markup("</td><td class=\"rk\">"),
+    ])?;
+    match &event.rack {
+        Some(rack) => page.push(&[Piece::Tiles(rack), Piece::Markup("</td>")]),
+        None => page.push(&[Piece::Markup("</td>")]),
+    }
+}
+
+/// Appends a best play that scores more or less than the turn did.
+fn push_other_best(page: &mut PageText, best: &BestPlay) -> Result<(), AllocError> {
+    let written = &best.written;
+    page.push(&[
+        Piece::Play(written.at, written.dir, written.word.as_slice()),
+        Piece::Markup(" "),
+        Piece::Number(i64::from(best.score)),
     ])
+}
+
+/// Appends what is said of the best play of an event.
+fn push_best(page: &mut PageText, best: &TurnBest) -> Result<(), AllocError> {
+    match best {
+        TurnBest::NoTurn => Ok(()),
+        TurnBest::NotShown => page.push(&[Piece::Markup("rack not shown")]),
+        TurnBest::NoPlay => page.push(&[Piece::Markup("none")]),
+        TurnBest::Best(best) if best.more == 0 => page.push(&[Piece::Markup("best")]),
+        TurnBest::Best(best) => push_other_best(page, best),
+    }
+}
+
+/// Appends how many points more the best play of an event would have given, where it would have.
+fn push_more(page: &mut PageText, line: &Line<'_>) -> Result<(), AllocError> {
+    match line.best() {
+        Some(best) if best.more > 0 => {
+            page.push(&[Piece::Markup("+"), Piece::Number(best.more)])
+        }
+        _ => Ok(()),
+    }
+}
+
+/// Appends the best play of a turn and what it would have given more.
+fn push_best_cells(page: &mut PageText, line: &Line<'_>) -> Result<(), AllocError> {
+    page.push(&[Piece::Markup("<td class=\"bp\">")])?;
+    if let Some(best) = &line.row.best {
+        push_best(page, best)?;
+    }
+    page.push(&[Piece::Markup("</td><td class=\"num mo\">")])?;
+    push_more(page, line)?;
+    page.push(&[Piece::Markup("</td>")])
+}
+
+/// Appends words, each behind a space.
+fn push_words(page: &mut PageText, words: &[SpelledWord]) -> Result<(), AllocError> {
+    page.push(&[Piece::Markup("<td class=\"un\">")])?;
+    for word in words {
+        page.push(&[Piece::Text(word.letters.as_slice()), Piece::Markup(" ")])?;
+    }
+    page.push(&[Piece::Markup("</td>")])
 }
 
 /// Appends what a number should be, where it is not that.
 fn push_should_be(
     page: &mut PageText,
-    line: &Line<'_>,
     name: &'static str,
     right: Option<Points>,
-    end: &'static str,
 ) -> Result<(), AllocError> {
-    let Some(right) = right else {
-        return Ok(());
-    };
-    let pieces = [
-        Piece::Markup(name),
-        Piece::Number(i64::from(right.value())),
-        Piece::Markup(end),
-    ];
-    page.push(&pieces)
-}
-
-/// Appends what the score and the total of an event should be, where they are not that.
-fn push_right(page: &mut PageText, line: &Line<'_>) -> Result<(), AllocError> {
-    page.push(&[Piece::Markup("<td class=\"wrong\" data-name=\"Should be\">")])?;
-    push_should_be(page, line, "score ", line.row.score, " ")?;
-    push_should_be(page, line, "total ", line.row.total, "")?;
-    page.push(&[Piece::Markup("</td>")])
-}
-
-/// Appends the best play of an event.
-fn push_best(page: &mut PageText, line: &Line<'_>, best: &TurnBest) -> Result<(), AllocError> {
-    match best {
-        TurnBest::NoTurn => Ok(()),
-        TurnBest::NotShown => page.push(&[Piece::Markup("the rack is not shown")]),
-        TurnBest::NoPlay => page.push(&[Piece::Markup("none")]),
-        TurnBest::Best(best) => {
-            let written = &best.written;
-            page.push(&[
-                Piece::Play(written.at, written.dir, written.word.as_slice()),
-                Piece::Markup(" "),
-                Piece::Number(i64::from(best.score)),
-            ])
-        }
-    }
-}
-
-/// Appends what the best play of an event would have given more.
-fn push_more(page: &mut PageText, line: &Line<'_>, best: &TurnBest) -> Result<(), AllocError> {
-    match best {
-        TurnBest::Best(best) => page.push(&[Piece::Number(best.more)]),
-        TurnBest::NoTurn | TurnBest::NotShown | TurnBest::NoPlay => Ok(()),
-    }
-}
-
-/// Appends the best play of a turn and what it would have given more, where the events before are allowed.
-fn push_best_cells(page: &mut PageText, line: &Line<'_>) -> Result<(), AllocError> {
-    let Some(best) = &line.row.best else {
-        return page.push(&[Piece::Markup("<td></td><td></td>")]);
-    };
-    page.push(&[Piece::Markup("<td data-name=\"Best play\">")])?;
-    push_best(page, line, best)?;
-    page.push(&[Piece::Markup("</td><td class=\"p\" data-name=\"Points more\">")])?;
-    push_more(page, line, best)?;
-    page.push(&[Piece::Markup("</td>")])
-}
-
-/// Appends words, each before a space.
-fn push_words(page: &mut PageText, words: &[SpelledWord]) -> Result<(), AllocError> {
-    for word in words {
-        page.push(&[Piece::Text(word.letters.as_slice()), Piece::Markup(" ")])?;
-    }
-    Ok(())
-}
-
-/// Appends the board behind an event, which opens at a click.
-fn push_after(
-    page: &mut PageText,
-    shown: &Shown<'_>,
-    line: &Line<'_>,
-    picture: &Picture,
-) -> Result<(), AllocError> {
-    page.push(&[
-        Piece::Markup("<tr class=\"after\"><td colspan=\"10\"><details><summary>board after line "),
-        Piece::Number(i64::from(line.event.line)),
-        Piece::Markup("</summary>\n"),
-    ])?;
-    push_board(page, shown.rules, picture)?;
-    page.push(&[Piece::Markup("</details></td></tr>\n")])
-}
-
-/// Appends the row of an event.
-fn push_row(page: &mut PageText, line: &Line<'_>) -> Result<(), AllocError> {
-    push_start(page, line)?;
-    push_written(page, line)?;
-    push_best_cells(page, line)?;
-    page.push(&[Piece::Markup("<td data-name=\"Not in the list\">")])?;
-    push_words(page, line.unlisted())?;
-    page.push(&[Piece::Markup("</td>")])?;
-    push_right(page, line)?;
-    page.push(&[Piece::Markup("</tr>\n")])
-}
-
-/// Appends the row of the event at a place, and the board behind it where there is one.
-fn push_place(page: &mut PageText, shown: &Shown<'_>, place: usize) -> Result<(), AllocError> {
-    let Some(line) = shown.line_at(place) else {
-        return Ok(());
-    };
-    push_row(page, &line)?;
-    match shown.sheet.boards.as_slice().get(place) {
-        Some(picture) => push_after(page, shown, &line, picture),
+    match right {
+        Some(right) => page.push(&[
+            Piece::Markup(name),
+            Piece::Number(i64::from(right.value())),
+            Piece::Markup(" "),
+        ]),
         None => Ok(()),
     }
 }
 
-/// Appends the sheet: a row for each event, and behind it the board after it.
-pub fn push_rows(page: &mut PageText, shown: &Shown<'_>) -> Result<(), AllocError> {
-    page.push(&[Piece::Markup("<h2>The sheet</h2>\n")])?;
-    push_heading(page)?;
-    for place in 0..shown.sheet.events.len() {
-        push_place(page, shown, place)?;
+/// Appends what the score and the total of an event should be, where they are not that.
+fn push_right(page: &mut PageText, row: &SheetRow) -> Result<(), AllocError> {
+    page.push(&[Piece::Markup("<td class=\"sb\">")])?;
+    push_should_be(page, "score ", row.score)?;
+    push_should_be(page, "total ", row.total)?;
+    page.push(&[Piece::Markup("</td>")])
+}
+
+/// Appends the row of the event at a place.
+fn push_row(
+    page: &mut PageText,
+    shown: &Shown<'_>,
+    columns: Columns,
+    line: &Line<'_>,
+    place: usize,
+) -> Result<(), AllocError> {
+    push_start(page, line)?;
+    push_play(page, line)?;
+    push_written(page, line)?;
+    push_best_cells(page, line)?;
+    if columns.unlisted {
+        push_words(page, line.unlisted())?;
     }
-    page.push(&[Piece::Markup("</tbody>\n</table>\n")])
+    if columns.right {
+        push_right(page, line.row)?;
+    }
+    push_panel(page, shown, line, place)?;
+    page.push(&[Piece::Markup("</tr>\n")])
+}
+
+/// Appends a note.
+fn push_note(page: &mut PageText, shown: &Shown<'_>, note: &Note<'_>) -> Result<(), AllocError> {
+    page.push(&[
+        Piece::Markup("<tr class=\"note\"><td colspan=\"8\">"),
+        Piece::Recorded(note.text, shown.encoding),
+        Piece::Markup("</td></tr>\n"),
+    ])
+}
+
+/// Appends the notes from a place on that stand with the last of so many events, and gives the place behind them.
+fn push_notes(
+    page: &mut PageText,
+    shown: &Shown<'_>,
+    notes: &[Note<'_>],
+    from: usize,
+    events: usize,
+) -> Result<usize, AllocError> {
+    let mut next = from;
+    for note in notes.get(from..).unwrap_or(&[]) {
+        if note.after > events {
+            break;
+        }
+        push_note(page, shown, note)?;
+        next = next.saturating_add(1);
+    }
+    Ok(next)
+}
+
+/// Appends the name of a player, before what the best plays would have given more.
+fn push_gainer(page: &mut PageText, shown: &Shown<'_>, seat: Seat) -> Result<(), AllocError> {
+    let name = name_of(shown, shown.player(seat));
+    page.push(&[name, Piece::Markup(" <b>")])
+}
+
+/// Appends what the best plays of a player would have given more together.
+fn push_gains(
+    page: &mut PageText,
+    shown: &Shown<'_>,
+    seat: Seat,
+    gains: Option<u64>,
+) -> Result<(), AllocError> {
+    let Some(gains) = gains else {
+        return Ok(());
+    };
+    push_gainer(page, shown, seat)?;
+    page.push(&[Piece::Many(gains as usize), Piece::Markup("</b>")])
+}
+
+/// Appends what the best plays would have given more, by player.
+fn push_sums(page: &mut PageText, shown: &Shown<'_>) -> Result<(), AllocError> {
+    let sheet = &shown.sheet;
+    page.push(&[Piece::Markup(
+        "</tbody>\n</table>\n<p class=\"sums\">The best plays would have given more: ",
+    )])?;
+    push_gains(page, shown, Seat::First, sheet.first_gains)?;
+    if is_named(shown.player(Seat::Second)) {
+        page.push(&[Piece::Markup(", ")])?;
+        push_gains(page, shown, Seat::Second, sheet.second_gains)?;
+    }
+    page.push(&[Piece::Markup("</p>\n")])
+}
+
+/// Appends the row of the event at a place, and the notes from a place on that stand with it; gives the place behind them.
+fn push_place(
+    page: &mut PageText,
+    shown: &Shown<'_>,
+    columns: Columns,
+    notes: &[Note<'_>],
+    from: usize,
+    place: usize,
+) -> Result<usize, AllocError> {
+    let Some(line) = shown.line_at(place) else {
+        return Ok(from);
+    };
+    push_row(page, shown, columns, &line, place)?;
+    push_notes(page, shown, notes, from, place.saturating_add(1))
+}
+
+/// Appends the sheet: a row for each event with the position behind it, and the notes that stand with it.
+pub fn push_rows(
+    page: &mut PageText,
+    shown: &Shown<'_>,
+    notes: &[Note<'_>],
+) -> Result<(), AllocError> {
+    let columns = columns_of(shown.sheet.rows.as_slice());
+    push_heading(page, columns)?;
+    let mut next = 0;
+    for place in 0..shown.sheet.events.len() {
+        next = push_place(page, shown, columns, notes, next, place)?;
+    }
+    push_sums(page, shown)
 }

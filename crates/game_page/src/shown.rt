@@ -3,8 +3,10 @@
 use crate::feet::Maker;
 use crate::lines::Line;
 use engine::Finding;
-use gcg_read::Seat;
+use explanations::Explanation;
+use gcg_read::{Event, Player, Seat};
 use name_texts::Encoding;
+use record_words::RecordWords;
 use ref_tiles::Rules;
 use score_sheets::ScoreSheet;
 
@@ -15,32 +17,52 @@ pub struct Shown<'a> {
     pub rules: &'a Rules,
     /// The sheet.
     pub sheet: ScoreSheet<'a>,
+    /// What the record says in words beside its events.
+    pub words: RecordWords<'a>,
     /// How names are read.
     pub encoding: Encoding,
     /// What is found of the record.
     pub finding: Finding,
+    /// The place of the faulty event, where there is one.
+    pub faulty: Option<usize>,
     /// The line that tells the verdict.
     pub verdict: Vec<u8>,
     /// The sentences that explain it.
     pub reason: Vec<u8>,
+    /// What explains it, with the words of the play.
+    pub explanation: Option<Explanation<'a>>,
+    /// How many folders above the page its index is, where it has one.
+    pub up: Option<usize>,
     /// What the page is made by.
     pub maker: &'a Maker,
 }
 
 impl<'a> Shown<'a> {
+    /// The player of a seat.
+    pub fn player(&self, seat: Seat) -> &'a Player {
+        match seat {
+            Seat::First => &self.sheet.players.first,
+            Seat::Second => &self.sheet.players.second,
+        }
+    }
+
+    /// The event at a place, where there is one.
+    pub fn event_at(&self, place: usize) -> Option<&'a Event> {
+        self.sheet.events.get(place)
+    }
+
     /// The line of the event at a place, where there is one.
     pub fn line_at(&self, place: usize) -> Option<Line<'_>> {
         let event = self.sheet.events.get(place)?;
         let row = self.sheet.rows.as_slice().get(place)?;
         Some(Line {
             encoding: self.encoding,
-            player: match event.player {
-                Seat::First => &self.sheet.players.first,
-                Seat::Second => &self.sheet.players.second,
-            },
+            player: self.player(event.player),
             event,
             row,
-            is_faulty: faulty_line(&self.finding) == Some(event.line),
+            picture: self.sheet.boards.as_slice().get(place),
+            position: self.sheet.positions.as_slice().get(place),
+            is_faulty: self.faulty == Some(place),
         })
     }
 }

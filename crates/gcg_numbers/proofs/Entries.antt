@@ -96,7 +96,7 @@ entered so_far line text ne read =
       nick = ap (λ (n : NamedEvent). n.nick) same;
     }
 
-made : (so_far : Record) (line : ℕ) (text : List ℕ) (head : Named) (seat : Seat) (e : Event) → nat_le most_events (length so_far.events) ≡ false → head_of text ≡ Some head
+pub made : (so_far : Record) (line : ℕ) (text : List ℕ) (head : Named) (seat : Seat) (e : Event) → nat_le most_events (length so_far.events) ≡ false → head_of text ≡ Some head
     → seat_for so_far.players head.nick ≡ Some seat → event_of (record { line = line; player = seat }) (fields_of head.after) ≡ Ok e
     → entry_of so_far line text ≡ Ok (record { nick = head.nick; event = e })
 unfolding entry_of

@@ -36,7 +36,7 @@ coded_other heading rack code s t u v e score total read p q =
     rw a.1.0 (scored_other heading rack a.0 s t u v e score total a.1.1 p q)
 
 -- two steps that go on in the same way
-two_steps : {A B : Type 0} (a : Result A Why) (b : Result B Why) (f g : A → B → Result Event Why) (e d : Event) → ((x : A) (y : B) → f x y ≡ Ok e → g x y ≡ Ok d)
+pub two_steps : {A B : Type 0} (a : Result A Why) (b : Result B Why) (f g : A → B → Result Event Why) (e d : Event) → ((x : A) (y : B) → f x y ≡ Ok e → g x y ≡ Ok d)
     → (a >>= λ x. b >>= λ y. f x y) ≡ Ok e → (a >>= λ x. b >>= λ y. g x y) ≡ Ok d
 two_steps (Ok x) (Ok y) f g e d more read = more x y read
 two_steps (Ok x) (Err w) f g e d more read = absurd cc

@@ -20,13 +20,13 @@ record Front (done events : List Event) : Type 0 where
   more : List Event
   whole : events ≡ done ++ more
 
-record Cons (line : List ℕ) : Type 0 where
-  byte : ℕ
-  text : List ℕ
-  whole : line ≡ byte ∷ text
-  event : (byte == 62) ≡ true
+pub record Cons (line : List ℕ) : Type 0 where
+  pub byte : ℕ
+  pub text : List ℕ
+  pub whole : line ≡ byte ∷ text
+  pub event : (byte == 62) ≡ true
 
-cons : (line : List ℕ) → is_event_line line ≡ true → Cons line
+pub cons : (line : List ℕ) → is_event_line line ≡ true → Cons line
 cons [] e = absurd cc
 cons (byte ∷ text) e = record { byte = byte; text = text; whole = refl; event = e }
 
@@ -36,7 +36,7 @@ line_by n players done line next true e h =
     let a = added players done n c.text next (eventful players done n c.byte c.text next c.event (subst (λ l. with_line (so_far players done) n l ≡ Ok next) c.whole h)) in
     record { more = a.entry.event ∷ []; whole = a.events }
 line_by n players done line next false e h =
-    let p = passed players done done n line next e refl h in
+    let p = passed players done done n n line next e refl h in
     record { more = []; whole = p.0 ∙ sym (append-nil done) }
 
 kept : (lines : List (List ℕ)) (n : ℕ) (players : Players) (done : List Event) (r : Record) → record_from (so_far players done) n lines ≡ Ok r → Front done r.events
@@ -72,7 +72,7 @@ more_by a c rest true =
     ap (λ k. is_event_line (take k (a ∷ c ∷ rest))) many
 more_by a c rest false = refl
 
-begins : (line : List ℕ) → is_event_line (without_return line) ≡ is_event_line line
+pub begins : (line : List ℕ) → is_event_line (without_return line) ≡ is_event_line line
 begins [] = refl
 begins (a ∷ []) = only_by a (returns (a ∷ [])) refl
 begins (a ∷ c ∷ rest) = more_by a c rest (returns (a ∷ c ∷ rest))
@@ -98,7 +98,7 @@ stays : (line : List ℕ) (lines : List (List ℕ)) (news : List Event) → is_e
 stays line lines [] e = ap (λ l. line ∷ l) (sym (lines_left lines))
 stays line lines (new ∷ news) e = rw e refl
 
-go_on : (players : Players) (n : ℕ) (line : List ℕ) (lines : List (List ℕ)) (other : List Event) (next r : Record) → with_line (so_far players other) n line ≡ Ok next
+pub go_on : (players : Players) (n : ℕ) (line : List ℕ) (lines : List (List ℕ)) (other : List Event) (next r : Record) → with_line (so_far players other) n line ≡ Ok next
     → record_from next (n + 1) lines ≡ Ok r → record_from (so_far players other) n (line ∷ lines) ≡ Ok r
 unfolding record_from
 go_on players n line lines other next r h k = rw h k
@@ -108,7 +108,7 @@ step_passed : (line : List ℕ) (lines : List (List ℕ)) (n : ℕ) (r next : Re
     → length other ≡ length done → r.events ≡ done ++ more → AreOther more news
     → record_from (so_far players other) n (map without_return (lines_with news (line ∷ lines))) ≡ Ok (so_far r.players (other ++ news))
 step_passed line lines n r next go players done other more news e one rest many whole is =
-    let p = passed players done other n (without_return line) next (begins line ∙ e) many one in
+    let p = passed players done other n n (without_return line) next (begins line ∙ e) many one in
     ap (λ l. record_from (so_far players other) n (map without_return l)) (stays line lines news e)
     ∙ go_on players n (without_return line) (map without_return (lines_with news lines)) other (so_far next.players other) (so_far r.players (other ++ news)) p.1
     (go next.players next.events other more news rest (many ∙ ap length (sym p.0)) (whole ∙ ap (λ l. l ++ more) (sym p.0)) is)

@@ -9,10 +9,10 @@ use Rattle.gcg_write.proofs.LineCuts.{returns}
 use Rattle.gcg_numbers.specs.Numbers.{with_numbers, behind_colon, line_with, is_event_line, lines_with, mark_of}
 use Rattle.gcg_numbers.proofs.Walks.{no_colon}
 
-abbrev mark : List ℕ
+abbrev pub mark : List ℕ
 mark = 0xef ∷ 0xbb ∷ 0xbf ∷ []
 
-abbrev begins : List ℕ → Bool
+abbrev pub begins : List ℕ → Bool
 begins text = starts_with eqb text mark
 
 and_false : (a : Bool) → (a && false) ≡ false
@@ -58,7 +58,7 @@ event_join a rest (line ∷ lines) e = no_mark a (rest ++ 10 ∷ join_with_byte 
 
 -- ---- other lines stay
 
-stays : (line : List ℕ) (lines others : List (List ℕ)) → begins (join_with_byte 10 (line ∷ lines)) ≡ false → begins (join_with_byte 10 (line ∷ others)) ≡ false
+pub stays : (line : List ℕ) (lines others : List (List ℕ)) → begins (join_with_byte 10 (line ∷ lines)) ≡ false → begins (join_with_byte 10 (line ∷ others)) ≡ false
 stays [] lines [] h = refl
 stays [] lines (other ∷ others) h = refl
 stays (a ∷ []) lines [] h = and_false (eqb 0xef a)

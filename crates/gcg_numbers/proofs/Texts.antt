@@ -27,7 +27,7 @@ many events [] = refl
 many [] (line ∷ lines) = refl
 many (event ∷ events) (line ∷ lines) = many_by event events line lines (is_event_line line) (many events lines) (many (event ∷ events) lines)
 
-again : (lines : List (List ℕ)) → 0 < length lines → Each HasNoFeed lines → slice_split is_feed (join_with_byte 10 lines) ≡ lines
+pub again : (lines : List (List ℕ)) → 0 < length lines → Each HasNoFeed lines → slice_split is_feed (join_with_byte 10 lines) ≡ lines
 again [] some h = absurd (omega arith)
 again (line ∷ lines) some h = joined_again line lines h
 
@@ -40,17 +40,17 @@ lines_again events old text other =
     again (lines_with events raws) some (lines_no_feed events raws (others_written old events other) (split_no_feed (without_mark text))) in
     ap (λ l. map without_return (slice_split is_feed l)) (marked events text) ∙ ap (map without_return) parts
 
-read_lines : (text : List ℕ) (r : Record) → record_of text ≡ Ok r → record_from no_record 1 (lines_of text) ≡ Ok r
+pub read_lines : (text : List ℕ) (r : Record) → record_of text ≡ Ok r → record_from no_record 1 (lines_of text) ≡ Ok r
 unfolding record_of
 read_lines text r h = (passed (nat_lt most_bytes (length text)) (record { line = 0; why = why.TooLong }) (record_from no_record 1 (lines_of text)) r h).1
 
-short_lines : (text : List ℕ) (r : Record) → length text ≤ most_bytes → record_from no_record 1 (lines_of text) ≡ Ok r → record_of text ≡ Ok r
+pub short_lines : (text : List ℕ) (r : Record) → length text ≤ most_bytes → record_from no_record 1 (lines_of text) ≡ Ok r → record_of text ≡ Ok r
 unfolding record_of
 short_lines text r short h =
     let few : nat_lt most_bytes (length text) ≡ false = grind (arith, nat_tests) in
     rw few h
 
-as_split : (text : List ℕ) → lines_of text ≡ map without_return (slice_split is_feed (without_mark text))
+pub as_split : (text : List ℕ) → lines_of text ≡ map without_return (slice_split is_feed (without_mark text))
 unfolding lines_in
 as_split text = refl
 

@@ -42,7 +42,7 @@ added players done n text next h =
       after = ap (λ (r : Record). r.players) (sym same);
     }
 
-add_with : (players : Players) (other : List Event) (n : ℕ) (text : List ℕ) (ne : NamedEvent) → entry_of (so_far players other) n text ≡ Ok ne
+pub add_with : (players : Players) (other : List Event) (n : ℕ) (text : List ℕ) (ne : NamedEvent) → entry_of (so_far players other) n text ≡ Ok ne
     → with_event (so_far players other) n text ≡ Ok (so_far (seated players ne.event.player ne.nick) (other ++ ne.event ∷ []))
 unfolding with_event
 add_with players other n text ne read = rw read refl
@@ -58,49 +58,50 @@ add_other players done other n text next new a many is =
     add_with players other n (behind_colon (with_numbers new) text) (record { nick = a.entry.nick; event = new }) read
     ∙ ap (λ p. Ok (so_far p (other ++ new ∷ []))) (ap (λ seat. seated players seat a.entry.nick) (same_player a.entry.event new is) ∙ sym a.after)
 
--- a line that is no event
-naming_by : (players : Players) (done other : List Event) (n : ℕ) (o : Option Naming) (next : Record) → with_naming (so_far players done) n o ≡ Ok next
-    → (next.events ≡ done) × (with_naming (so_far players other) n o ≡ Ok (so_far next.players other))
-naming_by players done other n None next h =
+-- a line that is no event adds no event, whatever its number is
+naming_by : (players : Players) (done other : List Event) (n m : ℕ) (o : Option Naming) (next : Record) → with_naming (so_far players done) n o ≡ Ok next
+    → (next.events ≡ done) × (with_naming (so_far players other) m o ≡ Ok (so_far next.players other))
+naming_by players done other n m None next h =
     let same = ok_same (so_far players done) next h in
     (ap (λ (r : Record). r.events) (sym same), ap (λ p. Ok (so_far p other)) (ap (λ (r : Record). r.players) same))
-naming_by players done other n (Some naming) next h =
+naming_by players done other n m (Some naming) next h =
     let a = stepped (on_line n (players_with players naming)) _ next h in
     let same = ok_same (so_far a.0 done) next a.1.1 in
-    (ap (λ (r : Record). r.events) (sym same), rw a.1.0 (ap (λ p. Ok (so_far p other)) (ap (λ (r : Record). r.players) same)))
+    let there : on_line m (players_with players naming) ≡ Ok a.0 = ap (on_line m) (on_its_line n (players_with players naming) a.0 a.1.0) in
+    (ap (λ (r : Record). r.events) (sym same), rw there (ap (λ p. Ok (so_far p other)) (ap (λ (r : Record). r.players) same)))
 
-pragma_by : (players : Players) (done other : List Event) (n : ℕ) (text : List ℕ) (next : Record) (first : Bool)
+pragma_by : (players : Players) (done other : List Event) (n m : ℕ) (text : List ℕ) (next : Record) (first : Bool)
     → (if first then with_naming (so_far players done) n (naming_of text) else Ok (so_far players done)) ≡ Ok next
-    → (next.events ≡ done) × ((if first then with_naming (so_far players other) n (naming_of text) else Ok (so_far players other)) ≡ Ok (so_far next.players other))
-pragma_by players done other n text next true h = naming_by players done other n (naming_of text) next h
-pragma_by players done other n text next false h =
+    → (next.events ≡ done) × ((if first then with_naming (so_far players other) m (naming_of text) else Ok (so_far players other)) ≡ Ok (so_far next.players other))
+pragma_by players done other n m text next true h = naming_by players done other n m (naming_of text) next h
+pragma_by players done other n m text next false h =
     let same = ok_same (so_far players done) next h in
     (ap (λ (r : Record). r.events) (sym same), ap (λ p. Ok (so_far p other)) (ap (λ (r : Record). r.players) same))
 
-pragma_other : (players : Players) (done other : List Event) (n : ℕ) (text : List ℕ) (next : Record) → length other ≡ length done → with_pragma (so_far players done) n text ≡ Ok next
-    → (next.events ≡ done) × (with_pragma (so_far players other) n text ≡ Ok (so_far next.players other))
+pragma_other : (players : Players) (done other : List Event) (n m : ℕ) (text : List ℕ) (next : Record) → length other ≡ length done → with_pragma (so_far players done) n text ≡ Ok next
+    → (next.events ≡ done) × (with_pragma (so_far players other) m text ≡ Ok (so_far next.players other))
 unfolding with_pragma
-pragma_other players done other n text next many h =
-    let both = pragma_by players done other n text next (length done == 0) h in
-    (both.0, ap (λ k. if k == 0 then with_naming (so_far players other) n (naming_of text) else Ok (so_far players other)) many ∙ both.1)
+pragma_other players done other n m text next many h =
+    let both = pragma_by players done other n m text next (length done == 0) h in
+    (both.0, ap (λ k. if k == 0 then with_naming (so_far players other) m (naming_of text) else Ok (so_far players other)) many ∙ both.1)
 
-line_by : (players : Players) (done other : List Event) (n : ℕ) (text : List ℕ) (next : Record) (pragma : Bool) → length other ≡ length done
+line_by : (players : Players) (done other : List Event) (n m : ℕ) (text : List ℕ) (next : Record) (pragma : Bool) → length other ≡ length done
     → (if pragma then with_pragma (so_far players done) n text else Ok (so_far players done)) ≡ Ok next
-    → (next.events ≡ done) × ((if pragma then with_pragma (so_far players other) n text else Ok (so_far players other)) ≡ Ok (so_far next.players other))
-line_by players done other n text next true many h = pragma_other players done other n text next many h
-line_by players done other n text next false many h =
+    → (next.events ≡ done) × ((if pragma then with_pragma (so_far players other) m text else Ok (so_far players other)) ≡ Ok (so_far next.players other))
+line_by players done other n m text next true many h = pragma_other players done other n m text next many h
+line_by players done other n m text next false many h =
     let same = ok_same (so_far players done) next h in
     (ap (λ (r : Record). r.events) (sym same), ap (λ p. Ok (so_far p other)) (ap (λ (r : Record). r.players) same))
 
-pub passed : (players : Players) (done other : List Event) (n : ℕ) (line : List ℕ) (next : Record) → is_event_line line ≡ false → length other ≡ length done
-    → with_line (so_far players done) n line ≡ Ok next → (next.events ≡ done) × (with_line (so_far players other) n line ≡ Ok (so_far next.players other))
+pub passed : (players : Players) (done other : List Event) (n m : ℕ) (line : List ℕ) (next : Record) → is_event_line line ≡ false → length other ≡ length done
+    → with_line (so_far players done) n line ≡ Ok next → (next.events ≡ done) × (with_line (so_far players other) m line ≡ Ok (so_far next.players other))
 unfolding with_line
-passed players done other n [] next nonene many h =
+passed players done other n m [] next nonene many h =
     let same = ok_same (so_far players done) next h in
     (ap (λ (r : Record). r.events) (sym same), ap (λ p. Ok (so_far p other)) (ap (λ (r : Record). r.players) same))
-passed players done other n (byte ∷ text) next none many h =
+passed players done other n m (byte ∷ text) next none many h =
     let skip : with_line (so_far players done) n (byte ∷ text) ≡ (if byte == 35 then with_pragma (so_far players done) n text else Ok (so_far players done)) = rw none refl in
-    let both = line_by players done other n text next (byte == 35) many (sym skip ∙ h) in
+    let both = line_by players done other n m text next (byte == 35) many (sym skip ∙ h) in
     (both.0, rw none both.1)
 
 -- the line of an event

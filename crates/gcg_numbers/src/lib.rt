@@ -7,7 +7,9 @@
 mod cutting;
 mod laws;
 mod numbers;
+mod raw_lines;
 mod writing;
 
 pub use laws::law_of_numbers;
+pub use raw_lines::{RawLine, cut_raw_line, is_event_line, push_mark};
 pub use writing::push_with_numbers;

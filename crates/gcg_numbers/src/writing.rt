@@ -1,48 +1,15 @@
-//! The lines of a sheet.
-ghost use Rattle.std.specs.Prelude.{◌≡◌, ◌<◌, ◌≤◌, ◌++◌, ◌∷◌, [], ℕ, List, drop, length, IfSome, IfOk, OnOk};
-ghost use Rattle.std.specs.List.{position, slice_split};
-ghost use Rattle.text_lines.specs.Lines.{is_feed};
-ghost use Rattle.gcg_numbers.specs.Lines.{is_colon, parts_behind, first_with};
-ghost use Rattle.gcg_numbers.specs.Numbers.{with_numbers, behind_colon, line_with, is_event_line, lines_with, mark_of, text_with};
+//! The text of a sheet with other numbers, line by line.
+ghost use Rattle.std.specs.Prelude.{◌≡◌, ◌≤◌, ◌++◌, ◌∷◌, ℕ, List, drop, length, IfOk, OnOk};
+ghost use Rattle.std.specs.List.{position};
+ghost use Rattle.gcg_numbers.specs.Lines.{is_colon, first_with};
+ghost use Rattle.gcg_numbers.specs.Numbers.{with_numbers, behind_colon, line_with, lines_with, text_with};
 
 use crate::numbers::push_numbers;
+use crate::raw_lines::{cut_raw_line, is_event_line, push_mark};
 use bstr::ByteSlice;
 use gcg_read::Event;
 use std::alloc::AllocError;
 use text_lines::without_mark;
-
-/// A line with the end that it has but for its LF, and the text behind that.
-#[derive(Clone, Copy)]
-struct Cut<'a> {
-    line: &'a [u8],
-    after: Option<&'a [u8]>,
-}
-
-/// The place of the first LF of a text.
-#[tactic(auto, using(text_lines::proofs::Cuts::first_byte))]
-fn find_feed(text: &[u8]) -> Option<usize>
-    ensures { result ≡ position is_feed text.now }
-{
-    text.find_byte(b'\n')
-}
-
-/// Cuts the first line off a text.
-#[tactic(auto, using(crate::proofs::Cuts::lines_end))]
-fn cut_line(text: &[u8]) -> Cut<'_>
-    ensures lines { slice_split is_feed text.now ≡ result.line.now ∷ parts_behind result.after }
-    ensures shorter { IfSome result.after (λ after. length after.now < length text.now) }
-{
-    match find_feed(text) {
-        None => Cut {
-            line: text,
-            after: None,
-        },
-        Some(end) => Cut {
-            line: &text[..end],
-            after: Some(&text[end + 1..]),
-        },
-    }
-}
 
 /// The place of the first colon of a line.
 #[tactic(auto, using(text_lines::proofs::Cuts::first_byte))]
@@ -79,13 +46,6 @@ fn push_line(out: &mut Vec<u8>, line: &[u8], event: &Event) -> Result<(), AllocE
     }
 }
 
-/// Whether a line is that of an event.
-fn is_event_line(line: &[u8]) -> bool
-    ensures { result ≡ is_event_line line.now }
-{
-    line.starts_with(b">")
-}
-
 /// Appends a line of a sheet with the numbers of the first of the events, where it is an event line and there is one; gives how many
 /// events that are.
 #[tactic(auto, using(crate::proofs::Rounds::of_event, crate::proofs::Rounds::of_none, crate::proofs::Rounds::of_other))]
@@ -118,23 +78,13 @@ pub fn push_with_numbers(out: &mut Vec<u8>, text: &[u8], events: &[Event]) -> Re
 {
     let unmarked = without_mark(text);
     push_mark(out, text)?;
-    let mut cut = cut_line(unmarked);
+    let mut cut = cut_raw_line(unmarked);
     let mut taken = 0;
     while let Some(after) = cut.after {
         taken += push_next(out, cut.line, &events[taken..])?;
         out.push(b'\n')?;
-        cut = cut_line(after);
+        cut = cut_raw_line(after);
     }
     push_next(out, cut.line, &events[taken..])?;
-    Ok(())
-}
-
-/// Appends the byte order mark of a text, where it has one.
-fn push_mark(out: &mut Vec<u8>, text: &[u8]) -> Result<(), AllocError>
-    ensures { OnOk result (out.new.items ≡ out.old.items ++ mark_of text.now) }
-{
-    if text.starts_with(&[0xef, 0xbb, 0xbf]) {
-        return out.extend_from_slice(&[0xef, 0xbb, 0xbf]);
-    }
     Ok(())
 }

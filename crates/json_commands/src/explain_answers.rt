@@ -6,13 +6,14 @@ ghost use Rattle.call_stages.specs.Runs.{Gives, outcomes};
 ghost use Rattle.call_stages.specs.Sources.{game_source};
 ghost use Rattle.command_files.specs.Telling.{IsCaseTold};
 
-use answer_json::{push_explained, push_no_game, push_refusal};
+use answer_json::push_refusal;
 use call_stages::InputFault;
 use case_explanations::explain;
 use command_files::{GivenFiles, SheetFile, Told, has_no_event, write};
 use devices::Input;
 use engine::{Case, Decision, Entry, RunFault, case_verdict, open_case};
 use exit_statuses::{Exit, Trouble, exit_of_case};
+use explanation_json::{push_explained, push_no_game};
 use explanations::Explanation;
 use game_facts::line_of;
 use gcg_read::ReadFault;

@@ -95,6 +95,9 @@ fn answer<R: Runtime + AllocGlobal>(rt: &R, request: Request<'_>, watched: bool)
         } => answer_in_json(rt, files, AnswerTask::Explain(line)),
         Request::Explain { files, line, .. } => answer_sheet(rt, files, SheetTask::Explain(line)),
         Request::Page { files, out } => answer_sheet(rt, files, SheetTask::Page(out)),
+        Request::Annotate { files, number, out } => {
+            answer_sheet(rt, files, SheetTask::Annotate(number as usize, out))
+        }
         Request::Build { words, out } => ended(build(rt, words, out)),
         Request::Check { json: true, pair } => check_in_json(rt, pair),
         Request::Check { pair, .. } => ended(check(rt, pair)),

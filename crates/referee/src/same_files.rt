@@ -13,7 +13,9 @@ pub fn lost_input<R: Runtime>(rt: &R, request: &Request<'_>) -> Option<&'static 
         Request::Build { words, out } => first_lost(rt, out, &[("WORDS", source(words.name))]),
         Request::Convert { lexicon, out, .. } => first_lost(rt, out, &[("LEXICON", *lexicon)]),
         Request::Index { lines, out } => first_lost(rt, out, &[("LINES", source(lines))]),
-        Request::Page { files, out } => lost_of_game(rt, out, files),
+        Request::Page { files, out } | Request::Annotate { files, out, .. } => {
+            lost_of_game(rt, out, files)
+        }
         Request::Audit {
             files,
             out: Some(out),

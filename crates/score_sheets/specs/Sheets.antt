@@ -1,5 +1,5 @@
 -- The score sheet of a record.
-use Rattle.std.specs.Prelude.{◌≡◌, ℕ, List, length}
+use Rattle.std.specs.Prelude.{◌≡◌, ℕ, List, length, IfSome}
 use Rattle.ref_tiles.specs.declared.rulebook.Rules.{Rules}
 use Rattle.gcg_read.specs.declared.events.Event.{Event}
 use Rattle.gcg_read.specs.declared.events.Seat.TheVariants.{First, Second}
@@ -7,15 +7,22 @@ use Rattle.gcg_read.specs.declared.records.Record.{Record}
 use Rattle.game_sheets.specs.LastTotals.{last_total}
 use Rattle.score_sheets.specs.declared.sheets.ScoreSheet.{ScoreSheet}
 use Rattle.score_sheets.specs.Boards.{ArePictures, IsShownAt}
+use Rattle.score_sheets.specs.Positions.{ArePositions}
 use Rattle.score_sheets.specs.Rows.{AreSheetRows}
+use Rattle.score_sheets.specs.Sums.{gains_to, IsStanding}
 
--- A score sheet of a record, by the same events with their right numbers: its players and its events, the last totals, a row for each event in
--- order, the boards behind the events, and the board at a place.
+-- A score sheet of a record, by the same events with their right numbers: its players and its events, the last totals and who is ahead by them, a
+-- row for each event in order and what the best plays of each player would have given more, the boards behind the events and what is said of
+-- each, and the board at a place.
 pub record IsScoreSheet (rules : Rules) (list : List (List ℕ)) (r : Record) (right : List Event) (place : ℕ) (sheet : ScoreSheet) : Type 0 where
   pub players : sheet.players.now ≡ r.players
   pub events : sheet.events.now ≡ r.events
   pub first : sheet.first_total ≡ last_total First r.events
   pub second : sheet.second_total ≡ last_total Second r.events
+  pub standing : IsStanding (last_total First r.events) (last_total Second r.events) sheet.standing
   pub rows : AreSheetRows rules list r.events right (length r.events) sheet.rows.items
+  pub first_gains : IfSome sheet.first_gains (λ gains. gains ≡ gains_to First r.events sheet.rows.items (length r.events))
+  pub second_gains : IfSome sheet.second_gains (λ gains. gains ≡ gains_to Second r.events sheet.rows.items (length r.events))
   pub boards : ArePictures r.events sheet.boards.items
+  pub positions : ArePositions rules r.events sheet.boards.items (length sheet.boards.items) sheet.positions.items
   pub shown : IsShownAt r.events place sheet.shown

@@ -1,15 +1,19 @@
 //! The score sheet of a record as a value of plain data, whose contract says what it is.
 //!
 //! [`score_sheet`] gives a [`ScoreSheet`]: a row for each event with what its numbers should be, its best play and its words that are not in the
-//! list, and the boards behind the events with their new tiles marked. So what shows a sheet, in whatever form, asks no engine and adds no numbers.
+//! list, the boards behind the events with their new tiles marked, what is said of each board, and what the best plays would have given more. So what shows a sheet, in whatever form, asks no engine and adds no numbers.
 #![tactic(auto)]
 
 mod boards;
 mod pictures;
+mod positions;
 mod rows;
 mod sheets;
+mod sums;
 
 pub use boards::{pictures_of, shown_at};
 pub use pictures::Picture;
+pub use positions::{LaidPlay, PlayedTile, Position, positions_of};
 pub use rows::{SheetRow, rows_of};
 pub use sheets::{ScoreSheet, score_sheet};
+pub use sums::{Standing, gains_of, standing_of};

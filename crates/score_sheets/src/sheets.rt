@@ -1,13 +1,17 @@
 //! The score sheet of a record.
-ghost use Rattle.std.specs.Prelude.{◌≤◌, List, length, IfOk};
+ghost use Rattle.std.specs.Prelude.{◌≡◌, ◌≤◌, List, length, IfOk, IfSome};
 ghost use Rattle.gcg_read.specs.declared.events.Event.{Event};
 ghost use Rattle.lex_check.specs.Pairs.{list_in};
 ghost use Rattle.game_rows.specs.Walks.{IsWalk};
+ghost use Rattle.score_sheets.specs.Positions.{ArePositions};
 ghost use Rattle.score_sheets.specs.Sheets.{IsScoreSheet};
+ghost use Rattle.score_sheets.specs.Sums.{gains_to};
 
 use crate::boards::{pictures_of, shown_at};
 use crate::pictures::Picture;
+use crate::positions::{Position, positions_of};
 use crate::rows::{SheetRow, rows_of};
+use crate::sums::{Standing, gains_of, standing_of};
 use game_rows::Walk;
 use game_sheets::last_total;
 use gcg_read::{Event, Players, Points, Record, Seat};
@@ -26,12 +30,40 @@ pub struct ScoreSheet<'a> {
     pub first_total: Option<Points>,
     /// The same for the other player.
     pub second_total: Option<Points>,
+    /// Who has the greater of these totals.
+    pub standing: Standing,
     /// What it says of each event, in their order.
     pub rows: Vec<SheetRow>,
+    /// What the best plays of the first player would have given more together; none where that is 2^64 or more.
+    pub first_gains: Option<u64>,
+    /// The same of the other player.
+    pub second_gains: Option<u64>,
     /// The boards behind the events, up to the first whose play cannot be laid.
     pub boards: Vec<Picture>,
+    /// What is said of each of these boards.
+    pub positions: Vec<Position>,
     /// The board at the place that was asked for.
     pub shown: Picture,
+}
+
+/// What is said of the boards behind the first events.
+fn positions_in(
+    alloc: Global,
+    rules: &Rules,
+    events: &[Event],
+    boards: &Vec<Picture>,
+) -> Result<Vec<Position>, AllocError>
+    requires { length boards.now.items ≤ length events.now }
+    ensures { IfOk result (λ positions. ArePositions rules.now events.now boards.now.items (length boards.now.items) positions.items) }
+{
+    positions_of(alloc, rules, events, boards.as_slice())
+}
+
+/// What the best plays of a player's events would have given more together. None where that is 2^64 or more.
+fn gains_in(player: Seat, events: &[Event], rows: &Vec<SheetRow>) -> Option<u64>
+    ensures { IfSome result (λ gains. gains ≡ gains_to player events.now rows.now.items (length events.now)) }
+{
+    gains_of(player, events, rows.as_slice())
 }
 
 /// The score sheet of a record, by a walk over its events, which has them with their right numbers as far as they can be corrected; with the
@@ -53,13 +85,23 @@ pub fn score_sheet<'a>(
     let events = game.events.as_slice();
     let rows = rows_of(alloc, rules, pair, events, walk)?;
     let boards = pictures_of(alloc, events)?;
+    let positions = positions_in(alloc, rules, events, &boards)?;
+    let first_total = last_total(events, Seat::First);
+    let second_total = last_total(events, Seat::Second);
+    let standing = standing_of(&first_total, &second_total);
+    let first_gains = gains_in(Seat::First, events, &rows);
+    let second_gains = gains_in(Seat::Second, events, &rows);
     Ok(ScoreSheet {
         players: &game.players,
         events,
-        first_total: last_total(events, Seat::First),
-        second_total: last_total(events, Seat::Second),
+        first_total,
+        second_total,
+        standing,
+        first_gains,
+        second_gains,
         rows,
         boards,
+        positions,
         shown: shown_at(events, place),
     })
 }

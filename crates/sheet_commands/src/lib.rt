@@ -1,8 +1,10 @@
-//! The commands that are about one sheet: `audit`, `explain` and `page`.
+//! The commands that are about one sheet: `annotate`, `audit`, `explain` and `page`.
 #![tactic(auto)]
 
+mod annotating;
 mod auditing;
 mod explaining;
+mod made_texts;
 mod paging;
 mod sheets;
 

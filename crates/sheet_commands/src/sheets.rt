@@ -7,9 +7,11 @@ ghost use Rattle.call_stages.specs.Sources.{game_source};
 ghost use Rattle.command_files.specs.Telling.{IsCaseTold};
 ghost use Rattle.sheet_commands.specs.Telling.{IsAuditTold};
 
+use crate::annotating::write_annotated;
 use crate::auditing::tell_audit;
 use crate::explaining::tell_case;
 use crate::paging::write_page;
+use annotations::SheetToAnnotate;
 use command_files::{
     Digests, GivenFiles, RulesFile, SheetFile, Told, UsedOutput, Words, advise_bad_record,
     advise_no_game, digests_of, given_up, is_record, open_inputs, open_sheet, refuse, tell_others,
@@ -34,6 +36,8 @@ pub enum SheetTask<'a> {
     Explain(Option<u32>),
     /// To write its page to a file.
     Page(&'a str),
+    /// To write it with notes, which have so many best plays, to a file.
+    Annotate(usize, &'a str),
 }
 
 impl<'a> SheetTask<'a> {
@@ -42,7 +46,7 @@ impl<'a> SheetTask<'a> {
         match self {
             SheetTask::Audit(out) => out,
             SheetTask::Explain(_) => None,
-            SheetTask::Page(out) => Some(out),
+            SheetTask::Page(out) | SheetTask::Annotate(_, out) => Some(out),
         }
     }
 }
@@ -109,6 +113,7 @@ fn tell_page<'a, R: Runtime + AllocGlobal, F: Read + Drop, S: Read + Drop>(
         rules: given.rules,
         pair: given.pair,
         case,
+        up: None,
         maker: &maker,
     };
     write_page(rt, &contents, out)
@@ -127,6 +132,32 @@ fn page<'a, R: Runtime + AllocGlobal, F: Read + Drop, S: Read + Drop>(
 {
     match open_case(rt.alloc(), given.rules, given.pair, game) {
         Ok(case) => Ok(Ok(tell_page(rt, given, &case, out))),
+        Err(fault) => Err(fault),
+    }
+}
+
+/// Writes a sheet with notes, which have so many best plays.
+fn annotate<'a, R: Runtime + AllocGlobal, F: Read + Drop, S: Read + Drop>(
+    rt: &R,
+    given: &GivenFiles<'_, F, S>,
+    game: &mut SheetFile<S>,
+    number: usize,
+    out: &'a str,
+) -> Result<Told<'a>, RunFault>
+    requires { HasRoom (⟦<SheetFile<S> as Input>⟧.device game.old) }
+    ensures { Gives outcomes (game_source (⟦<SheetFile<S> as Input>⟧.device game.old) (⟦<SheetFile<S> as Input>⟧.device game.new) ∷ [])
+        (IsCaseTold given.now.rules.now (list_in given.now.pair.now)) result }
+{
+    match open_case(rt.alloc(), given.rules, given.pair, game) {
+        Ok(case) => {
+            let sheet = SheetToAnnotate {
+                rules: given.rules,
+                pair: given.pair,
+                case: &case,
+                number,
+            };
+            Ok(Ok(write_annotated(rt, &sheet, out)))
+        }
         Err(fault) => Err(fault),
     }
 }
@@ -163,6 +194,7 @@ impl<'a, R: Runtime + AllocGlobal, F: Read + Drop, S: Read + Drop> Question<
             SheetTask::Audit(out) => audit(self.rt, given, game, out),
             SheetTask::Explain(line) => explain(self.rt, given, game, line),
             SheetTask::Page(out) => page(self.rt, given, game, out),
+            SheetTask::Annotate(number, out) => annotate(self.rt, given, game, number, out),
         }
     }
 

@@ -97,6 +97,25 @@ fn explain_all(rt: &impl Abort, alloc: Global, rules: &Rules, exit: Exit, rows: 
     }
 }
 
+/// Asserts how the text of a row begins.
+fn begin(rt: &impl Abort, alloc: Global, rules: &Rules, row: &Row) -> Exit {
+    let (ended, text) = explained(rt, alloc, rules, row, None);
+    assert!(rt;
+        text.as_slice().starts_with(row.head.as_bytes()),
+        "{}",
+        row.head
+    );
+    ended
+}
+
+/// Asserts the exit of each row, and how its text begins.
+fn begin_all(rt: &impl Abort, alloc: Global, rules: &Rules, exit: Exit, rows: &[Row]) {
+    for row in rows {
+        let ended = begin(rt, alloc, rules, row);
+        assert_eq!(rt; ended, exit, "{}", row.head);
+    }
+}
+
 /// What is wrong with the text or the placement of a play.
 const PLAYS: [Row; 11] = [
     Row {
@@ -171,7 +190,7 @@ const SCORES: [Row; 9] = [
     Row {
         words: "WORD\nAT\nRA\nDT",
         game: ">A: DORWAAE 8E WORD +16 16\n>B: 9F AT +9 9\n",
-        head: "illegal line 2: WrongScore 8\nline 2: >B: 9F AT +9 9\nThe play scores 8, but 9 is written.\nThe same letters score 9 at 9G across.\nAT\n  9F A 1\n  9G T 1 x 2 = 2, double letter\n  sum 3\nOA, which is not in the word list\n  8F O 1, already on the board\n  9F A 1\n  sum 2\nRT, which is not in the word list\n  8G R 1, already on the board\n  9G T 1 x 2 = 2, double letter\n  sum 3\nscore of the play: 8\n",
+        head: "illegal line 2: WrongScore 8\nline 2: >B: 9F AT +9 9\nThe play scores 8, but 9 is written.\nThe same letters score 9 at 9G across.\nAT\n  9F A 1\n  9G T 1 x 2 = 2, double letter\n  sum 3\n(O)A, which is not in the word list\n  8F O 1, already on the board\n  9F A 1\n  sum 2\n(R)T, which is not in the word list\n  8G R 1, already on the board\n  9G T 1 x 2 = 2, double letter\n  sum 3\nscore of the play: 8\n",
     },
     Row {
         words: "WORD\nAT\nRA\nDT",
@@ -186,7 +205,7 @@ const SCORES: [Row; 9] = [
     Row {
         words: "RETAINS",
         game: ">A: 8E rETAINS +64 64\n",
-        head: "illegal line 1: WrongScore 62\nline 1: >A: 8E rETAINS +64 64\nThe play scores 62, but 64 is written.\nThe same letters score 64 at 8B across, 8C across, 8F across and 7 other places.\nRETAINS\n  8E r 0\n  8F E 1\n  8G T 1\n  8H A 1, double word\n  8I I 1\n  8J N 1\n  8K S 1\n  sum 6 x 2 = 12\nbonus for seven tiles: 50\nscore of the play: 62\n",
+        head: "illegal line 1: WrongScore 62\nline 1: >A: 8E rETAINS +64 64\nThe play scores 62, but 64 is written.\nWith the R on 8E as a letter and not a blank the play scores 64, as is written.\nThe same letters score 64 at 8B across, 8C across, 8F across and 7 other places.\nRETAINS\n  8E r 0\n  8F E 1\n  8G T 1\n  8H A 1, double word\n  8I I 1\n  8J N 1\n  8K S 1\n  sum 6 x 2 = 12\nbonus for seven tiles: 50\nscore of the play: 62\n",
     },
     Row {
         words: "WORD",
@@ -249,7 +268,7 @@ const TURNS: [Row; 11] = [
     Row {
         words: "WORD",
         game: ">A: DORWAAE 8E WORD +16 16\n>B: - +0 0\n>B: - +0 0\n",
-        head: "illegal line 3: NotYourTurn\nline 3: >B: - +0 0\nIt is A's turn, not B's.\n",
+        head: "illegal line 3: NotYourTurn\nline 3: >B: - +0 0\nIt is A's turn, not B's.\nThis line says the same as line 2: it seems to stand twice.\n",
     },
     Row {
         words: "AT",
@@ -378,7 +397,7 @@ const RACKS: [Row; 5] = [
     Row {
         words: "AT",
         game: ">A: AEINRST -1 +0 0\n>B: - +0 0\n>A: BCDFGHJ - +0 0\n",
-        head: "illegal line 3: NoDeal\nline 3: >A: BCDFGHJ - +0 0\nNo deal of the tiles gives the players the racks that the lines up to this one show, though no line alone shows too much.\nCompare the racks with the exchanges:\n  line 1: A exchanges 1 tile\n",
+        head: "illegal line 3: NoDeal\nline 3: >A: BCDFGHJ - +0 0\nNo deal of the tiles gives the players the racks that the lines up to this one show, though no line alone shows too much.\nCompare the racks with the exchanges:\n  line 1: A exchanges 1 tile\nUp to line 2 a deal of the tiles gives the players every rack that is shown.\n",
     },
     Row {
         words: "AT",
@@ -402,6 +421,125 @@ fn racks(rt: HostRuntime) {
     explain_all(&rt, rt.alloc(), &english_rules(), Exit::Illegal, &RACKS);
 }
 
+/// Tiles that are not on the rack, tiles that were read as others, and blanks.
+const SLIPS: [Row; 9] = [
+    Row {
+        words: "WORD\nAT",
+        game: ">A: AADEORW 8E XORD +24 24\n",
+        head: "illegal line 1: RackTooBig\nline 1: >A: AADEORW 8E XORD +24 24\nX is played, but the rack AADEORW has none.\nWith W for X on 8E the play makes WORD, and scores 16, but 24 is written.\nA has 7 tiles here, but by the lines below the rack would have to hold 8: AADEORWX.\n  line 1 shows AADEORWX and plays DORX\n",
+    },
+    Row {
+        words: "WORD\nAT",
+        game: ">A: AADEORW 8E XORD +16 16\n",
+        head: "illegal line 1: WrongScore 24\nline 1: >A: AADEORW 8E XORD +16 16\nThe play scores 24, but 16 is written.\nX is played, but the rack AADEORW has none.\nWith W for X on 8E the play makes WORD, and scores 16, as is written.\n",
+    },
+    Row {
+        words: "WORD\nAT",
+        game: ">A: AADEOR? 8E WORD +16 16\n",
+        head: "illegal line 1: RackTooBig\nline 1: >A: AADEOR? 8E WORD +16 16\nW is played, but the rack AADEOR? has none.\nWith a blank for W on 8E the play makes WORD, and scores 8, but 16 is written.\n",
+    },
+    Row {
+        words: "WORD\nAT",
+        game: ">A: AADEORW 8E wORD +8 8\n",
+        head: "illegal line 1: RackTooBig\nline 1: >A: AADEORW 8E wORD +8 8\nA blank is played, but the rack AADEORW has none.\nWith W for the blank on 8E the play makes WORD, and scores 16, but 8 is written.\n",
+    },
+    Row {
+        words: "WOOD",
+        game: ">A: AADEOTW 8E WOOD +16 16\n",
+        head: "illegal line 1: RackTooBig\nline 1: >A: AADEOTW 8E WOOD +16 16\n2 tiles O are played, but the rack AADEOTW has only 1.\nA has 7 tiles here, but by the lines below the rack would have to hold 8: AADEOOTW.\n",
+    },
+    Row {
+        words: "AT\nET\nOT",
+        game: ">A: AEOTTTT 8H UT +4 4\n",
+        head: "illegal line 1: RackTooBig\nline 1: >A: AEOTTTT 8H UT +4 4\nU is played, but the rack AEOTTTT has none.\nWith A for U on 8H the play makes AT, and scores 4, as is written.\nWith E for U on 8H the play makes ET, and scores 4, as is written.\nWith O for U on 8H the play makes OT, and scores 4, as is written.\n",
+    },
+    Row {
+        words: "WORD",
+        game: ">A: 8E WORD +8 8\n",
+        head: "illegal line 1: WrongScore 16\nline 1: >A: 8E WORD +8 8\nThe play scores 16, but 8 is written.\nWith the W on 8E as a blank the play scores 8, as is written.\n",
+    },
+    Row {
+        words: "WORD",
+        game: ">A: 8E wORD +16 16\n",
+        head: "illegal line 1: WrongScore 8\nline 1: >A: 8E wORD +16 16\nThe play scores 8, but 16 is written.\nWith the W on 8E as a letter and not a blank the play scores 16, as is written.\n",
+    },
+    Row {
+        words: "WORD",
+        game: ">A: AADEORW 8E WORD +8 8\n",
+        head: "illegal line 1: WrongScore 16\nline 1: >A: AADEORW 8E WORD +8 8\nThe play scores 16, but 8 is written.\nWORD\n",
+    },
+];
+
+#[test]
+fn slips(rt: HostRuntime) {
+    begin_all(&rt, rt.alloc(), &english_rules(), Exit::Illegal, &SLIPS);
+}
+
+/// Lines that stand twice, in the wrong order or under the wrong name, and lines that are missing.
+const ORDERS: [Row; 6] = [
+    Row {
+        words: "AT",
+        game: ">A: 8E WORD +16 16\n>A: 8E WORD +16 16\n>B: - +0 0\n",
+        head: "illegal line 2: NotYourTurn\nline 2: >A: 8E WORD +16 16\nIt is B's turn, not A's.\nThis line says the same as line 1: it seems to stand twice.\n",
+    },
+    Row {
+        words: "AT",
+        game: ">A: 8E WORD +16 16\n>A: - +0 16\n#note\n>B: 9G AT +9 9\n",
+        head: "illegal line 2: NotYourTurn\nline 2: >A: - +0 16\nIt is B's turn, not A's.\nWith lines 2 and 4 the other way round the rules allow both.\n",
+    },
+    Row {
+        words: "AT",
+        game: ">A: 8E WORD +16 16\n>A: - +0 16\n>B: - +0 9\n",
+        head: "illegal line 2: NotYourTurn\nline 2: >A: - +0 16\nIt is B's turn, not A's.\nA line of B with +9 seems to be missing between lines 1 and 2.\n",
+    },
+    Row {
+        words: "AT",
+        game: ">A: 8E WORD +16 16\n>A: 9G AT +9 25\n>B: F10 TO +4 4\n",
+        head: "illegal line 2: NotYourTurn\nline 2: >A: 9G AT +9 25\nIt is B's turn, not A's.\nA line of B with +0 seems to be missing between lines 1 and 2.\n",
+    },
+    Row {
+        words: "AT",
+        game: ">A: 8E WORD +16 16\n>A: 9G AT +9 9\n>A: - +0 16\n>B: - +0 9\n",
+        head: "illegal line 2: NotYourTurn\nline 2: >A: 9G AT +9 9\nIt is B's turn, not A's.\nAs a line of B the rules allow it.\n",
+    },
+    Row {
+        words: "AT",
+        game: ">A: 8E WORD +16 16\n>A: 9G AT +9 20\n>B: - +0 9\n",
+        head: "illegal line 2: NotYourTurn\nline 2: >A: 9G AT +9 20\nIt is B's turn, not A's.\nAT\n",
+    },
+];
+
+#[test]
+fn orders(rt: HostRuntime) {
+    begin_all(&rt, rt.alloc(), &english_rules(), Exit::Illegal, &ORDERS);
+}
+
+/// Records whose events the rules allow: plays that stand with words that are not in the list, and turns without a rack.
+const NOTES: [Row; 3] = [
+    Row {
+        words: "AT\nRA",
+        game: ">A: DORWAAE 8E WORD +16 16\n>B: 9G AT +9 9\n",
+        head: "legal unfinished\nThe rules allow every event, and a deal of the tiles gives the players every rack that is shown.\nLine 1: A's play stands with WORD, which is not in the word list.\nLine 2: B's play stands with DT, which is not in the word list.\nNo rack is shown on 1 turn: line 2.\n",
+    },
+    Row {
+        words: "WORD\nAT",
+        game: ">A: 8E WORD +16 16\n>B: 9G AT +9 9\n>B: -- -9 0\n>A: DOR - +0 16\n",
+        head: "legal unfinished\nThe rules allow every event, and a deal of the tiles gives the players every rack that is shown.\nEach word of every play that stands is in the word list.\nNo rack is shown on 2 turns: lines 1 and 2.\n",
+    },
+    Row {
+        words: "AT",
+        game: ">A: 8E WORD +16 16\n>B: 9G AT +9 9\n>A: - +0 16\n",
+        head: "legal unfinished\nThe rules allow every event, and a deal of the tiles gives the players every rack that is shown.\nLine 1: A's play stands with WORD, which is not in the word list.\nLine 2: B's play stands with RA and DT, which are not in the word list.\nNo turn shows its rack.\n",
+    },
+];
+
+#[test]
+fn notes(rt: HostRuntime) {
+    for row in &NOTES {
+        begin(&rt, rt.alloc(), &english_rules(), row);
+    }
+}
+
 /// Lines that are no lines of a record.
 const RECORDS: [Row; 18] = [
     Row {
@@ -412,7 +550,7 @@ const RECORDS: [Row; 18] = [
     Row {
         words: "AT",
         game: ">Ann Lee: 8E WORD +16 16\n",
-        head: "bad record line 1: NoColon\nline 1: >Ann Lee: 8E WORD +16 16\nThere is a space or a tab inside the nickname before the colon.\n",
+        head: "bad record line 1: NoColon\nline 1: >Ann Lee: 8E WORD +16 16\nThere is a space or a tab inside the nickname before the colon.\nWrite Ann_Lee.\n",
     },
     Row {
         words: "AT",
@@ -432,12 +570,12 @@ const RECORDS: [Row; 18] = [
     Row {
         words: "AT",
         game: ">A: 8E\n",
-        head: "bad record line 1: Fields\nline 1: >A: 8E\nThere is 1 field after the colon, but an event has 3 to 5.\n",
+        head: "bad record line 1: Fields\nline 1: >A: 8E\nThere is 1 field after the colon, but an event has 3 to 5.\nThe score and the total are missing.\n",
     },
     Row {
         words: "AT",
         game: ">A: 8E WORD\n",
-        head: "bad record line 1: Fields\nline 1: >A: 8E WORD\nThere are 2 fields after the colon, but an event has 3 to 5.\n",
+        head: "bad record line 1: Fields\nline 1: >A: 8E WORD\nThere are 2 fields after the colon, but an event has 3 to 5.\nThe score and the total are missing.\n",
     },
     Row {
         words: "AT",
@@ -477,7 +615,7 @@ const RECORDS: [Row; 18] = [
     Row {
         words: "AT",
         game: ">Ann: 8E WORD +16\n",
-        head: "bad record line 1: Code\nline 1: >Ann: 8E WORD +16\n8E is not an event: an event is a play with its position, word, score and total, or one of the codes -, --, -TILES, -NUMBER, (challenge), (time) and (TILES).\n",
+        head: "bad record line 1: Code\nline 1: >Ann: 8E WORD +16\n8E is not an event: an event is a play with its position, word, score and total, or one of the codes -, --, -TILES, -NUMBER, (challenge), (time) and (TILES).\nThe score or the total is missing: an event ends with both.\n",
     },
     Row {
         words: "AT",
@@ -492,7 +630,7 @@ const RECORDS: [Row; 18] = [
     Row {
         words: "AT",
         game: "#note\r\n>Ann: - +0\r\n",
-        head: "bad record line 2: Fields\nline 2: >Ann: - +0\nThere are 2 fields after the colon, but an event has 3 to 5.\n",
+        head: "bad record line 2: Fields\nline 2: >Ann: - +0\nThere are 2 fields after the colon, but an event has 3 to 5.\nThe score or the total is missing: an event ends with both.\n",
     },
 ];
 
@@ -506,7 +644,7 @@ const LAST_RACKS: [Row; 7] = [
     Row {
         words: "WORD",
         game: ">A: 8E WORD +16 16\n>B: - +0 0\n>A: H8 DATER +0 16\n",
-        head: "illegal line 3: TooManyUsed\nline 3: >A: H8 DATER +0 16\nThe play uses 4 tiles, but A has only 3 left.\nDATER, which is not in the word list\n  8H D 2, already on the board\n  9H A 1\n  10H T 1\n  11H E 1\n  12H R 1 x 2 = 2, double letter\n  sum 7\nscore of the play: 7\n",
+        head: "illegal line 3: TooManyUsed\nline 3: >A: H8 DATER +0 16\nThe play uses 4 tiles, but A has only 3 left.\n(D)ATER, which is not in the word list\n  8H D 2, already on the board\n  9H A 1\n  10H T 1\n  11H E 1\n  12H R 1 x 2 = 2, double letter\n  sum 7\nscore of the play: 7\n",
     },
     Row {
         words: "AT",
@@ -569,7 +707,7 @@ const ASKED: [(Exit, Option<u32>, Row); 10] = [
         Row {
             words: "WORD",
             game: ">A: DORWAAE 8E WORD +16 16\n",
-            head: "legal unfinished\nThe rules allow every event, and a deal of the tiles gives the players every rack that is shown.\n",
+            head: "legal unfinished\nThe rules allow every event, and a deal of the tiles gives the players every rack that is shown.\nEach word of every play that stands is in the word list.\nEvery turn shows its rack.\n",
         },
     ),
     (
@@ -587,7 +725,7 @@ const ASKED: [(Exit, Option<u32>, Row); 10] = [
         Row {
             words: "WORD\nAT\nRA\nDT",
             game: ">A: DORWAAE 8E WORD +16 16\n>B: 9G AT +9 9\n",
-            head: "legal unfinished\nline 2: >B: 9G AT +9 9\nThe rules allow this event.\nAT\n  9G A 1 x 2 = 2, double letter\n  9H T 1\n  sum 3\nRA\n  8G R 1, already on the board\n  9G A 1 x 2 = 2, double letter\n  sum 3\nDT\n  8H D 2, already on the board\n  9H T 1\n  sum 3\nscore of the play: 9\n",
+            head: "legal unfinished\nline 2: >B: 9G AT +9 9\nThe rules allow this event.\nAT\n  9G A 1 x 2 = 2, double letter\n  9H T 1\n  sum 3\n(R)A\n  8G R 1, already on the board\n  9G A 1 x 2 = 2, double letter\n  sum 3\n(D)T\n  8H D 2, already on the board\n  9H T 1\n  sum 3\nscore of the play: 9\n",
         },
     ),
     (
@@ -605,7 +743,7 @@ const ASKED: [(Exit, Option<u32>, Row); 10] = [
         Row {
             words: "WORD\nAT\nRA\nDT",
             game: ">A: 8E WORD +18 18\n>B: 9G AT +9 9\n",
-            head: "illegal line 1: WrongScore 16\nline 2: >B: 9G AT +9 9\nThe rules do not allow line 1, so this line was not judged.\nAT\n  9G A 1 x 2 = 2, double letter\n  9H T 1\n  sum 3\nRA\n  8G R 1, already on the board\n  9G A 1 x 2 = 2, double letter\n  sum 3\nDT\n  8H D 2, already on the board\n  9H T 1\n  sum 3\nscore of the play: 9\n",
+            head: "illegal line 1: WrongScore 16\nline 2: >B: 9G AT +9 9\nThe rules do not allow line 1, so this line was not judged.\nAT\n  9G A 1 x 2 = 2, double letter\n  9H T 1\n  sum 3\n(R)A\n  8G R 1, already on the board\n  9G A 1 x 2 = 2, double letter\n  sum 3\n(D)T\n  8H D 2, already on the board\n  9H T 1\n  sum 3\nscore of the play: 9\n",
         },
     ),
     (
@@ -650,7 +788,7 @@ const ASKED: [(Exit, Option<u32>, Row); 10] = [
         Row {
             words: "AT",
             game: ">A: - +0\n",
-            head: "bad record line 1: Fields\nline 1: >A: - +0\nThere are 2 fields after the colon, but an event has 3 to 5.\n",
+            head: "bad record line 1: Fields\nline 1: >A: - +0\nThere are 2 fields after the colon, but an event has 3 to 5.\nThe score or the total is missing: an event ends with both.\n",
         },
     ),
 ];

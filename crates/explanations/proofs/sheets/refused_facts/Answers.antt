@@ -1,4 +1,4 @@
-use Rattle.std.proofs.Common.{List, take, refl, ap}
+use Rattle.std.proofs.Common.{◌+◌, List, take, drop, refl, ap, ◌∙◌}
 use Rattle.gcg_read.specs.declared.events.Event.{Event}
 use Rattle.game_turns.specs.Machines.{state_of}
 use Rattle.explanations.proofs.Refusing.{fails_in, all_at}
@@ -13,5 +13,12 @@ pub returns : goal.returns
 returns c =
     let sheet = c.args.sheet.now in
     all_at sheet.rules.now sheet.list.now sheet.record.now.events c.args.place _ c.tell_rule_fault.new.facts.items
-    (record { by = refl; listed = refl; past = ap (λ (events : List Event). take c.args.place events) c.as_slice-events.ensures; stands = c.requires.stands; before = c.requires.state })
+    (record {
+      by = refl;
+      listed = refl;
+      past = ap (λ (events : List Event). take c.args.place events) c.as_slice-events.ensures;
+      stands = c.requires.stands;
+      later = c.events_behind-later.ensures ∙ ap (λ (events : List Event). drop (c.args.place + 1) events) c.as_slice-events.ensures;
+      before = c.requires.state;
+    })
     c.in_ok-tell_rule_fault.ensures

@@ -1,0 +1,108 @@
+//! The note of an event, in one line.
+
+use decimal_text::push_number;
+use event_notes::{BestPlay, SpelledWord, TurnBest};
+use game_answers::ScoredPlay;
+use gcg_write::play_text;
+use ref_play::Notation;
+use score_sheets::SheetRow;
+use std::alloc::AllocError;
+
+/// Appends a play and its score.
+fn push_play(note: &mut Vec<u8>, written: &Notation, score: i32) -> Result<(), AllocError> {
+    if play_text(written.at, written.dir, written.word.as_slice(), note).is_err() {
+        return Err(AllocError);
+    }
+    note.push(b' ')?;
+    push_number(note, score)
+}
+
+/// How many points a best play would have given more than its turn; a play that is taken back gives nothing.
+fn points_more(best: &BestPlay, taken_back: bool) -> i64 {
+    if taken_back {
+        i64::from(best.score)
+    } else {
+        best.more
+    }
+}
+
+/// Appends the best play, its score, and what it would have given more where that is above 0.
+fn push_best(note: &mut Vec<u8>, best: &BestPlay, taken_back: bool) -> Result<(), AllocError> {
+    note.extend_from_slice(b"best ")?;
+    push_play(note, &best.written, best.score)?;
+    let more = points_more(best, taken_back);
+    if more <= 0 {
+        return Ok(());
+    }
+    note.extend_from_slice(b", ")?;
+    push_number(note, more)?;
+    note.extend_from_slice(b" more")
+}
+
+/// Appends the next best plays, where there are some.
+fn push_next(note: &mut Vec<u8>, plays: &[ScoredPlay]) -> Result<(), AllocError> {
+    let mut before: &[u8] = b"; then ";
+    for play in plays {
+        note.extend_from_slice(before)?;
+        push_play(note, &play.written, play.score)?;
+        before = b", ";
+    }
+    Ok(())
+}
+
+/// Appends what is said of the best play of an event.
+fn push_turn(note: &mut Vec<u8>, best: &TurnBest, taken_back: bool) -> Result<(), AllocError> {
+    match best {
+        TurnBest::NoTurn | TurnBest::NotShown => Ok(()),
+        TurnBest::NoPlay => note.extend_from_slice(b"no play is possible"),
+        TurnBest::Best(best) => push_best(note, best, taken_back),
+    }
+}
+
+/// Appends words, each after a space.
+fn push_words(note: &mut Vec<u8>, words: &[SpelledWord]) -> Result<(), AllocError> {
+    for word in words {
+        note.push(b' ')?;
+        note.extend_from_slice(word.letters.as_slice())?;
+    }
+    Ok(())
+}
+
+/// Appends the words of a play that are not in the list, after what is said of the best play.
+fn push_unlisted(
+    note: &mut Vec<u8>,
+    words: &[SpelledWord],
+    is_first: bool,
+) -> Result<(), AllocError> {
+    if words.is_empty() {
+        return Ok(());
+    }
+    if !is_first {
+        note.extend_from_slice(b"; ")?;
+    }
+    note.extend_from_slice(b"not in the list:")?;
+    push_words(note, words)
+}
+
+/// Appends the note of an event, which may be empty: its best play, the next best ones, and its words that are not in the list.
+pub fn push_note(
+    notes: &mut Vec<u8>,
+    row: &SheetRow,
+    next: &[ScoredPlay],
+) -> Result<(), AllocError> {
+    let start = notes.len();
+    if let Some(best) = &row.best {
+        push_turn(notes, best, row.taken_back)?;
+    }
+    push_next(notes, next)?;
+    let is_first = notes.len() == start;
+    push_unlisted(notes, row.unlisted.as_slice(), is_first)
+}
+
+/// Appends sentences, each of which has a line, as one line.
+pub fn push_sentences(notes: &mut Vec<u8>, sentences: &[u8]) -> Result<(), AllocError> {
+    for byte in sentences {
+        notes.push(if *byte == b'\n' { b' ' } else { *byte })?;
+    }
+    Ok(())
+}

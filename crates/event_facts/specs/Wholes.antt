@@ -1,0 +1,105 @@
+-- What is said of a record whose events the rules allow: which plays stand with words that are not in the list, and which turns show no rack.
+use Rattle.std.specs.Prelude.{◌≡◌, ℕ, zero, suc, ◌+◌, ◌&&◌, Bool, true, false, List, [], ◌∷◌, ◌++◌, length, map, slice_get, Option, Some, None, is_none, if◌then◌else◌}
+use Rattle.std.specs.List.{flat_map}
+use Rattle.ref_tiles.specs.declared.rulebook.Rules.{Rules}
+use Rattle.lex_list.specs.Words.{is_listed}
+use Rattle.gcg_read.specs.declared.events.Seat.{Seat}
+use Rattle.gcg_read.specs.declared.events.Event.{Event}
+use Rattle.gcg_read.specs.declared.events.EventKind.{EventKind}
+use Rattle.gcg_read.specs.declared.events.EventKind.TheVariants as kind
+use Rattle.game_turns.specs.Tallies.{State, tally_at}
+use Rattle.game_turns.specs.LatestEvents.{standing_words}
+use Rattle.event_facts.specs.declared.facts.Fact.{Fact}
+use Rattle.event_facts.specs.declared.facts.Fact.TheVariants as fact
+use Rattle.event_facts.specs.declared.facts.UnlistedPlay.{UnlistedPlay}
+use Rattle.event_facts.specs.Facts.{letters_in}
+
+-- ---- plays that stand with words that are not in the list
+
+-- what contracts see of such a play: its line, its player, and those of its words that are not in the list
+pub record UnlistedValue : Type 0 where
+  pub line : ℕ
+  pub player : Seat
+  pub words : List (List ℕ)
+
+abbrev pub play_in : UnlistedPlay → UnlistedValue
+play_in p = record { line = p.line; player = p.player; words = letters_in p.words.items }
+
+abbrev pub unlisted_one : (list : List (List ℕ)) → List ℕ → List (List ℕ)
+unlisted_one list word = if is_listed list word then [] else word ∷ []
+
+-- the words that are not in the list, in their order
+abbrev pub unlisted_of : (list : List (List ℕ)) → List (List ℕ) → List (List ℕ)
+unlisted_of list words = flat_map (unlisted_one list) words
+
+abbrev pub play_with : Event → (words : List (List ℕ)) → List UnlistedValue
+play_with e [] = []
+play_with e (word ∷ words) = record { line = e.line; player = e.player; words = word ∷ words } ∷ []
+
+-- an event, where it is a play that stands with such words, by the state behind it
+abbrev pub unlisted_play : (list : List (List ℕ)) → (behind : State) → Option Event → List UnlistedValue
+unlisted_play list behind None = []
+unlisted_play list behind (Some e) = play_with e (unlisted_of list (standing_words behind.latest))
+
+-- those among the first events of a record
+abbrev pub unlisted_to : Rules → (list : List (List ℕ)) → List Event → (many : ℕ) → List UnlistedValue
+unlisted_to rules list events zero = []
+unlisted_to rules list events (suc many) = unlisted_to rules list events many ++ unlisted_play list (tally_at rules events (many + 1)) (slice_get events many)
+
+-- ---- turns without a rack
+
+-- whether the line of an event may show a rack: that of a play, of an exchange, or of a pass before a player is out
+abbrev pub may_show : (out : Option Seat) → EventKind → Bool
+may_show out (kind.Play at dir word) = true
+may_show out kind.Pass = is_none out
+may_show out (kind.Exchange tiles) = true
+may_show out (kind.ExchangeUnknown n) = true
+may_show out other = false
+
+abbrev pub one_where : Bool → (line : ℕ) → List ℕ
+one_where so line = if so then line ∷ [] else []
+
+-- the line of an event that may show a rack, by the state before it, and the line of one that shows none
+abbrev pub turn_line : (before : State) → Option Event → List ℕ
+turn_line before None = []
+turn_line before (Some e) = one_where (may_show before.out e.kind) e.line
+
+abbrev pub hidden_line : (before : State) → Option Event → List ℕ
+hidden_line before None = []
+hidden_line before (Some e) = one_where (may_show before.out e.kind && is_none e.rack) e.line
+
+-- those among the first events of a record
+abbrev pub turns_to : Rules → List Event → (many : ℕ) → List ℕ
+turns_to rules events zero = []
+turns_to rules events (suc many) = turns_to rules events many ++ turn_line (tally_at rules events many) (slice_get events many)
+
+abbrev pub hidden_to : Rules → List Event → (many : ℕ) → List ℕ
+hidden_to rules events zero = []
+hidden_to rules events (suc many) = hidden_to rules events many ++ hidden_line (tally_at rules events many) (slice_get events many)
+
+-- ---- each fact
+
+-- all plays of a record that stand with words that are not in the list
+abbrev pub TellsUnlisted : Rules → (list : List (List ℕ)) → List Event → Fact → Type 0
+TellsUnlisted rules list events (fact.Unlisted plays) = map play_in plays.items ≡ unlisted_to rules list events (length events)
+TellsUnlisted rules list events other = ⊥
+
+-- all its turns that show no rack, and how many turns there are
+abbrev pub TellsHidden : Rules → List Event → Fact → Type 0
+TellsHidden rules events (fact.RacksHidden lines turns) =
+    (lines.items ≡ hidden_to rules events (length events)) × (turns ≡ length (turns_to rules events (length events)))
+TellsHidden rules events other = ⊥
+
+-- what is said of a record whose events the rules allow
+pub record AreNotes (rules : Rules) (list : List (List ℕ)) (events : List Event) (notes : List Fact) : Type 0 where
+  pub unlisted : Fact
+  pub hidden : Fact
+  pub both : notes ≡ unlisted ∷ hidden ∷ []
+  pub plays : TellsUnlisted rules list events unlisted
+  pub racks : TellsHidden rules events hidden
+
+-- it is said behind other facts
+pub record AddsNotes (rules : Rules) (list : List (List ℕ)) (events : List Event) (old new : List Fact) : Type 0 where
+  pub notes : List Fact
+  pub behind : new ≡ old ++ notes
+  pub are : AreNotes rules list events notes

@@ -1,0 +1,181 @@
+//! What is said of a record whose events the rules allow: which plays stand with words that are not in the list, and which turns show no rack.
+ghost use Rattle.std.specs.Prelude.{◌≡◌, ◌+◌, ◌<◌, ◌++◌, ◌∷◌, [], map, length, slice_get, Some, IfOk, OnOk};
+ghost use Rattle.ref_play.specs.Words.{items_of};
+ghost use Rattle.game_turns.specs.Machines.{rules_of, state_of};
+ghost use Rattle.game_turns.specs.Passing.{rules_in, record_in, list_in};
+ghost use Rattle.game_turns.specs.Tallies.{tally_at};
+ghost use Rattle.event_facts.specs.Facts.{letters_in};
+ghost use Rattle.event_facts.specs.Wholes.{play_in, unlisted_one, unlisted_of, play_with, unlisted_to, may_show, one_where, turn_line, hidden_line, turns_to, hidden_to, TellsUnlisted, TellsHidden, AddsNotes};
+
+use crate::facts::{Fact, Spelled, UnlistedPlay};
+use game_turns::{Machine, Passed};
+use gcg_read::{Event, EventKind, Seat};
+use lex_list::WordList;
+use ref_play::Word;
+use std::alloc::{AllocError, Global};
+
+/// Appends a word, where it is not in the list.
+fn push_unlisted(
+    alloc: Global,
+    kept: &mut Vec<Spelled>,
+    list: &WordList,
+    word: &Word,
+) -> Result<(), AllocError>
+    ensures { OnOk result (letters_in kept.new.items ≡ letters_in kept.old.items ++ unlisted_one list.now word.now.items) }
+{
+    if list.has(word.as_slice()) {
+        return Ok(());
+    }
+    let letters = Vec::from_slice(alloc, word.as_slice())?;
+    kept.push(Spelled { letters })?;
+    Ok(())
+}
+
+/// The words that are not in the list, in their order.
+fn unlisted_of(alloc: Global, list: &WordList, words: &[Word]) -> Result<Vec<Spelled>, AllocError>
+    ensures { IfOk result (λ kept. letters_in kept.items ≡ unlisted_of list.now (items_of words.now)) }
+{
+    let mut kept = Vec::new(alloc);
+    for word in words {
+        push_unlisted(alloc, &mut kept, list, word)?;
+    }
+    Ok(kept)
+}
+
+/// Appends a play with words that are not in the list, where it has any.
+fn push_play(
+    plays: &mut Vec<UnlistedPlay>,
+    event: &Event,
+    words: Vec<Spelled>,
+) -> Result<(), AllocError>
+    ensures { OnOk result (map play_in plays.new.items ≡ map play_in plays.old.items ++ play_with event.now (letters_in words.items)) }
+{
+    if words.is_empty() {
+        return Ok(());
+    }
+    plays.push(UnlistedPlay {
+        line: event.line,
+        player: event.player,
+        words,
+    })?;
+    Ok(())
+}
+
+/// The plays of a record that stand with words that are not in its list.
+#[tactic(auto, using(game_turns::proofs::PlaceLaws::start_tally, crate::proofs::WholeLaws::read_there, crate::proofs::WholeLaws::unlisted_more))]
+fn unlisted_plays(alloc: Global, passed: &Passed<'_>) -> Result<Vec<UnlistedPlay>, AllocError>
+    ensures { IfOk result (λ plays. map play_in plays.items ≡ unlisted_to (rules_in passed.now) (list_in passed.now) (record_in passed.now).events
+        (length (record_in passed.now).events)) }
+{
+    let events = passed.record().events.as_slice();
+    let mut plays = Vec::new(alloc);
+    let mut machine = Machine::new(passed.rules());
+    for place in 0..events.len() {
+        passed.take_event(&mut machine, place);
+        let words = unlisted_of(alloc, passed.list(), machine.standing_words())?;
+        push_play(&mut plays, &events[place], words)?;
+    }
+    Ok(plays)
+}
+
+/// Whether the line of an event may show a rack.
+fn may_show(out: Option<Seat>, kind: &EventKind) -> bool
+    ensures { result ≡ may_show out kind.now }
+{
+    match kind {
+        EventKind::Play { .. } | EventKind::Exchange(_) | EventKind::ExchangeUnknown(_) => true,
+        EventKind::Pass => out.is_none(),
+        EventKind::Withdraw | EventKind::Challenge | EventKind::Time | EventKind::LastRack(_) => {
+            false
+        }
+    }
+}
+
+/// Appends a line, where something is so.
+fn push_where(lines: &mut Vec<u32>, so: bool, line: u32) -> Result<(), AllocError>
+    ensures { OnOk result (lines.new.items ≡ lines.old.items ++ one_where so line) }
+{
+    if so {
+        lines.push(line)?;
+    }
+    Ok(())
+}
+
+/// Lines of turns.
+#[derive(Drop)]
+struct TurnLines {
+    /// All of them.
+    turns: Vec<u32>,
+    /// Those that show no rack.
+    hidden: Vec<u32>,
+}
+
+impl TurnLines {
+    /// Takes the line of an event, over the game before it.
+    fn take(&mut self, machine: &Machine, event: &Event) -> Result<(), AllocError>
+        ensures turns { OnOk result (self.new.turns.items ≡ self.old.turns.items ++ turn_line (state_of machine.now) (Some event.now)) }
+        ensures hidden { OnOk result (self.new.hidden.items ≡ self.old.hidden.items ++ hidden_line (state_of machine.now) (Some event.now)) }
+    {
+        let shows = may_show(machine.out(), &event.kind);
+        push_where(&mut self.turns, shows, event.line)?;
+        push_where(&mut self.hidden, shows && event.rack.is_none(), event.line)
+    }
+}
+
+/// The lines of the turns of a record, and those that show no rack.
+#[tactic(auto, using(game_turns::proofs::PlaceLaws::start_tally, crate::proofs::WholeLaws::read_there, crate::proofs::WholeLaws::turns_more, crate::proofs::WholeLaws::hidden_more))]
+fn turn_lines(alloc: Global, passed: &Passed<'_>) -> Result<TurnLines, AllocError>
+    ensures turns { IfOk result (λ l. l.turns.items ≡ turns_to (rules_in passed.now) (record_in passed.now).events (length (record_in passed.now).events)) }
+    ensures hidden { IfOk result (λ l. l.hidden.items ≡ hidden_to (rules_in passed.now) (record_in passed.now).events (length (record_in passed.now).events)) }
+{
+    let events = passed.record().events.as_slice();
+    let mut lines = TurnLines {
+        turns: Vec::new(alloc),
+        hidden: Vec::new(alloc),
+    };
+    let mut machine = Machine::new(passed.rules());
+    for place in 0..events.len() {
+        lines.take(&machine, &events[place])?;
+        passed.take_event(&mut machine, place);
+    }
+    Ok(lines)
+}
+
+/// Which plays of a record stand with words that are not in its list.
+fn unlisted_fact(alloc: Global, passed: &Passed<'_>) -> Result<Fact, AllocError>
+    ensures { IfOk result (TellsUnlisted (rules_in passed.now) (list_in passed.now) (record_in passed.now).events) }
+{
+    let plays = unlisted_plays(alloc, passed)?;
+    Ok(Fact::Unlisted { plays })
+}
+
+/// Which turns of a record show no rack.
+fn hidden_fact(alloc: Global, passed: &Passed<'_>) -> Result<Fact, AllocError>
+    ensures { IfOk result (TellsHidden (rules_in passed.now) (record_in passed.now).events) }
+{
+    let lines = turn_lines(alloc, passed)?;
+    let turns = lines.turns.len();
+    Ok(Fact::RacksHidden {
+        lines: lines.hidden,
+        turns,
+    })
+}
+
+/// Adds what is said of a record whose events the rules allow: which of its plays stand with words that are not in the list, and which of its
+/// turns show no rack.
+///
+/// It fails only where memory runs out.
+#[tactic(auto, using(crate::proofs::WholeLaws::both_told))]
+pub fn push_notes(
+    alloc: Global,
+    facts: &mut Vec<Fact>,
+    passed: &Passed<'_>,
+) -> Result<(), AllocError>
+    ensures { OnOk result (AddsNotes (rules_in passed.now) (list_in passed.now) (record_in passed.now).events facts.old.items facts.new.items) }
+{
+    let unlisted = unlisted_fact(alloc, passed)?;
+    let hidden = hidden_fact(alloc, passed)?;
+    facts.push(unlisted)?;
+    facts.push(hidden)?;
+    Ok(())
+}

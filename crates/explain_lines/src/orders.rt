@@ -1,0 +1,83 @@
+//! Lines that stand twice, in the wrong order or under the wrong name, and lines that are missing.
+
+use crate::names::nick;
+use event_facts::Fact;
+use gcg_read::{Players, Seat};
+use sentence_parts::{Part, say, say_of_line};
+use std::alloc::AllocError;
+
+/// Appends that a line and the next one are allowed the other way round.
+fn push_wrong_way(text: &mut Vec<u8>, line: u32, next: u32) -> Result<(), AllocError> {
+    say(
+        text,
+        &[
+            Part::Say("With lines "),
+            Part::Line(line),
+            Part::Say(" and "),
+            Part::Line(next),
+            Part::Say(" the other way round the rules allow both.\n"),
+        ],
+    )
+}
+
+/// Appends that a line seems to be missing.
+fn push_missing(
+    text: &mut Vec<u8>,
+    players: &Players,
+    player: Seat,
+    score: i32,
+    before: u32,
+    after: u32,
+) -> Result<(), AllocError> {
+    say(
+        text,
+        &[
+            Part::Say("A line of "),
+            Part::Raw(nick(players, player)),
+            Part::Say(" with +"),
+            Part::Points(score),
+            Part::Say(" seems to be missing between lines "),
+            Part::Line(before),
+            Part::Say(" and "),
+            Part::Line(after),
+            Part::Say(".\n"),
+        ],
+    )
+}
+
+/// Appends that an event is allowed as the other player's.
+fn push_allowed_for(text: &mut Vec<u8>, players: &Players, other: Seat) -> Result<(), AllocError> {
+    say(
+        text,
+        &[
+            Part::Say("As a line of "),
+            Part::Raw(nick(players, other)),
+            Part::Say(" the rules allow it.\n"),
+        ],
+    )
+}
+
+/// Appends a fact about the order of lines.
+pub fn push_order_fact(
+    text: &mut Vec<u8>,
+    players: &Players,
+    fact: &Fact,
+) -> Result<(), AllocError> {
+    match fact {
+        Fact::StandsTwice { line } => say_of_line(
+            text,
+            "This line says the same as line ",
+            *line,
+            ": it seems to stand twice.\n",
+        ),
+        Fact::WrongWay { line, next } => push_wrong_way(text, *line, *next),
+        Fact::Missing {
+            player,
+            score,
+            before,
+            after,
+        } => push_missing(text, players, *player, *score, *before, *after),
+        Fact::AllowedFor { other } => push_allowed_for(text, players, *other),
+        _ => Ok(()),
+    }
+}

@@ -1,0 +1,90 @@
+//! What is said of a record whose events the rules allow.
+
+use crate::names::nick;
+use crate::spelling::{push_lines, push_words};
+use event_facts::{Fact, UnlistedPlay};
+use gcg_read::Players;
+use sentence_parts::{Part, say};
+use std::alloc::AllocError;
+
+/// Appends a play that stands with words that are not in the list.
+fn push_play(text: &mut Vec<u8>, players: &Players, play: &UnlistedPlay) -> Result<(), AllocError> {
+    say(
+        text,
+        &[
+            Part::Say("Line "),
+            Part::Line(play.line),
+            Part::Say(": "),
+            Part::Raw(nick(players, play.player)),
+            Part::Say("'s play stands with "),
+        ],
+    )?;
+    push_words(text, play.words.as_slice())?;
+    let are = if play.words.len() == 1 { "is" } else { "are" };
+    say(
+        text,
+        &[
+            Part::Say(", which "),
+            Part::Say(are),
+            Part::Say(" not in the word list.\n"),
+        ],
+    )
+}
+
+/// Appends the plays that stand with words that are not in the list, or that there are none.
+fn push_plays(
+    text: &mut Vec<u8>,
+    players: &Players,
+    plays: &[UnlistedPlay],
+) -> Result<(), AllocError> {
+    if plays.is_empty() {
+        return text.extend_from_slice(
+            b"Each word of every play that stands is in the word list.\n",
+        );
+    }
+    for play in plays {
+        push_play(text, players, play)?;
+    }
+    Ok(())
+}
+
+/// Appends on which turns no rack is shown.
+fn push_hidden(text: &mut Vec<u8>, lines: &[u32], turns: usize) -> Result<(), AllocError> {
+    if turns == 0 {
+        return Ok(());
+    }
+    if lines.is_empty() {
+        return text.extend_from_slice(b"Every turn shows its rack.\n");
+    }
+    if lines.len() == turns {
+        return text.extend_from_slice(b"No turn shows its rack.\n");
+    }
+    let front = if lines.len() == 1 {
+        ": line "
+    } else {
+        ": lines "
+    };
+    say(
+        text,
+        &[
+            Part::Say("No rack is shown on "),
+            Part::Things(lines.len(), "turn"),
+            Part::Say(front),
+        ],
+    )?;
+    push_lines(text, lines)?;
+    text.extend_from_slice(b".\n")
+}
+
+/// Appends a fact about a record whose events the rules allow.
+pub fn push_whole_fact(
+    text: &mut Vec<u8>,
+    players: &Players,
+    fact: &Fact,
+) -> Result<(), AllocError> {
+    match fact {
+        Fact::Unlisted { plays } => push_plays(text, players, plays.as_slice()),
+        Fact::RacksHidden { lines, turns } => push_hidden(text, lines.as_slice(), *turns),
+        _ => Ok(()),
+    }
+}

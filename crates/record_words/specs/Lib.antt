@@ -1,0 +1,3 @@
+pub mod Pragmas
+pub mod Notes
+pub mod Words

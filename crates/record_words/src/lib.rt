@@ -1,0 +1,11 @@
+//! What a record says in words beside its events: its title, its event, its lexicon, and the notes that stand with its events.
+//!
+//! Nothing of it is judged: it is what the writer of the record says, in the bytes of the record.
+#![tactic(auto)]
+
+mod notes;
+mod pragmas;
+mod words;
+
+pub use notes::Note;
+pub use words::{RecordWords, words_of};

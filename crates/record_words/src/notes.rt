@@ -1,0 +1,57 @@
+//! The notes of a record.
+ghost use Rattle.std.specs.Prelude.{◌≡◌, ◌++◌, ◌<◌, ◌≤◌, ◌+◌, IfOk, OnOk, map};
+ghost use Rattle.text_lines.specs.Lines.{lines_in};
+ghost use Rattle.record_words.specs.Notes.{note_in, note_on, is_event, behind, notes_from};
+
+use crate::pragmas::said;
+use std::alloc::{AllocError, Global};
+use text_lines::Lines;
+
+/// A note of a record.
+#[derive(Clone, Copy)]
+pub struct Note<'a> {
+    /// How many lines of events stand before it: it stands with the last of them.
+    pub after: usize,
+    /// What it says.
+    pub text: &'a [u8],
+}
+
+/// Whether a line is that of an event.
+fn is_event(line: &[u8]) -> bool
+    ensures { result ≡ is_event line.now }
+{
+    line.starts_with(b">")
+}
+
+/// How many lines of events stand before the line behind this one.
+#[tactic(auto, unfolding(crate::specs::Notes::behind))]
+fn behind(after: usize, line: &[u8]) -> usize
+    requires { after < 9223372036854775808 }
+    ensures count { result ≡ behind after line.now }
+    ensures step { result ≤ after + 1 }
+{
+    if is_event(line) { after + 1 } else { after }
+}
+
+/// Adds the note of a line, where it is one.
+fn push_note<'a>(notes: &mut Vec<Note<'a>>, after: usize, line: &'a [u8]) -> Result<(), AllocError>
+    ensures { OnOk result (map note_in notes.new.items ≡ map note_in notes.old.items ++ note_on after line.now) }
+{
+    if let Some(text) = said(b"#note", line) {
+        notes.push(Note { after, text })?;
+    }
+    Ok(())
+}
+
+/// The notes of a text, in their order.
+pub fn notes_of<'a>(alloc: Global, text: &'a [u8]) -> Result<Vec<Note<'a>>, AllocError>
+    ensures { IfOk result (λ notes. map note_in notes.items ≡ notes_from 0 (lines_in text.now)) }
+{
+    let mut notes = Vec::new(alloc);
+    let mut after = 0;
+    for line in Lines::of(text) {
+        push_note(&mut notes, after, line)?;
+        after = behind(after, line);
+    }
+    Ok(notes)
+}

@@ -1,0 +1,6 @@
+use Rattle.std.proofs.Common.{◌≡◌}
+use Rattle.score_sheets.specs.Sums.{gains_to}
+use Rattle.score_sheets.proofs.sums.gains_of.Given as goal
+
+abbrev pub invariant-loop-place : goal.invariant-loop-place
+invariant-loop-place l = l.gains ≡ gains_to l.player l.events l.rows l.place

@@ -1,0 +1,199 @@
+//! What is said of the boards behind the events.
+ghost use Rattle.std.specs.Prelude.{◌≡◌, ◌+◌, ◌<◌, ◌≤◌, ◌==◌, IfOk, length, count_by};
+ghost use Rattle.ref_board.specs.Lines.{place_of};
+ghost use Rattle.game_board.specs.Tiles.{is_of, off_board};
+ghost use Rattle.score_sheets.specs.Positions.{played_tile, played_tiles, is_new_tile, IsLaidAt, IsLaidBy, kinds_off, IsPositionOf, ArePositions};
+
+use crate::pictures::Picture;
+use game_board::tiles_off;
+use gcg_read::{Event, EventKind};
+use ref_board::{Board, Dir, SIDE, Square};
+use ref_play::{RACK, along};
+use ref_tiles::{KINDS, Rules, Tile};
+use std::alloc::{AllocError, Global};
+
+/// A square that a play covers.
+#[derive(Clone, Copy)]
+pub struct PlayedTile {
+    /// The tile that lies there with the play.
+    pub cell: Option<Tile>,
+    /// Whether the play puts it there.
+    pub is_new: bool,
+}
+
+/// A play as it lies on the board behind it.
+#[derive(Drop)]
+pub struct LaidPlay {
+    /// The squares of its text, in their order.
+    pub tiles: Vec<PlayedTile>,
+    /// Whether it puts down seven tiles.
+    pub is_full: bool,
+}
+
+/// What is said of the board behind an event.
+#[derive(Drop)]
+pub struct Position {
+    /// The play of the event; none where it is no play.
+    pub play: Option<LaidPlay>,
+    /// How many tiles of each kind are not on the board, A to Z and then blanks.
+    pub off: Vec<usize>,
+    /// How many tiles of all kinds are not on the board.
+    pub off_in_all: usize,
+}
+
+/// A square of a board, and whether its tile is new there.
+fn played_tile(picture: &Picture, square: Square) -> PlayedTile
+    ensures { result ≡ played_tile picture.now square }
+{
+    PlayedTile {
+        cell: picture.board.at(square),
+        is_new: picture.is_marked(square),
+    }
+}
+
+/// The squares that a text of so many symbols covers.
+#[tactic(auto, using(ref_play::proofs::Ranges::map_range_more), unfolding(crate::specs::Positions::played_tiles))]
+fn played_tiles(
+    alloc: Global,
+    picture: &Picture,
+    at: Square,
+    dir: Dir,
+    many: usize,
+) -> Result<Vec<PlayedTile>, AllocError>
+    requires { place_of dir at + many ≤ 15 }
+    ensures { IfOk result (λ tiles. tiles.items ≡ played_tiles picture.now at dir many) }
+{
+    let mut tiles = Vec::new(alloc);
+    for k in 0..many {
+        tiles.push(played_tile(picture, along(at, dir, k)))?;
+    }
+    Ok(tiles)
+}
+
+/// Whether seven of these tiles are new.
+fn is_full(tiles: &[PlayedTile]) -> bool
+    ensures { result ≡ (count_by is_new_tile tiles.now == 7) }
+{
+    tiles.iter().filter(|tile| tile.is_new).count() == RACK
+}
+
+/// A play of so many symbols as it lies on a board, where it stays there.
+fn laid_at(
+    alloc: Global,
+    picture: &Picture,
+    at: Square,
+    dir: Dir,
+    many: usize,
+) -> Result<Option<LaidPlay>, AllocError>
+    ensures { IfOk result (IsLaidAt picture.now at dir many) }
+{
+    if many > SIDE - at.place(dir) {
+        return Ok(None);
+    }
+    let tiles = played_tiles(alloc, picture, at, dir, many)?;
+    let is_full = is_full(tiles.as_slice());
+    Ok(Some(LaidPlay { tiles, is_full }))
+}
+
+/// The play of an event as it lies on the board behind it, where it is one.
+fn laid_by(
+    alloc: Global,
+    picture: &Picture,
+    kind: &EventKind,
+) -> Result<Option<LaidPlay>, AllocError>
+    ensures { IfOk result (IsLaidBy picture.now kind.now) }
+{
+    match kind {
+        EventKind::Play { at, dir, word } => {
+            laid_at(alloc, picture, *at, *dir, word.as_slice().len())
+        }
+        EventKind::Pass
+        | EventKind::Exchange(_)
+        | EventKind::ExchangeUnknown(_)
+        | EventKind::Withdraw
+        | EventKind::Challenge
+        | EventKind::Time
+        | EventKind::LastRack(_) => Ok(None),
+    }
+}
+
+/// Whether a tile of the kind with this number lies on a square.
+fn is_of(cell: Option<Tile>, number: usize) -> bool
+    ensures { result ≡ is_of number cell }
+{
+    match cell {
+        None => false,
+        Some(tile) => tile.kind.number() == number,
+    }
+}
+
+/// How many tiles of a kind are on the board.
+fn laid_of(board: &Board, number: usize) -> usize
+    ensures { result ≡ count_by (is_of number) board.now }
+{
+    board
+        .cells()
+        .iter()
+        .filter(|cell| is_of(**cell, number))
+        .count()
+}
+
+/// How many tiles of a kind are not on the board.
+#[tactic(auto, unfolding(game_board::specs::Tiles::off_board))]
+fn off_board(rules: &Rules, board: &Board, number: usize) -> usize
+    requires { number < 27 }
+    ensures { result ≡ off_board rules.now board.now number }
+{
+    let numbers = rules.counts.numbers();
+    (numbers[number] as usize).saturating_sub(laid_of(board, number))
+}
+
+/// How many tiles of each kind are not on the board.
+#[tactic(auto, using(ref_play::proofs::Ranges::map_range_more), unfolding(crate::specs::Positions::kinds_off))]
+fn kinds_off(alloc: Global, rules: &Rules, board: &Board) -> Result<Vec<usize>, AllocError>
+    ensures { IfOk result (λ off. off.items ≡ kinds_off rules.now board.now 27) }
+{
+    let mut off = Vec::new(alloc);
+    for number in 0..KINDS {
+        off.push(off_board(rules, board, number))?;
+    }
+    Ok(off)
+}
+
+/// What is said of the board behind an event.
+fn position_of(
+    alloc: Global,
+    rules: &Rules,
+    kind: &EventKind,
+    picture: &Picture,
+) -> Result<Position, AllocError>
+    ensures { IfOk result (IsPositionOf rules.now kind.now picture.now) }
+{
+    let play = laid_by(alloc, picture, kind)?;
+    let off = kinds_off(alloc, rules, &picture.board)?;
+    Ok(Position {
+        play,
+        off,
+        off_in_all: tiles_off(rules, &picture.board),
+    })
+}
+
+/// What is said of the boards behind the first events.
+///
+/// It fails only where memory runs out.
+pub fn positions_of(
+    alloc: Global,
+    rules: &Rules,
+    events: &[Event],
+    pictures: &[Picture],
+) -> Result<Vec<Position>, AllocError>
+    requires { length pictures.now ≤ length events.now }
+    ensures { IfOk result (λ positions. ArePositions rules.now events.now pictures.now (length pictures.now) positions.items) }
+{
+    let mut positions = Vec::new(alloc);
+    for place in 0..pictures.len() {
+        let position = position_of(alloc, rules, &events[place].kind, &pictures[place])?;
+        positions.push(position)?;
+    }
+    Ok(positions)
+}
