@@ -63,13 +63,13 @@ class Dealer:
 
     `exchanges` are the kinds of exchanges that are made, `stated` how lines show racks: whole, in part, a mixture of both and of
     none, none, or `one`: those of player 0 whole, and of player 1 none and the numbers of exchanged tiles alone. `share` is how
-    many of 100 turns are exchanges, where that may be.
+    many of 100 turns are exchanges, where that may be, and `known` how likely a word of a play that stands is in the list.
     """
 
-    def __init__(self, rules, turns, exchanges=(), stated="mixed", share=None):
+    def __init__(self, rules, turns, exchanges=(), stated="mixed", share=None, known=0.5):
         self.rules, self.bag = rules, list(rules.tiles.elements())
         random.shuffle(self.bag)
-        self.turns, self.exchanges, self.stated = turns, exchanges, stated
+        self.turns, self.exchanges, self.stated, self.known = turns, exchanges, stated, known
         self.share = share or (9 if rules == ENGLISH else 37)
         self.board, self.totals, self.racks = {}, [0, 0], [[], []]
         self.player, self.idle, self.out, self.over = choose([0, 1]), 0, None, False
@@ -134,7 +134,7 @@ class Dealer:
             self.racks[player] += used
             self.idle += 1
         else:
-            self.listed |= {word for word in words if word not in self.phonies and likely(0.5)}
+            self.listed |= {word for word in words if word not in self.phonies and likely(self.known)}
             self.board, self.idle = after, 0
             self.draw(player, len(used))
             if not self.racks[player]:

@@ -44,6 +44,13 @@ def with_letter(events, place, at, letter):
     return [*events[:place], changed, *events[place + 1 :]]
 
 
+def is_reading(fact, names, square, read):
+    """Whether a fact says what a square should show: which tile may have been meant, or which one is there already."""
+    if fact["name"] == "OtherLetter":
+        return (fact["square"], fact["tile"]) == (square, read)
+    return fact["name"] in names and (fact["square"], fact["read"]) == (square, read)
+
+
 def misread(events):
     """A tile that was read as another one, which the player does not have."""
     place = choose(plays_of(events))
@@ -53,7 +60,7 @@ def misread(events):
     if at is None or not others:
         return None
     square, read = square_name(event, at), event.word[at]
-    return with_letter(events, place, at, choose(others)), lambda it: it["name"] == "Misread" and (it["square"], it["read"]) == (square, read)
+    return with_letter(events, place, at, choose(others)), lambda it: is_reading(it, ("Misread",), square, read)
 
 
 def swapped(events, blank):
@@ -65,8 +72,7 @@ def swapped(events, blank):
     event = events[place]
     at = choose([k for k, it in enumerate(event.word) if it != "." and it.islower() == blank])
     square, read = square_name(event, at), event.word[at]
-    named = lambda it: it["name"] in ("AsBlank", "Misread") and (it["square"], it["read"]) == (square, read)
-    return with_letter(events, place, at, read.swapcase()), named
+    return with_letter(events, place, at, read.swapcase()), lambda it: is_reading(it, ("AsBlank", "Misread"), square, read)
 
 
 def elsewhere(events):
@@ -147,7 +153,7 @@ SLIPS = {
 def some_sheet(slip):
     """A sheet with a slip, the words of its list, and whether a fact names what happened."""
     while True:
-        dealer = Dealer(ENGLISH, 24, (), "whole")
+        dealer = Dealer(ENGLISH, 24, (), "whole", known=1)
         events, _, listed = dealer.game()
         listed = {word for word in listed - dealer.phonies if 2 <= len(word) <= SIDE}
         made = slip(events) if plays_of(events) and turns_of(events) else None
