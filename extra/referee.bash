@@ -8,7 +8,7 @@ _referee() {
         fi
     done
     case $command in
-        "") options="-h --help -V --version" values="judge archive index audit explain page annotate build check word convert top tidy board rules help" ;;
+        "") options="-h --help -V --version" values="judge archive index audit explain page annotate build check word convert top tidy board serve rules help" ;;
         judge) options="--first-field --json --skip-others --settle --rules -h --help" ;;
         archive) options="--first-field --skip-others --names -0 --null --skip --json --pages --progress --quiet --rules -h --help" ;;
         index) options="-h --help" ;;
@@ -23,8 +23,9 @@ _referee() {
         top) options="--before --first-field --json --skip-others --number --rules -h --help" ;;
         tidy) options="-h --help" ;;
         board) options="--before --json --rules -h --help" ;;
+        serve) options="--first-field --skip-others --rules -h --help" ;;
         rules) options="-h --help" ;;
-        help) values="judge archive index audit explain page annotate build check word convert top tidy board rules help" ;;
+        help) values="judge archive index audit explain page annotate build check word convert top tidy board serve rules help" ;;
     esac
     [[ $command != convert || ${COMP_WORDS[COMP_CWORD - 1]} != convert ]] || values="gad1 gad2"
     if [[ $word == -* ]]; then

@@ -28,7 +28,7 @@ trap 'rm -rf "$room"' EXIT
 name=referee-$version
 mkdir "$room/$name"
 cp "$program" "$room/$name/referee"
-cp -r "$root/README.md" "$root/CHANGELOG.md" "$root/docs" "$root/examples" "$root/extra/referee.1" "$root/extra/referee.bash" "$room/$name"
+cp -r "$root/README.md" "$root/CHANGELOG.md" "$root/docs" "$root/examples" "$root/extra/referee.1" "$root/extra/referee.bash" "$root/extra/referee.py" "$root/extra/club.py" "$room/$name"
 (cd "$room/$name" && find . -type f ! -name SHA256SUMS -printf '%P\n' | LC_ALL=C sort | xargs sha256sum > SHA256SUMS)
 # The same files make the same archive.
 tar -C "$room" --sort=name --mtime=@0 --owner=0 --group=0 --numeric-owner --mode=u=rwX,go=rX -cf - "$name" | gzip -n > "$folder/$name.tar.gz"

@@ -53,6 +53,9 @@ compare_objects 30
 compare_explains 60
 compare_pages 40
 compare_annotations 40
+compare_serve 20
+fuzz_serve 5000
+client 60
 fuzz 60
 END
 else

@@ -1153,6 +1153,49 @@ def archived_lines(run):
         run.expect("the status of all", process.wait(run.patience) == 4)
 
 
+def served(run):
+    """`serve`: what it says first, the answers to lines, and that each goes out before the next line is read."""
+    pair, ready = ["word", "word.gad"], '{"ready":true,"words":1,"version":"1.0.0"}\n'
+    asked = '{"id":1,"do":"word","words":["word"]}'
+    told = '{"id":1,"status":0,"answer":{"verdict":"acceptable","line":null,"fault":null,"words":[{"word":"WORD","acceptable":true}]}}\n'
+    run.row(["serve", *pair], 0, ready)
+    run.row(["serve", *pair], 0, ready + told, stdin=asked)
+    run.row(["serve", *pair], 0, ready + told + told, stdin=f"{asked}\r\n{asked}\n")
+    run.row(["serve", "--first-field", "--skip-others", *pair], 0, ready + told, stdin=asked)
+    for line, error in [
+        ("", "the line is no JSON"),
+        ("[]", "the line is no JSON object"),
+        ('{"id":1}', "the object has no do"),
+        ('{"do":1}', "do is no text"),
+        ('{"do":"judged"}', 'there is no command \\"judged\\"'),
+        ('{"do":"tidy","rack":"A","game":""}', 'tidy has no \\"rack\\"'),
+        ('{"do":"top","game":""}', "top needs rack or line"),
+        ('{"do":"word","words":[]}', "word needs words"),
+        ('{"do":"board","game":"","line":4294967296}', "line is no number from 0 to 4294967295"),
+        ('{"do":"judge","game":"","settle":1}', "settle is neither true nor false"),
+        ('{"id":[],"do":"tidy","game":""}', "id is neither a text nor a number"),
+    ]:
+        run.row(["serve", *pair], 0, f'{ready}{{"id":null,"status":64,"error":"{error}"}}\n', stdin=f"{line}\n")
+    run.row(["serve", "digit", "word.gad"], 3, '{"verdict":"bad word list","line":2,"fault":{"name":"BadLetter"}}\n', error="", stdin=asked)
+    run.row(["serve", "word", "at.gad"], 3, '{"verdict":"bad lexicon","line":null,"fault":{"name":"Extra","path":"A"}}\n', error="", stdin=asked)
+    run.row(["serve", "--rules", "nothing", *pair], 3, '{"verdict":"bad rules","line":null,"fault":{"name":"Missing"}}\n', error="", stdin=asked)
+    run.row(["serve", "nowhere", "at.gad"], 4, '{"verdict":"cannot open","line":null,"fault":null,"file":"nowhere"}\n', error="referee: cannot open nowhere: no such file")
+    for words in ([], ["word"], ["-", "word.gad"], ["word", "word.gad", "line"], ["--json", *pair]):
+        run.row(["serve", *words], 64, error=None, stdin="WORD\n")
+    if os.path.exists("/dev/full"):
+        run.row(["serve", *pair], 4, error="referee: write failed: standard output: no space left, error 28 of the system", stdout="/dev/full")
+    long = '{"id":1,"do":"tidy","game":"' + "x" * (5 << 20) + '"}'
+    run.row(["serve", *pair], 0, f'{ready}{{"id":null,"status":64,"error":"the line has more than 4194304 bytes"}}\n{told}', stdin=f"{long}\n{asked}\n")
+    pipes = {"stdin": subprocess.PIPE, "stdout": subprocess.PIPE, "bufsize": 0}
+    with subprocess.Popen([run.program, "serve", *pair], cwd=run.folder, **pipes) as process:
+        run.expect("it is ready before a line", process.stdout.readline().decode() == ready)
+        for _ in range(3):
+            process.stdin.write(asked.encode() + b"\n")
+            run.expect("an answer before the next line", process.stdout.readline().decode() == told)
+        process.stdin.close()
+        run.expect("it ends with the lines", process.wait(run.patience) == 0)
+
+
 def audited(run):
     """`audit`, by the wrong numbers of a sheet and the verdict on its correction, and the record that it writes."""
     run.row(["build", "word", "word.gad"], 0)
@@ -1658,7 +1701,7 @@ def helped(run):
     run.row(["rules"], 0, ENGLISH_RULES)
     for words in (["help"], ["--help"], ["-h"], ["judge", "--help"], ["judge", "-h"], ["help", "help"]):
         run.row(words, 0, None)
-    for command in ("judge", "archive", "audit", "explain", "page", "board", "build", "check", "word", "convert", "top", "tidy", "rules"):
+    for command in ("judge", "archive", "audit", "explain", "page", "board", "build", "check", "word", "convert", "top", "tidy", "serve", "rules"):
         run.row(["help", command], 0, None)
         run.row([command, "--help"], 0, None)
     if os.path.exists("/dev/full"):
@@ -1689,7 +1732,7 @@ def main():
     with tempfile.TemporaryDirectory() as folder:
         files(folder)
         run = Runner(os.path.abspath(sys.argv[1]), folder)
-        for part in (judged, settled, built_and_checked, converted, topped, topped_before, ruled, tidied, boarded, widest, from_standard_input, fielded, skipped, words_ruled, archived, audited, explained, paged, annotated, in_json, put_out, overwritten, hinted, broken, helped, misused):
+        for part in (judged, settled, built_and_checked, converted, topped, topped_before, ruled, tidied, boarded, widest, from_standard_input, fielded, skipped, words_ruled, archived, served, audited, explained, paged, annotated, in_json, put_out, overwritten, hinted, broken, helped, misused):
             part(run)
         if sys.argv[2:] == ["large"]:
             converted_large(run)

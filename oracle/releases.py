@@ -8,7 +8,7 @@ import tempfile
 from pathlib import Path
 
 ROOT = Path(__file__).resolve().parent.parent
-WANTED = {"referee", "referee.1", "referee.bash", "README.md", "CHANGELOG.md", "SHA256SUMS"}
+WANTED = {"referee", "referee.1", "referee.bash", "referee.py", "club.py", "README.md", "CHANGELOG.md", "SHA256SUMS"}
 
 
 def packed(program, folder):

@@ -100,6 +100,9 @@ const WORDS: Argument = argument!(Form::Needed, "WORDS", "the word list; - is st
 
 const LEXICON: Argument = argument!(Form::Needed, "LEXICON", "the lexicon file of the words");
 
+/// The word list where standard input has something else.
+const WORDS_FILE: Argument = argument!(Form::Needed, "WORDS", "the word list");
+
 /// The lexicon where the command has no words.
 const LEXICON_FILE: Argument = argument!(Form::Needed, "LEXICON", "the lexicon file");
 
@@ -162,7 +165,7 @@ macro_rules! behind {
 }
 
 /// The commands, in the order in which help shows them.
-const COMMANDS: [CommandRow; 15] = [
+const COMMANDS: [CommandRow; 16] = [
     JUDGE,
     ARCHIVE,
     INDEX,
@@ -177,6 +180,7 @@ const COMMANDS: [CommandRow; 15] = [
     TOP,
     TIDY,
     BOARD,
+    SERVE,
     ENGLISH_RULES,
 ];
 
@@ -556,6 +560,25 @@ const BOARD: CommandRow = CommandRow {
         "3   the rules text or the record is bad, or no event is on the line or after it"
     ),
     arguments: &[GAME, BEFORE, JSON, RULES],
+};
+
+/// `serve [--first-field] [--skip-others] [--rules FILE] WORDS LEXICON`.
+const SERVE: CommandRow = CommandRow {
+    name: "serve",
+    about: "Answers the requests of a program, one JSON object a line, until standard input ends",
+    behind: behind!(
+        "referee serve words.txt words.gad",
+        "Exit status:",
+        "0   standard input has ended",
+        "3   the rules text, the word list or the lexicon is bad"
+    ),
+    arguments: &[
+        WORDS_FILE,
+        LEXICON,
+        FIRST_FIELD_OPTION,
+        SKIP_OTHERS_OPTION,
+        RULES,
+    ],
 };
 
 /// `rules`.

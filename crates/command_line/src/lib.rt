@@ -5,7 +5,7 @@ mod arguments;
 mod commands;
 mod requests;
 
-pub use commands::{MOST_PLAYS, PROGRAM, PROGRAM_NAME};
+pub use commands::{MOST_PLAYS, PROGRAM, PROGRAM_NAME, SHORT_VERSION};
 pub use requests::{
     Archive, ArchiveNames, GameFiles, PairFiles, PlaysAsked, Progressing, Request, STANDARD_INPUT,
     STANDARD_OUTPUT_NAME, WordsFile, mistake, parse_arguments,

@@ -177,6 +177,11 @@ pub enum Request<'a> {
         game: &'a str,
         json: bool,
     },
+    /// To answer requests by rules and a word list with its lexicon.
+    Serve {
+        rules: Option<&'a str>,
+        pair: PairFiles<'a>,
+    },
     /// To say whether words are acceptable, all together or each.
     Word {
         pair: PairFiles<'a>,
@@ -217,13 +222,15 @@ pub fn mistake(alloc: Global, text: &str) -> Error {
 
 /// Whether more than one of the names in a command line is that of standard input.
 fn reads_twice(matches: &ArgMatches<'_>) -> bool {
-    let Some((_, names)) = matches.subcommand() else {
+    let Some((command, names)) = matches.subcommand() else {
         return false;
     };
+    // The requests of `serve` stand on standard input.
+    let requests: usize = if command == "serve" { 1 } else { 0 };
     let times = ["WORDS", "GAME", "names", "skip", "LINES"]
         .iter()
         .map(|id| times_read(names, id))
-        .fold(0usize, |sum, times| sum.saturating_add(times));
+        .fold(requests, |sum, times: usize| sum.saturating_add(times));
     times > 1
 }
 
@@ -349,6 +356,10 @@ fn game_request_of<'a>(command: &str, names: &ArgMatches<'a>) -> Option<Request<
             game: names.get_str("GAME")?,
         }),
         "rules" => Some(Request::Rules),
+        "serve" => Some(Request::Serve {
+            rules: names.get_str("rules"),
+            pair: pair_files(names)?,
+        }),
         "board" => Some(Request::Board {
             rules: names.get_str("rules"),
             before: names.get_one::<u32>("before"),

@@ -71,7 +71,7 @@ fn entry_text(
 }
 
 /// The object of what explains a case, or one of its lines.
-fn case_text(
+pub fn case_text(
     alloc: Global,
     rules: &Rules,
     list: &WordList,

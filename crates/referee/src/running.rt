@@ -11,6 +11,7 @@ use exit_statuses::{Exit, Trouble};
 use game_commands::{board, build, check, convert, judge, tidy, top, word};
 use json_commands::{AnswerTask, answer_in_json, board_in_json, check_in_json, top_in_json};
 use ref_tiles::ENGLISH_TEXT;
+use serve_commands::serve;
 use sheet_commands::{SheetTask, answer_sheet};
 use std::alloc::AllocError;
 use std::rt::Runtime;
@@ -125,6 +126,7 @@ fn answer<R: Runtime + AllocGlobal>(rt: &R, request: Request<'_>, watched: bool)
             game,
             ..
         } => ended(board(rt, rules, before, game)),
+        Request::Serve { rules, pair } => serve(rt, rules, pair),
         Request::Word { pair, each, words } => word(rt, pair, &words, each),
         Request::Rules => print_rules(rt),
     };

@@ -55,7 +55,7 @@ fn all_words(list: &WordList, words: &[AskedWord]) -> bool
 }
 
 /// The ruling on words.
-fn ruling_on(alloc: Global, list: &WordList, words: &[AskedWord]) -> Result<Ruling, AllocError>
+pub fn ruling_on(alloc: Global, list: &WordList, words: &[AskedWord]) -> Result<Ruling, AllocError>
     ensures { IfOk result (IsRuling list.now words.now) }
 {
     let each = each_word(alloc, list, words)?;

@@ -1,0 +1,4 @@
+pub mod Reading
+pub mod PlainLaws
+pub mod PlayLaws
+pub mod TidyLaws

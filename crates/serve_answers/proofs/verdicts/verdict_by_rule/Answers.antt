@@ -1,0 +1,10 @@
+use Rattle.std.proofs.Common.{subst}
+use Rattle.lex_check.specs.Pairs.{list_in}
+use Rattle.engine.specs.Racks.{AreTried}
+use Rattle.game_answers.proofs.VerdictLaws.{rule_past}
+use Rattle.serve_answers.proofs.verdicts.verdict_by_rule.Goals as goal
+
+pub returns-in-PastBound : goal.returns-in-PastBound
+returns-in-PastBound c =
+    rule_past c.law_of_bounds.ensures c.args.passed.now (list_in c.args.pair.now) c.in-PastBound.bound c.bound_verdict.result c.requires
+    (subst (AreTried c.args.passed.now) c.in-PastBound.is c.in_ok-try_racks.ensures) c.bound_verdict.ensures

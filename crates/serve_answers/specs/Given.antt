@@ -1,0 +1,14 @@
+-- The record that a request gives.
+use Rattle.std.specs.Prelude.{ℕ, ◌+◌, Bool, true, false, List, take}
+use Rattle.gcg_read.specs.Records.{most_bytes}
+use Rattle.engine.specs.declared.judging.Judging.{Judging}
+use Rattle.engine.specs.declared.judging.Judging.TheVariants as judging
+
+-- the bytes that a command reads of a record of these: all of them, or those up to one past the most that a record may have
+abbrev pub read_of : (game : List ℕ) → List ℕ
+read_of game = take (most_bytes + 1) game
+
+-- how a game is judged, with a search for a deal or without
+abbrev pub judging_by : (settle : Bool) → Judging
+judging_by true = judging.BySearch
+judging_by false = judging.ByRule

@@ -1,0 +1,6 @@
+pub mod Given
+pub mod PlainGames
+pub mod Plays
+pub mod Tidied
+pub mod Words
+pub mod Replies

@@ -1,0 +1,24 @@
+-- The best plays that a request asks for.
+use Rattle.std.specs.Prelude.{ℕ, min, List, Option, Some, None, Result, Ok, Err}
+use Rattle.ref_tiles.specs.declared.rulebook.Rules.{Rules}
+use Rattle.call_stages.specs.declared.decisions.Decision.{Decision}
+use Rattle.call_stages.specs.declared.verdicts.Verdict.TheVariants as verdict
+use Rattle.call_stages.specs.Reports.{bad_rack_line}
+use Rattle.call_stages.specs.Telling.{IsTold}
+use Rattle.game_answers.specs.declared.tops.FoundPlays.{FoundPlays}
+use Rattle.game_answers.specs.Tops.{AreTopPlaysOf}
+
+-- how many plays are asked for: ten, unless a number is said, and a hundred at the most
+abbrev pub number_asked : Option ℕ → ℕ
+number_asked None = 10
+number_asked (Some number) = min number 100
+
+-- that the rack is none
+abbrev pub IsNoRack : Result FoundPlays Decision → Type 0
+IsNoRack (Ok found) = ⊥
+IsNoRack (Err d) = IsTold verdict.BadRack bad_rack_line d.verdict d.report.items
+
+-- the plays by the rack that is given, or by that of the line; where what is given is no rack, that is told, whatever the record is
+abbrev pub ArePlaysBy : (number : ℕ) → (line : Option ℕ) → Rules → (list : List (List ℕ)) → (rack : Option (Option (List ℕ))) → (text : List ℕ) → Result FoundPlays Decision → Type 0
+ArePlaysBy number line rules list (Some rack) text x = AreTopPlaysOf number line rules list rack text x
+ArePlaysBy number line rules list None text x = IsNoRack x

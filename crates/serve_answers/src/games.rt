@@ -1,0 +1,90 @@
+//! What is found of a game whose record is given as a text.
+ghost use Rattle.std.specs.Prelude.{IfOk};
+ghost use Rattle.lex_check.specs.Pairs.{list_in};
+ghost use Rattle.audit_lines.specs.Answers.{IsAuditAnswerOf};
+ghost use Rattle.engine.specs.Explaining.{IsCaseOf};
+ghost use Rattle.game_answers.specs.Boards.{IsBoardOf};
+ghost use Rattle.game_answers.specs.Games.{IsJudgedGameOf};
+ghost use Rattle.serve_answers.specs.PlainGames.{IsPlainGameOf};
+ghost use Rattle.serve_answers.specs.Given.{read_of};
+
+use crate::plain_games::judge_plainly;
+use audit_lines::{AuditAnswer, answer_audit};
+use devices::FromRead;
+use engine::{Case, Decision, Judging, RunFault, open_case};
+use game_answers::{JudgedGame, ShownBoard, judge_game, shown_board};
+use lex_check::Checked;
+use ref_tiles::Rules;
+use std::alloc::Global;
+
+/// The judged game of a record: what `judge --json` finds.
+#[tactic(auto, using(crate::proofs::Reading::means_read))]
+pub fn judged(
+    alloc: Global,
+    rules: &Rules,
+    pair: &Checked<'_>,
+    game: &str,
+    question: Judging,
+) -> Result<Result<JudgedGame, Decision>, RunFault>
+    ensures { IfOk result (IsJudgedGameOf question rules.now (list_in pair.now) (read_of game.now)) }
+{
+    let mut input = FromRead::new(game.as_bytes());
+    judge_game(alloc, rules, pair, &mut input, question)
+}
+
+/// The same without what is answered of the events.
+#[tactic(auto, using(crate::proofs::Reading::means_read))]
+pub fn judged_plainly(
+    alloc: Global,
+    rules: &Rules,
+    pair: &Checked<'_>,
+    game: &str,
+    question: Judging,
+) -> Result<Result<JudgedGame, Decision>, RunFault>
+    ensures { IfOk result (IsPlainGameOf question rules.now (list_in pair.now) (read_of game.now)) }
+{
+    let mut input = FromRead::new(game.as_bytes());
+    judge_plainly(alloc, rules, pair, &mut input, question)
+}
+
+/// The audit of a sheet: what `audit --json` finds.
+#[tactic(auto, using(crate::proofs::Reading::means_read))]
+pub fn audited(
+    alloc: Global,
+    rules: &Rules,
+    pair: &Checked<'_>,
+    game: &str,
+) -> Result<Result<AuditAnswer, Decision>, RunFault>
+    ensures { IfOk result (IsAuditAnswerOf rules.now (list_in pair.now) (read_of game.now)) }
+{
+    let mut input = FromRead::new(game.as_bytes());
+    answer_audit(alloc, rules, pair, &mut input)
+}
+
+/// The case of a record: what `explain` and `page` tell of.
+#[tactic(auto, using(crate::proofs::Reading::means_read))]
+pub fn case_in(
+    alloc: Global,
+    rules: &Rules,
+    pair: &Checked<'_>,
+    game: &str,
+) -> Result<Case, RunFault>
+    ensures { IfOk result (IsCaseOf rules.now (list_in pair.now) (read_of game.now)) }
+{
+    let mut input = FromRead::new(game.as_bytes());
+    open_case(alloc, rules, pair, &mut input)
+}
+
+/// The board of a record, before a line where one is named: what `board --json` shows.
+#[tactic(auto, using(crate::proofs::Reading::means_read))]
+pub fn board_in(
+    alloc: Global,
+    rules: &Rules,
+    game: &str,
+    line: Option<u32>,
+) -> Result<Result<Option<ShownBoard>, Decision>, RunFault>
+    ensures { IfOk result (IsBoardOf rules.now line (read_of game.now)) }
+{
+    let mut input = FromRead::new(game.as_bytes());
+    shown_board(alloc, rules, &mut input, line)
+}

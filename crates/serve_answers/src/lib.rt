@@ -1,0 +1,16 @@
+//! What is answered of a request, as a value: what the command of its name finds of the same bytes.
+//!
+//! [`reply_to`] gives the [`Reply`] to a [`Request`](serve_requests::Request) by rules and a word list with its lexicon. Its contract says what the
+//! reply is by these and the request alone, in the words of the command's own contract.
+#![tactic(auto)]
+
+mod games;
+mod plain_games;
+mod plays;
+mod replies;
+mod tidying;
+mod verdicts;
+mod words;
+
+pub use replies::{Reply, reply_to};
+pub use words::Ruled;

@@ -1,0 +1,104 @@
+//! The reply to a request.
+ghost use Rattle.std.specs.Prelude.{◌≡◌, IfOk};
+ghost use Rattle.lex_check.specs.Pairs.{list_in};
+ghost use Rattle.serve_answers.specs.Given.{judging_by, read_of};
+ghost use Rattle.serve_answers.specs.Replies.{IsJudgedWith, IsReplyTo};
+
+use crate::games::{audited, board_in, case_in, judged, judged_plainly};
+use crate::plays::plays_in;
+use crate::tidying::tidied;
+use crate::words::{Ruled, rule_on_texts};
+use audit_lines::AuditAnswer;
+use engine::{Case, Decision, Judging, RunFault};
+use game_answers::{FoundPlays, JudgedGame, ShownBoard};
+use lex_check::Checked;
+use ref_tiles::Rules;
+use serve_requests::Request;
+use std::alloc::Global;
+
+/// What is answered of a request. A decision says that the record, or the rack, is none.
+#[derive(Drop)]
+pub enum Reply {
+    /// To one that asks to judge a game: the judged game.
+    Judged(Result<JudgedGame, Decision>),
+    /// To one that asks for an explanation: the case that is explained.
+    Explained(Case),
+    /// To one that asks to audit a sheet: the audit.
+    Audited(Result<AuditAnswer, Decision>),
+    /// To one that asks for a board: the board, where there is an event on the line or after it.
+    Boarded(Result<Option<ShownBoard>, Decision>),
+    /// To one that asks for best plays: these.
+    Found(Result<FoundPlays, Decision>),
+    /// To one that names words: the ruling on them, where each is a word.
+    Ruled(Option<Ruled>),
+    /// To one that asks for the normal form of a record: that it is done, with the normal form.
+    Tidied(Decision),
+    /// To one that asks for a page: the case whose page it is.
+    Paged(Case),
+}
+
+/// How a game is judged, with a search for a deal or without.
+fn judging_by(settle: bool) -> Judging
+    ensures { result ≡ judging_by settle }
+{
+    if settle {
+        Judging::BySearch
+    } else {
+        Judging::ByRule
+    }
+}
+
+/// The judged game of a record, with what is answered of its events or without.
+fn judged_by(
+    alloc: Global,
+    rules: &Rules,
+    pair: &Checked<'_>,
+    game: &str,
+    question: Judging,
+    best: bool,
+) -> Result<Result<JudgedGame, Decision>, RunFault>
+    ensures { IfOk result (IsJudgedWith best question rules.now (list_in pair.now) (read_of game.now)) }
+{
+    if best {
+        judged(alloc, rules, pair, game, question)
+    } else {
+        judged_plainly(alloc, rules, pair, game, question)
+    }
+}
+
+/// The reply to a request, by rules and the words of a pair. It depends on these alone: nothing is kept from one request to the next.
+///
+/// # Errors
+///
+/// `NoMemory` where memory was refused.
+pub fn reply_to(
+    alloc: Global,
+    rules: &Rules,
+    pair: &Checked<'_>,
+    request: &Request<'_>,
+) -> Result<Reply, RunFault>
+    ensures { IfOk result (IsReplyTo rules.now (list_in pair.now) request.now) }
+{
+    match request {
+        Request::Judge { game, settle, best } => {
+            let question = judging_by(*settle);
+            Ok(Reply::Judged(judged_by(alloc, rules, pair, game, question, *best)?))
+        }
+        Request::Explain { game, .. } => Ok(Reply::Explained(case_in(alloc, rules, pair, game)?)),
+        Request::Audit { game, .. } => Ok(Reply::Audited(audited(alloc, rules, pair, game)?)),
+        Request::Board { game, line } => Ok(Reply::Boarded(board_in(alloc, rules, game, *line)?)),
+        Request::Top {
+            game,
+            line,
+            rack,
+            number,
+        } => Ok(Reply::Found(plays_in(alloc, rules, pair, game, *line, *rack, *number)?)),
+        Request::Word { words } => Ok(Reply::Ruled(rule_on_texts(
+            alloc,
+            pair.list(),
+            words.as_slice(),
+        )?)),
+        Request::Tidy { game } => Ok(Reply::Tidied(tidied(alloc, game)?)),
+        Request::Page { game } => Ok(Reply::Paged(case_in(alloc, rules, pair, game)?)),
+    }
+}

@@ -1,0 +1,261 @@
+//! The answer to a request: the exit status of the command of its name, and what that command prints of the same bytes.
+
+use crate::words::{push_no_word, push_ruled};
+use answer_json::{
+    push_audit_answer, push_found_plays, push_judged_game, push_refusal, push_shown_board,
+};
+use audit_lines::{AuditAnswer, corrected_text, is_corrected};
+use command_files::has_page;
+use engine::{Case, Decision, RunFault, Verdict};
+use exit_statuses::{Exit, exit_of_audit, exit_of_case};
+use game_answers::{FoundPlays, JudgedGame, ShownBoard};
+use game_page::{Contents, Maker, push_page};
+use json_commands::case_text;
+use lex_check::Checked;
+use page_pieces::PageText;
+use ref_tiles::Rules;
+use serve_answers::{Reply, Ruled, reply_to};
+use serve_requests::Request;
+use std::alloc::{AllocError, Global};
+
+/// What games are judged by.
+#[derive(Clone, Copy)]
+pub struct Judges<'a> {
+    /// The rules.
+    pub rules: &'a Rules,
+    /// The words and their lexicon.
+    pub pair: &'a Checked<'a>,
+    /// What pages are made by.
+    pub maker: &'a Maker,
+}
+
+/// What the answer has beside the status.
+#[derive(Drop)]
+pub enum Body {
+    /// A JSON object, which may end in an LF.
+    Object(Vec<u8>),
+    /// A text.
+    Text(Vec<u8>),
+    /// An object, and a text.
+    Both(Vec<u8>, Vec<u8>),
+}
+
+/// An answer.
+#[derive(Drop)]
+pub struct Response {
+    /// How the program would end after it.
+    pub exit: Exit,
+    /// What it has beside that.
+    pub body: Body,
+}
+
+impl Response {
+    /// An answer with an object.
+    fn object(exit: Exit, text: Vec<u8>) -> Response {
+        Response {
+            exit,
+            body: Body::Object(text),
+        }
+    }
+
+    /// An answer with a text.
+    fn text(exit: Exit, text: Vec<u8>) -> Response {
+        Response {
+            exit,
+            body: Body::Text(text),
+        }
+    }
+}
+
+/// That an input is bad.
+fn tell_refusal(alloc: Global, decision: &Decision) -> Result<Response, AllocError> {
+    let mut text = Vec::new(alloc);
+    push_refusal(alloc, &mut text, decision)?;
+    Ok(Response::object(Exit::from(decision.verdict), text))
+}
+
+/// A judged game.
+fn tell_judged(
+    alloc: Global,
+    found: &Result<JudgedGame, Decision>,
+) -> Result<Response, AllocError> {
+    match found {
+        Err(decision) => tell_refusal(alloc, decision),
+        Ok(game) => {
+            let mut text = Vec::new(alloc);
+            push_judged_game(alloc, &mut text, game)?;
+            Ok(Response::object(Exit::from(game.verdict), text))
+        }
+    }
+}
+
+/// What explains a case, or one of its lines.
+fn tell_explained(
+    alloc: Global,
+    judges: &Judges<'_>,
+    case: &Case,
+    line: Option<u32>,
+) -> Result<Response, AllocError> {
+    let text = case_text(alloc, judges.rules, judges.pair.list(), case, line)?;
+    Ok(Response::object(exit_of_case(case, line), text))
+}
+
+/// An audit.
+fn tell_audit(
+    alloc: Global,
+    answer: &AuditAnswer,
+    corrected: bool,
+) -> Result<Response, AllocError> {
+    let mut object = Vec::new(alloc);
+    push_audit_answer(alloc, &mut object, answer)?;
+    let exit = exit_of_audit(&answer.audit);
+    if !corrected || !is_corrected(&answer.audit) {
+        return Ok(Response::object(exit, object));
+    }
+    let text = corrected_text(alloc, &answer.audit)?;
+    Ok(Response {
+        exit,
+        body: Body::Both(object, text),
+    })
+}
+
+/// An audit, with the corrected record where that is asked for and it stands.
+fn tell_audited(
+    alloc: Global,
+    found: &Result<AuditAnswer, Decision>,
+    corrected: bool,
+) -> Result<Response, AllocError> {
+    match found {
+        Err(decision) => tell_refusal(alloc, decision),
+        Ok(answer) => tell_audit(alloc, answer, corrected),
+    }
+}
+
+/// How the program ends after a board, or where there is none.
+fn exit_of_board(shown: &Option<ShownBoard>) -> Exit {
+    match shown {
+        Some(_) => Exit::Fine,
+        None => Exit::from(Verdict::BadLine),
+    }
+}
+
+/// A board.
+fn tell_board(
+    alloc: Global,
+    found: &Result<Option<ShownBoard>, Decision>,
+) -> Result<Response, AllocError> {
+    match found {
+        Err(decision) => tell_refusal(alloc, decision),
+        Ok(shown) => {
+            let mut text = Vec::new(alloc);
+            push_shown_board(alloc, &mut text, shown)?;
+            Ok(Response::object(exit_of_board(shown), text))
+        }
+    }
+}
+
+/// The best plays before a line.
+fn tell_plays(alloc: Global, found: &Result<FoundPlays, Decision>) -> Result<Response, AllocError> {
+    match found {
+        Err(decision) => tell_refusal(alloc, decision),
+        Ok(plays) => {
+            let mut text = Vec::new(alloc);
+            push_found_plays(alloc, &mut text, plays)?;
+            Ok(Response::object(Exit::from(plays.verdict()), text))
+        }
+    }
+}
+
+/// The ruling on words.
+fn tell_ruled(alloc: Global, ruled: &Option<Ruled>) -> Result<Response, AllocError> {
+    let mut text = Vec::new(alloc);
+    let Some(ruled) = ruled else {
+        push_no_word(alloc, &mut text)?;
+        return Ok(Response::object(Exit::BadInput, text));
+    };
+    push_ruled(alloc, &mut text, ruled)?;
+    let exit = if ruled.ruling.acceptable {
+        Exit::Fine
+    } else {
+        Exit::Illegal
+    };
+    Ok(Response::object(exit, text))
+}
+
+/// The normal form of a record.
+fn tell_tidied(alloc: Global, decision: Decision) -> Result<Response, AllocError> {
+    if decision.verdict == Verdict::Done {
+        let Decision { report, .. } = decision;
+        return Ok(Response::text(Exit::Fine, report));
+    }
+    tell_refusal(alloc, &decision)
+}
+
+/// The page of a case; where there is none, what `explain` says of the case.
+fn tell_page(alloc: Global, judges: &Judges<'_>, case: &Case) -> Result<Response, AllocError> {
+    if !has_page(case) {
+        return tell_explained(alloc, judges, case, None);
+    }
+    let contents = Contents {
+        rules: judges.rules,
+        pair: judges.pair,
+        case,
+        maker: judges.maker,
+        up: None,
+    };
+    let mut page = PageText::new(alloc);
+    push_page(alloc, &mut page, &contents)?;
+    let text = Vec::from_slice(alloc, page.as_slice())?;
+    Ok(Response::text(exit_of_case(case, None), text))
+}
+
+/// The line that a request for an explanation names.
+fn line_of(request: &Request<'_>) -> Option<u32> {
+    match request {
+        Request::Explain { line, .. } => *line,
+        _ => None,
+    }
+}
+
+/// Whether a request for an audit asks for the corrected record.
+fn asks_corrected(request: &Request<'_>) -> bool {
+    match request {
+        Request::Audit { corrected, .. } => *corrected,
+        _ => false,
+    }
+}
+
+/// The answer that has a reply to a request.
+fn tell_reply(
+    alloc: Global,
+    judges: &Judges<'_>,
+    request: &Request<'_>,
+    reply: Reply,
+) -> Result<Response, AllocError> {
+    match reply {
+        Reply::Judged(found) => tell_judged(alloc, &found),
+        Reply::Explained(case) => tell_explained(alloc, judges, &case, line_of(request)),
+        Reply::Audited(found) => tell_audited(alloc, &found, asks_corrected(request)),
+        Reply::Boarded(found) => tell_board(alloc, &found),
+        Reply::Found(found) => tell_plays(alloc, &found),
+        Reply::Ruled(ruled) => tell_ruled(alloc, &ruled),
+        Reply::Tidied(decision) => tell_tidied(alloc, decision),
+        Reply::Paged(case) => tell_page(alloc, judges, &case),
+    }
+}
+
+/// The answer to a request.
+///
+/// # Errors
+///
+/// Memory was refused.
+pub fn answer_to(
+    alloc: Global,
+    judges: &Judges<'_>,
+    request: &Request<'_>,
+) -> Result<Response, AllocError> {
+    match reply_to(alloc, judges.rules, judges.pair, request) {
+        Ok(reply) => tell_reply(alloc, judges, request, reply),
+        Err(RunFault::NoMemory | RunFault::ReadFailed | RunFault::WriteFailed) => Err(AllocError),
+    }
+}

@@ -1,0 +1,159 @@
+//! `serve`: requests, by rules, a word list and a lexicon that are read once.
+ghost use Rattle.std.specs.Prelude.{[], ⊤};
+ghost use Rattle.serve_commands.specs.Telling.{AreServed, served_later};
+
+use crate::answering::Judges;
+use crate::lines::{Lines, NextLine};
+use crate::telling::{NO_MEMORY_LINE, make_line, make_refusal, ready_line};
+use command_files::{
+    Digests, GivenFiles, RulesFile, Told, UsedOutput, Words, digests_of, given_up, open_inputs,
+    shown, tell_others, write,
+};
+use command_line::{PROGRAM, PairFiles, STANDARD_INPUT};
+use devices::FromRead;
+use engine::{Question, RunFault, ask};
+use exit_statuses::{Exit, Trouble};
+use game_page::Maker;
+use json_commands::{refuse_in_json, told_in_json};
+use serve_requests::Refusal;
+use std::alloc::{AllocError, Global};
+use std::io::{BufRead, BufReader, Input, Read};
+use std::rt::Runtime;
+use watching::Reason;
+
+/// What is asked of the lines of standard input, by a runtime to which their answers go.
+#[derive(Clone, Copy)]
+struct ServeQuestion<'r, R> {
+    rt: &'r R,
+}
+
+impl<R: Runtime + AllocGlobal, F: Read + Drop, S: Read + Drop, B: BufRead + Drop> Question<
+    RulesFile<F>,
+    FromRead<Words<S>>,
+    Lines<B>,
+> for ServeQuestion<'_, R> {
+    type Answer = Told<'static>;
+
+    ghost sources = { λ old new. [] };
+
+    ghost is_ready = { λ lines. ⊤ };
+
+    ghost is_answer = { λ question rules words x texts v report. AreServed x texts v report };
+
+    fn answer(
+        &self,
+        _alloc: Global,
+        given: &GivenFiles<'_, F, S>,
+        lines: &mut Lines<B>,
+    ) -> Result<Told<'static>, RunFault> {
+        Ok(Ok(serve_given(self.rt, given, lines)))
+    }
+
+    ghost still = { λ lines. tt };
+
+    ghost later = { λ question rules words x texts v report is. served_later x texts v report is };
+}
+
+/// What pages are made by. The inputs are digested.
+fn maker_of<F: Read + Drop, S: Read + Drop>(
+    given: &GivenFiles<'_, F, S>,
+) -> Result<Maker, AllocError> {
+    let Digests { list, rules } = digests_of(given)?;
+    Ok(Maker {
+        program: PROGRAM,
+        words: given.pair.list().len(),
+        list,
+        rules,
+    })
+}
+
+/// Answers the lines by these inputs, once that can be done.
+fn serve_given<R: Runtime + AllocGlobal, F: Read + Drop, S: Read + Drop, B: BufRead + Drop>(
+    rt: &R,
+    given: &GivenFiles<'_, F, S>,
+    lines: &mut Lines<B>,
+) -> Result<Exit, Trouble<'static>> {
+    let (Ok(maker), Ok(ready)) = (
+        maker_of(given),
+        ready_line(rt.alloc(), given.pair.list().len()),
+    ) else {
+        return Err(Trouble::NoMemory);
+    };
+    let judges = Judges {
+        rules: given.rules,
+        pair: given.pair,
+        maker: &maker,
+    };
+    write(rt, ready.as_slice())?;
+    answer_lines(rt, &judges, lines)
+}
+
+/// Answers one line after the other. Each answer is written before the next line is read.
+fn answer_lines<R: Runtime + AllocGlobal, B: BufRead + Drop>(
+    rt: &R,
+    judges: &Judges<'_>,
+    lines: &mut Lines<B>,
+) -> Result<Exit, Trouble<'static>> {
+    let mut out = Vec::new(rt.alloc());
+    for _ in 0..u64::MAX {
+        let made = match lines.next_line() {
+            Ok(NextLine::End) => break,
+            Ok(NextLine::Line) => make_line(rt.alloc(), &mut out, judges, lines.line()),
+            Ok(NextLine::TooLong) => make_refusal(rt.alloc(), &mut out, Refusal::TooLong),
+            Ok(NextLine::NoMemory) => Err(AllocError),
+            Err(error) => {
+                return Err(Trouble::ReadFailed(shown(STANDARD_INPUT), Reason::of(&error)));
+            }
+        };
+        match made {
+            Ok(()) => write(rt, out.as_slice())?,
+            Err(AllocError) => write(rt, NO_MEMORY_LINE)?,
+        }
+    }
+    Ok(Exit::Fine)
+}
+
+/// Opens standard input for requests.
+fn open_lines<'a, R: Runtime + AllocGlobal>(
+    rt: &R,
+) -> Result<Lines<BufReader<<R as Input>::Reader, Global>>, Trouble<'a>> {
+    match BufReader::new(rt.alloc(), rt.reader()) {
+        Ok(reader) => Ok(Lines::new(rt.alloc(), reader)),
+        Err(_) => Err(Trouble::NoMemory),
+    }
+}
+
+/// Reads rules where a text is named, a word list and its lexicon, and then answers the requests of standard input, one a line, until it ends.
+/// Where one of the inputs is bad or cannot be read, that is told as a JSON object, and nothing is answered.
+pub fn serve<'a, R: Runtime + AllocGlobal>(
+    rt: &R,
+    rules: Option<&'a str>,
+    pair: PairFiles<'a>,
+) -> Result<Exit, Trouble<'a>> {
+    let mut inputs = match open_inputs(rt, rules, pair, true) {
+        Ok(inputs) => inputs,
+        Err(trouble) => return told_in_json(rt, Err(trouble)),
+    };
+    let mut lines = match open_lines(rt) {
+        Ok(lines) => lines,
+        Err(trouble) => return told_in_json(rt, Err(trouble)),
+    };
+    let question = ServeQuestion { rt };
+    let answer = ask(
+        rt.alloc(),
+        &question,
+        &mut inputs.rules,
+        &mut inputs.words,
+        &mut inputs.lexicon,
+        &mut lines,
+    );
+    tell_others(rt, pair.words.name, &inputs.words);
+    match answer {
+        Ok(Ok(told)) => told,
+        Ok(Err(decision)) => told_in_json(rt, refuse_in_json(rt, &decision)),
+        Err(fault) => {
+            let used = inputs.used(rules, pair);
+            told_in_json(rt, Err(given_up(fault, &used, UsedOutput::NONE)))
+        }
+    }
+}

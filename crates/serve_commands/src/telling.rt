@@ -1,0 +1,220 @@
+//! Answers as lines.
+
+use crate::answering::{Body, Judges, Response, answer_to};
+use answer_json::push_trouble;
+use command_line::SHORT_VERSION;
+use decimal_text::push_number;
+use exit_statuses::Exit;
+use serde::Serialize;
+use serde_json::Value;
+use serve_requests::{Refusal, Request, id_in, request_in};
+use std::alloc::{AllocError, Global};
+
+/// The id of an answer to a line that has none.
+const NO_ID: &[u8] = b"null";
+
+/// The answer to a line for whose own answer there is no memory.
+pub const NO_MEMORY_LINE: &[u8] =
+    b"{\"id\":null,\"status\":4,\"answer\":{\"verdict\":\"no memory\",\"line\":null,\"fault\":null,\"file\":null}}\n";
+
+/// That requests can be asked.
+#[derive(Drop, Serialize)]
+struct ReadyObject {
+    ready: bool,
+    words: usize,
+    version: &'static str,
+}
+
+/// The line that says that requests can be asked, by a list of so many words.
+pub fn ready_line(alloc: Global, words: usize) -> Result<Vec<u8>, AllocError> {
+    let object = ReadyObject {
+        ready: true,
+        words,
+        version: SHORT_VERSION,
+    };
+    // Of data without a float and without a map of other keys, want of memory is the only error.
+    let Ok(mut line) = serde_json::to_vec(alloc, &object) else {
+        return Err(AllocError);
+    };
+    line.push(b'\n')?;
+    Ok(line)
+}
+
+/// Appends how the line of an answer begins.
+fn push_head(out: &mut Vec<u8>, id: &[u8], exit: Exit) -> Result<(), AllocError> {
+    out.extend_from_slice(b"{\"id\":")?;
+    out.extend_from_slice(id)?;
+    out.extend_from_slice(b",\"status\":")?;
+    push_number(out, exit.status() as usize)?;
+    Ok(())
+}
+
+/// Appends a text as JSON has it.
+fn push_text(alloc: Global, out: &mut Vec<u8>, text: &String) -> Result<(), AllocError> {
+    // Of a text, want of memory is the only error.
+    let Ok(bytes) = serde_json::to_vec(alloc, text) else {
+        return Err(AllocError);
+    };
+    out.extend_from_slice(bytes.as_slice())?;
+    Ok(())
+}
+
+/// An object without the LF at its end.
+fn without_feed(object: &[u8]) -> &[u8] {
+    match object {
+        [object @ .., b'\n'] => object,
+        _ => object,
+    }
+}
+
+/// Appends the object of an answer.
+fn push_object(out: &mut Vec<u8>, object: &[u8]) -> Result<(), AllocError> {
+    out.extend_from_slice(b",\"answer\":")?;
+    out.extend_from_slice(without_feed(object))?;
+    Ok(())
+}
+
+/// Appends the text of an answer. Bytes that are no UTF-8 are written as U+FFFD.
+fn push_bytes(alloc: Global, out: &mut Vec<u8>, bytes: &[u8]) -> Result<(), AllocError> {
+    out.extend_from_slice(b",\"text\":")?;
+    let text = String::from_utf8_lossy(alloc, bytes)?;
+    push_text(alloc, out, &text)
+}
+
+/// Appends what an answer has beside its status.
+fn push_body(alloc: Global, out: &mut Vec<u8>, body: &Body) -> Result<(), AllocError> {
+    match body {
+        Body::Object(object) => push_object(out, object.as_slice())?,
+        Body::Text(text) => push_bytes(alloc, out, text.as_slice())?,
+        Body::Both(object, text) => {
+            push_object(out, object.as_slice())?;
+            push_bytes(alloc, out, text.as_slice())?;
+        }
+    }
+    out.extend_from_slice(b"}\n")?;
+    Ok(())
+}
+
+/// Appends the line of an answer.
+fn push_told(
+    alloc: Global,
+    out: &mut Vec<u8>,
+    id: &[u8],
+    told: &Response,
+) -> Result<(), AllocError> {
+    push_head(out, id, told.exit)?;
+    push_body(alloc, out, &told.body)
+}
+
+/// Appends the line that a line asks for nothing.
+fn push_refused(
+    alloc: Global,
+    out: &mut Vec<u8>,
+    id: &[u8],
+    refusal: Refusal<'_>,
+) -> Result<(), AllocError> {
+    if refusal == Refusal::NoMemory {
+        return Err(AllocError);
+    }
+    push_head(out, id, Exit::Usage)?;
+    out.extend_from_slice(b",\"error\":")?;
+    let Ok(text) = format!(in alloc; "{refusal}") else {
+        return Err(AllocError);
+    };
+    push_text(alloc, out, &text)?;
+    out.extend_from_slice(b"}\n")?;
+    Ok(())
+}
+
+/// Appends the line of the answer to what an object asks for.
+fn push_answer(
+    alloc: Global,
+    out: &mut Vec<u8>,
+    judges: &Judges<'_>,
+    id: &[u8],
+    asked: Result<Request<'_>, Refusal<'_>>,
+) -> Result<(), AllocError> {
+    match asked {
+        Ok(request) => {
+            let told = answer_to(alloc, judges, &request)?;
+            push_told(alloc, out, id, &told)
+        }
+        // Without a `do` a line is no request, and what it has as its id is none.
+        Err(Refusal::NoCommand) => push_refused(alloc, out, NO_ID, Refusal::NoCommand),
+        Err(refusal) => push_refused(alloc, out, id, refusal),
+    }
+}
+
+/// Appends that there is no memory for an answer.
+fn push_no_memory(alloc: Global, out: &mut Vec<u8>, id: &[u8]) -> Result<(), AllocError> {
+    let mut object = Vec::new(alloc);
+    push_trouble(alloc, &mut object, "no memory", None)?;
+    push_head(out, id, Exit::Broken)?;
+    push_body(alloc, out, &Body::Object(object))
+}
+
+/// Makes the line of the answer to what an object asks for, or that there is no memory for it.
+fn make_answer(
+    alloc: Global,
+    out: &mut Vec<u8>,
+    judges: &Judges<'_>,
+    id: &[u8],
+    object: &Value,
+) -> Result<(), AllocError> {
+    let asked = request_in(alloc, object);
+    if push_answer(alloc, out, judges, id, asked).is_ok() {
+        return Ok(());
+    }
+    out.clear();
+    push_no_memory(alloc, out, id)
+}
+
+/// Makes the line of the answer to an object.
+fn make_line_of(
+    alloc: Global,
+    out: &mut Vec<u8>,
+    judges: &Judges<'_>,
+    object: &Value,
+) -> Result<(), AllocError> {
+    match id_in(object) {
+        Ok(Some(id)) => {
+            let id = id.to_vec(alloc)?;
+            make_answer(alloc, out, judges, id.as_slice(), object)
+        }
+        Ok(None) => make_answer(alloc, out, judges, NO_ID, object),
+        Err(refusal) => push_refused(alloc, out, NO_ID, refusal),
+    }
+}
+
+/// Makes the line that a line asks for nothing.
+///
+/// # Errors
+///
+/// Memory was refused.
+pub fn make_refusal(
+    alloc: Global,
+    out: &mut Vec<u8>,
+    refusal: Refusal<'_>,
+) -> Result<(), AllocError> {
+    out.clear();
+    push_refused(alloc, out, NO_ID, refusal)
+}
+
+/// Makes the line of the answer to a line.
+///
+/// # Errors
+///
+/// Memory was refused, so that not even that can be told of the line.
+pub fn make_line(
+    alloc: Global,
+    out: &mut Vec<u8>,
+    judges: &Judges<'_>,
+    line: &[u8],
+) -> Result<(), AllocError> {
+    out.clear();
+    match Value::from_slice(alloc, line) {
+        Ok(object) => make_line_of(alloc, out, judges, &object),
+        Err(error) if error.is_memory() => Err(AllocError),
+        Err(_) => push_refused(alloc, out, NO_ID, Refusal::NoJson),
+    }
+}

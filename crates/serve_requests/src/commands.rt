@@ -1,0 +1,72 @@
+//! The commands that a request may name, and what each of them has.
+ghost use Rattle.std.specs.Prelude.{◌≡◌, IfSome};
+ghost use Rattle.serve_requests.specs.Asked.{name_of};
+
+/// A command.
+#[derive(Clone, Copy, Debug, PartialEq, Eq)]
+pub enum Command {
+    /// To judge a game.
+    Judge,
+    /// To explain the verdict on a game, or one of its lines.
+    Explain,
+    /// To audit a sheet.
+    Audit,
+    /// To show a board.
+    Board,
+    /// To find the best plays.
+    Top,
+    /// To rule on words.
+    Word,
+    /// To write the normal form of a record.
+    Tidy,
+    /// To write the page of a game.
+    Page,
+}
+
+impl Command {
+    /// The command of this name.
+    pub fn of_name(name: &str) -> Option<Command>
+        ensures { IfSome result (λ command. name_of command ≡ name.now) }
+    {
+        match name {
+            "judge" => Some(Command::Judge),
+            "explain" => Some(Command::Explain),
+            "audit" => Some(Command::Audit),
+            "board" => Some(Command::Board),
+            "top" => Some(Command::Top),
+            "word" => Some(Command::Word),
+            "tidy" => Some(Command::Tidy),
+            "page" => Some(Command::Page),
+            _ => None,
+        }
+    }
+
+    /// Its name.
+    pub fn name(self) -> &'static str
+        ensures { result.now ≡ name_of self }
+    {
+        match self {
+            Command::Judge => "judge",
+            Command::Explain => "explain",
+            Command::Audit => "audit",
+            Command::Board => "board",
+            Command::Top => "top",
+            Command::Word => "word",
+            Command::Tidy => "tidy",
+            Command::Page => "page",
+        }
+    }
+
+    /// Whether a request for it may have what has this key, beside `id` and `do`.
+    pub fn has(self, key: &str) -> bool {
+        match key {
+            "game" => self != Command::Word,
+            "settle" | "best" => self == Command::Judge,
+            "corrected" => self == Command::Audit,
+            "line" => matches!(self, Command::Explain | Command::Board | Command::Top),
+            "rack" | "number" => self == Command::Top,
+            "words" => self == Command::Word,
+            _ => false,
+        }
+    }
+}
