@@ -21,7 +21,8 @@ GAME = (HERE.parent / "examples" / "game.gcg").read_text()
 def made(folder, program):
     """The words and their lexicon."""
     words = subprocess.run(["awk", "-f", HERE / "dictionary.awk"], capture_output=True, check=True, text=True).stdout.split()
-    listed = sorted({*words, *(HERE.parent / "examples" / "words.txt").read_text().split()})
+    game_words = (HERE.parent / "examples" / "words.txt").read_text().split()
+    listed = sorted({*words[: 400_000 - len(game_words)], *game_words})  # a list has at most 400,000 words
     Path(folder, "words").write_text("\n".join(listed) + "\n")
     subprocess.run([program, "build", "words", "lexicon"], cwd=folder, check=True)
     return len(listed)

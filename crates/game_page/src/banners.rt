@@ -4,7 +4,7 @@ use crate::heads::{is_named, name_of};
 use crate::lines::Line;
 use crate::panels::plus;
 use crate::plays::push_event;
-use crate::shown::Shown;
+use crate::showing::Shown;
 use crate::sums::push_sum;
 use engine::Finding;
 use explanations::Picture;

@@ -1,6 +1,6 @@
 //! The head of a page: its title and its style.
 
-use crate::shown::Shown;
+use crate::showing::Shown;
 use crate::styles::STYLE;
 use gcg_read::Player;
 use page_pieces::{PageText, Piece};

@@ -1,5 +1,10 @@
 //! The page of a game.
-ghost use Rattle.std.specs.Prelude.{◌≤◌, length};
+ghost use Rattle.std.specs.Prelude.{◌≡◌, ◌<◌, ◌≤◌, ℕ, List, length, IfOk, IfSome};
+ghost use Rattle.gcg_read.specs.declared.events.Event.{Event};
+ghost use Rattle.lex_check.specs.Pairs.{list_in};
+ghost use Rattle.game_rows.specs.Walks.{IsWalk};
+ghost use Rattle.engine.specs.Explaining.{IsCaseOf};
+ghost use Rattle.game_page.specs.Pages.{faulty_place, place_in_view, ShowsEntry, IsShownOf};
 
 use crate::banners::push_banner;
 use crate::boards::push_board;
@@ -7,13 +12,13 @@ use crate::feet::{Maker, push_foot};
 use crate::heads::push_head;
 use crate::panels::{push_bag, push_first};
 use crate::rows::push_rows;
-use crate::shown::{Shown, faulty_line};
+use crate::showing::{Shown, faulty_line};
 use case_explanations::explain;
+use case_openings::place_of_fault;
 use engine::{Case, Entry, Finding, case_line};
 use explain_lines::push_reason;
-use game_board::place_of_line;
 use game_rows::Walk;
-use gcg_read::Record;
+use gcg_read::Event;
 use lex_check::Checked;
 use name_texts::Encoding;
 use page_pieces::{PageText, Piece};
@@ -70,45 +75,78 @@ pub struct Contents<'a> {
     pub maker: &'a Maker,
 }
 
-/// The place of the board that a page shows: that of the faulty line, or the end.
-fn place_shown(game: &Record, finding: &Finding) -> usize
-    ensures { result ≤ length game.now.events }
+/// The place of the faulty event, where the record has it.
+fn faulty_place(events: &[Event], finding: &Finding) -> Option<usize>
+    ensures is { result ≡ faulty_place events.now finding.now }
+    ensures within { IfSome result (λ place. place < length events.now) }
 {
-    let many = game.events.len();
-    let Some(line) = faulty_line(finding) else {
-        return many;
-    };
-    match place_of_line(game.events.as_slice(), line) {
-        Some(place) if place < many => place,
-        _ => many,
+    match place_of_fault(events, finding) {
+        Some(place) if place < events.len() => Some(place),
+        _ => None,
     }
 }
 
-/// What the page of a record shows, by the walk over its events.
-fn shown_of<'a>(
+/// The place of the board in view: that of the faulty event, or the end.
+fn place_in_view(events: &[Event], faulty: &Option<usize>) -> usize
+    requires { IfSome faulty.now (λ place. place < length events.now) }
+    ensures is { result ≡ place_in_view events.now faulty.now }
+    ensures within { result ≤ length events.now }
+{
+    match faulty {
+        Some(place) => *place,
+        None => events.len(),
+    }
+}
+
+/// What the page of a record shows, by its entry and the walk over its events.
+fn shown_by<'a>(
     alloc: Global,
     contents: &Contents<'a>,
     entry: &'a Entry,
     walk: &Walk,
-) -> Result<Shown<'a>, AllocError> {
+) -> Result<Shown<'a>, AllocError>
+    ensures { IfOk result (λ shown. (right : List Event)
+        → IsWalk contents.now.rules.now (list_in contents.now.pair.now) entry.now.record.events right walk.now
+        → ShowsEntry contents.now.rules.now (list_in contents.now.pair.now) contents.now.case.now.text.items contents.now.case.now.read entry.now shown) }
+{
     let (rules, pair, case) = (contents.rules, contents.pair, contents.case);
     let mut reason = Vec::new(alloc);
     push_reason(alloc, &mut reason, rules, pair.list(), case)?;
-    let place = place_shown(&entry.record, &entry.finding);
-    let is_at_fault = place < entry.record.events.len();
+    let events = entry.record.events.as_slice();
+    let faulty = faulty_place(events, &entry.finding);
+    let place = place_in_view(events, &faulty);
     Ok(Shown {
         rules,
         sheet: score_sheet(alloc, rules, pair, &entry.record, walk, place)?,
         words: words_of(alloc, case.text.as_slice())?,
         encoding: Encoding::of(case.text.as_slice()),
         finding: entry.finding,
-        faulty: if is_at_fault { Some(place) } else { None },
+        faulty,
         verdict: case_line(alloc, case)?,
         reason,
         explanation: explain(alloc, rules, pair.list(), entry, None)?,
         up: contents.up,
         maker: contents.maker,
     })
+}
+
+/// What the page of a case shows; none where its text is no record.
+///
+/// It fails only where memory runs out.
+pub fn shown_of<'a>(alloc: Global, contents: &Contents<'a>) -> Result<Option<Shown<'a>>, AllocError>
+    ensures { IfOk result (λ shown. (text : List ℕ)
+        → IsCaseOf contents.now.rules.now (list_in contents.now.pair.now) text contents.now.case.now
+        → IsShownOf contents.now.rules.now (list_in contents.now.pair.now) text contents.now.case.now.read shown) }
+{
+    let case = contents.case;
+    let Ok(entry) = &case.read else {
+        return Ok(None);
+    };
+    let Some(walk) = &case.walk else {
+        return Ok(None);
+    };
+    let shown = shown_by(alloc, contents, entry, walk)?;
+    Ok(Some(shown))
 }
 
 /// Appends what a page shows.
@@ -124,7 +162,7 @@ fn push_contents(page: &mut PageText, shown: &Shown<'_>) -> Result<(), AllocErro
     page.push(&[Piece::Markup("</body>\n</html>\n")])
 }
 
-/// Appends the page of a game. Nothing where the text is no record.
+/// Appends the page of a game, which shows what [`shown_of`] gives. Nothing where the text is no record.
 ///
 /// It fails only where memory runs out.
 pub fn push_page(
@@ -132,10 +170,8 @@ pub fn push_page(
     page: &mut PageText,
     contents: &Contents<'_>,
 ) -> Result<(), AllocError> {
-    let case = contents.case;
-    let (Ok(entry), Some(walk)) = (&case.read, &case.walk) else {
-        return Ok(());
-    };
-    let shown = shown_of(alloc, contents, entry, walk)?;
-    push_contents(page, &shown)
+    match shown_of(alloc, contents)? {
+        None => Ok(()),
+        Some(shown) => push_contents(page, &shown),
+    }
 }

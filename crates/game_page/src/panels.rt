@@ -3,7 +3,7 @@
 use crate::boards::push_board;
 use crate::lines::Line;
 use crate::plays::push_event;
-use crate::shown::Shown;
+use crate::showing::Shown;
 use gcg_read::Event;
 use page_pieces::{PageText, Piece};
 use ref_tiles::{Counts, KINDS, Kind};

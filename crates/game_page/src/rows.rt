@@ -4,7 +4,7 @@ use crate::heads::{is_named, name_of};
 use crate::lines::Line;
 use crate::panels::{plus, push_panel};
 use crate::plays::push_event;
-use crate::shown::Shown;
+use crate::showing::Shown;
 use event_notes::{BestPlay, SpelledWord, TurnBest};
 use gcg_read::{Points, Seat};
 use page_pieces::{PageText, Piece};

@@ -10,7 +10,6 @@ ghost use Rattle.json_commands.specs.Values.{IsValueTold};
 use crate::audit_answers::audit;
 use crate::explain_answers::explain_in_json;
 use crate::objects::{refuse_in_json, told_in_json};
-use answer_json::{push_found_plays, push_judged_game};
 use command_files::{
     GivenFiles, RulesFile, SheetFile, Told, UsedOutput, Words, given_up, open_inputs, open_sheet,
     tell_others, used_source, write,
@@ -20,6 +19,7 @@ use devices::{FromRead, Input};
 use engine::{Judging, Question, RunFault, TurnPlays, ask};
 use exit_statuses::{Exit, Trouble};
 use game_answers::{FoundPlays, JudgedGame, judge_game, top_plays};
+use game_json::{push_found_plays, push_judged_game};
 use std::alloc::Global;
 use std::io::Read;
 use std::rt::Runtime;

@@ -7,12 +7,12 @@ ghost use Rattle.call_stages.specs.Sources.{game_source};
 ghost use Rattle.audit_lines.specs.Answers.{IsAuditAnswerOf};
 ghost use Rattle.json_commands.specs.Values.{IsValueTold};
 
-use answer_json::push_audit_answer;
 use audit_lines::{AuditAnswer, answer_audit};
 use command_files::{GivenFiles, SheetFile, Told, write};
 use devices::Input;
 use engine::RunFault;
 use exit_statuses::{Exit, Trouble, exit_of_audit};
+use sheet_json::push_audit_answer;
 use std::io::Read;
 use std::rt::Runtime;
 

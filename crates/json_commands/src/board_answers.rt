@@ -1,11 +1,11 @@
 //! `board --json`: the board of a record, as an object.
 
 use crate::objects::{refuse_in_json, told_in_json};
-use answer_json::push_shown_board;
 use command_files::{UsedOutput, given_up, open_rules, open_sheet, used_rules, used_source, write};
 use engine::{RulesSource, Verdict};
 use exit_statuses::{Exit, Trouble};
 use game_answers::{ShownBoard, shown_board};
+use sheet_json::push_shown_board;
 use std::rt::Runtime;
 
 /// Tells a board, or that no event is on the line.

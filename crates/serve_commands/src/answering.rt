@@ -1,14 +1,13 @@
 //! The answer to a request: the exit status of the command of its name, and what that command prints of the same bytes.
 
 use crate::words::{push_no_word, push_ruled};
-use answer_json::{
-    push_audit_answer, push_found_plays, push_judged_game, push_refusal, push_shown_board,
-};
+use answer_json::push_refusal;
 use audit_lines::{AuditAnswer, corrected_text, is_corrected};
 use command_files::has_page;
 use engine::{Case, Decision, RunFault, Verdict};
 use exit_statuses::{Exit, exit_of_audit, exit_of_case};
 use game_answers::{FoundPlays, JudgedGame, ShownBoard};
+use game_json::{push_found_plays, push_judged_game};
 use game_page::{Contents, Maker, push_page};
 use json_commands::case_text;
 use lex_check::Checked;
@@ -16,6 +15,7 @@ use page_pieces::PageText;
 use ref_tiles::Rules;
 use serve_answers::{Reply, Ruled, reply_to};
 use serve_requests::Request;
+use sheet_json::{push_audit_answer, push_shown_board};
 use std::alloc::{AllocError, Global};
 
 /// What games are judged by.

@@ -1,10 +1,7 @@
 //! Judged games as objects.
 
 use crate::events::{EventObject, event_object};
-use crate::faults::FaultObject;
-use crate::lines::push_object;
-use crate::texts::text_unless_empty;
-use crate::verdicts::verdict_fields;
+use answer_json::{FaultObject, push_object, text_unless_empty, verdict_fields};
 use game_answers::{GameAnswers, JudgedGame};
 use gcg_read::Player;
 use serde::Serialize;

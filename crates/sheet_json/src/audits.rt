@@ -1,11 +1,9 @@
 //! Audits as objects.
 
-use crate::events::{kind_name, number_of};
-use crate::faults::FaultObject;
-use crate::lines::push_object;
-use crate::plays::play_fields;
-use crate::texts::{text_of, text_unless_empty};
-use crate::verdicts::{VerdictFields, verdict_fields};
+use answer_json::{
+    FaultObject, VerdictFields, kind_name, number_of, play_fields, push_object, text_of,
+    text_unless_empty, verdict_fields,
+};
 use audit_lines::{AuditAnswer, ToldNumber};
 use call_stages::Verdict;
 use engine::Finding;

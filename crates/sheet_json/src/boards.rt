@@ -1,9 +1,6 @@
 //! The board of a record as an object.
 
-use crate::faults::FaultObject;
-use crate::lines::push_object;
-use crate::texts::{rack_text, text_of, text_unless_empty};
-use crate::verdicts::push_verdict;
+use answer_json::{FaultObject, push_object, push_verdict, rack_text, text_of, text_unless_empty};
 use call_stages::Verdict;
 use game_answers::{RowMarks, ShownBoard};
 use gcg_read::Player;

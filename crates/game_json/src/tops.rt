@@ -1,10 +1,6 @@
 //! The best plays before a line of a record as an object.
 
-use crate::faults::FaultObject;
-use crate::lines::push_object;
-use crate::plays::play_fields;
-use crate::texts::tiles_of;
-use crate::verdicts::push_verdict;
+use answer_json::{FaultObject, play_fields, push_object, push_verdict, tiles_of};
 use game_answers::{FoundPlays, ScoredPlay};
 use ref_tiles::Counts;
 use serde::Serialize;

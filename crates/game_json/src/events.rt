@@ -1,10 +1,12 @@
 //! Events as objects.
 
-use crate::plays::{BestObject, placed_text, play_fields};
-use crate::texts::{rack_text, text_of, text_unless_empty, tiles_of};
+use crate::plays::{BestObject, placed_text};
+use answer_json::{
+    kind_name, number_of, play_fields, rack_text, text_of, text_unless_empty, tiles_of,
+};
 use event_notes::{BestPlay, SpelledWord, TurnBest};
 use game_answers::EventAnswer;
-use gcg_read::{Event, EventKind, Players, Seat};
+use gcg_read::{Event, EventKind, Players};
 use serde::Serialize;
 use std::alloc::{AllocError, Global};
 
@@ -27,27 +29,6 @@ pub struct EventObject {
     turn: Option<&'static str>,
     best: Option<BestObject>,
     unlisted: Option<Vec<String>>,
-}
-
-/// The number of a seat.
-pub fn number_of(seat: Seat) -> u32 {
-    match seat {
-        Seat::First => 1,
-        Seat::Second => 2,
-    }
-}
-
-/// The name of what happened.
-pub fn kind_name(kind: &EventKind) -> &'static str {
-    match kind {
-        EventKind::Play { .. } => "play",
-        EventKind::Pass => "pass",
-        EventKind::Exchange(_) | EventKind::ExchangeUnknown(_) => "exchange",
-        EventKind::Withdraw => "withdraw",
-        EventKind::Challenge => "challenge",
-        EventKind::Time => "time",
-        EventKind::LastRack(_) => "last rack",
-    }
 }
 
 impl EventObject {

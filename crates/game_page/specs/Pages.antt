@@ -1,0 +1,49 @@
+-- What the page of a record shows.
+use Rattle.std.specs.Prelude.{◌≡◌, ⊤, ℕ, nat_lt, List, length, Option, Some, None, Result, Ok, Err, if◌then◌else◌}
+use Rattle.ref_tiles.specs.declared.rulebook.Rules.{Rules}
+use Rattle.gcg_read.specs.declared.events.Event.{Event}
+use Rattle.gcg_read.specs.declared.faults.ReadFault.{ReadFault}
+use Rattle.game_rows.specs.declared.walking.Walk.{Walk}
+use Rattle.game_rows.specs.Walks.{IsWalk}
+use Rattle.engine.specs.declared.entries.Entry.{Entry}
+use Rattle.engine.specs.declared.findings.Finding.{Finding}
+use Rattle.engine.specs.Explaining.{case_line}
+use Rattle.case_openings.specs.Openings.{place_of_fault}
+use Rattle.case_explanations.specs.Explaining.{IsExplanation}
+use Rattle.record_words.specs.Words.{AreWordsOf}
+use Rattle.score_sheets.specs.Sheets.{IsScoreSheet}
+use Rattle.game_page.specs.declared.showing.Shown.{Shown}
+
+-- a place, where it is that of one of so many events
+abbrev pub place_within : (many : ℕ) → Option ℕ → Option ℕ
+place_within many None = None
+place_within many (Some place) = if nat_lt place many then Some place else None
+
+-- the place of the faulty event, where the record has it
+abbrev pub faulty_place : List Event → Finding → Option ℕ
+faulty_place events found = place_within (length events) (place_of_fault events found)
+
+-- the place of the board in view: that of the faulty event, or the end
+abbrev pub place_in_view : List Event → (faulty : Option ℕ) → ℕ
+place_in_view events None = length events
+place_in_view events (Some place) = place
+
+-- What a page shows of the entry of a text: its finding, the line of its verdict and what explains it, the words of the text beside the
+-- events, and the score sheet of the record, beside the events with their right numbers, with the board at the faulty event or at the end.
+pub record ShowsEntry (rules : Rules) (list : List (List ℕ)) (text : List ℕ) (read : Result Entry ReadFault) (entry : Entry) (shown : Shown) : Type 0 where
+  pub finding : shown.finding ≡ entry.finding
+  pub faulty : shown.faulty ≡ faulty_place entry.record.events entry.finding
+  pub verdict : shown.verdict.items ≡ case_line read
+  pub explanation : IsExplanation rules list entry None shown.explanation
+  pub words : AreWordsOf text shown.words
+  pub right : List Event
+  pub walk : Walk
+  pub walked : IsWalk rules list entry.record.events right walk
+  pub sheet : IsScoreSheet rules list entry.record right (place_in_view entry.record.events shown.faulty) shown.sheet
+
+-- the same of what was read from a text; nothing where that is no record
+abbrev pub IsShownOf : Rules → (list : List (List ℕ)) → (text : List ℕ) → Result Entry ReadFault → Option Shown → Type 0
+IsShownOf rules list text (Ok entry) (Some shown) = ShowsEntry rules list text (Ok entry) entry shown
+IsShownOf rules list text (Ok entry) None = ⊥
+IsShownOf rules list text (Err fault) (Some shown) = ⊥
+IsShownOf rules list text (Err fault) None = ⊤
