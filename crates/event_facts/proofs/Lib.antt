@@ -7,3 +7,4 @@ pub mod RackLaws
 pub mod WholeLaws
 pub mod ReadLaws
 pub mod OrderLaws
+pub mod ClashLaws

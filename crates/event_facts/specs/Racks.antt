@@ -1,9 +1,9 @@
 -- What is true of racks that cannot be dealt, by the steps of a game.
-use Rattle.std.specs.Prelude.{◌≡◌, ℕ, ◌+◌, ◌-◌, ◌<◌, ◌==◌, ◌&&◌, ◌||◌, not, Bool, true, List, [], ◌∷◌, ◌++◌, sum, take, reverse, slice_get, Option, Some, None, if◌then◌else◌}
+use Rattle.std.specs.Prelude.{◌≡◌, ◌⊎◌, ℕ, ◌+◌, ◌-◌, ◌<◌, ◌==◌, ◌&&◌, ◌||◌, not, Bool, true, List, [], ◌∷◌, ◌++◌, sum, take, reverse, slice_get, Option, Some, None, IfSome, if◌then◌else◌}
 use Rattle.std.specs.List.{flat_map, list_any}
 use Rattle.ref_tiles.specs.declared.rulebook.Rules.{Rules}
 use Rattle.ref_tiles.specs.declared.kinds.Kind.{Kind}
-use Rattle.ref_tiles.specs.Counting.{no_tiles, count_of}
+use Rattle.ref_tiles.specs.Counting.{no_tiles, count_of, IsContainedIn}
 use Rattle.gcg_read.specs.declared.events.Seat.{Seat}
 use Rattle.deal_steps.specs.declared.steps.Motion.{Motion}
 use Rattle.deal_steps.specs.declared.steps.Motion.TheVariants as motion
@@ -17,11 +17,13 @@ use Rattle.deal_steps.specs.Bounds.{gone, low_at}
 use Rattle.deal_steps.specs.Knowing.{IsShownAt}
 use Rattle.deal_steps.specs.declared.deals.Held.{Held}
 use Rattle.deal_steps.specs.Fitting.{Fits}
+use Rattle.deal_cuts.specs.Cutting.{HasNoDeal}
 use Rattle.event_facts.specs.declared.facts.Fact.{Fact}
 use Rattle.event_facts.specs.declared.facts.Fact.TheVariants as fact
 use Rattle.event_facts.specs.declared.facts.RackLine.{RackLine}
 use Rattle.event_facts.specs.declared.facts.KindLine.{KindLine}
 use Rattle.event_facts.specs.declared.facts.ExchangeLine.{ExchangeLine}
+use Rattle.event_facts.specs.declared.facts.ClashLine.{ClashLine}
 use Rattle.event_facts.specs.declared.facts.Leaving.{Leaving}
 use Rattle.event_facts.specs.declared.facts.Leaving.TheVariants as leaves
 
@@ -142,6 +144,47 @@ exchange_line s = if exchanged_by s.act == 0 then [] else record { line = s.line
 abbrev pub exchange_lines : List Step → List ExchangeLine
 exchange_lines steps = flat_map exchange_line steps
 
+-- ---- what already cannot be together
+
+-- what a line tells of a rack: on a turn the tiles that it states, and of a last rack all
+abbrev pub told_by : Act → List ℕ
+told_by (act.Turns shown what) = shown
+told_by (act.TakesBack used) = no_tiles
+told_by (act.Ends holder tiles) = tiles
+told_by act.Rests = no_tiles
+
+-- an act as it is, but that a turn states only some of its tiles, or that a last rack is not told
+abbrev pub TellsPart : (less whole : Act) → Type 0
+TellsPart less (act.Turns shown what) = (some : List ℕ) × IsContainedIn some shown × (less ≡ act.Turns some what)
+TellsPart less (act.TakesBack used) = less ≡ act.TakesBack used
+TellsPart less (act.Ends holder tiles) = (less ≡ act.Ends holder tiles) ⊎ (less ≡ act.Rests)
+TellsPart less act.Rests = less ≡ act.Rests
+
+abbrev pub IsPartOf : (less whole : Step) → Type 0
+IsPartOf less whole = TellsPart less.act whole.act × (less ≡ record whole { act = less.act })
+
+-- the same steps, which tell only a part of the racks
+abbrev pub ArePartsOf : (less whole : List Step) → Type 0
+ArePartsOf [] [] = Unit {0}
+ArePartsOf [] (s ∷ steps) = ⊥
+ArePartsOf (l ∷ less) [] = ⊥
+ArePartsOf (l ∷ less) (s ∷ steps) = IsPartOf l s × ArePartsOf less steps
+
+-- what a step tells of a rack, where it tells something
+abbrev pub clash_line : Step → List ClashLine
+clash_line s = if sum (told_by s.act) == 0 then [] else record { line = s.line; player = holder_of s; tiles = told_by s.act } ∷ []
+
+abbrev pub clash_lines : List Step → List ClashLine
+clash_lines steps = flat_map clash_line steps
+
+-- These tiles on these lines already cannot be together: no racks fit the steps even if the lines tell no more of the racks than that. What
+-- is played, exchanged and taken back stays as it is.
+pub record IsClash (rules : Rules) (steps : List Step) (lines : List ClashLine) : Type 0 where
+  pub less : List Step
+  pub parts : ArePartsOf less steps
+  pub none : HasNoDeal rules less
+  pub lines_are : lines ≡ clash_lines less
+
 -- ---- each fact
 
 -- There would have to be more tiles of a kind than the game has: on the board, and on both racks by what is shown at the step.
@@ -173,10 +216,11 @@ pub record IsDealtTo (rules : Rules) (steps : List Step) (place line : ℕ) : Ty
   pub racks : List Held
   pub fit : Fits rules (take place steps) racks
 
--- what is true of the racks up to the step at a place
+-- what is true of the racks up to the step at a place; where no deal gives them, what already cannot be together is true where it is told
 abbrev pub IsRackTrue : Rules → List Step → (place : ℕ) → Fact → Type 0
 IsRackTrue rules steps place (fact.RackTooBig player size tiles lines) = IsTooBig steps place player size tiles lines.items
 IsRackTrue rules steps place (fact.TilesShort kind all many laid first second lines) = IsShort rules steps place kind all many laid first second lines.items
 IsRackTrue rules steps place (fact.DealtTo line) = IsDealtTo rules steps place line
-IsRackTrue rules steps place (fact.NoDeal exchanges) = AreExchanges steps place exchanges.items
+IsRackTrue rules steps place (fact.NoDeal clash exchanges) =
+    AreExchanges steps place exchanges.items × IfSome clash (λ lines. IsClash rules (take (place + 1) steps) lines.items)
 IsRackTrue rules steps place other = ⊥

@@ -47,6 +47,17 @@ pub struct KindLine {
     pub played: usize,
 }
 
+/// Some tiles that a line shows of a rack.
+#[derive(Drop)]
+pub struct ClashLine {
+    /// The line.
+    pub line: u32,
+    /// Whose rack it shows.
+    pub player: Seat,
+    /// The tiles.
+    pub tiles: Counts,
+}
+
 /// An exchange.
 #[derive(Drop)]
 pub struct ExchangeLine {
@@ -104,7 +115,7 @@ pub enum Fact {
         /// The other player.
         other: Seat,
     },
-    /// The line before says the same as this one, which seems to stand twice.
+    /// The line before says the same as this one, which may have been written twice by mistake.
     StandsTwice {
         /// The line before.
         line: u32,
@@ -127,7 +138,7 @@ pub enum Fact {
         /// The line behind it.
         after: u32,
     },
-    /// As a line of the other player the rules allow the event.
+    /// If it is a line of the other player, the rules allow the event.
     AllowedFor {
         /// The other player.
         other: Seat,
@@ -470,6 +481,10 @@ pub enum Fact {
     },
     /// No deal of the tiles gives the players the racks that the lines show.
     NoDeal {
+        /// What already cannot be together: lines, and tiles that they show, such that no deal would give these even if no other
+        /// tile of a rack were shown. There is no line where the plays and the exchanges alone have no deal, and none is told where
+        /// no proof was found.
+        clash: Option<Vec<ClashLine>>,
         /// The exchanges up to the line.
         exchanges: Vec<ExchangeLine>,
     },

@@ -4,6 +4,7 @@
 
 mod boards;
 mod challenges;
+mod clashes;
 mod dealt;
 mod facts;
 mod orders;
@@ -21,7 +22,9 @@ mod words;
 
 pub use boards::{ShownSquare, shown_board};
 pub use dealt::dealt_to;
-pub use facts::{ExchangeLine, Fact, KindLine, Leaving, RackLine, Spelled, UnlistedPlay};
+pub use facts::{
+    ClashLine, ExchangeLine, Fact, KindLine, Leaving, RackLine, Spelled, UnlistedPlay,
+};
 pub use racks::{no_deal, rack_too_big, tiles_short};
 pub use readings::tell_rack_slip;
 pub use rule_faults::tell_rule_fault;

@@ -6,6 +6,7 @@ ghost use Rattle.deal_steps.specs.Knowing.{IsShownAt};
 ghost use Rattle.deal_steps.specs.Steps.{needed, ends_epoch};
 ghost use Rattle.event_facts.specs.Racks.{holder_of, left_by, leaving, rack_line, rack_lines, together, leaving_by, laid_in_kind, shown_in_kind, kind_line, kind_lines, exchanged_by, exchanged_by_motion, exchange_line, exchange_lines, IsRackTrue};
 
+use crate::clashes::clash_at;
 use crate::facts::{ExchangeLine, Fact, KindLine, Leaving, RackLine};
 use deal_steps::{Act, Known, Motion, Step, greater, shown_at, used_by, without};
 use gcg_read::{Seat, same_seat};
@@ -13,7 +14,7 @@ use ref_tiles::{Counts, Kind, Rules};
 use std::alloc::{AllocError, Global};
 
 /// Whose rack a step shows: the mover's, or that of a last rack's holder.
-fn holder_of(step: &Step) -> Seat
+pub(crate) fn holder_of(step: &Step) -> Seat
     ensures { result ≡ holder_of step.now }
 {
     match &step.act {
@@ -369,7 +370,9 @@ fn exchange_lines(alloc: Global, steps: &[Step]) -> Result<Vec<ExchangeLine>, Al
     Ok(lines)
 }
 
-/// The exchanges up to a step, where no deal gives the racks up to it.
+/// Which tiles and lines cannot be together, and the exchanges up to a step, where no deal gives the racks up to it.
+///
+/// It fails only where memory runs out.
 pub fn no_deal(
     alloc: Global,
     rules: &Rules,
@@ -378,11 +381,11 @@ pub fn no_deal(
 ) -> Result<Option<Fact>, AllocError>
     ensures { IfOk result (λ fact. IfSome fact (IsRackTrue rules.now steps.now place)) }
 {
-    let _ = rules;
     let Some(step) = steps.get(place) else {
         return Ok(None);
     };
+    let clash = clash_at(alloc, rules, steps, place)?;
     let mut exchanges = exchange_lines(alloc, steps.get(..place).unwrap_or(&[]))?;
     push_exchange(&mut exchanges, step)?;
-    Ok(Some(Fact::NoDeal { exchanges }))
+    Ok(Some(Fact::NoDeal { clash, exchanges }))
 }

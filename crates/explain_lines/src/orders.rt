@@ -50,9 +50,9 @@ fn push_allowed_for(text: &mut Vec<u8>, players: &Players, other: Seat) -> Resul
     say(
         text,
         &[
-            Part::Say("As a line of "),
+            Part::Say("If this is a line of "),
             Part::Raw(nick(players, other)),
-            Part::Say(" the rules allow it.\n"),
+            Part::Say(", the rules allow it.\n"),
         ],
     )
 }
@@ -68,7 +68,7 @@ pub fn push_order_fact(
             text,
             "This line says the same as line ",
             *line,
-            ": it seems to stand twice.\n",
+            "; it may have been written twice by mistake.\n",
         ),
         Fact::WrongWay { line, next } => push_wrong_way(text, *line, *next),
         Fact::Missing {

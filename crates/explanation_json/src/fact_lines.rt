@@ -1,7 +1,7 @@
 //! What lines show of racks, as objects.
 
 use answer_json::{number_of, tiles_of};
-use event_facts::{ExchangeLine, KindLine, Leaving, RackLine};
+use event_facts::{ClashLine, ExchangeLine, KindLine, Leaving, RackLine};
 use gcg_read::Seat;
 use serde::Serialize;
 use std::alloc::{AllocError, Global};
@@ -52,6 +52,13 @@ impl LineObject {
         Ok(object)
     }
 
+    /// Some tiles that a line shows of a rack.
+    fn of_clash(alloc: Global, line: &ClashLine) -> Result<LineObject, AllocError> {
+        let mut object = LineObject::of(line.line, line.player);
+        object.shown = Some(tiles_of(alloc, &line.tiles)?);
+        Ok(object)
+    }
+
     /// How many tiles of a kind a line shows.
     fn of_kind(line: &KindLine) -> LineObject {
         let mut object = LineObject::of(line.line, line.player);
@@ -77,6 +84,15 @@ pub fn rack_lines(
     let mut objects = Vec::new(alloc);
     for line in lines {
         objects.push(LineObject::of_rack(alloc, player, line)?)?;
+    }
+    Ok(objects)
+}
+
+/// Some tiles that lines show of racks.
+pub fn clash_lines(alloc: Global, lines: &[ClashLine]) -> Result<Vec<LineObject>, AllocError> {
+    let mut objects = Vec::new(alloc);
+    for line in lines {
+        objects.push(LineObject::of_clash(alloc, line)?)?;
     }
     Ok(objects)
 }

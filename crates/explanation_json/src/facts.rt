@@ -1,6 +1,6 @@
 //! Facts about an event as objects.
 
-use crate::fact_lines::{LineObject, exchange_lines, kind_lines, rack_lines};
+use crate::fact_lines::{LineObject, clash_lines, exchange_lines, kind_lines, rack_lines};
 use crate::fact_names::name_of;
 use crate::squares::square_name;
 use answer_json::{direction_of, number_of, text_of, tiles_of};
@@ -80,6 +80,8 @@ pub struct FactObject {
     on_board: Option<usize>,
     #[serde(skip_serializing_if = "Option::is_none")]
     on_racks: Option<Vec<usize>>,
+    #[serde(skip_serializing_if = "Option::is_none")]
+    clash: Option<Vec<LineObject>>,
     #[serde(skip_serializing_if = "Option::is_none")]
     lines: Option<Vec<LineObject>>,
     #[serde(skip_serializing_if = "Option::is_none")]
@@ -162,6 +164,7 @@ impl FactObject {
             more_places: None,
             on_board: None,
             on_racks: None,
+            clash: None,
             lines: None,
             plays: None,
             on_lines: None,
@@ -492,7 +495,10 @@ impl FactObject {
                 self.lines = Some(kind_lines(alloc, lines.as_slice())?);
             }
             Fact::DealtTo { line } => self.line = Some(*line),
-            Fact::NoDeal { exchanges } => {
+            Fact::NoDeal { clash, exchanges } => {
+                if let Some(lines) = clash {
+                    self.clash = Some(clash_lines(alloc, lines.as_slice())?);
+                }
                 self.lines = Some(exchange_lines(alloc, exchanges.as_slice())?);
             }
             _ => {}

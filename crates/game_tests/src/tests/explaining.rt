@@ -268,7 +268,7 @@ const TURNS: [Row; 11] = [
     Row {
         words: "WORD",
         game: ">A: DORWAAE 8E WORD +16 16\n>B: - +0 0\n>B: - +0 0\n",
-        head: "illegal line 3: NotYourTurn\nline 3: >B: - +0 0\nIt is A's turn, not B's.\nThis line says the same as line 2: it seems to stand twice.\n",
+        head: "illegal line 3: NotYourTurn\nline 3: >B: - +0 0\nIt is A's turn, not B's.\nThis line says the same as line 2; it may have been written twice by mistake.\n",
     },
     Row {
         words: "AT",
@@ -388,7 +388,7 @@ fn challenges(rt: HostRuntime) {
 }
 
 /// Racks that cannot be dealt.
-const RACKS: [Row; 5] = [
+const RACKS: [Row; 8] = [
     Row {
         words: "AT",
         game: ">A: AEINRST 8H AT +4 4\n>B: - +0 0\n>A: AAABCDE - +0 4\n",
@@ -397,7 +397,22 @@ const RACKS: [Row; 5] = [
     Row {
         words: "AT",
         game: ">A: AEINRST -1 +0 0\n>B: - +0 0\n>A: BCDFGHJ - +0 0\n",
-        head: "illegal line 3: NoDeal\nline 3: >A: BCDFGHJ - +0 0\nNo deal of the tiles gives the players the racks that the lines up to this one show, though no line alone shows too much.\nCompare the racks with the exchanges:\n  line 1: A exchanges 1 tile\nUp to line 2 a deal of the tiles gives the players every rack that is shown.\n",
+        head: "illegal line 3: NoDeal\nline 3: >A: BCDFGHJ - +0 0\nNo deal of the tiles gives the players the racks that the lines up to this one show, though no line alone shows too much.\nEven if only these tiles were shown, no deal would give them:\n  line 1 shows AEINRST on A's rack\n  line 3 shows BCDFGHJ on A's rack\nCompare the racks with the exchanges:\n  line 1: A exchanges 1 tile\nUp to line 2 a deal of the tiles gives the players every rack that is shown.\n",
+    },
+    Row {
+        words: "AT",
+        game: ">A: DORWAAE 8E WORD +16 16\n>B: AEINRST -2 +0 0\n>A: - +0 16\n>B: AEBCDFG - +0 0\n",
+        head: "illegal line 4: NoDeal\nline 4: >B: AEBCDFG - +0 0\nNo deal of the tiles gives the players the racks that the lines up to this one show, though no line alone shows too much.\nEven if only these tiles were shown, no deal would give them:\n  line 2 shows INRST on B's rack\n  line 4 shows ABCDEFG on B's rack\nCompare the racks with the exchanges:\n  line 2: B exchanges 2 tiles\nUp to line 3 a deal of the tiles gives the players every rack that is shown.\n",
+    },
+    Row {
+        words: "AT",
+        game: ">A: Q -Q +0 0\n>B: - +0 0\n>A: Q - +0 0\n",
+        head: "illegal line 3: NoDeal\nline 3: >A: Q - +0 0\nNo deal of the tiles gives the players the racks that the lines up to this one show, though no line alone shows too much.\nEven if only these tiles were shown, no deal would give them:\n  line 3 shows Q on A's rack\nCompare the racks with the exchanges:\n  line 1: A exchanges 1 tile\nUp to line 2 a deal of the tiles gives the players every rack that is shown.\n",
+    },
+    Row {
+        words: "AT",
+        game: ">A: Q -Q +0 0\n>B: - +0 0\n>A: Q -Q +0 0\n",
+        head: "illegal line 3: NoDeal\nline 3: >A: Q -Q +0 0\nNo deal of the tiles gives the players the racks that the lines up to this one show, though no line alone shows too much.\nEven if no rack were shown, no deal would give the plays and the exchanges.\nCompare the racks with the exchanges:\n  line 1: A exchanges 1 tile\n  line 3: A exchanges 1 tile\nUp to line 2 a deal of the tiles gives the players every rack that is shown.\n",
     },
     Row {
         words: "AT",
@@ -480,7 +495,7 @@ const ORDERS: [Row; 6] = [
     Row {
         words: "AT",
         game: ">A: 8E WORD +16 16\n>A: 8E WORD +16 16\n>B: - +0 0\n",
-        head: "illegal line 2: NotYourTurn\nline 2: >A: 8E WORD +16 16\nIt is B's turn, not A's.\nThis line says the same as line 1: it seems to stand twice.\n",
+        head: "illegal line 2: NotYourTurn\nline 2: >A: 8E WORD +16 16\nIt is B's turn, not A's.\nThis line says the same as line 1; it may have been written twice by mistake.\n",
     },
     Row {
         words: "AT",
@@ -500,7 +515,7 @@ const ORDERS: [Row; 6] = [
     Row {
         words: "AT",
         game: ">A: 8E WORD +16 16\n>A: 9G AT +9 9\n>A: - +0 16\n>B: - +0 9\n",
-        head: "illegal line 2: NotYourTurn\nline 2: >A: 9G AT +9 9\nIt is B's turn, not A's.\nAs a line of B the rules allow it.\n",
+        head: "illegal line 2: NotYourTurn\nline 2: >A: 9G AT +9 9\nIt is B's turn, not A's.\nIf this is a line of B, the rules allow it.\n",
     },
     Row {
         words: "AT",

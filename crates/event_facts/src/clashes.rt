@@ -1,0 +1,244 @@
+//! Which tiles and lines cannot be together, where no deal gives the racks.
+//!
+//! The search finds a cut, which shows that there is no deal. What it does not count is left out of what the lines show, and then each line that
+//! can be left out by the same cut. How that is chosen is not trusted: the cut is checked once more for what is left.
+ghost use Rattle.std.specs.Prelude.{◌≡◌, ◌++◌, ◌+◌, ◌<◌, take, length, IfOk, IfSome, OnOk};
+ghost use Rattle.ref_tiles.specs.Counting.{IsContainedIn};
+ghost use Rattle.event_facts.specs.Racks.{told_by, TellsPart, IsPartOf, ArePartsOf, clash_line, clash_lines, IsClash};
+
+use crate::facts::ClashLine;
+use crate::racks::holder_of;
+use deal_cuts::{Cut, Places, rules_out};
+use deal_search::{Settling, settle};
+use deal_steps::{Act, Step, without};
+use gcg_read::Seat;
+use ref_tiles::{Counts, KINDS, Rules};
+use std::alloc::{AllocError, Global};
+
+// ---- what lines tell of racks
+
+/// What a line tells of a rack.
+fn told_by(act: &Act) -> Counts
+    ensures { result ≡ told_by act.now }
+{
+    match act {
+        Act::Turns { shown, .. } => *shown,
+        Act::Ends { tiles, .. } => *tiles,
+        Act::TakesBack(_) | Act::Rests => Counts::new(),
+    }
+}
+
+/// Adds what a step tells of a rack, where it tells something.
+fn push_clash_line(lines: &mut Vec<ClashLine>, step: &Step) -> Result<(), AllocError>
+    ensures { OnOk result (lines.new.items ≡ lines.old.items ++ clash_line step.now) }
+{
+    let tiles = told_by(&step.act);
+    if tiles.total() == 0 {
+        return Ok(());
+    }
+    lines.push(ClashLine {
+        line: step.line,
+        player: holder_of(step),
+        tiles,
+    })?;
+    Ok(())
+}
+
+/// What steps tell of racks.
+fn clash_lines(alloc: Global, steps: &[Step]) -> Result<Vec<ClashLine>, AllocError>
+    ensures { IfOk result (λ lines. lines.items ≡ clash_lines steps.now) }
+{
+    let mut lines = Vec::new(alloc);
+    for step in steps {
+        push_clash_line(&mut lines, step)?;
+    }
+    Ok(lines)
+}
+
+// ---- less of it
+
+/// As many tiles as there can be of each kind but the chosen ones, or of these alone.
+fn all_but(kinds: &[bool; KINDS], chosen: bool) -> Counts {
+    let mut numbers = [0; KINDS];
+    for kind in 0..KINDS {
+        if kinds[kind] != chosen {
+            numbers[kind] = u8::MAX;
+        }
+    }
+    Counts::of(numbers)
+}
+
+/// An act that tells only those tiles of a turn that are not among some others.
+#[tactic(auto, using(crate::proofs::ClashLaws::turn_without))]
+fn act_without(act: &Act, others: &Counts) -> Act
+    ensures { TellsPart result act.now }
+{
+    match act {
+        Act::Turns { shown, motion } => Act::Turns {
+            shown: without(shown, others),
+            motion: *motion,
+        },
+        Act::TakesBack(_) | Act::Ends { .. } | Act::Rests => *act,
+    }
+}
+
+/// An act that tells nothing of a rack.
+fn silent(act: &Act) -> Act
+    ensures { TellsPart result act.now }
+{
+    match act {
+        Act::Turns { motion, .. } => Act::Turns {
+            shown: Counts::new(),
+            motion: *motion,
+        },
+        Act::Ends { .. } => Act::Rests,
+        Act::TakesBack(_) | Act::Rests => *act,
+    }
+}
+
+/// Whether a player's rack is one of some places.
+fn is_among(places: &Places, player: Seat) -> bool {
+    match player {
+        Seat::First => places.first,
+        Seat::Second => places.second,
+    }
+}
+
+/// What counts by a cut of what a step tells: the tiles of its kinds, and of the others where the rack is one of its places.
+fn counted_by(cut: &Cut, places: &Places, step: &Step) -> Act
+    ensures { TellsPart result step.now.act }
+{
+    let chosen = !is_among(places, holder_of(step));
+    act_without(&step.act, &all_but(&cut.kinds, chosen))
+}
+
+/// What the step at a place tells where its line is kept: what counts by a cut. Otherwise it tells nothing.
+fn act_told(step: &Step, cut: &Cut, place: usize, kept: &[bool]) -> Act
+    ensures { TellsPart result step.now.act }
+{
+    match (cut.places.get(place), kept.get(place)) {
+        (Some(places), Some(true)) => counted_by(cut, places, step),
+        _ => silent(&step.act),
+    }
+}
+
+/// A step that tells something else.
+fn telling(step: &Step, act: &Act) -> Step
+    requires { TellsPart act.now step.now.act }
+    ensures { IsPartOf result step.now }
+{
+    Step { act: *act, ..*step }
+}
+
+/// The steps of which the lines that are kept tell what counts by a cut, and the others nothing.
+fn told(alloc: Global, steps: &[Step], cut: &Cut, kept: &[bool]) -> Result<Vec<Step>, AllocError>
+    ensures { IfOk result (λ less. ArePartsOf less.items steps.now) }
+{
+    let mut less = Vec::new(alloc);
+    for place in 0..steps.len() {
+        let step = &steps[place];
+        let act = act_told(step, cut, place, kept);
+        less.push(telling(step, &act))?;
+    }
+    Ok(less)
+}
+
+// ---- which lines are kept
+
+/// Whether no racks fit some steps, as a cut shows.
+#[derive(Clone, Copy)]
+struct Proof<'a> {
+    rules: &'a Rules,
+    steps: &'a [Step],
+    cut: &'a Cut,
+}
+
+/// Keeps lines from one place to before another, or leaves them out.
+fn mark(kept: &mut Vec<bool>, from: usize, to: usize, keeps: bool) {
+    for place in from..to {
+        if let Some(line) = kept.get_mut(place) {
+            *line = keeps;
+        }
+    }
+}
+
+impl Proof<'_> {
+    /// Leaves out lines from one place to before another, where the cut still shows that there is no deal.
+    fn leave_out(
+        &self,
+        alloc: Global,
+        kept: &mut Vec<bool>,
+        from: usize,
+        to: usize,
+    ) -> Result<(), AllocError> {
+        mark(kept, from, to, false);
+        let less = told(alloc, self.steps, self.cut, kept.as_slice())?;
+        if !rules_out(self.rules, less.as_slice(), self.cut) {
+            mark(kept, from, to, true);
+        }
+        Ok(())
+    }
+
+    /// Leaves out what it can, so many lines at a time.
+    fn leave_out_by(
+        &self,
+        alloc: Global,
+        kept: &mut Vec<bool>,
+        many: usize,
+    ) -> Result<(), AllocError> {
+        for place in 0..self.steps.len() {
+            let begins = place.checked_rem(many) == Some(0);
+            if begins && matches!(kept.get(place), Some(true)) {
+                self.leave_out(alloc, kept, place, place.saturating_add(many))?;
+            }
+        }
+        Ok(())
+    }
+
+    /// The lines that are kept: many are left out at once first, then few, then each.
+    fn kept_lines(&self, alloc: Global) -> Result<Vec<bool>, AllocError> {
+        let mut kept = Vec::new(alloc);
+        for _ in self.steps {
+            kept.push(true)?;
+        }
+        self.leave_out_by(alloc, &mut kept, 64)?;
+        self.leave_out_by(alloc, &mut kept, 8)?;
+        self.leave_out_by(alloc, &mut kept, 1)?;
+        Ok(kept)
+    }
+}
+
+/// What already cannot be together of what steps tell, by a cut; none where the cut does not show it.
+fn clash_by(
+    alloc: Global,
+    rules: &Rules,
+    steps: &[Step],
+    cut: &Cut,
+) -> Result<Option<Vec<ClashLine>>, AllocError>
+    ensures { IfOk result (λ clash. IfSome clash (λ lines. IsClash rules.now steps.now lines.items)) }
+{
+    let proof = Proof { rules, steps, cut };
+    let kept = proof.kept_lines(alloc)?;
+    let less = told(alloc, steps, cut, kept.as_slice())?;
+    if !rules_out(rules, less.as_slice(), cut) {
+        return Ok(None);
+    }
+    let lines = clash_lines(alloc, less.as_slice())?;
+    Ok(Some(lines))
+}
+
+/// What already cannot be together of what the steps up to a place tell, that one included; none where no proof is found.
+pub(crate) fn clash_at(
+    alloc: Global,
+    rules: &Rules,
+    steps: &[Step],
+    place: usize,
+) -> Result<Option<Vec<ClashLine>>, AllocError>
+    requires { place < length steps.now }
+    ensures { IfOk result (λ clash. IfSome clash (λ lines. IsClash rules.now (take (place + 1) steps.now) lines.items)) }
+{
+    match settle(alloc, rules, steps)? {
+        Settling::NoDeal { cut, .. } => clash_by(alloc, rules, &steps[..place + 1], &cut),
+        Settling::Dealt(_) | Settling::Unknown => Ok(None),
+    }
+}
