@@ -1,0 +1,11 @@
+pub mod Each
+pub mod Positions
+pub mod Spellings
+pub mod Tiles
+pub mod Amounts
+pub mod Laying
+pub mod Rests
+pub mod Lines
+pub mod MissingLines
+pub mod Changes
+pub mod Laws
