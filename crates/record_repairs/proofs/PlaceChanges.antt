@@ -1,0 +1,204 @@
+-- The candidates among the changes at a place, change by change.
+use Rattle.std.proofs.Common.{◌≡◌, ◌⊎◌, inl, inr, ℕ, zero, suc, ◌+◌, ◌<◌, ◌≤◌, Bool, true, false, ◌&&◌, ◌||◌, ◌==◌, nat_lt, List, [], ◌∷◌, ◌++◌, map, length, get_or, slice_get, Option, Some, None, refl, sym, ap, ◌∙◌, subst, arith}
+use Rattle.std.proofs.lemmas.Bool.{cases_lt, eq-eqb, lt-ltb, ltb-true}
+use Rattle.std.proofs.lemmas.List.{append_assoc, append-nil, length-map}
+use Rattle.std.proofs.lemmas.Option.{same_Some, slice_get_read, slice_get_within}
+use Rattle.ref_tiles.specs.declared.rulebook.Rules.{Rules}
+use Rattle.gcg_read.specs.declared.events.Event.{Event}
+use Rattle.game_turns.specs.declared.machine.Machine.{Machine}
+use Rattle.game_turns.specs.Machines.{state_of}
+use Rattle.game_sheets.specs.Corrections.{AreRenumbered}
+use Rattle.game_rows.specs.declared.refusals.Stop.{Stop}
+use Rattle.game_rows.specs.declared.walking.Walk.{Walk}
+use Rattle.game_rows.specs.Refusals.{EndsAt}
+use Rattle.game_rows.specs.Walks.{IsWalkOf}
+use Rattle.record_changes.specs.declared.slips.Change.{Change}
+use Rattle.record_changes.specs.declared.slips.Slip.{Slip}
+use Rattle.change_lists.specs.Changes.{slips_by, change_at, changes_at}
+use Rattle.change_lists.specs.Laws.{SlipsAreByBoard}
+use Rattle.record_repairs.specs.Costs.{is_earlier}
+use Rattle.record_repairs.specs.Candidates.{rank_in, IsCandidate, MayBeTold, AreAllOf, AddsAllOf}
+use Rattle.record_repairs.specs.Repairs.{IsListed}
+use Rattle.record_repairs.specs.Trying.{IsWeighed, IsWeight, StandsBefore}
+use Rattle.record_repairs.specs.declared.listed.Listed.{Listed}
+use Rattle.record_repairs.specs.declared.candidate.Candidate.{Candidate}
+use Rattle.record_repairs.proofs.AllOf.{none_of, one_of, among_others, joined}
+use Rattle.record_repairs.proofs.Changes.{by_correction}
+use Rattle.record_repairs.proofs.SameLists.{map_at}
+use Rattle.record_repairs.proofs.Stops.{none_behind_stop}
+
+-- ---- a change of the list
+
+at_index : (changes slips : List Slip) (place i : ℕ) (what : Slip) → i < length slips → what ≡ get_or slips i what
+    → slice_get (map (change_at place) slips) i ≡ Some (change_at place what)
+at_index changes slips place i what within is =
+    slice_get_read (map (change_at place) slips) (length (map (change_at place) slips)) i (change_at place what) refl
+    (subst (λ n. i < n) (sym (length-map slips (change_at place))) within) (ap (change_at place) is ∙ sym (map_at (change_at place) slips i what))
+
+-- the changes that are listed by the game of the corrected record are those at the place
+pub listed_here : SlipsAreByBoard → (rules : Rules) (list : List (List ℕ)) (written : List Event) (place : ℕ) (machine : Machine) (slips : List Slip) → StandsBefore rules list written place machine
+    → slips ≡ slips_by rules (state_of machine) written place → map (change_at place) slips ≡ changes_at rules written place
+listed_here law rules list written place machine slips at is =
+    ap (map (change_at place)) is ∙ by_correction law rules written at.front place (state_of machine) at.renumbered at.state
+
+pub is_listed : (rules : Rules) (written : List Event) (place i : ℕ) (slips : List Slip) (what : Slip) → map (change_at place) slips ≡ changes_at rules written place → place ≤ length written
+    → i < length slips → what ≡ get_or slips i what → IsListed rules written (record { change = record { place = place; slip = what }; index = i })
+is_listed rules written place i slips what are inside within is =
+    record { within = inside; there = ap (λ (cs : List Change). slice_get cs i) (sym are) ∙ at_index slips slips place i what within is }
+
+-- a change is one by its place and its number
+same_listed : (rules : Rules) (written : List Event) (l m : Listed) → IsListed rules written l → IsListed rules written m → l.change.place ≡ m.change.place → l.index ≡ m.index → l ≡ m
+same_listed rules written l m of_l of_m same_place same_index =
+    let there : slice_get (changes_at rules written m.change.place) m.index ≡ Some l.change =
+    ap (λ p. slice_get (changes_at rules written p) m.index) (sym same_place) ∙ ap (slice_get (changes_at rules written l.change.place)) (sym same_index) ∙ of_l.there in
+    let same : l.change ≡ m.change = same_Some l.change m.change (sym there ∙ of_m.there) in
+    two l m same same_index
+  where
+    two : (l m : Listed) → l.change ≡ m.change → l.index ≡ m.index → l ≡ m
+    two l m same_change same_index =
+        let of_l : Listed = record { change = l.change; index = l.index } in
+        let first : of_l ≡ record { change = m.change; index = l.index } = ap (λ (ch : Change). record { change = ch; index = l.index }) same_change in
+        first ∙ ap (λ (n : ℕ). record { change = m.change; index = n }) same_index
+
+-- ---- one candidate more, or none
+
+pub adds_none : (rules : Rules) (list : List (List ℕ)) (written : List Event) (below : Option ℕ) (l : Listed) (found : List Candidate) → IsWeight rules list written below l.change None
+    → AddsAllOf rules list written below (λ m. m ≡ l) found found
+adds_none rules list written below l found none =
+    record {
+      more = [];
+      added = sym (append-nil found);
+      are = none_of rules list written below (λ m. m ≡ l)
+          (λ m same may.
+          let here : MayBeTold rules list written below l = subst (MayBeTold rules list written below) same may in
+          none here.right here.correction here.fewer);
+    }
+
+pub adds_one : (rules : Rules) (list : List (List ℕ)) (written : List Event) (below : Option ℕ) (l : Listed) (cost : ℕ) (old new : List Candidate) → IsListed rules written l
+    → IsWeight rules list written below l.change (Some cost) → new ≡ old ++ record { listed = l; cost = cost } ∷ [] → AddsAllOf rules list written below (λ m. m ≡ l) old new
+adds_one rules list written below l cost old new listed weighed is =
+    let c : Candidate = record { listed = l; cost = cost } in
+    record { more = c ∷ []; added = is; are = one_of rules list written below c (record { single = listed; weighed = weighed }) }
+
+-- ---- the changes at a place up to an index
+
+abbrev pub IsUpTo : (place index : ℕ) → Listed → Type 0
+IsUpTo place index l = (l.change.place ≡ place) × (l.index < index)
+
+pub at_none : (rules : Rules) (list : List (List ℕ)) (written : List Event) (below : Option ℕ) (place : ℕ) (found : List Candidate)
+    → AddsAllOf rules list written below (IsUpTo place 0) found found
+at_none rules list written below place found =
+    record { more = []; added = sym (append-nil found); are = none_of rules list written below (IsUpTo place 0) (λ l of_l may. let less = of_l.1 in absurd (omega (arith, less))) }
+
+earlier_index : (p q i j : ℕ) → p ≡ q → i < j → (nat_lt p q || p == q && nat_lt i j) ≡ true
+earlier_index p q i j same less = both (nat_lt p q) (p == q) (nat_lt i j) (eq-eqb p q same) (lt-ltb i j less)
+  where
+    both : (a b d : Bool) → b ≡ true → d ≡ true → (a || b && d) ≡ true
+    both true b d of_b of_d = refl
+    both false true true of_b of_d = refl
+    both false true false of_b of_d = cc
+    both false false d of_b of_d = cc
+
+earlier_place : (p q i j : ℕ) → p < q → (nat_lt p q || p == q && nat_lt i j) ≡ true
+earlier_place p q i j less = front (nat_lt p q) (p == q && nat_lt i j) (lt-ltb p q less)
+  where
+    front : (a b : Bool) → a ≡ true → (a || b) ≡ true
+    front true b is = refl
+    front false b is = cc
+
+split_index : (rules : Rules) (list : List (List ℕ)) (written : List Event) (below : Option ℕ) (place index : ℕ) (l m : Listed) → IsListed rules written m → m.change.place ≡ place → m.index ≡ index
+    → IsUpTo place (index + 1) l → MayBeTold rules list written below l → (l.index < index) ⊎ (index ≤ l.index) → IsUpTo place index l ⊎ (l ≡ m)
+split_index rules list written below place index l m listed at here of_l may (inl less) = inl (of_l.0, less)
+split_index rules list written below place index l m listed at here of_l may (inr not_less) =
+    let under = of_l.1 in
+    inr (same_listed rules written l m may.single listed (of_l.0 ∙ sym at) (omega (arith, under, not_less, here)))
+
+pub up_more : (rules : Rules) (list : List (List ℕ)) (written : List Event) (below : Option ℕ) (place index : ℕ) (m : Listed) (start old new : List Candidate) → IsListed rules written m
+    → m.change.place ≡ place → m.index ≡ index → AddsAllOf rules list written below (IsUpTo place index) start old → AddsAllOf rules list written below (λ l. l ≡ m) old new
+    → AddsAllOf rules list written below (IsUpTo place (index + 1)) start new
+up_more rules list written below place index m start old new listed at here before one =
+    record {
+      more = before.more ++ one.more;
+      added = one.added ∙ ap (λ (xs : List Candidate). xs ++ one.more) before.added ∙ append_assoc start before.more one.more;
+      are = joined rules list written below (IsUpTo place index) (λ l. l ≡ m) (IsUpTo place (index + 1)) before.more one.more before.are one.are
+          (λ l of_l. let under = of_l.1 in (of_l.0, omega (arith, under)))
+          (λ l same. (ap (λ (n : Listed). n.change.place) same ∙ at, let is = ap (λ (n : Listed). n.index) same in omega (arith, is, here)))
+          (λ l of_l may. split_index rules list written below place index l m listed at here of_l may (cases_lt l.index index))
+          (λ a b of_a of_b.
+          let under = of_a.1 in
+          let is = ap (λ (n : Listed). n.index) of_b in
+          earlier_index a.listed.change.place b.listed.change.place a.listed.index b.listed.index (of_a.0 ∙ sym at ∙ sym (ap (λ (n : Listed). n.change.place) of_b)) (omega (arith, under, is, here)));
+    }
+
+index_within : (rules : Rules) (list : List (List ℕ)) (written : List Event) (below : Option ℕ) (place : ℕ) (slips : List Slip) (l : Listed) → map (change_at place) slips ≡ changes_at rules written place
+    → l.change.place ≡ place → MayBeTold rules list written below l → l.index < length slips
+index_within rules list written below place slips l are at may =
+    let there : slice_get (map (change_at place) slips) l.index ≡ Some l.change =
+    ap (λ (cs : List Change). slice_get cs l.index) are ∙ ap (λ p. slice_get (changes_at rules written p) l.index) (sym at) ∙ may.single.there in
+    subst (λ n. l.index < n) (length-map slips (change_at place)) (slice_get_within (map (change_at place) slips) l.index l.change there)
+
+pub up_all : (rules : Rules) (list : List (List ℕ)) (written : List Event) (below : Option ℕ) (place index : ℕ) (slips : List Slip) (old new : List Candidate)
+    → map (change_at place) slips ≡ changes_at rules written place → index ≡ length slips → AddsAllOf rules list written below (IsUpTo place index) old new
+    → AddsAllOf rules list written below (λ l. l.change.place ≡ place) old new
+up_all rules list written below place index slips old new are many adds =
+    record {
+      more = adds.more;
+      added = adds.added;
+      are = among_others rules list written below (IsUpTo place index) (λ l. l.change.place ≡ place) adds.more adds.are (λ l of_l. of_l.0)
+          (λ l at may. (at, subst (λ n. l.index < n) (sym many) (index_within rules list written below place slips l are at may)));
+    }
+
+-- ---- place after place
+
+pub before_first : (rules : Rules) (list : List (List ℕ)) (written : List Event) (below : Option ℕ) → AreAllOf rules list written below (λ l. l.change.place < 0) []
+before_first rules list written below = none_of rules list written below (λ l. l.change.place < 0) (λ l of_l may. absurd (omega (arith, of_l)))
+
+split_place : (place : ℕ) (l : Listed) → l.change.place < place + 1 → (l.change.place < place) ⊎ (place ≤ l.change.place) → (l.change.place < place) ⊎ (l.change.place ≡ place)
+split_place place l under (inl less) = inl less
+split_place place l under (inr not_less) = inr (omega (arith, under, not_less))
+
+pub before_more : (rules : Rules) (list : List (List ℕ)) (written : List Event) (below : Option ℕ) (place : ℕ) (old new : List Candidate)
+    → AreAllOf rules list written below (λ l. l.change.place < place) old → AddsAllOf rules list written below (λ l. l.change.place ≡ place) old new
+    → AreAllOf rules list written below (λ l. l.change.place < place + 1) new
+before_more rules list written below place old new before adds =
+    subst (AreAllOf rules list written below (λ l. l.change.place < place + 1)) (sym adds.added)
+    (joined rules list written below (λ l. l.change.place < place) (λ l. l.change.place ≡ place) (λ l. l.change.place < place + 1) old adds.more before adds.are
+    (λ l of_l. omega (arith, of_l)) (λ l at. omega (arith, at)) (λ l of_l may. split_place place l of_l (cases_lt l.change.place place))
+    (λ a b of_a of_b. earlier_place a.listed.change.place b.listed.change.place a.listed.index b.listed.index (omega (arith, of_a, of_b))))
+
+-- ---- behind the end of the walk no change helps
+
+end_stops : (rules : Rules) (list : List (List ℕ)) (written right : List Event) (below : Option ℕ) (end : ℕ) (stopped : Option Stop) (l : Listed) → EndsAt rules list written right end stopped
+    → MayBeTold rules list written below l → (l.change.place < end + 1) ⊎ (end + 1 ≤ l.change.place) → l.change.place < end + 1
+end_stops rules list written right below end stopped l ends may (inl less) = less
+end_stops rules list written right below end None l ends may (inr past) =
+    let inside = may.single.within in
+    let all = ends.0 in
+    absurd (omega (arith, inside, all, past))
+end_stops rules list written right below end (Some stop) l ends may (inr past) =
+    let there = ends.there in
+    absurd (none_behind_stop rules list written right stop.refusal.line stop.refusal.why ends.stops l.change (omega (arith, there, past)) may.right may.correction)
+
+pub within_walk : (rules : Rules) (list : List (List ℕ)) (written : List Event) (below : Option ℕ) (walk : Walk) (l : Listed) → IsWalkOf rules list written walk
+    → MayBeTold rules list written below l → l.change.place < length walk.rows.items + 1
+within_walk rules list written below walk l walked may =
+    let is = walked.is in
+    let many = is.rows.as_many in
+    let here = end_stops rules list written walked.right below is.end walk.stopped l is.ends may (cases_lt l.change.place (is.end + 1)) in
+    omega (arith, many, here)
+
+-- ---- a walk has no more rows than the record has events
+
+end_fits : (rules : Rules) (list : List (List ℕ)) (written right : List Event) (end : ℕ) (stopped : Option Stop) → EndsAt rules list written right end stopped → end ≤ length written
+end_fits rules list written right end None ends = let all = ends.0 in omega (arith, all)
+end_fits rules list written right end (Some stop) ends =
+    let within = slice_get_within written ends.stops.place ends.stops.own ends.stops.stood in
+    let there = ends.there in
+    omega (arith, within, there)
+
+pub rows_fit : (rules : Rules) (list : List (List ℕ)) (written : List Event) (walk : Walk) → IsWalkOf rules list written walk → length walk.rows.items ≤ length written
+rows_fit rules list written walk walked =
+    let is = walked.is in
+    let many = is.rows.as_many in
+    let fits = end_fits rules list written walked.right is.end walk.stopped is.ends in
+    omega (arith, many, fits)

@@ -1,0 +1,50 @@
+-- What a change costs with which a record has a correction.
+use Rattle.std.proofs.Common.{◌≡◌, ℕ, ◌+◌, List, length, map, ◌++◌, Option, sym, ap, ◌∙◌, subst}
+use Rattle.std.proofs.lemmas.List.{length-map, map-append}
+use Rattle.ref_tiles.specs.declared.rulebook.Rules.{Rules}
+use Rattle.gcg_read.specs.declared.events.Event.{Event}
+use Rattle.game_sheets.specs.declared.wrong_numbers.WrongNumber.{WrongNumber}
+use Rattle.game_sheets.proofs.Fronts.{one_correction}
+use Rattle.event_notes.specs.declared.unlisted.SpelledWord.{SpelledWord}
+use Rattle.event_notes.specs.Unlisted.{letters_in}
+use Rattle.record_changes.specs.declared.slips.Change.{Change}
+use Rattle.record_repairs.specs.Costs.{costs, cost_of}
+use Rattle.record_repairs.specs.Remaining.{AreFewer, Remain, many_left, wrong_with, unlisted_words}
+use Rattle.record_repairs.specs.Trying.{IsWritable}
+use Rattle.record_repairs.specs.declared.remains.Remains.{Remains}
+
+letters_many : (words : List SpelledWord) → length words ≡ length (letters_in words)
+letters_many words = sym (length-map words (λ (word : SpelledWord). word.letters.items))
+
+wrong_many : (rules : Rules) (list : List (List ℕ)) (change : Change) (written right : List Event) (left : Remains) → Remain rules list change written right left
+    → length left.wrong.items ≡ length (wrong_with change written right)
+wrong_many rules list change written right left is = ap (λ (xs : List WrongNumber). length xs) is.wrong
+
+words_many : (rules : Rules) (list : List (List ℕ)) (change : Change) (written right : List Event) (left : Remains) → Remain rules list change written right left
+    → length left.unlisted.items ≡ length (unlisted_words rules list right)
+words_many rules list change written right left is = letters_many left.unlisted.items ∙ ap (λ (xs : List (List ℕ)). length xs) is.unlisted
+
+pub many_is : (rules : Rules) (list : List (List ℕ)) (change : Change) (written right : List Event) (left : Remains) (many : ℕ) → Remain rules list change written right left
+    → many ≡ length left.wrong.items + length left.unlisted.items → many ≡ many_left rules list change written right
+many_is rules list change written right left many is sum =
+    sum ∙ ap (λ n. n + length left.unlisted.items) (wrong_many rules list change written right left is)
+    ∙ ap (λ n. length (wrong_with change written right) + n) (words_many rules list change written right left is)
+
+pub cost_is : (rules : Rules) (list : List (List ℕ)) (change : Change) (written right : List Event) (left : Remains) (number : ℕ) → Remain rules list change written right left
+    → number ≡ costs (length left.wrong.items) (length left.unlisted.items) change.slip → number ≡ cost_of rules list change written right
+unfolding cost_of
+cost_is rules list change written right left number is sum =
+    sum ∙ ap (λ n. costs n (length left.unlisted.items) change.slip) (wrong_many rules list change written right left is)
+    ∙ ap (λ n. costs (length (wrong_with change written right)) n change.slip) (words_many rules list change written right left is)
+
+-- where with the correction too much stays wrong, there is no other
+pub none_fewer : (rules : Rules) (list : List (List ℕ)) (change : Change) (written changed right other : List Event) (below : Option ℕ) (many : ℕ) → IsWritable rules list changed right
+    → many ≡ many_left rules list change written right → (AreFewer below many → ⊥) → IsWritable rules list changed other → AreFewer below (many_left rules list change written other) → ⊥
+none_fewer rules list change written changed right other below many is sum more of_other fewer =
+    let same : other ≡ right = one_correction rules list changed other right of_other.correction is.correction in
+    let here : AreFewer below (many_left rules list change written right) = subst (λ (es : List Event). AreFewer below (many_left rules list change written es)) same fewer in
+    more (subst (AreFewer below) (sym sum) here)
+
+pub letters_joined : (words more all : List SpelledWord) → all ≡ words ++ more → letters_in all ≡ letters_in words ++ letters_in more
+letters_joined words more all is =
+    ap letters_in is ∙ map-append (λ (word : SpelledWord). word.letters.items) words more

@@ -1,0 +1,6 @@
+use Rattle.std.proofs.Common.{◌<◌}
+use Rattle.record_repairs.specs.Candidates.{AreBefore}
+use Rattle.record_repairs.proofs.candidates.all_candidates.Given as goal
+
+abbrev pub invariant-loop-place : goal.invariant-loop-place
+invariant-loop-place l = record { so_far : AreBefore l.rules l.list l.events l.below l.place l.found.items }

@@ -1,0 +1,19 @@
+use Rattle.std.proofs.Common.{subst}
+use Rattle.record_changes.specs.Applied.{applied}
+use Rattle.record_repairs.specs.Trying.{IsCorrectionOf}
+use Rattle.record_repairs.proofs.Tellings.{tried_ok, none_tried}
+use Rattle.record_repairs.proofs.found.Found.push_candidate.Goals as goal
+
+pub push_right-requires : goal.push_right-requires
+push_right-requires c =
+    subst (IsCorrectionOf c.args.rules.now c.args.list.now (applied c.args.candidate.listed.change c.args.events.now)) c.in-Some.is c.in_ok-right.ensures
+
+pub returns-in-Some : goal.returns-in-Some
+returns-in-Some c =
+    let is = subst (IsCorrectionOf c.args.rules.now c.args.list.now (applied c.args.candidate.listed.change c.args.events.now)) c.in-Some.is c.in_ok-right.ensures in
+    tried_ok c.args.rules.now c.args.list.now c.args.events.now c.args.candidate c.in-Some.right c.args.self.now c.push_right.new.self c.push_right.result is c.push_right.ensures
+
+pub returns-in-None : goal.returns-in-None
+returns-in-None c =
+    none_tried c.args.rules.now c.args.list.now c.args.events.now c.args.candidate c.args.self.now c.args.self.now
+    (subst (IsCorrectionOf c.args.rules.now c.args.list.now (applied c.args.candidate.listed.change c.args.events.now)) c.in-None.is c.in_ok-right.ensures)

@@ -1,0 +1,34 @@
+use Rattle.std.proofs.Common.{◌≡◌, ◌∙◌, rules, inl, inr, List, refl, sym, ap, subst}
+use Rattle.gcg_read.specs.declared.events.Event.{Event}
+use Rattle.record_repairs.specs.Remaining.{Remain}
+use Rattle.record_repairs.specs.Repairs.{IsAmong}
+use Rattle.record_repairs.specs.Settling.{IsOutcome}
+use Rattle.record_repairs.specs.declared.repair.Repair.{Repair}
+use Rattle.record_repairs.proofs.found.Found.push_right.Goals as goal
+
+pub returns-then-is_among : goal.returns-then-is_among
+returns-then-is_among c =
+    let told = subst (λ (ts : List Repair). IsAmong ts c.as_slice-2.result.now) c.as_slice.ensures.value (c.is_among.ensures.0 c.if-is_among.true) in
+    inr (inr (record { same_told = refl; same_left = refl; why = inl (subst (IsAmong c.args.self.now.told.items) c.as_slice-2.ensures told) }))
+
+pub returns-in_ok-push-in-Game : goal.returns-in_ok-push-in-Game
+returns-in_ok-push-in-Game c =
+    inl
+    (record {
+      repair = record { listed = c.args.listed; right = c.args.right; remains = c.in_ok-remains.remains };
+      added = search rules;
+      same_left = refl;
+      by = refl;
+      makes = refl;
+      remain = subst (λ (es : List Event). Remain c.args.rules.now c.args.list.now c.args.listed.change c.args.events.now es c.in_ok-remains.remains) c.as_slice-3.ensures c.in_ok-remains.ensures;
+      game = subst (IsOutcome c.args.rules.now c.args.list.now c.args.right) c.in-Game.is c.in_ok-settled.ensures;
+      fresh = λ among.
+          let shown = subst (IsAmong c.args.self.now.told.items) (sym c.as_slice-2.ensures) among in
+          let is = c.is_among.ensures.1 (subst (λ (ts : List Repair). IsAmong ts c.as_slice-2.result.now) (sym c.as_slice.ensures.value) shown) in
+          let not = c.if-is_among.false in
+          cc;
+    })
+
+pub returns-in-NoGame : goal.returns-in-NoGame
+returns-in-NoGame c =
+    inr (inr (record { same_told = refl; same_left = refl; why = inr (subst (IsOutcome c.args.rules.now c.args.list.now c.args.right) c.in-NoGame.is c.in_ok-settled.ensures) }))

@@ -1,0 +1,11 @@
+use Rattle.std.proofs.Common.{◌≤◌}
+use Rattle.game_turns.specs.Machines.{rules_of}
+use Rattle.record_repairs.proofs.Trials.{GoesTo}
+use Rattle.record_repairs.proofs.trying.goes_on.Given as goal
+
+abbrev pub invariant-loop-place : goal.invariant-loop-place
+invariant-loop-place l =
+    record {
+      so_far : GoesTo (rules_of l.game) l.list l.initial.events l.events l.start l.place l.machine;
+      behind : l.start ≤ l.place;
+    }

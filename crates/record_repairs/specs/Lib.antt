@@ -1,0 +1,9 @@
+pub mod OnSheet
+pub mod Remaining
+pub mod Costs
+pub mod Trying
+pub mod Repairs
+pub mod Candidates
+pub mod Settling
+pub mod Telling
+pub mod Laws

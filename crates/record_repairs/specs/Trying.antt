@@ -1,0 +1,53 @@
+-- Trying one change.
+use Rattle.std.specs.Prelude.{◌≡◌, ◌⊎◌, ℕ, ◌≤◌, Bool, List, slice_get, Option, Some, None}
+use Rattle.ref_tiles.specs.declared.rulebook.Rules.{Rules}
+use Rattle.gcg_read.specs.declared.events.Event.{Event}
+use Rattle.game_turns.specs.declared.machine.Machine.{Machine}
+use Rattle.game_turns.specs.Machines.{rules_of, state_of}
+use Rattle.game_turns.specs.Places.{AreAllowedTo}
+use Rattle.game_turns.specs.Tallies.{tally_at, withdraws}
+use Rattle.game_sheets.specs.Corrections.{IsCorrection, HavePoints, AreRenumbered}
+use Rattle.record_changes.specs.declared.slips.Change.{Change}
+use Rattle.record_changes.specs.Applied.{applied}
+use Rattle.record_repairs.specs.Costs.{cost_of}
+use Rattle.record_repairs.specs.Remaining.{AreFewer, many_left}
+
+-- a correction that a record can write
+pub record IsWritable (rules : Rules) (list : List (List ℕ)) (changed right : List Event) : Type 0 where
+  pub correction : IsCorrection rules list changed right
+  pub points : HavePoints right
+
+-- no numbers that a record can write are a correction
+abbrev pub HaveNone : Rules → (list : List (List ℕ)) → (changed : List Event) → Type 0
+HaveNone rules list changed = (right : List Event) → IsWritable rules list changed right → ⊥
+
+-- the correction that a record can write, or that there is none
+abbrev pub IsCorrectionOf : Rules → (list : List (List ℕ)) → (changed : List Event) → Option (List Event) → Type 0
+IsCorrectionOf rules list changed None = HaveNone rules list changed
+IsCorrectionOf rules list changed (Some right) = IsWritable rules list changed right
+
+-- A machine stands before a place of some events: once they are corrected before it, the machine has the game there.
+pub record StandsBefore (rules : Rules) (list : List (List ℕ)) (events : List Event) (place : ℕ) (machine : Machine) : Type 0 where
+  pub front : List Event
+  pub renumbered : AreRenumbered events front
+  pub allowed : AreAllowedTo rules list front place
+  pub by : rules_of machine ≡ rules
+  pub state : state_of machine ≡ tally_at rules front place
+
+-- A place not behind another one, at which a withdrawal stands in both lists or in neither; or the first place of all.
+pub record IsStart (written changed : List Event) (place start : ℕ) : Type 0 where
+  pub before : start ≤ place
+  pub same : (start ≡ 0) ⊎ (withdraws (slice_get changed start) ≡ withdraws (slice_get written start))
+
+-- What a change costs with which the record has a correction that leaves few enough numbers and words wrong.
+pub record IsWeighed (rules : Rules) (list : List (List ℕ)) (written : List Event) (below : Option ℕ) (change : Change) (number : ℕ) : Type 0 where
+  pub right : List Event
+  pub is : IsWritable rules list (applied change written) right
+  pub fewer : AreFewer below (many_left rules list change written right)
+  pub costs : number ≡ cost_of rules list change written right
+
+-- the same, or that there is no such correction
+abbrev pub IsWeight : Rules → (list : List (List ℕ)) → (written : List Event) → (below : Option ℕ) → Change → Option ℕ → Type 0
+IsWeight rules list written below change None =
+    (right : List Event) → IsWritable rules list (applied change written) right → AreFewer below (many_left rules list change written right) → ⊥
+IsWeight rules list written below change (Some number) = IsWeighed rules list written below change number

@@ -1,0 +1,113 @@
+//! The changes of a record with which it has a correction.
+ghost use Rattle.std.specs.Prelude.{◌≡◌, ◌≤◌, map, length, IfOk, OnOk};
+ghost use Rattle.change_lists.specs.Changes.{change_at, changes_at};
+ghost use Rattle.game_rows.specs.Walks.{IsWalkOf};
+ghost use Rattle.record_repairs.specs.Candidates.{AreCandidates, AddsCandidates, AddsListed};
+ghost use Rattle.record_repairs.specs.Repairs.{IsListed};
+
+use crate::candidate::Candidate;
+use crate::listed::Listed;
+use crate::standing::game_before;
+use crate::trying::weigh;
+use change_lists::{law_of_slips, slips_at};
+use game_rows::Walk;
+use gcg_read::Event;
+use lex_list::WordList;
+use record_changes::{Change, Slip};
+use ref_tiles::Rules;
+use std::alloc::{AllocError, Global};
+
+/// Adds a change of the list, where the record has a correction with it.
+fn push_listed(
+    alloc: Global,
+    found: &mut Vec<Candidate>,
+    rules: &Rules,
+    list: &WordList,
+    walk: &Walk,
+    events: &[Event],
+    below: Option<usize>,
+    listed: Listed,
+) -> Result<(), AllocError>
+    requires walk { IsWalkOf rules.now list.now events.now walk.now }
+    requires single { IsListed rules.now events.now listed }
+    ensures { OnOk result (AddsListed rules.now list.now events.now below listed found.old.items found.new.items) }
+{
+    let Some(cost) = weigh(alloc, rules, list, walk, events, below, &listed.change)? else {
+        return Ok(());
+    };
+    found.push(Candidate { listed, cost })?;
+    Ok(())
+}
+
+/// Adds the changes at a place with which the record has a correction, by all slips that there may be, in the order of the list.
+fn push_slips(
+    alloc: Global,
+    found: &mut Vec<Candidate>,
+    rules: &Rules,
+    list: &WordList,
+    walk: &Walk,
+    events: &[Event],
+    below: Option<usize>,
+    place: usize,
+    slips: Vec<Slip>,
+) -> Result<(), AllocError>
+    requires walk { IsWalkOf rules.now list.now events.now walk.now }
+    requires within { place ≤ length events.now }
+    requires slips { map (change_at place) slips.items ≡ changes_at rules.now events.now place }
+    ensures { OnOk result (AddsCandidates rules.now list.now events.now below place found.old.items found.new.items) }
+{
+    let mut index = 0;
+    for slip in slips {
+        let change = Change { place, slip };
+        let listed = Listed { change, index };
+        push_listed(alloc, found, rules, list, walk, events, below, listed)?;
+        index += 1;
+    }
+    Ok(())
+}
+
+/// Adds the changes at a place with which the record has a correction, in the order of the list.
+fn push_candidates(
+    alloc: Global,
+    found: &mut Vec<Candidate>,
+    rules: &Rules,
+    list: &WordList,
+    walk: &Walk,
+    events: &[Event],
+    below: Option<usize>,
+    place: usize,
+) -> Result<(), AllocError>
+    requires walk { IsWalkOf rules.now list.now events.now walk.now }
+    requires place { place ≤ length walk.now.rows.items }
+    ensures { OnOk result (AddsCandidates rules.now list.now events.now below place found.old.items found.new.items) }
+{
+    law_of_slips();
+    let Some(game) = game_before(walk, place) else {
+        unreachable!()
+    };
+    let slips = slips_at(alloc, rules, game, events, place)?;
+    push_slips(alloc, found, rules, list, walk, events, below, place, slips)
+}
+
+/// The changes of a record with which it has a correction that leaves few enough numbers and words wrong, those that cost least first,
+/// and of equal costs in the order of the list.
+///
+/// It fails only where memory runs out.
+pub(crate) fn all_candidates(
+    alloc: Global,
+    rules: &Rules,
+    list: &WordList,
+    walk: &Walk,
+    events: &[Event],
+    below: Option<usize>,
+) -> Result<Vec<Candidate>, AllocError>
+    requires { IsWalkOf rules.now list.now events.now walk.now }
+    ensures { IfOk result (λ found. AreCandidates rules.now list.now events.now below found.items) }
+{
+    let mut found = Vec::new(alloc);
+    for place in 0..walk.rows.len() + 1 {
+        push_candidates(alloc, &mut found, rules, list, walk, events, below, place)?;
+    }
+    found.sort_by_key(|candidate| candidate.cost)?;
+    Ok(found)
+}

@@ -1,0 +1,59 @@
+//! The repairs of a record.
+ghost use Rattle.std.specs.Prelude.{◌≡◌, IfOk, OnOk};
+ghost use Rattle.record_repairs.specs.Candidates.{AreCandidates};
+ghost use Rattle.record_repairs.specs.Repairs.{AreFirstRepairs};
+
+use crate::candidate::Candidate;
+use crate::candidates::all_candidates;
+use crate::found::Found;
+use game_rows::walk_as_written;
+use gcg_read::{Event, Events};
+use lex_list::WordList;
+use ref_tiles::Rules;
+use std::alloc::{AllocError, Global};
+
+/// The first so many repairs among candidates, in their order.
+fn first_repairs(
+    alloc: Global,
+    rules: &Rules,
+    list: &WordList,
+    events: &[Event],
+    below: Option<usize>,
+    found: Vec<Candidate>,
+    most: usize,
+) -> Result<Found, AllocError>
+    requires { AreCandidates rules.now list.now events.now below found.items }
+    ensures { IfOk result (λ r. AreFirstRepairs rules.now list.now events.now below most r.told.items r.left.items) }
+{
+    let mut first = Found {
+        told: Vec::new(alloc),
+        left: Vec::new(alloc),
+    };
+    for candidate in found {
+        if first.told.len() == most {
+            return Ok(first);
+        }
+        first.push_candidate(alloc, rules, list, events, candidate)?;
+    }
+    Ok(first)
+}
+
+/// The first so many repairs of a record, the likeliest first: single changes after which it is a legal game once its numbers are
+/// corrected. Where `below` is given, fewer numbers and words stay wrong with each. Behind it the events are as they are written.
+///
+/// It fails only where memory runs out.
+pub fn repairs(
+    alloc: Global,
+    rules: &Rules,
+    list: &WordList,
+    events: &mut Events,
+    below: Option<usize>,
+    most: usize,
+) -> Result<Found, AllocError>
+    ensures told { IfOk result (λ r. AreFirstRepairs rules.now list.now events.old below most r.told.items r.left.items) }
+    ensures same { OnOk result (events.new ≡ events.old) }
+{
+    let walk = walk_as_written(alloc, rules, list, events)?;
+    let found = all_candidates(alloc, rules, list, &walk, events.as_slice(), below)?;
+    first_repairs(alloc, rules, list, events.as_slice(), below, found, most)
+}

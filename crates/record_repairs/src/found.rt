@@ -1,0 +1,86 @@
+//! What repairs a record.
+ghost use Rattle.std.specs.Prelude.{OnOk};
+ghost use Rattle.record_changes.specs.Applied.{applied};
+ghost use Rattle.record_repairs.specs.Trying.{IsWritable};
+
+use crate::candidate::Candidate;
+use crate::comparing::is_among;
+use crate::correcting::corrected;
+use crate::listed::Listed;
+use crate::outcome::Outcome;
+use crate::remaining::what_remains;
+use crate::repair::Repair;
+use crate::settling::settled;
+use gcg_read::{Event, Events, Players, Record};
+use lex_list::WordList;
+use ref_tiles::Rules;
+use std::alloc::{AllocError, Global};
+
+/// What repairs a record.
+#[derive(Drop)]
+pub struct Found {
+    /// The first repairs, the likeliest first.
+    pub told: Vec<Repair>,
+    /// The changes of which it is not known whether they are repairs, since neither a deal was found nor a proof that there is none.
+    pub left: Vec<Listed>,
+}
+
+impl Found {
+    ghost use Rattle.record_repairs.specs.Telling.{IsTried, IsTriedWith};
+
+    /// Adds a change with which the record has these right events, where no repair makes the same record and some deal yields every rack.
+    fn push_right(
+        &mut self,
+        alloc: Global,
+        rules: &Rules,
+        list: &WordList,
+        events: &[Event],
+        listed: Listed,
+        right: Events,
+    ) -> Result<(), AllocError>
+        requires { IsWritable rules.now list.now (applied listed.change events.now) right }
+        ensures { OnOk result (IsTriedWith rules.now list.now events.now listed right self.old self.new) }
+    {
+        if is_among(self.told.as_slice(), right.as_slice()) {
+            return Ok(());
+        }
+        let remains = what_remains(alloc, rules, list, &listed.change, events, right.as_slice())?;
+        let players = Players::unnamed(alloc);
+        let game = Record {
+            players,
+            events: right,
+        };
+        match settled(alloc, rules, list, &game)? {
+            Outcome::Game => {
+                self.told.push(Repair {
+                    listed,
+                    right: game.events,
+                    remains,
+                })?;
+                Ok(())
+            }
+            Outcome::NoGame => Ok(()),
+            Outcome::Unsettled => {
+                self.left.push(listed)?;
+                Ok(())
+            }
+        }
+    }
+
+    /// Adds a candidate, where it is a repair that makes another record than those before.
+    pub(crate) fn push_candidate(
+        &mut self,
+        alloc: Global,
+        rules: &Rules,
+        list: &WordList,
+        events: &[Event],
+        candidate: Candidate,
+    ) -> Result<(), AllocError>
+        ensures { OnOk result (IsTried rules.now list.now events.now candidate self.old self.new) }
+    {
+        match corrected(alloc, rules, list, &candidate.listed.change, events)? {
+            Some(right) => self.push_right(alloc, rules, list, events, candidate.listed, right),
+            None => Ok(()),
+        }
+    }
+}

@@ -1,0 +1,30 @@
+//! Repairs of a faulty record: the single changes after which it is a legal game once its numbers are corrected, the likeliest first.
+//!
+//! [`repairs`] tries each change of the list of a record. What a sheet says of its scores and totals is a checksum: the fewer of its
+//! numbers are wrong with a change, the likelier it is.
+#![tactic(auto)]
+
+mod candidate;
+mod candidates;
+mod comparing;
+mod correcting;
+mod finding;
+mod found;
+mod laws;
+mod listed;
+mod outcome;
+mod remaining;
+mod remains;
+mod repair;
+mod settling;
+mod sheets;
+mod standing;
+mod trying;
+mod writable;
+
+pub use finding::repairs;
+pub use found::Found;
+pub use laws::{law_of_rack_stops, law_of_stops};
+pub use listed::Listed;
+pub use remains::Remains;
+pub use repair::Repair;
