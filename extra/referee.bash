@@ -1,4 +1,5 @@
 # Completions of referee for bash: source this file, or put it into the folder of bash-completion under the name `referee`.
+# extra/completions.py makes this file of the program's help. Do not change it by hand.
 _referee() {
     local word=${COMP_WORDS[COMP_CWORD]} command="" options="" values="" i
     for ((i = 1; i < COMP_CWORD; i++)); do
@@ -9,18 +10,18 @@ _referee() {
     done
     case $command in
         "") options="-h --help -V --version" values="judge archive index audit explain page annotate build check word convert top tidy board serve rules help" ;;
-        judge) options="--first-field --json --skip-others --settle --rules -h --help" ;;
-        archive) options="--first-field --skip-others --names -0 --null --skip --json --pages --progress --quiet --rules -h --help" ;;
+        judge) options="--settle --json --first-field --skip-others --rules -h --help" ;;
+        archive) options="--names -0 --null --skip --json --pages --progress --quiet --first-field --skip-others --rules -h --help" ;;
         index) options="-h --help" ;;
-        audit) options="--first-field --json --skip-others --corrected --rules -h --help" ;;
-        explain) options="--first-field --json --skip-others --rules -h --help" ;;
+        audit) options="--corrected --json --first-field --skip-others --rules -h --help" ;;
+        explain) options="--json --first-field --skip-others --rules -h --help" ;;
         page) options="--first-field --skip-others --rules -h --help" ;;
-        annotate) options="--first-field --skip-others --rules --top -h --help" ;;
+        annotate) options="--top --first-field --skip-others --rules -h --help" ;;
         build) options="--first-field --skip-others -h --help" ;;
-        check) options="--first-field --json --skip-others -h --help" ;;
+        check) options="--json --first-field --skip-others -h --help" ;;
         word) options="--each --first-field --skip-others -h --help" ;;
         convert) options="-h --help" ;;
-        top) options="--before --first-field --json --skip-others --number --rules -h --help" ;;
+        top) options="--number --before --json --first-field --skip-others --rules -h --help" ;;
         tidy) options="-h --help" ;;
         board) options="--before --json --rules -h --help" ;;
         serve) options="--first-field --skip-others --rules -h --help" ;;
@@ -33,7 +34,11 @@ _referee() {
     elif [[ -n $values ]]; then
         mapfile -t COMPREPLY < <(compgen -W "$values" -- "$word")
     else
-        mapfile -t COMPREPLY < <(compgen -f -- "$word")
+        case ${COMP_WORDS[COMP_CWORD - 1]} in
+            --top | --number | --before) COMPREPLY=() ;;
+            --pages) mapfile -t COMPREPLY < <(compgen -d -- "$word") ;;
+            *) mapfile -t COMPREPLY < <(compgen -f -- "$word") ;;
+        esac
     fi
 }
 complete -o filenames -F _referee referee

@@ -1,7 +1,7 @@
 #!/usr/bin/env bash
 # Packs a release: extra/release.sh FOLDER [PROGRAM]
 #
-# Writes FOLDER/referee-VERSION.tar.gz, with the program, its manual page, the completions for bash, README and what it links to, and
+# Writes FOLDER/referee-VERSION.tar.gz, with the program, its manual page, the completions for bash, zsh and fish, README and what it links to, and
 # SHA256SUMS, which has the sums of all of them; and beside it the sum of the archive. Without PROGRAM the program is proved and built first,
 # by extra/prove.sh, which takes no time where nothing has changed since. PROGRAM is a program that was proved already, as the gate leaves it in crates/referee/out/referee.
 set -eu
@@ -28,7 +28,7 @@ trap 'rm -rf "$room"' EXIT
 name=referee-$version
 mkdir "$room/$name"
 cp "$program" "$room/$name/referee"
-cp -r "$root/README.md" "$root/CHANGELOG.md" "$root/docs" "$root/examples" "$root/extra/referee.1" "$root/extra/referee.bash" "$root/extra/referee.py" "$root/extra/club.py" "$room/$name"
+cp -r "$root/README.md" "$root/CHANGELOG.md" "$root/docs" "$root/examples" "$root/extra/referee.1" "$root/extra/referee.bash" "$root/extra/_referee" "$root/extra/referee.fish" "$root/extra/referee.py" "$root/extra/club.py" "$room/$name"
 (cd "$room/$name" && find . -type f ! -name SHA256SUMS -printf '%P\n' | LC_ALL=C sort | xargs sha256sum > SHA256SUMS)
 # The same files make the same archive.
 tar -C "$room" --sort=name --mtime=@0 --owner=0 --group=0 --numeric-owner --mode=u=rwX,go=rX -cf - "$name" | gzip -n > "$folder/$name.tar.gz"

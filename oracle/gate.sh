@@ -1,8 +1,9 @@
 #!/usr/bin/env bash
-# Tries the program beside the second judge, in a few minutes: oracle/gate.sh [PROGRAM [TESTS [PROBE]]]
+# Tries the program beside the second judge, in a few minutes: oracle/gate.sh [PROGRAM [TESTS [PROBE [CHANGES]]]]
 #
-# PROGRAM is crates/referee/out/referee, TESTS is crates/hostile_tests/out/hostile_tests_tests and PROBE, which shows what settles a record,
-# is crates/settle_probe/out/settle_probe, all as `rt ci` leaves them, unless others are named. Each part is stopped after ten minutes, and has failed then; where a part fails, the end of what it said follows its
+# PROGRAM is crates/referee/out/referee, TESTS is crates/hostile_tests/out/hostile_tests_tests, PROBE, which shows what settles a record,
+# is crates/settle_probe/out/settle_probe, and CHANGES, which shows the single changes of a record, is crates/change_probe/out/change_probe,
+# all as `rt ci` leaves them, unless others are named. Each part is stopped after ten minutes, and has failed then; where a part fails, the end of what it said follows its
 # line. Random inputs are drawn from the date, so that each day tries others; with SEED=20270131 in front they are those of that day.
 # The last line is 'N passed, M failed', and the exit status is 0 where nothing failed.
 set -u
@@ -10,6 +11,7 @@ cd "$(dirname "$0")/.." || exit 2
 program=$(realpath -m "${1:-crates/referee/out/referee}")
 tests=$(realpath -m "${2:-crates/hostile_tests/out/hostile_tests_tests}")
 probe=$(realpath -m "${3:-crates/settle_probe/out/settle_probe}")
+changes=$(realpath -m "${4:-crates/change_probe/out/change_probe}")
 seed=${SEED:-$(date -u +%Y%m%d)}
 said=$(mktemp)
 trap 'rm -f "$said"' EXIT
@@ -17,10 +19,10 @@ export PYTHONDONTWRITEBYTECODE=1
 passed=0
 failed=0
 
-# Runs a script, given with its arguments, as one part.
+# Runs a script of oracle/run, given with its arguments, as one part.
 part() {
     local start=$SECONDS status=0
-    timeout -k 10 600 python3 "$@" > "$said" 2>&1 < /dev/null || status=$?
+    timeout -k 10 600 oracle/run "$@" > "$said" 2>&1 < /dev/null || status=$?
     if [ "$status" = 0 ]; then
         passed=$((passed + 1))
         echo "passed in $((SECONDS - start)) s: $*"
@@ -34,10 +36,10 @@ part() {
 
 if [ -x "$program" ]; then
     for script in program manual pages sentences releases; do
-        part oracle/$script.py "$program"
+        part "$script" "$program"
     done
     while read -r script cases; do
-        part "oracle/$script.py" "$program" "$cases" "$seed"
+        part "$script" "$program" "$cases" "$seed"
     done <<'END'
 compare_records 1000
 compare_games 200
@@ -63,13 +65,19 @@ else
     echo "FAILED: there is no program $program"
 fi
 if [ -x "$probe" ]; then
-    part oracle/compare_settlings.py "$probe" 5 "$seed"
+    part compare_settlings "$probe" 5 "$seed"
 else
     failed=$((failed + 1))
     echo "FAILED: there is no program $probe"
 fi
+if [ -x "$changes" ]; then
+    part compare_changes "$changes" 30 "$seed"
+else
+    failed=$((failed + 1))
+    echo "FAILED: there is no program $changes"
+fi
 while read -r script cases; do
-    part "oracle/$script.py" "$cases" "$seed"
+    part "$script" "$cases" "$seed"
 done <<'END'
 try_best 10
 try_deals 10
@@ -77,9 +85,9 @@ try_lexicons 200
 try_rules 100
 END
 if command -v cc > /dev/null; then
-    [ ! -x "$program" ] || part oracle/whole_files.py "$program" 200 "$seed"
-    [ ! -x "$program" ] || part bench/refuse_memory.py - "$program"
-    [ ! -x "$tests" ] || part bench/refuse_memory.py "$tests"
+    [ ! -x "$program" ] || part whole_files "$program" 200 "$seed"
+    [ ! -x "$program" ] || part refuse_memory - "$program"
+    [ ! -x "$tests" ] || part refuse_memory "$tests"
 else
     echo "left out: whole files and refused memory, which need a C compiler"
 fi

@@ -1,4 +1,4 @@
-//! Memory that is refused: each request in turn, by `bench/refuse_memory.py`, until a run meets no refusal. Each test is for one
+//! Memory that is refused: each request in turn, by `oracle/checks/refuse_memory.py`, until a run meets no refusal. Each test is for one
 //! call, and takes little memory besides. Without a refusal the answer is the row's.
 use super::jobs::{
     BEST_PLAYS, BUILT, CHECKED, CONVERTED, CONVERTED_BACK, Job, NO_DEAL, ONE_PLAY, PLAYS_BEFORE,

@@ -1,7 +1,7 @@
 //! The boards and racks of which the generator's plays are compared with those of a plain search.
 use super::boards::{Laid, WORD_AT};
 
-/// The words of a list, the tiles on a board, a rack, and how many plays there are, by a search of its own (`oracle/best.py`).
+/// The words of a list, the tiles on a board, a rack, and how many plays there are, by a search of its own (`oracle/judge/best.py`).
 pub type Case<'a> = (&'a [u8], &'a [Laid], &'a [u8], usize);
 
 const WORD: [Laid; 1] = ["8E WORD"];

@@ -1,0 +1,186 @@
+"""Tries the client in `extra/` and the page for a club: client PROGRAM CASES SEED
+
+The client has to give the answers of the commands for as many games as CASES says, to start a program again that is killed or does not answer, and to answer
+1,000 requests from 8 threads, each with its own answer. The page has to take files and pasted text, to refuse what is too long and what comes from
+another site, and to send the headers that forbid scripts and frames.
+"""
+import http.client
+import json
+import os
+import random
+import re
+import signal
+import subprocess
+import sys
+import tempfile
+import threading
+from concurrent.futures import ThreadPoolExecutor
+from pathlib import Path
+
+ROOT = Path(__file__).resolve().parents[2]
+sys.path.append(str(ROOT / "extra"))
+
+from club import Club
+from http.server import ThreadingHTTPServer
+from referee import BadInput, BadRequest, Broken, Referee, TimedOut, text_of
+
+from comparing import Differences
+from dealing import line
+from mistakes import some_inputs
+
+WORD = ">A: DORWAAE 8E WORD +16 16\n"
+WRONG = ">A: DORWAAE 8E WORD +16 18\n>B: - +0 0\n"
+
+
+class Client(Differences):
+    """A client beside the commands."""
+
+    def raised(self, kind, ask, *what):
+        """That a call raises this kind of exception, which is given back."""
+        try:
+            told = ask()
+        except kind as error:
+            return error
+        self.expect(False, "nothing was raised", kind, told, *what)
+        return None
+
+    def games(self, cases):
+        """The same answers as the commands."""
+        for _ in range(max(1, cases // 10)):
+            _, events, words, _, text = some_inputs(self.put)
+            by = ["--rules", "rules"] if text is not None else []
+            at = dict(rules=self.folder / "rules") if text is not None else {}
+            with Referee(self.folder / "words", self.folder / "lexicon", program=self.program, **at) as referee:
+                self.expect(referee.words == len(set(words.split())) and referee.version == "1.0.0", referee.words, words)
+                for place in random.choices(range(len(events) + 1), k=10):
+                    self.game(referee, by, self.put("game", "".join(map(line, events[:place])).encode()))
+
+    def game(self, referee, by, game):
+        """The same answers about one game."""
+        at = random.choice([None, 1, 3, 1000])
+        asks = {
+            ("judge",): lambda: referee.judge(game),
+            ("judge", "--settle"): lambda: referee.judge(game, settle=True),
+            ("audit",): lambda: referee.audit(game),
+            ("explain", *([] if at is None else [str(at)])): lambda: referee.explain(game, at),
+            ("board", *([] if at is None else ["--before", str(at)])): lambda: referee.board(game, at),
+            ("top", "--number", "3", "AEINRST"): lambda: referee.top(game, "AEINRST", number=3),
+        }
+        for (name, *options), ask in asks.items():
+            behind = [options.pop()] if name == "top" or name == "explain" and options else []
+            ran = self.run(name, "--json", *options, *by, *([] if name == "board" else ["words", "lexicon"]), "game", *behind)
+            try:
+                told = ask()
+                status = told.status
+            except BadInput as bad:
+                told, status = bad.answer, 3
+            self.seen[f"{name}: {status}"] += 1
+            self.expect(json.loads(ran.stdout) == told and ran.returncode == status, name, options, game, ran.stdout, told)
+        self.expect(self.run("tidy", "game").stdout.decode() == referee.tidy(game), game)
+
+    def endings(self):
+        """A program that is killed, one that does not answer, and inputs that are bad."""
+        self.put("words", b"AT\nWORD\n")
+        self.run("build", "words", "lexicon")
+        pair = (self.folder / "words", self.folder / "lexicon")
+        with Referee(*pair, program=self.program) as referee:
+            self.expect(referee.word("at", "word").verdict == "acceptable" and referee.word("to").status == 1)
+            for _ in range(3):
+                os.kill(referee._process.pid, signal.SIGKILL)
+                self.expect(referee.judge(WORD).verdict == "legal", "after it was killed")
+            os.kill(referee._process.pid, signal.SIGSTOP)
+            referee.timeout = 1
+            self.raised(TimedOut, lambda: referee.judge(WORD))
+            referee.timeout = 60
+            self.expect(referee.judge(WORD).events[0]["best"]["score"] == 16, "after it was stopped")
+            self.expect(referee.judge(WORD, best=False).events[0]["best"] is None)
+            self.expect(self.raised(BadInput, lambda: referee.judge("x\n>")).answer.verdict == "bad record")
+            self.raised(BadRequest, lambda: referee.ask("judge", game=1))
+            self.raised(BadRequest, lambda: referee.top(WORD))
+            self.raised(BadRequest, lambda: referee.judge("\ud800"))
+            self.raised(BadRequest, lambda: referee.judge("x" * (5 << 20)))
+            self.expect(self.raised(BadInput, lambda: referee.judge("x" * (2 << 20))).answer.fault["name"] == "TooLong")
+            told = referee.audit(WRONG, corrected=True)
+            self.expect(told.text == WRONG.replace("18", "16") and told.wrong[0]["right"] == 16, told, told.text)
+            self.expect(referee.page("#player1 A <Ann>\n" + WORD).startswith("<!DOCTYPE html>"))
+            latin = b"#character-encoding ISO-8859-1\n#player1 A \xc9mile\n>A: DORWAAE 8E WORD +16 16\n"
+            self.expect("Émile" in referee.page(latin) and referee.judge(latin).players[0]["name"] == "Émile", text_of(latin))
+        self.raised(Broken, lambda: referee.judge(WORD))
+        self.expect(self.raised(BadInput, lambda: Referee(pair[1], pair[0], program=self.program)).answer.verdict == "bad word list")
+        self.expect(self.raised(BadInput, lambda: Referee(pair[0], pair[0], program=self.program)).answer.verdict == "bad lexicon")
+        self.raised(Broken, lambda: Referee(pair[0], self.folder / "none", program=self.program))
+        self.raised(OSError, lambda: Referee(*pair, program=self.folder / "none"))
+        self.raised(Broken, lambda: Referee(*pair, program="/bin/true"))
+
+    def threads(self):
+        """1,000 requests from 8 threads."""
+        with Referee(self.folder / "words", self.folder / "lexicon", program=self.program) as referee:
+
+            def ask(number):
+                told = referee.judge(f"#player1 A N{number}\n{WORD}", best=number % 2 == 0)
+                return told.players[0]["name"] == f"N{number}" and (told.events[0]["best"] is not None) == (number % 2 == 0)
+
+            with ThreadPoolExecutor(8) as pool:
+                self.expect(all(pool.map(ask, range(1000))), "an answer is that of another request")
+
+    def clubs(self):
+        """The page for a club."""
+        with Referee(self.folder / "words", self.folder / "lexicon", program=self.program) as Club.referee:
+            with ThreadingHTTPServer(("127.0.0.1", 0), Club) as server:
+                threading.Thread(target=server.serve_forever, daemon=True).start()
+                self.browse(server.server_port)
+                server.shutdown()
+
+    def browse(self, port):
+        """What a browser may ask, and what it may not."""
+
+        def ask(method, path, body=None, **headers):
+            asked = http.client.HTTPConnection("127.0.0.1", port, timeout=30)
+            asked.request(method, path, body, {name.replace("_", "-"): value for name, value in headers.items()})
+            answer = asked.getresponse()
+            text = answer.read().decode()
+            for name, part in (("Content-Security-Policy", "default-src 'none'"), ("Content-Security-Policy", "frame-ancestors 'none'"), ("X-Frame-Options", "DENY"), ("X-Content-Type-Options", "nosniff")):
+                self.expect(part in (answer.getheader(name) or ""), path, name, answer.getheader(name))
+            self.expect("<script" not in text, path)
+            asked.close()
+            return answer.status, text
+
+        def post(path, name, data, kind="", **headers):
+            body = b'--x\r\nContent-Disposition: form-data; name="%s"%s\r\n\r\n%s\r\n--x--\r\n' % (name.encode(), kind.encode(), data)
+            return ask("POST", path, body, Content_Type="multipart/form-data; boundary=x", **headers)
+
+        status, text = ask("GET", "/")
+        self.expect(status == 200 and "<form" in text, status, text)
+        status, text = post("/audit", "game", WRONG.replace("\n", "\r\n").encode())
+        self.expect(status == 200 and "<td>18</td><td>16</td>" in text and "Keep the corrected sheet" in text, status, text)
+        kept = re.search('action="/corrected"><input type="hidden" name="kept" value="([^"]*)"', text)[1].encode()
+        self.expect(post("/corrected", "kept", kept) == (200, WRONG.replace("18", "16")), kept)
+        status, text = post("/page", "file", ("#player1 A <b>Ann\n" + WORD).encode(), '; filename="game.gcg"')
+        self.expect(status == 200 and "&lt;b&gt;Ann" in text and "<b>Ann" not in text, status, text)
+        status, text = post("/audit", "game", b"#player1 A x\n>A: <i>\n")
+        self.expect(status == 200 and "<i>" not in text and "bad record" in text, status, text)
+        self.expect(post("/audit", "game", b" ")[0] == 400)
+        self.expect(post("/audit", "kept", b"$")[0] == 400)
+        self.expect(post("/audit", "game", b"x" * (1 << 20))[0] == 413)
+        self.expect(post("/corrected", "game", b">A: DORWAAE 8A WORD +16 16\n")[0] == 409, "a sheet without a correction")
+        self.expect(ask("POST", "/audit", b"x", Content_Type="text/plain")[0] == 415)
+        self.expect(ask("POST", "/audit", b"", Content_Length="x")[0] == 411)
+        self.expect(ask("GET", "/etc/passwd")[0] == 404 and post("/none", "game", b"x")[0] == 404)
+        for headers in ({"Host": "example.org"}, {"Origin": "http://example.org"}, {"Origin": "null"}, {"Sec_Fetch_Site": "cross-site"}):
+            self.expect(post("/audit", "game", WRONG.encode(), **headers)[0] == 403, headers)
+        self.expect(post("/audit", "game", WRONG.encode(), Origin=f"http://127.0.0.1:{port}", Sec_Fetch_Site="same-origin")[0] == 200)
+
+
+def main():
+    program, cases = str(Path(sys.argv[1]).resolve()), int(sys.argv[2])
+    random.seed(int(sys.argv[3]))
+    with tempfile.TemporaryDirectory() as folder:
+        client = Client(program, folder)
+        client.games(cases)
+        client.endings()
+        client.threads()
+        client.clubs()
+    client.end(cases, "games")
+
+
+main()

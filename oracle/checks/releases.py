@@ -1,0 +1,59 @@
+"""Packs a release of a program, and looks at what is in it: releases PROGRAM"""
+import hashlib
+import os
+import subprocess
+import sys
+import tarfile
+import tempfile
+from pathlib import Path
+
+ROOT = Path(__file__).resolve().parents[2]
+WANTED = {"referee", "referee.1", "referee.bash", "_referee", "referee.fish", "referee.py", "club.py", "README.md", "CHANGELOG.md", "SHA256SUMS"}
+
+
+def packed(program, folder):
+    """The archive of a program."""
+    subprocess.run([ROOT / "extra" / "release.sh", folder, program], check=True, stdout=subprocess.DEVNULL)
+    (archive,) = Path(folder).glob("*.tar.gz")
+    return archive
+
+
+def faults_of(program, folder):
+    """What is not as it has to be."""
+    archive = packed(program, Path(folder, "once"))
+    again = packed(program, Path(folder, "twice"))
+    if archive.read_bytes() != again.read_bytes():
+        yield "the same files make two archives"
+    line = f"{hashlib.sha256(archive.read_bytes()).hexdigest()}  {archive.name}\n"
+    if Path(f"{archive}.sha256").read_text() != line:
+        yield "the sum of the archive"
+    version = subprocess.run([program, "-V"], capture_output=True, check=True, text=True).stdout.split()[1]
+    name = f"referee-{version}"
+    if archive.name != f"{name}.tar.gz":
+        yield f"the name {archive.name}"
+    with tarfile.open(archive) as tar:
+        files = {it.name: tar.extractfile(it).read() for it in tar if it.isfile()}
+        modes = {it.name: it.mode for it in tar}
+    if not {f"{name}/{it}" for it in WANTED} <= set(files) or any(not it.startswith(f"{name}/") for it in files):
+        yield f"the files {sorted(files)}"
+    sums = dict(reversed(line.split("  ", 1)) for line in files[f"{name}/SHA256SUMS"].decode().splitlines())
+    if sums != {it[len(name) + 1 :]: hashlib.sha256(data).hexdigest() for it, data in files.items() if not it.endswith("/SHA256SUMS")}:
+        yield "SHA256SUMS"
+    if files[f"{name}/referee"] != Path(program).read_bytes() or modes[f"{name}/referee"] != 0o755:
+        yield "the program"
+    if next(line for line in files[f"{name}/CHANGELOG.md"].decode().splitlines() if line.startswith("## ")) != f"## {version}":
+        yield f"CHANGELOG.md does not begin with {version}"
+    if subprocess.run([ROOT / "extra" / "release.sh"], capture_output=True, check=False).returncode != 64:
+        yield "a release without a folder"
+
+
+def main():
+    with tempfile.TemporaryDirectory() as folder:
+        faults = list(faults_of(os.path.abspath(sys.argv[1]), folder))
+    for fault in faults:
+        print(fault)
+    print(f"a release, {len(faults)} not as it has to be")
+    sys.exit(bool(faults))
+
+
+main()

@@ -1,0 +1,40 @@
+"""Compares `referee explain` with the second judge, byte by byte: compare_explains PROGRAM CASES SEED
+
+Each case is a game that nobody dealt, or one that was dealt for real with mistakes of a director's day (`mistakes.py`). The verdict is
+explained, and then one of the lines. At the end stands how often each fault was explained.
+"""
+import random
+
+from advice import advice
+from answers import explained, status_of
+from comparing import Differences, compare_cases
+from dealing import likely, line
+from mistakes import some_inputs
+
+choose = random.choice
+
+
+class Explaining(Differences):
+    """Explanations of games with mistakes."""
+
+    def case(self):
+        _, events, words, lexicon, text = some_inputs(self.put)
+        remark = "" if likely(0.7) else "#note\n"
+        game = self.put("game", "".join(choose(["", "", remark]) + line(it) for it in events).encode())
+        for asked in (None, random.randint(0, len(events) + 2)):
+            self.compare(words, lexicon, game, asked, text)
+
+    def compare(self, words, lexicon, game, asked, text):
+        by = ["--rules", "rules"] if text is not None else []
+        named = [] if asked is None else [str(asked)]
+        ran = self.run("explain", *by, "words", "lexicon", "game", *named)
+        first = ran.stdout.split(b"\n")[0]
+        if asked is None:
+            self.seen[first.decode("latin-1").split(": ")[-1].split(" ")[0]] += 1
+        told = explained(words, lexicon, game, asked, ran.stdout, text)
+        if ran.stdout != told or ran.returncode != status_of(told) or ran.stderr != advice("explain", told, "game", game):
+            self.differences += 1
+            print("line", asked, "status", ran.returncode, ran.stderr, ran.stdout.decode("latin-1"), "for", told.decode("latin-1"), game.decode("latin-1"), sep="\n")
+
+
+compare_cases(Explaining, lambda explaining, _: explaining.case())

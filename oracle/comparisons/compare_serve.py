@@ -1,0 +1,127 @@
+"""Compares the answers of `serve` with the second judge and with the commands: compare_serve PROGRAM CASES SEED
+
+Each case is a word list with its lexicon, sometimes with a rules text, and a process of `serve` by these. It is asked of games that nobody dealt, of games
+that were dealt for real with mistakes of a director's day, and of damaged records, by every command; some lines are no requests. Each answer is compared
+with the value of the second judge, and some with what the command of that name writes of the same bytes. Where an input is bad, the process has to say so as
+`check --json` does, and to end.
+"""
+import json
+import random
+import subprocess
+
+from answers import lines_of
+from comparing import Differences, compare_cases
+from dealing import likely, line
+from making import random_rack
+from mistakes import MOST, some_game, some_inputs
+from objects import checked_object
+from rules import ENGLISH
+from served import answers_to
+
+TILES = list(ENGLISH.tiles.elements())
+WORDS = ["AT", "QI", "qi", "WORD", "xyzzy", "A", "", "A1", "ABCDEFGHIJKLMNO", "ABCDEFGHIJKLMNOP"]
+ODD = [b"", b"{", b"[]", b"null", b"7", b'"judge"', b'{"do": "judge"}', b'{"id": [], "do": "tidy", "game": ""}', b'{"id": 1}', b'{"id": 1, "do": null}', b'{"id": 1, "do": 2}']
+ODD += [b'{"id": "x", "do": "judged", "game": ""}', b'{"id": 2, "do": "tidy", "game": "", "line": 1}', b'{"id": -0, "do": "top", "game": "", "line": -0}', b"\xff", b'{"id": 1e999}']
+ODD += [b'{"id": 1.5, "do": "board", "game": "", "line": 4294967296}', b'{"do": "word", "words": ["AT"], "words": []}', b'{"do": "word", "words": ["AT", 7]}', b'{"do": "top", "game": ""}']
+
+
+def some_line(game):
+    """A line to ask about, mostly one of an event."""
+    lines = lines_of(game)
+    return None if likely(0.3) else random.choice([*lines, *lines, 0, 1, len(lines) + 3, 2**32 - 1])
+
+
+def some_request(game):
+    """A request about a game, and the words of the command line that ask the same of the file `game`; none where no command does."""
+    text, at, number = game.decode("latin-1").encode("ascii", "replace").decode(), some_line(game), random.choice([None, 1, 9, 10, 11, 40, 100])
+    do = random.choice(["judge", "judge", "explain", "audit", "board", "top", "word", "tidy", "page"])
+    before = [] if at is None else ["--before", str(at)]
+    if do == "judge":
+        settle, best = likely(0.5), likely(0.7)
+        return {"do": do, "game": text, "settle": settle, "best": best}, ["judge", "--json", *["--settle"] * settle] if best else None
+    if do == "explain":
+        return {"do": do, "game": text, "line": at}, ["explain", "--json", *([] if at is None else [str(at)])]
+    if do == "board":
+        return {"do": do, "game": text, "line": at}, ["board", "--json", *before]
+    if do == "top":
+        rack = random.choice(["AB1", "ABCDEFGH", "é"]) if likely(0.1) else random_rack(TILES) if at is None or likely(0.5) else None
+        return {"do": do, "game": text, "line": at, "rack": rack, "number": number}, ["top", "--json", *before, *([] if number is None else ["--number", str(number)]), *([] if rack is None else [rack])]
+    if do == "word":
+        return {"do": do, "words": random.choices(WORDS[:5] if likely(0.7) else WORDS, k=random.randint(1, 4))}, None
+    return {"do": do, "game": text}, {"audit": ["audit", "--json"], "tidy": ["tidy"], "page": ["page"]}[do]
+
+
+class Served(Differences):
+    """Answers of processes."""
+
+    def case(self):
+        _, events, words, lexicon, text = some_inputs(self.put)
+        by, pair = (["--rules", "rules"] if text is not None else []), ["words", "lexicon"]
+        if likely(0.1):
+            lexicon = self.put("lexicon", lexicon[:-1])
+        asked = self.some_asked(events)
+        end = random.choice([b"\n", b"\r\n", b""]) if asked[-1][0] else b"\n"
+        ran = subprocess.run([self.program, "serve", *by, *pair], cwd=self.folder, input=b"\n".join(it for it, _ in asked) + end, capture_output=True, check=False, timeout=600)
+        told = ran.stdout.split(b"\n")
+        self.expect(told.pop() == b"", ran.stdout[-100:])
+        first = json.loads(told.pop(0))
+        checked = checked_object(words, lexicon)
+        if "ready" not in first:
+            self.seen[f"not ready: {first['verdict']}"] += 1
+            self.expect(first == checked and ran.returncode == 3 and not told, first, checked, ran.returncode)
+            return
+        self.expect(list(first) == ["ready", "words", "version"] and first["words"] == checked.get("words") and ran.returncode == 0, first, ran.returncode)
+        self.expect(len(told) == len(asked), len(told), len(asked))
+        for (request, command), answer in zip(asked, told):
+            self.compare(words, lexicon, request, json.loads(answer), text, answer)
+            if command and likely(0.3):
+                self.compare_command(json.loads(request), command, by if command[0] not in ("tidy",) else [], pair, json.loads(answer), answer)
+
+    def some_asked(self, events):
+        """Requests, each with the words of the command line that ask the same, and lines that are none."""
+        asked = []
+        for number in range(12):
+            others = some_game(ENGLISH)[0]
+            is_told = number < 4 or any(abs(it.score) > MOST or abs(it.total) > MOST for it in others)
+            game = "".join(map(line, events if is_told else others)).encode()
+            if likely(0.15):
+                game = game[: random.randrange(len(game) + 1)]
+            request, command = some_request(game)
+            request = {"id": random.choice([number, -number, f"n{number}", "é\n\"", 2**63 + number])} | request
+            asked.append((json.dumps(request, ensure_ascii=likely(0.5)).encode(), command))
+        asked += [(it, None) for it in random.choices(ODD, k=3)]
+        random.shuffle(asked)
+        return asked
+
+    def compare(self, words, lexicon, request, told, text, answer):
+        """Compares an answer with those of the second judge."""
+        wanted, is_request = answers_to(words, lexicon, request, text)
+        self.seen[f"status {told['status']}"] += 1
+        if is_request:
+            self.seen[json.loads(request)["do"]] += 1
+        said = {key: value for key, value in told.items() if key != "error"}
+        if wanted[0].get("text", "") is None:
+            self.expect(said.get("text", "").startswith("<!DOCTYPE html>"), answer)
+            said["text"] = None
+        self.expect(said in wanted and list(said) == list(wanted[0]), request, answer, wanted[0])
+        self.expect(("error" in told) == (told["status"] == 64), answer)
+
+    def compare_command(self, request, command, by, pair, told, answer):
+        """Compares an answer with what a command writes of the same bytes."""
+        self.put("game", request["game"].encode())
+        name, *options = command
+        rack = options.pop() if name == "top" and request.get("rack") is not None else None
+        at = options.pop() if name == "explain" and request.get("line") is not None else None
+        files = ["game"] if name in ("tidy", "board") else [*pair, "game"]
+        behind = [it for it in (rack, at) if it is not None] + (["-"] if name == "page" else [])
+        ran = self.run(name, *options, *by, *files, *behind)
+        self.expect(ran.returncode == told["status"], command, ran.returncode, answer)
+        self.seen[f"beside {name}"] += 1
+        if name in ("tidy", "page"):
+            if "text" in told:
+                self.expect(ran.stdout.decode() == told["text"], command, ran.stdout, answer)
+        else:
+            self.expect(answer.endswith(b',"answer":' + ran.stdout.removesuffix(b"\n") + b"}"), command, ran.stdout, answer)
+
+
+compare_cases(Served, lambda served, _: served.case())

@@ -1,0 +1,75 @@
+"""What standard error gets beside an answer: what is wrong with a file that is no game, by the second judge."""
+import re
+
+from archive_lines import states_latin, text_of
+from explains import missing, record_text
+from records import Fault, read
+
+BOM = b"\xef\xbb\xbf"
+SETTLE = b"referee: unsettled: `judge --settle` searches for a deal that yields the racks\n"
+BLANK = re.compile(b"[ \t]+")
+INDENTED = "its lines begin with blanks before the >"
+OTHER = "no line begins with >"
+
+
+def fields_of(text):
+    return [it for it in BLANK.split(text) if it]
+
+
+def lines_of(text):
+    return [line.removesuffix(b"\r") for line in text.removeprefix(BOM).split(b"\n")]
+
+
+def kind_of(text):
+    """What a file without an event seems to be."""
+    first = fields_of(text.removeprefix(BOM))[:1]
+    if not text:
+        return "it is empty"
+    if text[:4] in (b"GAD1", b"GAD2"):
+        return "it is a compiled lexicon"
+    if text.startswith(b"\x1f\x8b"):
+        return "it is compressed (gzip)"
+    if text.startswith(b"PK\3\4"):
+        return "it is compressed (zip)"
+    if text[:2] in (b"\xff\xfe", b"\xfe\xff") or 0 in text[:2]:
+        return "it is text in UTF-16, and records are read as UTF-8 or ISO-8859-1"
+    if first and first[0].startswith(b"<"):
+        return "it is HTML or another markup"
+    if b"\r" in text and b"\n" not in text:
+        return "its lines end in CR alone, and not in LF or CR LF"
+    if any(line[:1] != b">" and (fields_of(line) or [b""])[0].startswith(b">") for line in lines_of(text)):
+        return INDENTED
+    return OTHER
+
+
+def bad_record(name, game):
+    """What is said of the first fault of a text that is no record."""
+    try:
+        read(game)
+    except Fault as fault:
+        place = f" line {fault.line}" if fault.line else ""
+        said = record_text(game, fault).removesuffix(b"\n") + (missing(lines_of(game)[fault.line - 1], fault.why) if fault.line else b"")
+        kind = kind_of(game)
+        more = "" if kind in (INDENTED, OTHER) else f" ({kind})"
+        return f"referee: {name}{place}: {text_of(said, states_latin(game))}{more}\n".encode()
+    return b""
+
+
+def no_game(name, game):
+    """Why a text has no event, where it has none."""
+    if any(line.startswith(b">") for line in lines_of(game)):
+        return b""
+    return f"referee: {name} has no event: {kind_of(game)}\n".encode()
+
+
+def advice(command, output, name, game):
+    """What standard error gets beside what a command printed of a game."""
+    if command == "judge" and output == b"unsettled\n":
+        return SETTLE
+    if output.startswith(b"bad record"):
+        return b"" if command == "explain" else bad_record(name, game)
+    if output.startswith((b"bad rules", b"bad word list", b"bad lexicon", b"bad rack")):
+        return b""
+    if command == "top" and not game:
+        return b""
+    return no_game(name, game) if command in ("judge", "top", "tidy", "board", "audit", "explain", "page", "annotate") else b""
