@@ -1,5 +1,5 @@
 -- The first repairs among candidates, one candidate after another.
-use Rattle.std.proofs.Common.{◌≡◌, ◌⊎◌, inl, inr, ℕ, zero, suc, ◌+◌, ◌<◌, ◌≤◌, true, false, List, [], ◌∷◌, ◌++◌, map, length, get_or, slice_get, Option, Some, refl, sym, ap, ◌∙◌, subst, arith}
+use Rattle.std.proofs.Common.{◌≡◌, ◌⊎◌, inl, inr, ℕ, zero, suc, ◌+◌, ◌<◌, ◌≤◌, true, false, List, [], ◌∷◌, ◌++◌, length, get_or, slice_get, Option, Some, refl, sym, ap, ◌∙◌, subst, arith}
 use Rattle.std.specs.Prelude.{All, AllPairs, Any, Contains}
 use Rattle.std.proofs.lemmas.Bool.{cases_lt}
 use Rattle.std.proofs.lemmas.List.{length_push}
@@ -14,13 +14,14 @@ use Rattle.record_changes.specs.Applied.{applied}
 use Rattle.record_repairs.specs.Costs.{Rank, costs, rank_at, rank_of, is_ahead, cost_of}
 use Rattle.record_repairs.specs.Candidates.{rank_in, IsCandidate, MayBeTold, IsThere, AreCandidates}
 use Rattle.record_repairs.specs.Remaining.{AreFewer, Remain, many_left}
-use Rattle.record_repairs.specs.Repairs.{MakesGame, IsRepair, off_line, SameRecord, IsAmong, IsLeftOpen, IsToldAt, AreAhead, AreFirstRepairs}
+use Rattle.record_repairs.specs.Repairs.{MakesGame, IsRepair, SameRecord, IsAmong, IsLeftOpen, IsToldAt, AreAhead, AreFirstRepairs}
 use Rattle.record_repairs.specs.Telling.{AddsRepair, AddsOpen, AddsNone, IsTriedWith, IsTried}
 use Rattle.record_repairs.specs.Trying.{IsWritable}
 use Rattle.record_repairs.specs.declared.candidate.Candidate.{Candidate}
 use Rattle.record_repairs.specs.declared.found.Found.{Found}
 use Rattle.record_repairs.specs.declared.listed.Listed.{Listed}
 use Rattle.record_repairs.specs.declared.repair.Repair.{Repair}
+use Rattle.record_repairs.proofs.Itself.{itself_as}
 use Rattle.record_repairs.proofs.Ranks.{not_both, not_itself}
 use Rattle.record_repairs.proofs.Weighing.{cost_is}
 
@@ -114,7 +115,7 @@ others_told rules list written found index c right told left r has rank makes at
     (record {
       repair = r;
       among = Contains-push told r;
-      same = ap (λ (es : List Event). map off_line es) (makes ∙ same_right rules list written c d right other has same is);
+      same = itself_as r.right other (makes ∙ same_right rules list written c d right other has same is);
       first = not_itself (rank_in d) (rank_of r) (ap rank_in same ∙ sym rank);
     })
 
@@ -135,7 +136,7 @@ told_more rules list written below most found index c right told left r are so a
       ordered = all_pairs_push (λ (a b : Repair). is_ahead (rank_of a) (rank_of b) ≡ true) told r so.ordered
           (λ k d within. ap (is_ahead (rank_of (get_or told k d))) rank ∙ so.ahead k d within index c (omega arith) at);
       once = all_pairs_push (λ (a b : Repair). SameRecord a.right b.right → ⊥) told r so.once
-          (λ k d within same. fresh (among_told told k d right within (same ∙ ap (λ (es : List Event). map off_line es) makes)));
+          (λ k d within same. fresh (among_told told k d right within (subst (λ (es : List Event). SameRecord (get_or told k d).right es) makes same)));
       unsettled = so.unsettled;
       ahead = All-push (λ (x : Repair). (k : ℕ) (d : Candidate) → index + 1 ≤ k → slice_get found k ≡ Some d → is_ahead (rank_of x) (rank_in d) ≡ true) told r
           (λ k d within j e behind of_e. so.ahead k d within j e (omega (arith, behind)) of_e)
@@ -190,7 +191,7 @@ others_none rules list written found index c right told left has at ahead (inl (
     (record {
       repair = r;
       among = (j, within, of_r);
-      same = same ∙ ap (λ (es : List Event). map off_line es) (same_right rules list written c d right other has equal is);
+      same = subst (λ (es : List Event). SameRecord r.right es) (same_right rules list written c d right other has equal is) same;
       first = not_both (rank_of r) (rank_in d) before;
     })
 others_none rules list written found index c right told left has at ahead (inr none) k d other below of_d is game (inr behind) =

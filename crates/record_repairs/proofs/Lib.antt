@@ -9,6 +9,7 @@ pub mod Shapes
 pub mod Changes
 pub mod WrongLines
 pub mod SheetLines
+pub mod WrongSums
 pub mod RackStops
 pub mod Sorting
 pub mod Corrected
@@ -18,6 +19,7 @@ pub mod SameLists
 pub mod Audits
 pub mod PlaceChanges
 pub mod Ranks
+pub mod Itself
 pub mod FirstOnes
 pub mod SortedOnes
 pub mod Tellings

@@ -1,4 +1,5 @@
 pub mod OnSheet
+pub mod Sums
 pub mod Remaining
 pub mod Costs
 pub mod Trying

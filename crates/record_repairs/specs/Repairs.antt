@@ -1,7 +1,13 @@
 -- Which changes of a record are repairs, and which are told.
-use Rattle.std.specs.Prelude.{◌≡◌, ◌⊎◌, ℕ, ◌≤◌, true, false, List, map, length, All, AllPairs, Any, Contains, slice_get, Option, Some}
+use Rattle.std.specs.Prelude.{◌≡◌, ◌⊎◌, ℕ, ◌≤◌, true, false, List, length, All, AllPairs, Any, Contains, slice_get, Option, Some}
 use Rattle.ref_tiles.specs.declared.rulebook.Rules.{Rules}
+use Rattle.ref_tiles.specs.declared.symbols.Symbol.{Symbol}
+use Rattle.ref_tiles.specs.declared.symbols.Symbol.TheVariants as symbol
+use Rattle.ref_board.specs.declared.squares.Square.{Square}
+use Rattle.ref_board.specs.declared.directions.Dir.{Dir}
 use Rattle.gcg_read.specs.declared.events.Event.{Event}
+use Rattle.gcg_read.specs.declared.events.EventKind.{EventKind}
+use Rattle.gcg_read.specs.declared.events.EventKind.TheVariants as kind
 use Rattle.engine.specs.Verdicts.{IsGame, IsUnsettled}
 use Rattle.record_changes.specs.Applied.{applied}
 use Rattle.change_lists.specs.Changes.{changes_at}
@@ -29,13 +35,38 @@ pub record IsRepair (rules : Rules) (list : List (List ℕ)) (written : List Eve
   pub makes : MakesGame rules list written below r.listed r.right
   pub remain : Remain rules list r.listed.change written r.right r.remains
 
--- an event wherever its line stands
-abbrev pub off_line : Event → Event
-off_line e = record e { line = 0 }
+-- The same symbol at the same square, or a dot in one of the texts. A dot stands for the tile that lies on its square; in a game a letter on
+-- such a square is the letter of that tile, and neither lays a tile.
+abbrev pub SameSymbol : Symbol → Symbol → Type 0
+SameSymbol a b = (a ≡ symbol.Dot) ⊎ (b ≡ symbol.Dot) ⊎ (a ≡ b)
+
+-- two texts of one play, in which a tile that lay there is a letter or a dot
+pub record SameText (text other : List Symbol) : Type 0 where
+  pub as_many : length text ≡ length other
+  pub each : (place : ℕ) (a b : Symbol) → slice_get text place ≡ Some a → slice_get other place ≡ Some b → SameSymbol a b
+
+-- a play of the same text from the same square in the same direction
+abbrev pub IsPlayOf : EventKind → Square → Dir → List Symbol → Type 0
+IsPlayOf (kind.Play at dir word) square way text = (at ≡ square) × (dir ≡ way) × SameText word text
+IsPlayOf other square way text = ⊥
+
+-- the same happened
+abbrev pub SameKind : EventKind → EventKind → Type 0
+SameKind what (kind.Play square way text) = IsPlayOf what square way text
+SameKind what other = what ≡ other
+
+-- the same event, wherever its line stands, and however the tiles that lay on the board are written in its text
+pub record SameEvent (e other : Event) : Type 0 where
+  pub player : e.player ≡ other.player
+  pub rack : e.rack ≡ other.rack
+  pub score : e.score ≡ other.score
+  pub total : e.total ≡ other.total
+  pub kind : SameKind e.kind other.kind
 
 -- The same record: the same events with the same numbers, whichever lines they stand on.
-abbrev pub SameRecord : (events others : List Event) → Type 0
-SameRecord events others = map off_line events ≡ map off_line others
+pub record SameRecord (events others : List Event) : Type 0 where
+  pub as_many : length events ≡ length others
+  pub each : (place : ℕ) (e other : Event) → slice_get events place ≡ Some e → slice_get others place ≡ Some other → SameEvent e other
 
 -- one of the repairs makes this record
 abbrev pub IsAmong : (told : List Repair) → (right : List Event) → Type 0

@@ -1,5 +1,5 @@
 -- Trying one change.
-use Rattle.std.specs.Prelude.{◌≡◌, ◌⊎◌, ℕ, ◌≤◌, Bool, List, slice_get, Option, Some, None}
+use Rattle.std.specs.Prelude.{◌≡◌, ◌⊎◌, ℕ, ◌+◌, ◌≤◌, Bool, List, length, slice_get, Option, Some, None}
 use Rattle.ref_tiles.specs.declared.rulebook.Rules.{Rules}
 use Rattle.gcg_read.specs.declared.events.Event.{Event}
 use Rattle.game_turns.specs.declared.machine.Machine.{Machine}
@@ -10,7 +10,7 @@ use Rattle.game_sheets.specs.Corrections.{IsCorrection, HavePoints, AreRenumbere
 use Rattle.record_changes.specs.declared.slips.Change.{Change}
 use Rattle.record_changes.specs.Applied.{applied}
 use Rattle.record_repairs.specs.Costs.{cost_of}
-use Rattle.record_repairs.specs.Remaining.{AreFewer, many_left}
+use Rattle.record_repairs.specs.Remaining.{AreFewer, many_left, wrong_with}
 
 -- a correction that a record can write
 pub record IsWritable (rules : Rules) (list : List (List ℕ)) (changed right : List Event) : Type 0 where
@@ -20,6 +20,11 @@ pub record IsWritable (rules : Rules) (list : List (List ℕ)) (changed right : 
 -- no numbers that a record can write are a correction
 abbrev pub HaveNone : Rules → (list : List (List ℕ)) → (changed : List Event) → Type 0
 HaveNone rules list changed = (right : List Event) → IsWritable rules list changed right → ⊥
+
+-- With each numbers too many stay wrong, however many words do.
+abbrev pub NoneFewer : (below : Option ℕ) → Change → (written : List Event) → Type 0
+NoneFewer below change written =
+    (right : List Event) (words : ℕ) → AreRenumbered (applied change written) right → AreFewer below (length (wrong_with change written right) + words) → ⊥
 
 -- the correction that a record can write, or that there is none
 abbrev pub IsCorrectionOf : Rules → (list : List (List ℕ)) → (changed : List Event) → Option (List Event) → Type 0

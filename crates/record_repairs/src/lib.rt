@@ -10,6 +10,7 @@ mod comparing;
 mod correcting;
 mod finding;
 mod found;
+mod had;
 mod laws;
 mod listed;
 mod outcome;
@@ -19,6 +20,7 @@ mod repair;
 mod settling;
 mod sheets;
 mod standing;
+mod sums;
 mod trying;
 mod writable;
 

@@ -4,11 +4,12 @@ ghost use Rattle.game_turns.specs.Machines.{rules_of};
 ghost use Rattle.game_rows.specs.Walks.{IsWalkOf};
 ghost use Rattle.record_changes.specs.Applied.{applied};
 ghost use Rattle.record_repairs.specs.Remaining.{AreFewer};
-ghost use Rattle.record_repairs.specs.Trying.{HaveNone, StandsBefore, IsWeight};
+ghost use Rattle.record_repairs.specs.Trying.{HaveNone, NoneFewer, StandsBefore, IsWeight};
 
 use crate::correcting::corrected;
 use crate::remaining::what_remains;
 use crate::standing::{game_before, start_of};
+use crate::sums::{missing_place, wrong_sums};
 use game_rows::Walk;
 use game_sheets::mend;
 use game_turns::{Machine, law_of_tallies};
@@ -75,6 +76,25 @@ fn are_fewer(below: Option<usize>, many: u128) -> bool
     }
 }
 
+/// Whether so many sums are wrong with a change that too many numbers stay wrong, whatever the right ones are.
+///
+/// It fails only where memory runs out.
+fn is_too_wrong(
+    alloc: Global,
+    events: &[Event],
+    below: Option<usize>,
+    change: &Change,
+) -> Result<bool, AllocError>
+    ensures { IfOk result (λ b. IsTrue b → NoneFewer below change.now events.now) }
+{
+    if below.is_none() {
+        return Ok(false);
+    }
+    let changed = apply(alloc, change, events)?;
+    let least = wrong_sums(changed.as_slice(), missing_place(change));
+    Ok(!are_fewer(below, least))
+}
+
 /// What a change costs, where the record has a correction with it that a record can write, and few enough numbers and words stay wrong.
 ///
 /// It fails only where memory runs out.
@@ -90,6 +110,9 @@ pub(crate) fn weigh(
     requires { IsWalkOf rules.now list.now events.now walk.now }
     ensures { IfOk result (IsWeight rules.now list.now events.now below change.now) }
 {
+    if is_too_wrong(alloc, events, below, change)? {
+        return Ok(None);
+    }
     if !may_help(alloc, rules, list, walk, events, change)? {
         return Ok(None);
     }
