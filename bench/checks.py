@@ -1,14 +1,11 @@
 """Measures `check` and `judge` of two programs in turn with each other: checks.py OLD NEW [RUNS [hostile]]
 
-Each line tells the least and the median processor time of so many runs of both, what the second takes of the first, the peak memory of
+Each line has the least and the median processor time of so many runs of both, what the second takes of the first, the peak memory of
 both, and whether both wrote the same. The lists are the first 50,000 to 400,000 words of a language, and random words. The wrong files
 are a lexicon with one bit of an arc changed, a label, a target or the mark of acceptance; with one path too few or too many; and the
-lexicons of lists with a word more or less. Each stands in both formats. With the word `hostile` behind, the largest files of
+lexicons of lists with a word more or less. Each is in both formats. With the word `hostile` after RUNS, the largest files of
 `hostile.py` come last.
-
-All inputs are made by processes of their own: the peak memory of a run counts that of the process that starts it.
 """
-import os
 import subprocess
 import sys
 import tempfile
@@ -16,47 +13,27 @@ from array import array
 from pathlib import Path
 from statistics import median
 
+from running import apart, run
+
 HERE = Path(__file__).parent
 SIZES = (50_000, 100_000, 200_000, 400_000)
 SHARES = (0.1, 0.3, 0.5, 0.7, 0.9)
 LAST, ACCEPTS = 64, 32
 
 
-def run(folder, words):
-    """What a run wrote, and its processor time and peak memory."""
-    with open(Path(folder, "told"), "wb") as sink:
-        process = subprocess.Popen(words, cwd=folder, stdout=sink, stderr=sink)
-        _, status, used = os.wait4(process.pid, 0)
-        process.returncode = os.waitstatus_to_exitcode(status)
-    return (process.returncode, Path(folder, "told").read_bytes()), used.ru_utime + used.ru_stime, used.ru_maxrss / 1000
-
-
 def compare(folder, programs, runs, what, words):
-    """Runs both programs in turn, and tells the least and the median times."""
+    """Runs both programs in turn, and prints the least and the median times."""
     told, times, memory = [None, None], [[], []], [0, 0]
     for _ in range(runs):
         for it, program in enumerate(programs):
-            told[it], took, most = run(folder, [program, *words])
-            times[it].append(took)
-            memory[it] = max(memory[it], most)
+            ran = run(folder, [program, *words])
+            told[it] = ran.status, ran.said
+            times[it].append(ran.processor)
+            memory[it] = max(memory[it], ran.memory)
     columns = ((pick(times[0]), pick(times[1])) for pick in (min, median))
     shares = "  ".join(f"{old:6.3f} s {new:6.3f} s {new / old:5.2f}" for old, new in columns)
     same = f"the same: {told[0][1][:24].decode()!r}" if told[0] == told[1] else f"DIFFERENT: {told}"
     print(f"{what:52} {shares}  {memory[0]:5.0f} MB {memory[1]:5.0f} MB  {same}", flush=True)
-
-
-def apart(work, *inputs):
-    """Works in a process of its own."""
-    child = os.fork()
-    if child == 0:
-        try:
-            work(*inputs)
-        except BaseException as fault:
-            print(fault, file=sys.stderr, flush=True)
-            os._exit(1)
-        os._exit(0)
-    if os.waitpid(child, 0)[1] != 0:
-        sys.exit("the inputs cannot be made")
 
 
 # ---- what makes inputs, in the folder
@@ -70,7 +47,10 @@ def words_of(script):
 def make_lists(folder):
     """Lists of words, and records of games."""
     language = words_of("dictionary.awk")
-    put = lambda name, lines: Path(folder, name).write_bytes(b"".join(lines))
+
+    def put(name, lines):
+        return Path(folder, name).write_bytes(b"".join(lines))
+
     for size in SIZES:
         put(f"words-{size}", language[:size])
     put("words", language)
@@ -139,7 +119,7 @@ def make_wrong(folder, name, change, share):
 
 
 def one_bit(change):
-    """A change of an arc behind a share of all."""
+    """A change of an arc after a share of all."""
     return lambda arcs, data, share: change(arcs, int(len(arcs) * share))
 
 
@@ -168,9 +148,15 @@ WRONG = (
 def main():
     programs, runs = [str(Path(it).resolve()) for it in sys.argv[1:3]], int((sys.argv + ["5"] * 4)[3])
     with tempfile.TemporaryDirectory() as folder:
-        ask = lambda what, *words: compare(folder, programs, runs, what, words)
-        use = lambda *words: subprocess.run([programs[0], *words], cwd=folder, check=True)
-        both = lambda what, words, file: [ask(f"{what}, {form}", "check", words, f"{file}.{form}") for form in ("gad1", "gad2")]
+        def ask(what, *words):
+            return compare(folder, programs, runs, what, words)
+
+        def use(*words):
+            return subprocess.run([programs[0], *words], cwd=folder, check=True)
+
+        def both(what, words, file):
+            return [ask(f"{what}, {form}", "check", words, f"{file}.{form}") for form in ("gad1", "gad2")]
+
         apart(make_lists, folder)
         print(f"{'':52} {'the least of both':24}  {'the median of both':24}  {'the peak memory':17}")
         for size in SIZES:

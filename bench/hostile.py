@@ -1,15 +1,16 @@
 """Measures the program on the largest inputs that it takes, made to cost as much as they can: hostile.py [PROGRAM]
 
-The program is crates/referee/out/referee unless another is named. Each line tells the time of the whole process, its peak memory, and
-the first line that it wrote. The lexicon files have 134,217,740 bytes, the most of the first format: 33,554,431 arcs.
+The program is crates/referee/out/referee unless another is named. It prints the table of docs/BENCH.md: the time of the whole process, its peak
+memory, and the first line that it wrote. The lexicon files have 134,217,740 bytes, the most of the first format: 33,554,431 arcs.
 """
-import os
 import subprocess
 import sys
 import tempfile
-import time
 from array import array
+from datetime import date
 from pathlib import Path
+
+from running import apart, run
 
 HERE = Path(__file__).parent
 ARCS = 33_554_431
@@ -44,7 +45,7 @@ def two_labels(words):
 
 
 def padded(built):
-    """A lexicon, and behind it nodes that no walk reaches."""
+    """A lexicon, and after it nodes that no walk reaches."""
     arcs = array("I", built[16:])
     root, words = array("I", built[8:16])
     arcs.extend([1 | ACCEPTS | LAST] * (ARCS - len(arcs)))
@@ -57,40 +58,53 @@ def turns(number, racks):
 
 
 def measure(folder, what, words):
-    """Runs the program, and tells what it took."""
-    with open(Path(folder, "told"), "wb") as sink:
-        begun = time.monotonic()
-        process = subprocess.Popen(words, cwd=folder, stdout=sink, stderr=sink)
-        _, status, used = os.wait4(process.pid, 0)
-        process.returncode = os.waitstatus_to_exitcode(status)
-    took, told = time.monotonic() - begun, Path(folder, "told").read_text(errors="replace").split("\n")[0]
-    print(f"{what:66} {took:7.2f} s {used.ru_maxrss / 1000:7.0f} MB  status {process.returncode}  {told}", flush=True)
+    """Runs the program, and prints a row of the table."""
+    ran = run(folder, words)
+    first = ran.said.decode(errors="replace").split("\n")[0]
+    shown = first if len(first) < 40 else f"{first[:36]}..."
+    print(f"| {what} | {ran.seconds:.2f} s | {ran.memory:.0f} MB | `{shown}` |", flush=True)
+
+
+def put(folder, name, data):
+    """Writes an input."""
+    Path(folder, name).write_bytes(data if isinstance(data, bytes) else data.encode())
+
+
+def make(folder):
+    """The lists, the records, and the files of lexicons in which every string of a length is spelt."""
+    put(folder, "none", "")
+    put(folder, "at", "AT\n")
+    for name, script in (("words", "dictionary.awk"), ("random", "inputs.awk")):
+        put(folder, name, subprocess.run(["awk", "-f", HERE / script], check=True, capture_output=True).stdout)
+    put(folder, "all-labels", all_labels(1))
+    put(folder, "two-labels", two_labels(1))
+    put(folder, "blanks", turns(1000, ["??????? ", "??????? "]))
+    put(folder, "two-blanks", turns(1000, ["AEINR?? ", ""]))
+    put(folder, "full", turns(1000, ["AEINRST ", "DGLOTUW "]))
+
+
+def pad(folder, program, listed):
+    """The padded lexicon of a list."""
+    subprocess.run([program, "build", listed, "built"], cwd=folder, check=True)
+    put(folder, "padded", padded(Path(folder, "built").read_bytes()))
 
 
 def main():
     program = str(Path(sys.argv[1] if len(sys.argv) > 1 else HERE / "../crates/referee/out/referee").resolve())
     with tempfile.TemporaryDirectory() as folder:
-        put = lambda name, data: Path(folder, name).write_bytes(data if isinstance(data, bytes) else data.encode())
-        put("at", "AT\n")
-        put("words", subprocess.run(["awk", "-f", HERE / "dictionary.awk"], check=True, capture_output=True).stdout)
-        put("random", subprocess.run(["awk", "-f", HERE / "inputs.awk"], check=True, capture_output=True).stdout)
-        put("all-labels", all_labels(1))
-        put("two-labels", two_labels(1))
-        put("blanks", turns(1000, ["??????? ", "??????? "]))
-        put("two-blanks", turns(1000, ["AEINR?? ", ""]))
-        put("full", turns(1000, ["AEINRST ", "DGLOTUW "]))
-        measure(folder, "check of AT and every string of 27 labels", [program, "check", "at", "all-labels"])
-        measure(folder, "check of AT and every string of A and B", [program, "check", "at", "two-labels"])
-        measure(folder, "judge of 1,000 racks of 7 blanks by the same", [program, "judge", "at", "two-labels", "blanks"])
-        for name, listed in (("400,000 words", "words"), ("400,000 random words", "random")):
-            subprocess.run([program, "build", listed, "built"], cwd=folder, check=True)
-            put("padded", padded(Path(folder, "built").read_bytes()))
-            put("none", "")
-            measure(folder, f"check of {name}, padded", [program, "check", listed, "padded"])
-            measure(folder, "judge of 1,000 racks of 7 blanks by the same", [program, "judge", listed, "padded", "blanks"])
-            measure(folder, "judge of 1,000 full racks by the same", [program, "judge", listed, "padded", "full"])
-            measure(folder, "top of 7 blanks by the same", [program, "top", listed, "padded", "none", "???????"])
-            measure(folder, "judge of 500 full racks with 2 blanks by the same", [program, "judge", listed, "padded", "two-blanks"])
+        apart(make, folder)
+        print(f"{run(folder, [program, '-V']).said.decode().strip()}, on {date.today()}:\n")
+        print("| what | time | memory | the first line of the answer |\n|---|---|---|---|")
+        measure(folder, "`check` of AT, and a file of every string of 27 labels", [program, "check", "at", "all-labels"])
+        measure(folder, "`check` of AT, and a file of every string of A and B", [program, "check", "at", "two-labels"])
+        measure(folder, "`judge` of 1,000 racks of seven blanks by the same", [program, "judge", "at", "two-labels", "blanks"])
+        for name, listed in (("400,000 words like those of a language", "words"), ("400,000 words of random letters", "random")):
+            apart(pad, folder, program, listed)
+            measure(folder, f"`check` of {name}, padded", [program, "check", listed, "padded"])
+            measure(folder, "`judge` of 1,000 racks of seven blanks by the same", [program, "judge", listed, "padded", "blanks"])
+            measure(folder, "`judge` of 1,000 full racks by the same", [program, "judge", listed, "padded", "full"])
+            measure(folder, "`top` of seven blanks by the same", [program, "top", listed, "padded", "none", "???????"])
+            measure(folder, "`judge` of 500 full racks with two blanks by the same", [program, "judge", listed, "padded", "two-blanks"])
 
 
 if __name__ == "__main__":

@@ -2,32 +2,23 @@
 
 Each line tells the processor time of both, the least of so many runs, and how many times faster the second is. A turn is the difference
 of a record with racks to the same record without, over its number of turns, so that reading and checking the lexicon do not count. The
-records have passes of one player with a rack, behind the first 21 events of the example game or on an empty board, by rules with four
-blanks. `top` is the difference to the check of its list and lexicon. With the word `hostile` behind, 500 full racks with two blanks by
+records have passes of one player with a rack, after the first 21 events of the example game or on an empty board, by rules with four
+blanks. `top` is the difference to the check of its list and lexicon. With the word `hostile` as the last one, 500 full racks with two blanks by
 both lists of `hostile.py` come last, the time of the whole process.
 
 It stops where a run ends with an error, since a record that is refused has no best plays, and where the programs write what differs. A
 line is marked where the difference of either program is below a tenth of what it was taken from: the machine is then too noisy for it.
 """
-import os
 import subprocess
 import sys
 import tempfile
 from pathlib import Path
 
 from hostile import padded, turns
+from running import run
 
 HERE = Path(__file__).parent
 RACKS = (("AEINRST", 480), ("AEINRS?", 100), ("AEINR??", 40))
-
-
-def run(folder, words):
-    """What a run wrote, and its processor time."""
-    with open(Path(folder, "told"), "wb") as sink:
-        process = subprocess.Popen(words, cwd=folder, stdout=sink, stderr=sink)
-        _, status, used = os.wait4(process.pid, 0)
-        process.returncode = os.waitstatus_to_exitcode(status)
-    return (process.returncode, Path(folder, "told").read_bytes()), used.ru_utime + used.ru_stime
 
 
 def least(folder, programs, runs, cases):
@@ -37,11 +28,11 @@ def least(folder, programs, runs, cases):
         for case, words in enumerate(cases):
             told = []
             for it, program in enumerate(programs):
-                (status, text), took = run(folder, [program, *words])
-                if status:
-                    sys.exit(f"{program} {' '.join(words)} ended with {status}: {text[:200]!r}")
-                told.append(text)
-                times[case][it] = min(times[case][it], took)
+                ran = run(folder, [program, *words])
+                if ran.status:
+                    sys.exit(f"{program} {' '.join(words)} ended with {ran.status}: {ran.said[:200]!r}")
+                told.append(ran.said)
+                times[case][it] = min(times[case][it], ran.processor)
             if told[0] != told[1]:
                 sys.exit(f"{' '.join(words)} is answered in two ways")
     return times
@@ -69,7 +60,7 @@ def four_blanks():
 
 
 def passes(head, totals, number, rack):
-    """A record with so many passes of each player behind it, the first of whom has a rack."""
+    """A record with so many passes of each player after it, the first of whom has a rack."""
     pair = f">Ann: {rack}- +0 {totals[0]}\n>Bob: - +0 {totals[1]}\n"
     return head + pair * number
 
@@ -77,10 +68,18 @@ def passes(head, totals, number, rack):
 def main():
     programs, runs = [str(Path(it).resolve()) for it in sys.argv[1:3]], int((sys.argv + ["3"] * 4)[3])
     with tempfile.TemporaryDirectory() as folder:
-        put = lambda name, data: Path(folder, name).write_bytes(data if isinstance(data, bytes) else data.encode())
-        made = lambda script: subprocess.run(["awk", "-f", HERE / script], check=True, capture_output=True).stdout.splitlines(True)
-        build = lambda words, file: subprocess.run([programs[1], "build", words, file], cwd=folder, check=True)
-        measured = lambda *cases: least(folder, programs, runs, cases)
+        def put(name, data):
+            return Path(folder, name).write_bytes(data if isinstance(data, bytes) else data.encode())
+
+        def made(script):
+            return subprocess.run(["awk", "-f", HERE / script], check=True, capture_output=True).stdout.splitlines(True)
+
+        def build(words, file):
+            return subprocess.run([programs[1], "build", words, file], cwd=folder, check=True)
+
+        def measured(*cases):
+            return least(folder, programs, runs, cases)
+
         game, examples = (HERE / "../examples/game.gcg").read_text(), (HERE / "../examples/words.txt").read_bytes().splitlines(True)
         language, random = made("dictionary.awk"), made("inputs.awk")
         put("words", b"".join(sorted({*examples, *(word for at, word in enumerate(language, 1) if at % 150)})))

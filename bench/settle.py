@@ -4,42 +4,39 @@ Both are run in turn on games that were dealt for real, with exchanges, and the 
 `judge` leaves a game open it writes no report, so there the report of the game is part of what `--settle` takes. Then come records of
 1,000 events by a set of 200 tiles, more than nine in ten of them exchanges, as they were dealt and with one rack spoiled.
 """
-import os
 import random
-import subprocess
 import sys
 import tempfile
 from collections import Counter
 from dataclasses import replace
 from pathlib import Path
 
-sys.path.append(str(Path(__file__).parent.parent / "oracle"))
+sys.path.extend(str(Path(__file__).resolve().parents[1] / "oracle" / folder) for folder in ("judge", "generators"))
 
 from dealing import Dealer, line, spoiled
 from lexicons import build
 from rules import ENGLISH
 from rules_texts import text_of
 
+from running import run
+
 BOTH = ("known", "unknown")
 TWO_SETS = replace(ENGLISH, tiles=Counter({tile: 2 * count for tile, count in ENGLISH.tiles.items()}), exchange_min=1, zero_limit=99)
 
 
-def run(folder, words):
-    """The first line of what a run told, and its processor time in milliseconds."""
-    with open(Path(folder, "told"), "wb") as sink:
-        process = subprocess.Popen(words, cwd=folder, stdout=sink, stderr=subprocess.DEVNULL)
-        _, _, used = os.wait4(process.pid, 0)
-        process.returncode = 0
-    return Path(folder, "told").read_text().split("\n")[0], (used.ru_utime + used.ru_stime) * 1000
+def timed(folder, words):
+    """The first line of what a run said, and its processor time in milliseconds."""
+    ran = run(folder, words, errors=False)
+    return ran.said.decode().split("\n")[0], ran.processor * 1000
 
 
 def both(folder, program, runs=5):
-    """What `judge` told, and the least times of it and of `judge --settle`."""
+    """What `judge` printed, and the least times of it and of `judge --settle`."""
     files, times, told = ["words", "lexicon", "game"], [[], []], ""
     for _ in range(runs):
-        told, took = run(folder, [program, "judge", *files])
+        told, took = timed(folder, [program, "judge", *files])
         times[0].append(took)
-        times[1].append(run(folder, [program, "judge", "--settle", *files])[1])
+        times[1].append(timed(folder, [program, "judge", "--settle", *files])[1])
     return told, min(times[0]), min(times[1])
 
 
@@ -80,7 +77,7 @@ def longest(folder, program, games):
             slowest = {}
             for number in range(20):
                 put(folder, spoiled(events, TWO_SETS) or events if number else events, listed)
-                said, took = run(folder, [program, "judge", "--settle", "--rules", "rules", "words", "lexicon", "game"])
+                said, took = timed(folder, [program, "judge", "--settle", "--rules", "rules", "words", "lexicon", "game"])
                 said = said.split(": ")[-1].split(" ")[0] if number else f"as dealt, {said}"
                 slowest[said] = max(took, slowest.get(said, 0))
             print(f"1,000 events, racks {style}:", ", ".join(f"{said} {took:.0f} ms" for said, took in slowest.items()), flush=True)

@@ -55,7 +55,7 @@ def part_of(words, folder):
 
 
 def look(seen):
-    """Looks at all processes once. One that is told as the rest may still become one of the prover."""
+    """Looks at all processes once. One that is counted as the rest may still become one of the prover."""
     processes = all_processes()
     for pid, (key, _, seconds, words, folder) in processes.items():
         if key not in seen or seen[key][3] == "rest":

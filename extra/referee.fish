@@ -7,7 +7,7 @@ function __referee_words
     for word in (commandline -opc)[2..-1]
         if test -n "$passed"
             set passed
-        else if contains -- $word --rules --names --skip --pages --corrected --top --number --before
+        else if contains -- $word --rules --names --skip --pages --corrected --number --repaired --top --before
             set passed yes
         else if not string match -qr -- '^-.' $word
             echo $word
@@ -39,6 +39,7 @@ complete -c referee -n __referee_none -f -a archive -d 'Judges many games as jud
 complete -c referee -n __referee_none -f -a index -d 'Writes the index of the pages of one run of archive, or of many'
 complete -c referee -n __referee_none -f -a audit -d 'Prints every wrong score and sum of a sheet, and can write the corrected record'
 complete -c referee -n __referee_none -f -a explain -d 'Explains the verdict on a game, or one of its lines, in plain words'
+complete -c referee -n __referee_none -f -a repair -d 'Lists the single changes of a faulty record after which it is a game, the likeliest first'
 complete -c referee -n __referee_none -f -a page -d 'Writes a game as a web page: its verdict, its board and its sheet'
 complete -c referee -n __referee_none -f -a annotate -d 'Writes a record with a note after each turn: the best play, and how many points more it gives'
 complete -c referee -n __referee_none -f -a build -d 'Writes the compiled lexicon of a word list'
@@ -83,6 +84,13 @@ complete -c referee -n '__referee_command explain' -l skip-others -d 'pass over 
 complete -c referee -n '__referee_command explain' -l rules -r -F -d 'the rules text; without it the rules are the English ones'
 complete -c referee -n '__referee_command explain' -s h -l help -d 'Print help'
 complete -c referee -n '__referee_argument explain 4' -f -d 'LINE'
+complete -c referee -n '__referee_command repair' -l number -x -d 'how many repairs are listed, 1 to 100; 10 without it'
+complete -c referee -n '__referee_command repair' -l repaired -r -F -d 'write the sheet with the first repair to this file, where it is ahead of the second by a number; - is standard output'
+complete -c referee -n '__referee_command repair' -l json -d 'write the answer as a JSON object'
+complete -c referee -n '__referee_command repair' -l first-field -d 'read the first field of each line of WORDS, and ignore lines that begin with #'
+complete -c referee -n '__referee_command repair' -l skip-others -d 'pass over the lines of WORDS that are no words of 2 to 15 letters'
+complete -c referee -n '__referee_command repair' -l rules -r -F -d 'the rules text; without it the rules are the English ones'
+complete -c referee -n '__referee_command repair' -s h -l help -d 'Print help'
 complete -c referee -n '__referee_command page' -l first-field -d 'read the first field of each line of WORDS, and ignore lines that begin with #'
 complete -c referee -n '__referee_command page' -l skip-others -d 'pass over the lines of WORDS that are no words of 2 to 15 letters'
 complete -c referee -n '__referee_command page' -l rules -r -F -d 'the rules text; without it the rules are the English ones'
@@ -125,4 +133,4 @@ complete -c referee -n '__referee_command serve' -l rules -r -F -d 'the rules te
 complete -c referee -n '__referee_command serve' -s h -l help -d 'Print help'
 complete -c referee -n '__referee_command rules' -s h -l help -d 'Print help'
 complete -c referee -n '__referee_command rules' -f
-complete -c referee -n '__referee_argument help 1 more' -f -a 'judge archive index audit explain page annotate build check word convert top tidy board serve rules help' -d 'COMMAND'
+complete -c referee -n '__referee_argument help 1 more' -f -a 'judge archive index audit explain repair page annotate build check word convert top tidy board serve rules help' -d 'COMMAND'

@@ -21,7 +21,7 @@ import time
 
 
 class RefereeError(Exception):
-    """A request without an answer of the usual kind. `answer` is the object that tells why, where there is one."""
+    """A request without an answer of the usual kind. `answer` is the object that says why, if there is one."""
 
     status = None
 

@@ -1,11 +1,11 @@
 #!/usr/bin/env bash
-# Tries the program beside the second judge, in a few minutes: oracle/gate.sh [PROGRAM [TESTS [PROBE [CHANGES]]]]
+# Compares the program with the second judge, in a few minutes: oracle/gate.sh [PROGRAM [TESTS [PROBE [CHANGES]]]]
 #
 # PROGRAM is crates/referee/out/referee, TESTS is crates/hostile_tests/out/hostile_tests_tests, PROBE, which shows what settles a record,
 # is crates/settle_probe/out/settle_probe, and CHANGES, which shows the single changes of a record, is crates/change_probe/out/change_probe,
-# all as `rt ci` leaves them, unless others are named. Each part is stopped after ten minutes, and has failed then; where a part fails, the end of what it said follows its
+# all as `rt ci` leaves them, unless others are named. Each part is stopped after ten minutes, and has failed then; if a part fails, the end of what it said follows its
 # line. Random inputs are drawn from the date, so that each day tries others; with SEED=20270131 in front they are those of that day.
-# The last line is 'N passed, M failed', and the exit status is 0 where nothing failed.
+# The last line is 'N passed, M failed', and the exit status is 0 if nothing failed.
 set -u
 cd "$(dirname "$0")/.." || exit 2
 program=$(realpath -m "${1:-crates/referee/out/referee}")
@@ -53,6 +53,7 @@ archive_scripts 30
 compare_audits 60
 compare_objects 30
 compare_explains 60
+compare_repairs 2
 compare_pages 40
 compare_annotations 40
 compare_serve 20
@@ -83,6 +84,7 @@ try_best 10
 try_deals 10
 try_lexicons 200
 try_rules 100
+repair_rows 20
 END
 if command -v cc > /dev/null; then
     [ ! -x "$program" ] || part whole_files "$program" 200 "$seed"

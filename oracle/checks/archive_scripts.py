@@ -20,7 +20,7 @@ DOCUMENT = Path(__file__).resolve().parents[2] / "docs" / "ARCHIVE.md"
 
 
 def scripts():
-    """The scripts of the document, by the headings that they stand under."""
+    """The scripts of the document, by the headings that they are under."""
     found = {}
     for section in re.split("^## ", DOCUMENT.read_text(), flags=re.M)[1:]:
         found[section.split("\n")[0]] = re.findall("^```sh\n(.*?)^```$", section, flags=re.M | re.S)
@@ -28,7 +28,7 @@ def scripts():
 
 
 def make_archive(folder, count):
-    """Games with a list, and beside them files that are none. Gives what has to be said of each name."""
+    """Games with a list, and with them files that are none. Gives what has to be said of each name."""
     games, listed, phonies = [], set(), set()
     while len(games) < count:
         dealer = Dealer(ENGLISH, random.choice([8, 25, 40]), random.choice([(), ("known", "unknown")]), "one")

@@ -10,7 +10,6 @@ import os
 import random
 import re
 import signal
-import subprocess
 import sys
 import tempfile
 import threading
@@ -33,7 +32,7 @@ WRONG = ">A: DORWAAE 8E WORD +16 18\n>B: - +0 0\n"
 
 
 class Client(Differences):
-    """A client beside the commands."""
+    """A client, compared with the commands."""
 
     def raised(self, kind, ask, *what):
         """That a call raises this kind of exception, which is given back."""

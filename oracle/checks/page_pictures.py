@@ -2,7 +2,7 @@
 
 The pages are those of `page_samples.py`, and of a game of 1,000 events. Each is taken 360 and 1,200 pixels wide, in light and in dark, as it is
 opened and at the tenth position, to which the links lead: `Go through the game`, and nine times `next`. It says how many pages each has on paper, and
-which text has too little contrast with what is behind it where it stands. With a third word `docs` only the pictures of README.md and docs/ARCHIVE.md
+which text has too little contrast with what is behind it. With a third word `docs` only the pictures of README.md and docs/ARCHIVE.md
 are made, in few colours, by `pngquant`. It needs the packages chromium, chromium-driver and python3-selenium, and the Python that they are for.
 """
 import base64

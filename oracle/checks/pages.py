@@ -51,7 +51,7 @@ def blocks_of(text):
 
 
 def commands_of(lines):
-    """The commands of a console and the lines behind each."""
+    """The commands of a console and the lines after each."""
     found = []
     for line in lines:
         if line.startswith("$ "):

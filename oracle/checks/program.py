@@ -215,7 +215,7 @@ TEXTS = {
 
 
 def changes_of(file, front, *rows):
-    """Changes of a lexicon: for each row the place and the bytes that stand there instead, and the line that tells it, by name."""
+    """Changes of a lexicon: for each row the place and the bytes that are there instead, and the line that says so, by name."""
     told = {}
     for name, place, part, line in (row.split(" ", 3) for row in rows):
         place, part = int(place), bytes.fromhex(part)
@@ -242,7 +242,7 @@ CHANGED = {  # the lexicon of AT with one change, and the line that tells it
     "masks-length": (AT_MASKS + bytes(4), "Length"),
     "fan": (FAN, "Missing A+T"),
 }
-# What is wrong with a lexicon only beside its list, so that it is converted all the same.
+# What is wrong with a lexicon only with its list, so that it is converted all the same.
 OF_LIST = ("extra", "count", "other", "masks-extra", "fan")
 
 
@@ -322,11 +322,11 @@ def told_of(name, text):
     return [name, *(field.replace("_", " ") for field in text.split())]
 
 
-OF_A_GAME = ("judge", "top", "tidy", "board", "audit", "explain", "page", "annotate")
+OF_A_GAME = ("judge", "top", "tidy", "board", "audit", "explain", "repair", "page", "annotate")
 
 
 def advised(words, out, stdin):
-    """What standard error gets beside an answer about a file that is no game, by the name of the file."""
+    """What standard error gets in addition to an answer about a file that is no game, by the name of the file."""
     behind = [words[k + 1 :] for k, it in enumerate(words) if it.endswith(".gad")]
     names = words[1:] if words[:1] == ["tidy"] or words[:1] == ["board"] else behind[0][:1] if behind else []
     game = next((it for it in names if it in NO_EVENT or it in BAD), None)
@@ -349,7 +349,7 @@ class Runner:
 
     def row(self, words, status, out="", error=ADVISED, stdin="", wrote=None, stdout=None, room=None):
         """One command line; `out` or `error` None asks for some text, `wrote` is what the file `out` has then. Where nothing is said of `error`,
-        it is what the second judge says beside the line of a bad input or of a file that is no game, and else nothing."""
+        it is what the second judge says in addition to the line of a bad input or of a file that is no game, and else nothing."""
         if error is ADVISED:
             line = (wrote or b"") if words[0] in ("build", "convert") else (out or "").encode()
             hint = beside(words, line, self.folder, stdin.encode()).decode().removesuffix("\n") if status == 3 else ""
@@ -392,7 +392,10 @@ def judged(run):
     """`judge`, by its verdicts."""
     run.row(["build", "word", "word.gad"], 0)
     run.row(["build", "word-at-ra", "word-at-ra.gad"], 0)
-    by_word = lambda game, status, out: run.row(["judge", "word", "word.gad", game], status, out)
+
+    def by_word(game, status, out):
+        return run.row(["judge", "word", "word.gad", game], status, out)
+
     for row in BY_WORD:
         by_word(*row)
     for game in ("nothing", "page", "full-game", "plain", "indented", "utf-16", "returns", "gzip", "zip", "at.gad", "at-masks.gad"):
@@ -412,7 +415,10 @@ def judged(run):
     by_word("turn", 1, "illegal line 2: NotYourTurn\n")
     by_word("third", 3, "bad record line 3: ThirdPlayer\n")
     by_word("long-game", 3, "bad record: TooLong\n")
-    listed = lambda game, out: run.row(["judge", "word-at-ra", "word-at-ra.gad", game], 0, out)
+
+    def listed(game, out):
+        return run.row(["judge", "word-at-ra", "word-at-ra.gad", game], 0, out)
+
     laid = "legal unfinished\n1 A 8E WORD +16 16 best 8E WORD 16\n2 B 9G AT +9 9 best -"
     back = "3 B -- -9 0\n4 A 9G AT +9 25 best - unlisted DT\n"
     listed("unlisted", f"{laid} unlisted DT\n")
@@ -436,7 +442,10 @@ def judged(run):
 
 def settled(run):
     """`judge --settle`: as `judge`, but where that says `unsettled`."""
-    by_word = lambda game, status, out: run.row(["judge", "--settle", "word", "word.gad", game], status, out)
+
+    def by_word(game, status, out):
+        return run.row(["judge", "--settle", "word", "word.gad", game], status, out)
+
     for row in BY_WORD:
         by_word(*row)
     by_word("one-q", 1, "illegal line 3: NoDeal\n")
@@ -565,7 +574,10 @@ def ruled(run):
     """`judge` and `top` by a rules text."""
     run.row(["build", "word", "word.gad"], 0)
     run.row(["build", "retains", "retains.gad"], 0)
-    by_at = lambda rules, game, status, out: run.row(["judge", "--rules", f"{rules}.rules", "at", "at.gad", game], status, out)
+
+    def by_at(rules, game, status, out):
+        return run.row(["judge", "--rules", f"{rules}.rules", "at", "at.gad", game], status, out)
+
     by_at("two-sets", "blanks", 0, "legal unfinished\n1 A - +0 0 best -\n2 B - +0 0 best -\n")
     by_at("two-sets", "four-blanks", 1, "illegal line 2: TilesShort ?\n")
     by_at("english", "blanks", 1, "illegal line 2: TilesShort ?\n")
@@ -586,7 +598,10 @@ def ruled(run):
     told = "legal unfinished\n1 A 8E WORD +16 16 best 8E WORD 16\n"
     for rules in ("english", "dressed", "two-sets"):
         run.row(["judge", "--rules", f"{rules}.rules", "word", "word.gad", "line"], 0, told)
-    by_retains = lambda rules, game, status, out: run.row(["judge", "--rules", f"{rules}.rules", "retains", "retains.gad", game], status, out)
+
+    def by_retains(rules, game, status, out):
+        return run.row(["judge", "--rules", f"{rules}.rules", "retains", "retains.gad", game], status, out)
+
     by_retains("fourteen", "goes-out", 0, "legal complete\n1 A 8D RETAINS +66 66 best 8B RETAINS 66\n2 A (ADEORTW) +22 88\n")
     by_retains("bonus-35", "goes-out", 1, "illegal line 1: WrongScore 51\n")
     by_retains("bonus-35", "seven", 0, "legal unfinished\n1 A - +0 0 best 8B RETAINS 51\n")
@@ -611,7 +626,7 @@ def ruled_tops(run):
 
 
 def ruled_lines(run):
-    """Where the option stands, and the file that it names: it is opened first, and read first."""
+    """Where the option is, and the file that it names: it is opened first, and read first."""
     names, told = ["word", "word.gad", "line"], "legal unfinished\n1 A 8E WORD +16 16 best 8E WORD 16\n"
     for words in (["--rules", "english.rules", *names], [*names, "--rules", "english.rules"], ["--rules=english.rules", *names]):
         run.row(["judge", *words], 0, told)
@@ -620,7 +635,7 @@ def ruled_lines(run):
     run.row(["judge", "--rules", "nowhere", "elsewhere", "at.gad", "line"], 4, error="referee: cannot open nowhere: no such file")
     run.row(["judge", "--rules", "tiles.rules", "elsewhere", "at.gad", "line"], 4, error="referee: cannot open elsewhere: no such file")
     run.row(["judge", "--rules", "folder", "digit", "at.gad", "line"], 4, error="referee: read failed: folder: is a folder")
-    # What stands behind a bad rules text is not read.
+    # What comes after a bad rules text is not read.
     run.row(["judge", "--rules", "tiles.rules", "folder", "folder", "folder"], 3, "bad rules line 1: Unknown\n")
     run.row(["judge", "--rules", "english.rules", "digit", "folder", "folder"], 3, "bad word list line 2: BadLetter\n")
     twice = ["--rules", "english.rules", "--rules", "english.rules"]
@@ -633,7 +648,10 @@ def ruled_lines(run):
 
 def topped(run):
     """`top`, by its verdicts."""
-    by_at = lambda game, rack, status, out: run.row(["top", "at", "at.gad", game, rack], status, out)
+
+    def by_at(game, rack, status, out):
+        return run.row(["top", "at", "at.gad", game, rack], status, out)
+
     by_at("nothing", "?A", 0, "8G At 2\n8H At 2\nH7 At 2\nH8 At 2\n")
     ten = "8G AT 4\n8H AT 4\nH7 AT 4\nH8 AT 4\n8G At 2\n8G aT 2\n8H At 2\n8H aT 2\nH7 At 2\nH7 aT 2\n"
     by_at("nothing", "AT?", 0, ten)
@@ -648,7 +666,7 @@ def topped(run):
     run.row(["top", "nothing", "nothing.gad", "nothing", "A"], 0, "none\n")
     run.row(["top", "digit", "extra.gad", "number", "A"], 3, "bad word list line 2: BadLetter\n")
     run.row(["top", "at", "extra.gad", "number", "A"], 3, "bad lexicon: Extra A\n")
-    # The files are opened before the rack is looked at, and none is read behind a rack that is none.
+    # The files are opened before the rack is looked at, and none is read after a rack that is none.
     run.row(["top", "at", "at.gad", "nowhere", "A1"], 4, error="referee: cannot open nowhere: no such file")
     run.row(["top", "folder", "folder", "folder", "A1"], 3, "bad rack\n")
     run.row(["top", "at", "at.gad", "folder", "A"], 4, error="referee: read failed: folder: is a folder")
@@ -657,7 +675,10 @@ def topped(run):
 def topped_before(run):
     """`top` with a number and before a line; the rack is that of the line where none is given."""
     four = "8G AT 4\n8H AT 4\nH7 AT 4\nH8 AT 4\n"
-    by_at = lambda words, status, out: run.row(["top", *words[:-1], "at", "at.gad", *words[-1].split()], status, out)
+
+    def by_at(words, status, out):
+        return run.row(["top", *words[:-1], "at", "at.gad", *words[-1].split()], status, out)
+
     by_at(["--number", "3", "nothing AT?"], 0, "8G AT 4\n8H AT 4\nH7 AT 4\n")
     twelve = four + "8G At 2\n8G aT 2\n8H At 2\n8H aT 2\nH7 At 2\nH7 aT 2\nH8 At 2\nH8 aT 2\n"
     for number in ("12", "13", "100"):
@@ -899,7 +920,7 @@ def boarded(run):
     for line in ("2", "4294967295"):
         run.row(["board", "line", "--before", line], 3, "bad line: no event is on it or after it\n")
     run.row(["board", "--before", "1", "nothing"], 3, "bad line: no event is on it or after it\n")
-    # A play is on the board before its withdrawal, and off it behind.
+    # A play is on the board before its withdrawal, and off it after.
     tried = board_of("before line 3", "A 16\nB 9\nrack ZZZZZZZ\n", ROW_OF_WORD, ROW_OF_AT, *WITHOUT_AT)
     run.row(["board", "--before", "3", "withdrawn"], 0, tried.replace("rack ZZZZZZZ", "rack AT"))
     run.row(["board", "--before", "3", "not-judged"], 0, tried)
@@ -1138,7 +1159,7 @@ def archived_again(run):
 
 
 def archived_lines(run):
-    """Each line goes out before the next game is read, and the progress is told every hundred games."""
+    """Each line goes out before the next game is read, and the progress is shown every hundred games."""
     Path(run.folder, "names").write_text("line\n" * 250)
     ran = subprocess.run([run.program, "archive", "--progress", "--names", "names", "word", "word.gad"], cwd=run.folder, capture_output=True, check=False)
     run.expect("the progress", ran.stderr.decode() == "".join(f"games done: {count}\n" for count in (100, 200, 250)))
@@ -1269,11 +1290,46 @@ def picture_of(line, play, *changes):
     return changed(f"board before line {line}{', the squares of the play in brackets' if play else ''}\n{SQUARES}", changes)
 
 
+def repairs_listed(run):
+    """`repair`, by its statuses; what it tells of illegal records is compared with the second judge by `compare_repairs`."""
+    run.row(["build", "word", "word.gad"], 0)
+    told = ["repair", "word", "word.gad"]
+    for game, out in (("line", "legal unfinished\n"), ("untidy", "legal unfinished\n"), ("ends", "legal complete\n")):
+        run.row([*told, game], 0, out)
+        run.row([*told, "--repaired", "out", game], 0, f"{out}not written: there is nothing to repair\n")
+    run.row([*told, "-"], 0, "legal unfinished\n", stdin=WORD)
+    for game in ("nothing", "page"):
+        run.row([*told, game], 3, "no game\n")
+    for words, out in [
+        (["digit", "word.gad", "line"], "bad word list line 2: BadLetter\n"),
+        (["at", "extra.gad", "line"], "bad lexicon: Extra A\n"),
+        (["word", "word.gad", "third"], "bad record line 3: ThirdPlayer\n"),
+        (["--rules", "tiles.rules", "word", "word.gad", "line"], "bad rules line 1: Unknown\n"),
+    ]:
+        Path(run.folder, "out").write_bytes(b"as it was")
+        run.row(["repair", "--repaired", "out", *words], 3, out, wrote=b"as it was")
+    at = ">B: AT 9G AT +9 9\n"
+    Path(run.folder, "twice").write_text(WORD + at + at)
+    run.row(["build", "word-at-ra", "word-at-ra.gad"], 0)
+    twice = ["word-at-ra", "word-at-ra.gad", "twice"]
+    found = "illegal line 3: NotYourTurn\nline 3: it repeats the line before it and should not be there\n  4 of 4 numbers right\n"
+    run.row(["repair", "--number", "1", *twice], 1, found + "  not in the list: DT\n")
+    run.row(["repair", "--number", "1", "--repaired", "out", *twice], 1, found + "  not in the list: DT\n", wrote=(WORD + at).encode())
+    run.row([*told, "nowhere"], 4, error="referee: cannot open nowhere: no such file")
+    run.row(["repair", "word", "folder", "line"], 4, error="referee: read failed: folder: is a folder")
+    run.row(["repair", "--repaired", "no/where", *twice], 4, error="referee: cannot open no/where: no such file")
+    for words in ([], ["line", "line"], ["--number", "0", "line"], ["--number", "101", "line"], ["--number", "x", "line"], ["--json", "--repaired", "out", "line"]):
+        run.row([*told, *words], 64, error=None)
+
+
 def explained(run):
     """`explain`, by the verdict and by the line that is named."""
     run.row(["build", "word", "word.gad"], 0)
     run.row(["build", "word-at-ra", "word-at-ra.gad"], 0)
-    told = lambda game, status, out, *line: run.row(["explain", "word", "word.gad", game, *line], status, out)
+
+    def told(game, status, out, *line):
+        return run.row(["explain", "word", "word.gad", game, *line], status, out)
+
     told("line", 0, f"legal unfinished\n{STANDS}")
     told("ends", 0, f"legal complete\n{HIDDEN}")
     for line in ([], ["0"], ["1"]):
@@ -1343,7 +1399,7 @@ def explained(run):
 
 
 def paged(run):
-    """`page`: the verdict line, and what stands on the page."""
+    """`page`: the verdict line, and what is on the page."""
     run.row(["build", "word", "word.gad"], 0)
     out = Path(run.folder, "out")
     for game, status, verdict in [("line", 0, "legal unfinished"), ("ends", 0, "legal complete"), ("line-18", 1, "illegal line 1: WrongScore 16"), ("turn", 1, "illegal line 2: NotYourTurn")]:
@@ -1438,7 +1494,7 @@ def broken(run):
     run.row(["tidy", "folder"], 4, error="referee: read failed: folder: is a folder")
     Path(run.folder, "out").write_text("something")
     run.row(["build", "folder", "out"], 4, error="referee: read failed: folder: is a folder", wrote=b"something")
-    # What stands behind a bad word list or a bad lexicon is not read.
+    # What comes after a bad word list or a bad lexicon is not read.
     run.row(["judge", "digit", "folder", "folder"], 3, "bad word list line 2: BadLetter\n")
     run.row(["judge", "at", "extra.gad", "folder"], 3, "bad lexicon: Extra A\n")
     run.row(["check", "digit", "folder"], 3, "bad word list line 2: BadLetter\n")
@@ -1528,7 +1584,7 @@ def overwritten(run):
 
 
 def hinted(run):
-    """What standard error says beside the line of a fault, by every command that has such a line."""
+    """What standard error says in addition to the line of a fault, by every command that has such a line."""
     rack = "tiles are A to Z, and ? for a blank"
     for named, told in [
         ("", "the rack has no tile, and a rack has 1 to 7"),
@@ -1551,7 +1607,10 @@ def hinted(run):
         "late": (ENGLISH_RULES.replace("time_step 5", "time_step 100"), "Limits", "time_step is 100 in the rules text, and may be 1 to 99"),
     }
     judging = (["judge"], ["judge", "--settle"], ["explain"], ["audit"], ["archive"], ["top"], ["page"])
-    behind = lambda command: {"top": ["A"], "page": ["out"]}.get(command[0], [])
+
+    def behind(command):
+        return {"top": ["A"], "page": ["out"]}.get(command[0], [])
+
     for name, (text, why, told) in texts.items():
         Path(run.folder, f"{name}.rules").write_text(text)
         for command in judging:
@@ -1602,7 +1661,10 @@ def in_json(run):
     both = f'[{player % (chr(34) + "A" + chr(34), "null")},{player % ("null", "null")}]'
     wrong = f'{start}"word":null,"tiles":null,"number":null,"score":18,"total":18,"turn":null,"best":null,"unlisted":null}}'
     run.row(["judge", "--json", "word", "word.gad", "line-18"], 1, f'{head}{both},"events":[{wrong}]}}\n')
-    told = lambda words: json.loads(subprocess.run([run.program, *words], cwd=run.folder, capture_output=True, check=False).stdout)
+
+    def told(words):
+        return json.loads(subprocess.run([run.program, *words], cwd=run.folder, capture_output=True, check=False).stdout)
+
     game = told(["judge", "--json", "word-at-ra", "word-at-ra.gad", "withdrawn"])
     run.expect("the tiles of a play and of its withdrawal", [event["tiles"] for event in game["events"]] == ["WORD", "AT", "AT", "AT"])
     run.expect("the words that are not listed", [event["unlisted"] for event in game["events"]] == [[], [], [], ["DT"]])
@@ -1702,7 +1764,7 @@ def helped(run):
     run.row(["rules"], 0, ENGLISH_RULES)
     for words in (["help"], ["--help"], ["-h"], ["judge", "--help"], ["judge", "-h"], ["help", "help"]):
         run.row(words, 0, None)
-    for command in ("judge", "archive", "audit", "explain", "page", "board", "build", "check", "word", "convert", "top", "tidy", "serve", "rules"):
+    for command in ("judge", "archive", "audit", "explain", "repair", "page", "board", "build", "check", "word", "convert", "top", "tidy", "serve", "rules"):
         run.row(["help", command], 0, None)
         run.row([command, "--help"], 0, None)
     if os.path.exists("/dev/full"):
@@ -1733,7 +1795,7 @@ def main():
     with tempfile.TemporaryDirectory() as folder:
         files(folder)
         run = Runner(os.path.abspath(sys.argv[1]), folder)
-        for part in (judged, settled, built_and_checked, converted, topped, topped_before, ruled, tidied, boarded, widest, from_standard_input, fielded, skipped, words_ruled, archived, served, audited, explained, paged, annotated, in_json, put_out, overwritten, hinted, broken, helped, misused):
+        for part in (judged, settled, built_and_checked, converted, topped, topped_before, ruled, tidied, boarded, widest, from_standard_input, fielded, skipped, words_ruled, archived, served, audited, repairs_listed, explained, paged, annotated, in_json, put_out, overwritten, hinted, broken, helped, misused):
             part(run)
         if sys.argv[2:] == ["large"]:
             converted_large(run)

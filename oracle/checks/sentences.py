@@ -1,7 +1,7 @@
 """Holds the sentences that docs/FAULTS.md shows against what `explain` prints: sentences PROGRAM
 
 Each row of the table under "What `explain` says" has a fault and what is said of its example. A record of that fault is made here, and the program
-has to print the fault and, behind the line, the sentences. Every fault of the tables for records, rules and racks has to have a row.
+has to print the fault and, after the line, the sentences. Every fault of the tables for records, rules and racks has to have a row.
 """
 import re
 import subprocess

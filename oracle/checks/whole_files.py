@@ -148,7 +148,7 @@ class Breaker:
         return [(self.folder / it).read_bytes() if (self.folder / it).exists() else None for it in outs]
 
     def left(self):
-        """Removes the files that a run left beside those that it writes, and tells their names."""
+        """Removes the files that a run left next to those that it writes, and gives their names."""
         names = list(self.folder.glob("**/.referee-*"))
         for it in names:
             it.unlink()
@@ -162,7 +162,7 @@ class Breaker:
         return (ran.returncode, ran.stdout, ran.stderr), self.mark.exists()
 
     def expect(self, good, *what):
-        """Tells what is not as it has to be."""
+        """Says what is not as it has to be."""
         if not good:
             self.wrong += 1
             print(*(str(it)[:300] for it in what), sep="\n  ")

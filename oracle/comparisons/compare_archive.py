@@ -69,7 +69,7 @@ class Archives(Differences):
         (self.folder / "folder").mkdir()
 
     def write(self, games, listed, rules):
-        """Writes the inputs of a run, and tells the lines of which one has to be said of each name."""
+        """Writes the inputs of a run, and gives the lines of which one has to be said of each name."""
         (self.folder / "words").write_text("\n".join(sorted(listed)))
         (self.folder / "lexicon").write_bytes(choose([build(listed), convert(build(listed), GAD2)]))
         (self.folder / "rules").write_bytes(text_of(rules))

@@ -28,7 +28,7 @@ def shifted(events, place, by):
 
 
 def with_wrong_score(events):
-    """One score that the rules do not give, carried on in the totals; and what is to be told of it."""
+    """One score that the rules do not give, carried on in the totals; and what is to be said of it."""
     places = [k for k, it in enumerate(events) if it.kind in RULED and (k + 1 == len(events) or events[k + 1].kind != "withdraw")]
     place, by = choose(places), choose([-50, -10, -5, -1, 1, 2, 5, 9, 10, 50])
     event = events[place]
@@ -38,7 +38,7 @@ def with_wrong_score(events):
 
 
 def with_wrong_sum(events, right, but=None):
-    """One total that is not the sum, carried on; and what is to be told of it, beside the right events."""
+    """One total that is not the sum, carried on; and what is to be said of it, with the right events."""
     place, by = choose([k for k in range(len(events)) if k != but]), choose([-100, -10, -1, 1, 9, 10, 100])
     event = events[place]
     other = "" if right[place].total == event.total else f"; on the corrected sheet {right[place].total}"
@@ -96,7 +96,7 @@ class Sheets(Differences):
     """Sheets with mistakes."""
 
     def write(self, events, listed, rules, text=None):
-        """Writes the inputs of a run, and tells its options."""
+        """Writes the inputs of a run, and gives its options."""
         (self.folder / "words").write_text("\n".join(sorted(listed)))
         (self.folder / "lexicon").write_bytes(choose([build(listed), convert(build(listed), GAD2)]))
         (self.folder / "rules").write_bytes(text_of(rules))

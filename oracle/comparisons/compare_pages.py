@@ -25,10 +25,13 @@ NAMES = [b"A", b"<b>", b"</td>", b"&amp;", b"\"'", b"x\xff\xfe", b"<script>alert
 
 def worded(game):
     """A record with notes and other words of its own, before its events and between them."""
-    said = lambda: choose([b"", b" ", b"\t"]) + choose(NAMES) + choose([b"", b" and more "])
+
+    def said():
+        return choose([b"", b" ", b"\t"]) + choose(NAMES) + choose([b"", b" and more "])
+
     lines = [choose([b"#title ", b"#event ", b"#lexicon ", b"#description ", b"#title", b"#Title "]) + said() for _ in range(random.randrange(4))]
-    for line in game.split(b"\n"):
-        lines.append(line)
+    for text in game.split(b"\n"):
+        lines.append(text)
         if likely(0.2):
             lines.append(choose([b"#note ", b"#note\t", b"#note ", b"#notes ", b"#note", b"note "]) + said() + choose([b"", b"\r"]))
     return b"\n".join(lines)

@@ -1,7 +1,8 @@
 """Settles really dealt games, such games with a rack spoiled and small records by `settle_probe`, and checks each deal and each
 cut: compare_settlings PROBE CASES SEED. Each real game has to be settled with a deal. Of small records all deals are tried.
 
-The probe is run on many records at once. How many came to which answer is told for each style of record, and the processor time.
+The probe is run on many records at once. How many came to which answer is told for each style of record, and the processor time. The table before the
+last line is that of docs/BENCH.md.
 """
 import random
 import subprocess
@@ -19,7 +20,13 @@ from rules_texts import text_of
 from settlings import is_right, read_told
 from try_deals import some_deal
 
-STYLES = ["whole", "one", "mixed", "part", "none"]
+STYLES = {
+    "whole": "all",
+    "one": "one player's, and for the other the numbers of exchanged tiles",
+    "mixed": "here and there",
+    "part": "in part",
+    "none": "none",
+}
 SHARES = [4, 15, 40]
 BOTH = ("known", "unknown")
 
@@ -58,7 +65,7 @@ def text_from(events):
 
 
 def real_games(probe, cases, style, share, rules=ENGLISH, turns=(40,)):
-    """Really dealt games of one style: each has to be dealt."""
+    """Really dealt games of one style: each has to be dealt. It gives the answers, and the mean and the longest time."""
     games = []
     while len(games) < cases:
         dealer = Dealer(rules, random.choice(turns), BOTH, style, share)
@@ -85,7 +92,7 @@ def real_games(probe, cases, style, share, rules=ENGLISH, turns=(40,)):
     mean, most = sum(times) / len(times), max(times)
     print(f"racks {style}, {share} exchanges in 100 turns: {dict(answers)}, {mean:.3f} ms, at most {most:.1f} ms;"
           f" spoiled {dict(spoilt)}", flush=True)
-    return answers
+    return answers, mean, most
 
 
 def first_without(places, tiles):
@@ -116,7 +123,7 @@ def small_records(probe, cases):
         tiles = Counter(random.choices("AEIRT?", [4, 4, 2, 2, 2, 1], k=random.choice([14, 15, 16])))
         rules = replace(ENGLISH, tiles=tiles, exchange_min=1)
         exchanges = random.choice([("known",), ("unknown",), BOTH])
-        events, _, listed = Dealer(rules, random.choice([2, 3, 4, 5]), exchanges, random.choice(STYLES), 60).game()
+        events, _, listed = Dealer(rules, random.choice([2, 3, 4, 5]), exchanges, random.choice(list(STYLES)), 60).game()
         record = random.choice([events, spoiled(events, rules), None, None, None])
         text = text_from(record) if record else made_up(tiles)
         read = events_of(text)
@@ -142,18 +149,30 @@ def small_records(probe, cases):
     print(f"small records, all deals tried: {', '.join(f'{answer} {times}' for answer, times in sorted(seen.items()))}", flush=True)
 
 
+def print_table(figures):
+    """The mean times of really dealt games in milliseconds, by style and share of exchanges, and the longest of each style."""
+    first, *others = SHARES
+    print(f"| racks in the record | {first} exchanges in 100 turns | {' | '.join(map(str, others))} | the longest |")
+    print("|---" * (len(SHARES) + 2) + "|")
+    for style, name in STYLES.items():
+        means = " | ".join(f"{figures[style, share][0]:.2f} ms" for share in SHARES)
+        print(f"| {name} | {means} | {max(figures[style, share][1] for share in SHARES):.1f} ms |")
+
+
 def main():
     program, cases, seed = sys.argv[1], int(sys.argv[2]), int(sys.argv[3])
     random.seed(seed)
     with tempfile.TemporaryDirectory() as folder:
-        probe, answers = Probe(Path(program).resolve(), folder), Counter()
+        probe, answers, figures = Probe(Path(program).resolve(), folder), Counter(), {}
         small_records(probe, cases)
         for style in STYLES:
             for share in SHARES:
-                answers += real_games(probe, cases, style, share)
+                told, *figures[style, share] = real_games(probe, cases, style, share)
+                answers += told
         few = replace(ENGLISH, tiles=Counter("AAEEIIOORRSSTTNNLLDDGGUUMM??"), exchange_min=1)
         for style in STYLES:
-            answers += real_games(probe, cases, style, 40, few, (4, 12, 40))
+            answers += real_games(probe, cases, style, 40, few, (4, 12, 40))[0]
+    print_table(figures)
     print(f"{answers.total()} real games: {dict(answers)}")
 
 

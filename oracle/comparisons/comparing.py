@@ -1,4 +1,4 @@
-"""What comparisons of the program with the second judge have in common: how cases are counted and differences told, and records that
+"""What comparisons of the program with the second judge have in common: how cases are counted and differences printed, and records that
 are judged by both."""
 import random
 import subprocess
@@ -13,7 +13,7 @@ from lexicons import build
 
 
 class Differences:
-    """A program, a folder for its inputs, how many differences were told, and what was seen how often."""
+    """A program, a folder for its inputs, how many differences were printed, and what was seen how often."""
 
     def __init__(self, program, folder):
         self.program, self.folder, self.differences, self.seen = program, Path(folder), 0, Counter()
@@ -28,19 +28,19 @@ class Differences:
         return subprocess.run([self.program, *words], cwd=self.folder, capture_output=True, check=False, timeout=600)
 
     def expect(self, good, *what):
-        """Tells a difference, if there is one."""
+        """Prints a difference, if there is one."""
         if not good:
             self.differences += 1
             print(*what, sep="\n  ")
 
     def end(self, cases, counted="cases"):
-        """Tells what was compared; the exit status is 1 where anything differs."""
+        """Says what was compared; the exit status is 1 where anything differs."""
         print(f"{cases} {counted}, {self.differences} differences", dict(sorted(self.seen.items())))
         sys.exit(self.differences > 0)
 
 
 def compared(make, compare):
-    """What `make` made of the program that the command line names and a folder for its inputs, behind `compare(made, cases)` with the number
+    """What `make` made of the program that the command line names and a folder for its inputs, after `compare(made, cases)` with the number
     of cases there and from its seed on; and that number."""
     program, cases = str(Path(sys.argv[1]).resolve()), int(sys.argv[2])
     random.seed(int(sys.argv[3]))
@@ -57,7 +57,7 @@ def compare_cases(make, case):
 
 
 class Comparison:
-    """A program, a folder for its inputs, and what was told so far."""
+    """A program, a folder for its inputs, and what was printed so far."""
 
     def __init__(self, program, folder):
         self.program, self.differences, self.verdicts, self.kinds, self.settled = program, 0, Counter(), Counter(), Counter()
@@ -87,7 +87,7 @@ class Comparison:
             print(text, "listed", *sorted(listed), "settled", settled, "second judge", ways[0], sep="\n")
 
     def end(self):
-        """Tells what was compared; the exit status is 1 where anything differs."""
+        """Says what was compared; the exit status is 1 where anything differs."""
         print(f"{self.verdicts.total()} games, {self.differences} differences", dict(sorted(self.verdicts.items())))
         print("settled of those left open:", ", ".join(f"{kind} {times}" for kind, times in sorted(self.settled.items()) if times))
         print("best plays:", ", ".join(f"{kind} {times}" for kind, times in sorted(self.kinds.items())))

@@ -1,5 +1,5 @@
 """Compares `referee check` with the second checker on the files of random lists of up to 50 words, in both formats, with one bit
-changed, or none, beside the list, a word more or a word less: flip_lexicons PROGRAM CASES SEED"""
+changed, or none, with the list, a word more or a word less: flip_lexicons PROGRAM CASES SEED"""
 import random
 import subprocess
 import sys
@@ -17,7 +17,7 @@ WORKERS = 2
 
 
 def random_words():
-    """Up to 50 words, often some letters of another one and others behind them."""
+    """Up to 50 words, often some letters of another one and others after them."""
     words = set()
     for _ in range(random.randint(0, 50)):
         word = "".join(random.choices(LETTERS[: random.randint(2, 9)], k=random.choice([2, 2, 3, 4, 5, 7, 15])))
@@ -29,7 +29,7 @@ def random_words():
 
 
 def flipped(data):
-    """A file with one bit changed, most often behind the header."""
+    """A file with one bit changed, most often after the header."""
     first = 16 if len(data) > 16 and random.random() < 0.95 else 0
     at = random.randrange(first, len(data))
     return data[:at] + bytes([data[at] ^ 1 << random.randrange(8)]) + data[at + 1 :]

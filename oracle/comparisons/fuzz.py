@@ -219,7 +219,7 @@ class Fuzzer:
 
 
 def with_more(words):
-    """A list with more behind its words, and remarks among them."""
+    """A list with more after its words, and remarks among them."""
     more = [b"", b" 4", b"\ta word # of a list", b" \t", b" 4\r", b"\n# a remark", b"\n#", b"\n\t4"]
     return b"\n".join(text + (choose(more) if likely(0.5) else b"") for text in words.split(b"\n"))
 

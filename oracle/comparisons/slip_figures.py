@@ -19,7 +19,7 @@ from rules import ENGLISH, SIDE
 
 choose = random.choice
 LETTERS = "AAABCDDEEEEFGHIIIJKLLMNNNOOOPQRRRSSSTTTUUVWXYZ"
-# What a fact names beside the number that is right.
+# What a fact names in addition to the number that is right.
 HINTS = ("AsBlank", "Misread", "ElsewhereScore", "LeavesOut", "LeavesOutOwn", "StandsTwice", "WrongWay", "Missing", "AllowedFor")
 
 
@@ -104,7 +104,10 @@ def total(events):
     left, player = choose(own), events[place].player
     short = events[left].score
     changed = [replace(it, total=it.total - short) if k >= place and it.player == player else it for k, it in enumerate(events)]
-    named = lambda it: it["name"] == "LeavesOutOwn" if left == place else it["name"] == "LeavesOut" and it["line"] == left + 1
+
+    def named(it):
+        return it["name"] == "LeavesOutOwn" if left == place else it["name"] == "LeavesOut" and it["line"] == left + 1
+
     return changed, named
 
 
@@ -112,12 +115,15 @@ def missing(events):
     """A line that is missing."""
     place = choose(turns_of(events))
     gone = events[place]
-    named = lambda it: it["name"] == "Missing" and (it["score"], it["on_lines"]) == (gone.score, [place, place + 1])
+
+    def named(it):
+        return it["name"] == "Missing" and (it["score"], it["on_lines"]) == (gone.score, [place, place + 1])
+
     return events[:place] + events[place + 1 :], named
 
 
 def twice(events):
-    """A line that stands twice."""
+    """A line that is there twice."""
     place = choose(turns_of(events))
     return events[: place + 1] + events[place:], lambda it: it["name"] == "StandsTwice" and it["line"] == place + 1
 
@@ -162,7 +168,7 @@ def some_sheet(slip):
 
 
 def explained(program, folder, events, listed):
-    """The facts that the program tells of a sheet; none where it finds no fault."""
+    """The facts that the program gives of a sheet; none where it finds no fault."""
     Path(folder, "words").write_text("\n".join(sorted(listed)))
     Path(folder, "lexicon").write_bytes(build(listed))
     Path(folder, "game").write_text("".join(map(line, events)))

@@ -75,7 +75,7 @@ REPORTS = [
     ("AT", ">A: AABBCCT 8H BAT +10 10\n>A: -- -10 0\n", LEFT + "1 A 8H BAT +10 10 best 8G AT 4\n2 A -- -10 0\n"),
 ]
 
-# Reports by a set of fourteen tiles, in the same way: the first player goes out, and the pass behind that is no turn.
+# Reports by a set of fourteen tiles, in the same way: the first player goes out, and the pass after that is no turn.
 SMALL_REPORTS = [
     (
         "RETAINS",
@@ -142,7 +142,7 @@ def texts_of(board, at, step, length, rack, letters):
 
 
 def is_place(board, at, step, length):
-    """Whether a text of this length may stand at a square, whatever its letters."""
+    """Whether a text of this length may be at a square, whatever its letters."""
     last = at[0] + step[0] * (length - 1), at[1] + step[1] * (length - 1)
     if max(last) >= SIDE:
         return False

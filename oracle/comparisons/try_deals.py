@@ -63,12 +63,12 @@ def deals_by_hand():
 
 
 def parts(tiles, number):
-    """All ways to take so many tiles."""
+    """All ways to take a number of tiles."""
     return [Counter(part) for part in set(itertools.combinations(sorted(tiles.elements()), number))]
 
 
 def rests(place, thrown, racks, tiles, sizes):
-    """All racks that may stand before the next event: its player's with what is drawn, or what is taken back."""
+    """All racks that there may be before the next event: its player's with what is drawn, or what is taken back."""
     player = place.event.player
     rest = racks[player] - place.used - thrown
     bag = Counter(tiles) - place.board - racks[0] - racks[1]

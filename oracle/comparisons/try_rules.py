@@ -12,7 +12,7 @@ from answers import judged, topped
 from dealing import Dealer
 from deals import course, decide, fits
 from lexicons import build
-from rules import ENGLISH, KINDS
+from rules import ENGLISH
 from rules_texts import Fault, read, text_of
 from ruling import another_text, damaged_text, random_rules
 
@@ -25,7 +25,7 @@ FOURTEEN = text_of(replace(ENGLISH, tiles=Counter("AADEEINORRSTTW")))
 NAMED = TEXT.replace(b"tile A 9 1\n", b"")
 LONG = TEXT + b"#" * (65_536 - len(TEXT))
 
-# Texts, and the line that tells their first fault, None where they mean the English rules; by hand.
+# Texts, and the line of their first fault, None where they mean the English rules; by hand.
 ROWS = [
     (TEXT, None),
     (TEXT[:-1], None),
@@ -89,7 +89,7 @@ GAMES = [
 
 
 def fault_of(text):
-    """The line that tells the first fault of a text, None where it has none."""
+    """The line of the first fault of a text, None where it has none."""
     try:
         read(text)
     except Fault as fault:

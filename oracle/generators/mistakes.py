@@ -1,5 +1,5 @@
 """Games with mistakes of a director's day: a play that was written at another place or in the other direction, a total without a turn, a
-wrong score, a rack that was copied wrongly, a line that is missing or stands twice; and racks that nobody drew."""
+wrong score, a rack that was copied wrongly, a line that is missing or there twice; and racks that nobody drew."""
 import random
 from dataclasses import replace
 

@@ -5,7 +5,7 @@ from dataclasses import replace
 
 from dealing import likely
 from rules import ENGLISH, KINDS, SIDE
-from rules_texts import MOST_TILES, PARAMETERS, PREMIUM_OF, text_of
+from rules_texts import MOST_TILES, PARAMETERS, text_of
 
 choose = random.choice
 LIMITS = {"bonus": (0, 999), "exchange_min": (1, 99), "zero_limit": (1, 99), "challenge_unit": (1, 99), "time_step": (1, 99)}

@@ -1,4 +1,4 @@
-"""What standard error gets beside an answer: what is wrong with a file that is no game, by the second judge."""
+"""What standard error gets in addition to an answer: what is wrong with a file that is no game, by the second judge."""
 import re
 
 from archive_lines import states_latin, text_of
@@ -63,7 +63,7 @@ def no_game(name, game):
 
 
 def advice(command, output, name, game):
-    """What standard error gets beside what a command printed of a game."""
+    """What standard error gets in addition to what a command printed of a game."""
     if command == "judge" and output == b"unsettled\n":
         return SETTLE
     if output.startswith(b"bad record"):

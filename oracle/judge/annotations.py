@@ -26,7 +26,7 @@ def note(answer, more=()):
 
 
 def next_plays(events, place, listed, rules, number):
-    """The best so many plays of a turn, but for the first."""
+    """The best plays of a turn, as many as are asked for, without the first."""
     plays = Search(listed, rules).plays(board_after(events[:place], listed, rules), events[place].rack)
     return sorted(plays, key=lambda play: play.rank())[1:number]
 

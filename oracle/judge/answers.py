@@ -57,7 +57,7 @@ def told_of(report, game, players):
 
 def answered(words, lexicon, game, text, answer, bad_record=Fault.text):
     """The first fault of the inputs, a rules text before them (None for none: the English rules), or what is to be printed of the
-    words, the players, the events and the rules. `bad_record` tells a fault of the record."""
+    words, the players, the events and the rules. `bad_record` says what is wrong with the record."""
     try:
         rules = ENGLISH if text is None else rules_texts.read(text)
     except rules_texts.Fault as fault:
@@ -136,7 +136,7 @@ def audit_status(output):
 
 
 def place_before(lines, before):
-    """The place of the first event on a line or behind it, on whose lines events stand; without a line, behind the last event."""
+    """The place of the first event on a line or after it, on whose lines events are; without a line, after the last event."""
     return len(lines) if before is None else next((k for k, line in enumerate(lines) if line >= before), None)
 
 
@@ -203,7 +203,7 @@ def status_of(output):
 
 
 def error_of(words, output, game):
-    """What standard error gets beside an answer to a command line: where an input is bad, what may help; where `judge` leaves a game open,
+    """What standard error gets in addition to an answer to a command line: where an input is bad, what may help; where `judge` leaves a game open,
     that a search may settle it; where the file `game` is no game, why."""
     hint = beside(words, output) if output.startswith(b"bad ") else b""
     return hint + advice(words[0], output, game, game.read_bytes())

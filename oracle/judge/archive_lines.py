@@ -15,7 +15,7 @@ ESCAPES = {"\\": "\\\\", "\t": "\\t", "\n": "\\n"}
 
 
 def fields(name, verdict, **others):
-    """A line, by the names of its fields; what is not told is None."""
+    """A line, by the names of its fields; what is not said is None."""
     return dict.fromkeys(NAMES) | {"name": name, "verdict": verdict} | others
 
 
@@ -90,7 +90,7 @@ def unescaped(text):
 
 
 def split_escapes(name):
-    """The parts of an escaped name, each but the first behind a backslash that begins an escape."""
+    """The parts of an escaped name, each but the first after a backslash that begins an escape."""
     parts, at = [(0, "")], 0
     while at < len(name):
         if name[at] == "\\":
@@ -103,7 +103,7 @@ def split_escapes(name):
 
 
 def read_json_line(text):
-    """The fields of a JSON object, which stand in their order. The last two say again what the fault does."""
+    """The fields of a JSON object, which are in their order. The last two say again what the fault does."""
     told = json.loads(text)
     assert list(told) == JSON_NAMES, text
     fault = None if told["verdict"] == "unread" else told["fault"]

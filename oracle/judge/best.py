@@ -43,7 +43,7 @@ def lines():
 
 
 def coverings(board, most):
-    """All sets of squares that a play of up to so many tiles may cover, as far as squares alone tell, each with the direction in
+    """All sets of squares that a play of up to so many tiles may cover, as far as squares alone show, each with the direction in
     which the play is written and its run along it."""
     for step, line in lines():
         empty = [square for square in line if square not in board]
@@ -136,7 +136,7 @@ def best_plays(board, rack, listed, rules=ENGLISH, number=MANY):
 
 
 def kinds_told(report):
-    """What kinds of best plays a report tells, how often each."""
+    """What kinds of best plays a report has, how often each."""
     kinds = Counter()
     for line in report.splitlines():
         fields = line.split(" best ")[1].split(" ") if " best " in line else []

@@ -1,4 +1,4 @@
-"""Boards, plays, words and scores by the WESPA Game Rules: what the second judge and its search stand on.
+"""Boards, plays, words and scores by the WESPA Game Rules: what the second judge and its search rest on.
 
 A board is a dictionary from squares (row and column, from 0) to tiles: a capital for a letter, a small letter for a blank.
 """

@@ -26,12 +26,12 @@ def told_in(text):
 
 
 def told_of(place):
-    """The tiles that a line tells of a rack."""
+    """The tiles that a line shows of a rack."""
     return Counter(place.event.tiles if place.event.kind == "rack" else place.event.rack if place.holder is not None else "")
 
 
 def telling(place, tiles):
-    """A place whose line tells only these tiles of a rack; a last rack tells all of it, or it is not told."""
+    """A place whose line shows only these tiles of a rack; a last rack shows all of it, or it is not shown."""
     if place.event.kind == "rack":
         return place if tiles else replace(place, holder=None, need=None)
     if place.holder is None:

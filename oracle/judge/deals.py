@@ -16,7 +16,7 @@ from rules import ENGLISH, KINDS, RACK
 
 @dataclass(eq=False)
 class Place:
-    """An event with what stands before it: the tiles on the board, the sizes of both racks and of the bag.
+    """An event with what is before it: the tiles on the board, the sizes of both racks and of the bag.
 
     `used` are the new tiles of a play, `stands` says whether it stands. `holder` is the player whose rack is judged here, None
     where none is, and `need` the tiles that this rack has to hold.
@@ -91,7 +91,7 @@ def course(events, listed, rules=ENGLISH):
 
 
 def epoch(places, player, now):
-    """The first place of the player's present epoch: behind the latest exchange of unknown tiles."""
+    """The first place of the player's present epoch: after the latest exchange of unknown tiles."""
     return max((k + 1 for k in range(now) if places[k].renews(player)), default=0)
 
 
@@ -218,7 +218,7 @@ def complete_deal(places, tiles):
 
 
 def fits_place(place, tiles, racks, thrown):
-    """Whether racks and thrown tiles can stand at a place."""
+    """Whether racks and thrown tiles can be at a place."""
     bag = Counter(tiles)
     bag.subtract(place.board + racks[0] + racks[1])
     event = place.event

@@ -307,7 +307,7 @@ def whole_facts(verdict, events, lines, listed, rules):
 
 
 def explained_keys(verdict, game, events, lines, listed, rules, asked, dealt=False):
-    """The keys of an explanation behind those of the verdict; none where no event is on the line that was asked for, or behind it."""
+    """The keys of an explanation after those of the verdict; none where no event is on the line that was asked for, or after it."""
     illegal = re.match("illegal line ([0-9]+):", verdict)
     wanted = asked if asked is not None else int(illegal[1]) if illegal else None
     nothing = {"play": None, "board": None, "unknown_since": None}

@@ -498,7 +498,7 @@ def record_text(game, fault):
 
 
 def line_of(game, line):
-    """A line of a record as it stands, without its end."""
+    """A line of a record as it is, without its end."""
     return game.removeprefix(BOM).split(b"\n")[line - 1].removesuffix(b"\r")
 
 

@@ -41,7 +41,7 @@ def board_shown(board, rules, marked):
 
 
 def pictured(events, at, rules):
-    """The board behind the event at a place, with its new tiles marked; with the squares of its play where it cannot be laid."""
+    """The board after the event at a place, with its new tiles marked; with the squares of its play where it cannot be laid."""
     before, _, _ = lay(events, at)
     after, end, _ = lay(events, min(at + 1, len(events)))
     if end <= at < len(events):
@@ -51,7 +51,7 @@ def pictured(events, at, rules):
 
 
 def bag_text(board, rules):
-    """The tiles that are not on a board, by kind, behind their number."""
+    """The tiles that are not on a board, by kind, after their number."""
     left = off_board(board, rules)
     return f"Not on the board: {sum(left.values())} " + "".join(kind * left[kind] + " " for kind in KINDS if left[kind])
 
@@ -60,7 +60,7 @@ def play_text(events, at):
     """The play at a place, with brackets around the tiles that were on the board, and whether it puts down seven; as it is written where it
     cannot be laid."""
     event = events[at]
-    (before, first, _), (after, end, _) = lay(events, at), lay(events, at + 1)
+    (before, *_), (after, end, _) = lay(events, at), lay(events, at + 1)
     if end <= at:
         return event.text, False
     squares = squares_of(event)
@@ -114,7 +114,7 @@ def facts(events, listed, rules):
 
 
 def panel(events, lines, nicks, at, rules):
-    """What is shown of the position behind the event at a place: its links, its board, the next rack, and the tiles that are not on the board."""
+    """What is shown of the position after the event at a place: its links, its board, the next rack, and the tiles that are not on the board."""
     many = next((k for k in range(len(events)) if lay(events, k + 1)[1] <= k), len(events))
     if at >= many:
         return None
@@ -136,7 +136,7 @@ def sorted_tiles(rack):
 
 
 def rows(events, lines, nicks, found, rules, faulty):
-    """The rows of the sheet: their cells, their marks, and the position behind each."""
+    """The rows of the sheet: their cells, their marks, and the position after each."""
     told = []
     columns = any(it[2] for it in found), any(it[3] for it in found)
     for k, event in enumerate(events):
@@ -195,7 +195,7 @@ def result_text(verdict, names, totals):
 
 
 def said_lines(game):
-    """The pragmas and notes of a record: of the first line of each kind what it says, and of each note how many lines of events stand before it."""
+    """The pragmas and notes of a record: of the first line of each kind what it says, and of each note how many lines of events are before it."""
     own, notes, before = {}, [], 0
     for line in game.removeprefix(b"\xef\xbb\xbf").split(b"\n"):
         line = line.removesuffix(b"\r")
@@ -219,7 +219,10 @@ def expected(verdict, players, events, lines, listed, rules, words, rules_text=N
     totals = [next((it.total for it in reversed(events) if it.player == seat), 0) for seat in (0, 1)]
     found = facts(events, listed, rules)
     by = f"a text with the SHA-256 {sha256(rules_text).hexdigest()}" if rules_text is not None else "the English game"
-    text_of = lambda said: said.decode("latin-1") if latin else said.decode(errors="replace")
+
+    def text_of(said):
+        return said.decode("latin-1") if latin else said.decode(errors="replace")
+
     own, notes = said_lines(game)
     there = [name for name, player in zip(names, players) if player]
     last = lay(events, len(events))[1]
@@ -297,7 +300,7 @@ HEADS = ["Line", "Player", "Play", "Score", "Total", "Rack", "Best play", "More"
 
 
 def row_read(row):
-    """A row: its cells, its marks, and the position behind it, to which its play leads."""
+    """A row: its cells, its marks, and the position after it, to which its play leads."""
     *cells, last = row.children()
     play = cells[2]
     tags = [it.text() for it in play.all("b", "tag")]

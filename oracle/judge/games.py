@@ -1,4 +1,4 @@
-"""A slow second judge of games by the WESPA Game Rules, as docs/FAULTS.md tells them.
+"""A slow second judge of games by the WESPA Game Rules, as docs/FAULTS.md has them.
 
 It shares nothing with the program, and serves to compare what both say of the same events.
 """
@@ -28,7 +28,7 @@ class Event:
 
 @dataclass
 class Game:
-    """What stands between two events of a game by some rules."""
+    """What there is between two events of a game by some rules."""
 
     rules: Rules = ENGLISH
     board: dict = field(default_factory=dict)
@@ -149,7 +149,7 @@ def other(game, event, listed):
 
 
 def step(game, event, following, listed):
-    """Takes an event, and gives what a report says behind it."""
+    """Takes an event, and gives what a report says after it."""
     waiting = game.latest and not game.latest["stands"]
     check(not waiting or (event.kind == "withdraw" and event.player == game.latest["player"]), "NothingToWithdraw")
     told = ""
@@ -174,7 +174,7 @@ def is_judged(event, out):
 @dataclass
 class Line:
     """A line of a report: the event; of a turn the board before it, the stated rack and how many tiles its player holds, so that
-    the best play can be told (None of another event); and the unlisted words."""
+    the best play is known (None of another event); and the unlisted words."""
 
     head: str
     turn: tuple

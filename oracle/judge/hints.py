@@ -1,8 +1,8 @@
-"""What standard error says beside the line that tells that an input is bad, by the second judge."""
+"""What standard error says in addition to the line that says that an input is bad, by the second judge."""
 import re
 from pathlib import Path
 
-VALUED = ("--rules", "--before", "--number", "--names", "--pages", "--corrected", "--skip", "--top")
+VALUED = ("--rules", "--before", "--number", "--names", "--pages", "--corrected", "--repaired", "--skip", "--top")
 NUMBERS = ("bonus", "exchange_min", "zero_limit", "challenge_unit", "time_step")
 ITEMS = [f"tile {it}" for it in "ABCDEFGHIJKLMNOPQRSTUVWXYZ?"] + [f"row {it}" for it in range(1, 16)] + list(NUMBERS)
 
@@ -13,7 +13,7 @@ def option(words, name):
 
 
 def operands(words):
-    """The names of a command line: what stands behind the command, without options and their values."""
+    """The names of a command line: what comes after the command, without options and their values."""
     found, k, plain = [], 1, False
     while k < len(words):
         if plain or not words[k].startswith("-") or words[k] == "-":
@@ -69,7 +69,7 @@ def rack_clause(rack):
 
 
 def clause_of(words, line, folder, stdin):
-    """What may help beside the line of a fault, or nothing."""
+    """What may help in addition to the line of a fault, or nothing."""
     names = operands(words)
     if line.startswith(b"bad rack"):
         return rack_clause(names[3] if len(names) > 3 else None)
@@ -88,7 +88,7 @@ def clause_of(words, line, folder, stdin):
 
 
 def beside(words, line, folder=".", stdin=b""):
-    """What standard error gets beside the line of a fault of an input: for `build` and `convert`, whose line goes into OUT, the line itself
+    """What standard error gets in addition to the line of a fault of an input: for `build` and `convert`, whose line goes into OUT, the line itself
     too."""
     words = [str(it) for it in words]
     said = b""

@@ -2,7 +2,7 @@
 the same lexicon in the other format, and the first difference of a file and a list.
 
 A lexicon is read as its nodes, by the numbers that the file names them by and in the file's order. A node is its labels in rising
-order, each with whether a string ends there and with the number of the node behind it, 0 for none.
+order, each with whether a string ends there and with the number of the node after it, 0 for none.
 """
 import struct
 

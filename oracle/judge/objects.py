@@ -188,7 +188,7 @@ def audited_objects(words, lexicon, game, text=None):
 
 
 def explained_objects(words, lexicon, game, asked=None, text=None):
-    """The objects that `explain --json` may print, of the verdict or of the event on a line or behind it."""
+    """The objects that `explain --json` may print, of the verdict or of the event on a line or after it."""
 
     def objects(listed, players, events, rules):
         if not events:

@@ -92,7 +92,7 @@ def event(line, fields):
 
 
 def name_players(line, text, players, has_events):
-    """Reads a pragma, behind its '#'."""
+    """Reads a pragma, after its '#'."""
     pragma = re.match(rb"player([12])[ \t]", text)
     names = re.match(rb"([^ \t]+)[ \t]*(.*)", text[8:].strip(BLANKS), re.DOTALL) if pragma else None
     if not names:
@@ -117,7 +117,7 @@ def seat_of(line, nick, players):
 
 
 def read_event(line, text, players, events):
-    """Reads an event line, behind its '>'."""
+    """Reads an event line, after its '>'."""
     if len(events) >= MOST_EVENTS:
         raise Fault(line, "TooManyEvents")
     nick, colon, rest = text.partition(b":")

@@ -5,7 +5,7 @@ and how many tiles of the one can be on each rack is followed from place to plac
 """
 from collections import Counter
 
-from deals import fits, kinds_of
+from deals import fits
 
 
 def letters(text):
@@ -47,7 +47,7 @@ def is_met(place, racks, kinds):
 
 
 def moved(place, racks, tiles, kinds, bag_after):
-    """How many tiles of the kinds can be on the racks behind a place, from so many before it."""
+    """How many tiles of the kinds can be on the racks after a place, from so many before it."""
     player, event = place.event.player, place.event
     if event.kind not in ("play", "exchange", "unknown") or (event.kind == "play" and not place.stands):
         return {racks}

@@ -35,7 +35,7 @@ def last_total(events, player):
 
 
 def sheet(players, events, lines, asked, rules):
-    """The text of the board before the event at a place of the record whose events stand on some lines."""
+    """The text of the board before the event at a place of the record whose events are on some lines."""
     board, end, fault = lay(events, asked)
     where = f"before line {lines[end]}" if end < len(events) else "after the last event"
     told = [f"board {where}{f', whose play cannot be laid: {fault}' if fault else ''}".encode()]

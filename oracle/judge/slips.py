@@ -12,7 +12,7 @@ NAMED = 3
 
 @dataclass
 class Reading:
-    """A play with another letter on a square: what stands there, what is read, the words that it makes and its score."""
+    """A play with another letter on a square: what is there, what is read, the words that it makes and its score."""
 
     square: tuple
     letter: str

@@ -18,6 +18,6 @@ pub use faults::FaultObject;
 pub use lines::push_object;
 pub use names::{kind_name, number_of};
 pub use plays::{PlayFields, direction_of, play_fields};
-pub use refusals::{push_checked, push_refusal, push_trouble};
+pub use refusals::{push_bad_record, push_checked, push_refusal, push_trouble};
 pub use texts::{rack_text, text_of, text_unless_empty, tiles_of};
 pub use verdicts::{VerdictFields, push_verdict, verdict_fields};

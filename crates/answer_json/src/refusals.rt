@@ -3,8 +3,9 @@
 use crate::faults::FaultObject;
 use crate::lines::push_object;
 use crate::verdicts::push_verdict;
-use call_stages::Decision;
+use call_stages::{Decision, InputFault};
 use fault_names::named_input;
+use gcg_read::ReadFault;
 use serde::Serialize;
 use std::alloc::{AllocError, Global};
 
@@ -54,6 +55,16 @@ pub fn push_refusal(
         fault: FaultObject::of_input(alloc, &named)?,
     };
     push_object(alloc, text, &object)
+}
+
+/// Appends that a text is not a record.
+pub fn push_bad_record(
+    alloc: Global,
+    text: &mut Vec<u8>,
+    fault: ReadFault,
+) -> Result<(), AllocError> {
+    let decision = Decision::refused(alloc, InputFault::Game(fault))?;
+    push_refusal(alloc, text, &decision)
 }
 
 /// Appends what kept the program from its end, and the name of the file that it was about, where there is one.

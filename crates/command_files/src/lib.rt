@@ -8,6 +8,7 @@ mod cases;
 mod files;
 mod folders;
 mod inputs;
+mod objects;
 mod sources;
 mod telling;
 
@@ -23,6 +24,7 @@ pub use inputs::{
     Digests, GivenFiles, Inputs, LexiconFile, RulesFile, Told, digests_of, known_words,
     open_inputs, open_lexicon, open_rules, refuse, rules_front, write, write_beside,
 };
+pub use objects::{refuse_in_json, told_in_json};
 pub use sources::{
     SheetFile, Source, Words, open_sheet, open_source, open_words, sheet_of, shown, tell_others,
 };

@@ -30,6 +30,12 @@ pub const SKIP_OTHERS: &str = "skip-others";
 /// How many best plays may be asked for.
 pub const MOST_PLAYS: u32 = 100;
 
+/// How many repairs may be asked for.
+pub const MOST_REPAIRS: u32 = 100;
+
+/// How many repairs are listed where no number is asked for.
+pub const FEW_REPAIRS: u32 = 10;
+
 /// A command.
 #[derive(Clone, Copy)]
 struct CommandRow {
@@ -165,12 +171,13 @@ macro_rules! behind {
 }
 
 /// The commands, in the order in which help shows them.
-const COMMANDS: [CommandRow; 16] = [
+const COMMANDS: [CommandRow; 17] = [
     JUDGE,
     ARCHIVE,
     INDEX,
     AUDIT,
     EXPLAIN,
+    REPAIR,
     PAGE,
     ANNOTATE,
     BUILD,
@@ -352,6 +359,45 @@ const EXPLAIN: CommandRow = CommandRow {
             )
         },
         JSON,
+        FIRST_FIELD_OPTION,
+        SKIP_OTHERS_OPTION,
+        RULES,
+    ],
+};
+
+/// `repair [--first-field] [--skip-others] [--json] [--rules FILE] [--number N] [--repaired OUT] WORDS LEXICON GAME`.
+const REPAIR: CommandRow = CommandRow {
+    name: "repair",
+    about: "Lists the single changes of a faulty record after which it is a game, the likeliest first",
+    behind: behind!(
+        "referee repair words.txt words.gad game.gcg",
+        "Exit status:",
+        "0   legal: there is nothing to repair",
+        "1   illegal, whether a single change repairs it or none does",
+        "2   unsettled: every event stands, but no deal was found",
+        "3   the rules text, the word list, the lexicon or the record is bad, or it has no event"
+    ),
+    arguments: &[
+        WORDS,
+        LEXICON,
+        GAME,
+        Argument {
+            value: ValueParser::Unsigned(1, MOST_REPAIRS as u64),
+            ..argument!(
+                Form::Option("N"),
+                "number",
+                "how many repairs are listed, 1 to 100; 10 without it"
+            )
+        },
+        argument!(
+            Form::Option("OUT"),
+            "repaired",
+            "write the sheet with the first repair to this file, where it is ahead of the second by a number; - is standard output"
+        ),
+        Argument {
+            against: Some("repaired"),
+            ..JSON
+        },
         FIRST_FIELD_OPTION,
         SKIP_OTHERS_OPTION,
         RULES,

@@ -1,6 +1,6 @@
 //! What a command line asks for.
 
-use crate::commands::{FIRST_FIELD, SKIP_OTHERS, command};
+use crate::commands::{FEW_REPAIRS, FIRST_FIELD, SKIP_OTHERS, command};
 use clap::error::ErrorKind;
 use clap::{ArgMatches, Error};
 use lex_file::Format;
@@ -131,6 +131,13 @@ pub enum Request<'a> {
     Explain {
         files: GameFiles<'a>,
         line: Option<u32>,
+        json: bool,
+    },
+    /// To list so many repairs of a record, and to write the repaired sheet to the file `out` where there is one; `json` asks for an object.
+    Repair {
+        files: GameFiles<'a>,
+        number: u32,
+        out: Option<&'a str>,
         json: bool,
     },
     /// To write the page of a game to the file `out`.
@@ -332,6 +339,12 @@ fn game_request_of<'a>(command: &str, names: &ArgMatches<'a>) -> Option<Request<
         "explain" => Some(Request::Explain {
             files: game_files(names)?,
             line: names.get_one::<u32>("LINE"),
+            json: names.get_flag("json"),
+        }),
+        "repair" => Some(Request::Repair {
+            files: game_files(names)?,
+            number: names.get_one::<u32>("number").unwrap_or(FEW_REPAIRS),
+            out: names.get_str("repaired"),
             json: names.get_flag("json"),
         }),
         "annotate" => Some(Request::Annotate {

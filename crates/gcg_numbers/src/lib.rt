@@ -12,4 +12,4 @@ mod writing;
 
 pub use laws::law_of_numbers;
 pub use raw_lines::{RawLine, cut_raw_line, is_event_line, push_mark};
-pub use writing::push_with_numbers;
+pub use writing::{push_line_with, push_with_numbers};

@@ -32,8 +32,12 @@ fn push_behind_colon(out: &mut Vec<u8>, line: &[u8], event: &Event) -> Result<()
 }
 
 /// Appends an event line with the numbers of its event; a CR at its end stays.
+///
+/// # Errors
+///
+/// Memory was refused.
 #[tactic(auto, unfolding(crate::specs::Numbers::line_with))]
-fn push_line(out: &mut Vec<u8>, line: &[u8], event: &Event) -> Result<(), AllocError>
+pub fn push_line_with(out: &mut Vec<u8>, line: &[u8], event: &Event) -> Result<(), AllocError>
     ensures { OnOk result (out.new.items ≡ out.old.items ++ line_with event.now line.now) }
 {
     match line {
@@ -59,7 +63,7 @@ fn push_next(out: &mut Vec<u8>, line: &[u8], events: &[Event]) -> Result<usize, 
         return Ok(0);
     };
     if is_event_line(line) {
-        push_line(out, line, event)?;
+        push_line_with(out, line, event)?;
         return Ok(1);
     }
     out.extend_from_slice(line)?;

@@ -12,4 +12,4 @@ mod lines;
 mod writing;
 
 pub use laws::{law_of_other_points, law_of_round_trip};
-pub use writing::{NoMemory, event_text, play_text, tiles_text, write};
+pub use writing::{NoMemory, event_text, line_text, play_text, tiles_text, write};

@@ -89,15 +89,23 @@ fn push_head(players: &Players, event: &Event, out: &mut Vec<u8>) -> Result<(), 
     out.extend_from_slice(b": ")
 }
 
-/// Appends the line of an event and its LF.
+/// Appends the line of an event, without an LF.
 #[tactic(auto, unfolding(crate::specs::Normal::event_line))]
-fn push_event_line(players: &Players, event: &Event, out: &mut Vec<u8>) -> Result<(), AllocError>
-    ensures done { OnOk result (out.new.items ≡ out.old.items ++ (event_line players.now event.now ++ 10 ∷ [])) }
+pub fn push_line(players: &Players, event: &Event, out: &mut Vec<u8>) -> Result<(), AllocError>
+    ensures done { OnOk result (out.new.items ≡ out.old.items ++ event_line players.now event.now) }
     ensures kept { IsFront out.old.items out.new.items }
 {
     push_head(players, event, out)?;
     push_rack(event.rack, out)?;
-    push_event(event, out)?;
+    push_event(event, out)
+}
+
+/// Appends the line of an event and its LF.
+fn push_event_line(players: &Players, event: &Event, out: &mut Vec<u8>) -> Result<(), AllocError>
+    ensures done { OnOk result (out.new.items ≡ out.old.items ++ (event_line players.now event.now ++ 10 ∷ [])) }
+    ensures kept { IsFront out.old.items out.new.items }
+{
+    push_line(players, event, out)?;
     out.push(b'\n')?;
     Ok(())
 }

@@ -2,11 +2,11 @@
 ghost use Rattle.std.specs.Prelude.{◌≡◌, ◌++◌, ◌<◌, length, take, OnOk, OnErr};
 ghost use Rattle.std.specs.List.{HoldsAt};
 ghost use Rattle.gcg_write.specs.Fields.{play_text, tiles_text};
-ghost use Rattle.gcg_write.specs.Normal.{normal_of, event_text_of};
+ghost use Rattle.gcg_write.specs.Normal.{normal_of, event_line, event_text_of};
 
 use crate::fields::{push_play, push_tiles};
-use crate::lines::{push_event, push_record};
-use gcg_read::Record;
+use crate::lines::{push_event, push_line, push_record};
+use gcg_read::{Event, Players, Record};
 use ref_board::{Dir, Square};
 use ref_tiles::{Counts, Symbol};
 
@@ -33,6 +33,15 @@ pub fn write(game: &Record, out: &mut Vec<u8>) -> Result<(), NoMemory>
 {
     let len = out.len();
     restored(push_record(game, out), len, out)
+}
+
+/// Appends the line of an event in the normal form, without an LF. It fails only where the growth of `out` was refused, and then `out` is as it was.
+pub fn line_text(players: &Players, event: &Event, out: &mut Vec<u8>) -> Result<(), NoMemory>
+    ensures written { OnOk result (out.new.items ≡ out.old.items ++ event_line players.now event.now) }
+    ensures refused { OnErr result (out.new.items ≡ out.old.items) }
+{
+    let len = out.len();
+    restored(push_line(players, event, out), len, out)
 }
 
 /// Appends what the line of event `i` says behind its rack, in the normal form: the event, its score and the

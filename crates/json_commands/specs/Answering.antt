@@ -18,6 +18,7 @@ IsAnswerTold (task.Judge question) rules list x texts v report = IsValueTold (Is
 IsAnswerTold (task.Top question) rules list x texts v report = IsValueTold (AreTopPlaysOf question.number question.before rules list question.rack) x texts v report
 IsAnswerTold task.Audit rules list x texts v report = IsValueTold (IsAuditAnswerOf rules list) x texts v report
 IsAnswerTold (task.Explain line) rules list x texts v report = IsCaseTold rules list x texts v report
+IsAnswerTold (task.Repair number) rules list x texts v report = IsCaseTold rules list x texts v report
 
 pub answer_later : {T : Type 0} (asked : AnswerTask) (rules : Rules) (list : List (List ℕ)) (x : Result T Decision) (texts : List (List ℕ)) (v : Verdict) (report : List ℕ)
     → IsAnswerTold asked rules list x texts v report → IsLater v
@@ -25,3 +26,4 @@ answer_later (task.Judge question) rules list x texts v report is = value_later 
 answer_later (task.Top question) rules list x texts v report is = value_later (AreTopPlaysOf question.number question.before rules list question.rack) x texts v report is
 answer_later task.Audit rules list x texts v report is = value_later (IsAuditAnswerOf rules list) x texts v report is
 answer_later (task.Explain line) rules list x texts v report is = case_later rules list x texts v report is
+answer_later (task.Repair number) rules list x texts v report is = case_later rules list x texts v report is

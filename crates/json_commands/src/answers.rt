@@ -9,10 +9,10 @@ ghost use Rattle.json_commands.specs.Values.{IsValueTold};
 
 use crate::audit_answers::audit;
 use crate::explain_answers::explain_in_json;
-use crate::objects::{refuse_in_json, told_in_json};
+use crate::repairing::repair_in_json;
 use command_files::{
     GivenFiles, RulesFile, SheetFile, Told, UsedOutput, Words, given_up, open_inputs, open_sheet,
-    tell_others, used_source, write,
+    refuse_in_json, tell_others, told_in_json, used_source, write,
 };
 use command_line::GameFiles;
 use devices::{FromRead, Input};
@@ -35,6 +35,8 @@ pub enum AnswerTask {
     Audit,
     /// What explains its verdict, or one of its lines.
     Explain(Option<u32>),
+    /// The repairs of its record, in so many lines.
+    Repair(usize),
 }
 
 /// Tells a judged game.
@@ -132,6 +134,7 @@ impl<R: Runtime + AllocGlobal, F: Read + Drop, S: Read + Drop> Question<
             AnswerTask::Top(question) => top(self.rt, given, game, &question),
             AnswerTask::Audit => audit(self.rt, given, game),
             AnswerTask::Explain(line) => explain_in_json(self.rt, given, game, line),
+            AnswerTask::Repair(number) => repair_in_json(self.rt, given, game, number),
         }
     }
 

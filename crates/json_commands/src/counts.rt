@@ -1,9 +1,9 @@
 //! `check --json`: whether a file is the lexicon of a word list, as an object.
 
-use crate::objects::{refuse_in_json, told_in_json};
 use answer_json::push_checked;
 use command_files::{
-    UsedOutput, given_up, open_lexicon, open_words, tell_others, used, used_words, write,
+    UsedOutput, given_up, open_lexicon, open_words, refuse_in_json, tell_others, told_in_json,
+    used, used_words, write,
 };
 use command_line::PairFiles;
 use devices::FromRead;

@@ -6,12 +6,10 @@ mod audit_answers;
 mod board_answers;
 mod counts;
 mod explain_answers;
-mod objects;
+mod repairing;
 mod top_answers;
 
 pub use answers::{AnswerTask, answer_in_json};
 pub use board_answers::board_in_json;
 pub use counts::check_in_json;
-pub use explain_answers::case_text;
-pub use objects::{refuse_in_json, told_in_json};
 pub use top_answers::top_in_json;

@@ -1,9 +1,8 @@
 //! `top --json`: the best plays before a line of a record, as an object.
 
 use crate::answers::{AnswerTask, answer_in_json};
-use crate::objects::{refuse_in_json, told_in_json};
 use call_stages::InputFault;
-use command_files::{open_inputs, open_sheet};
+use command_files::{open_inputs, open_sheet, refuse_in_json, told_in_json};
 use command_line::{GameFiles, PlaysAsked};
 use engine::{Decision, MOST_PLAYS, TurnPlays};
 use exit_statuses::{Exit, Trouble};

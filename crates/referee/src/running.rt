@@ -95,6 +95,18 @@ fn answer<R: Runtime + AllocGlobal>(rt: &R, request: Request<'_>, watched: bool)
             json: true,
         } => answer_in_json(rt, files, AnswerTask::Explain(line)),
         Request::Explain { files, line, .. } => answer_sheet(rt, files, SheetTask::Explain(line)),
+        Request::Repair {
+            files,
+            number,
+            json: true,
+            ..
+        } => answer_in_json(rt, files, AnswerTask::Repair(number as usize)),
+        Request::Repair {
+            files,
+            number,
+            out,
+            ..
+        } => answer_sheet(rt, files, SheetTask::Repair(number as usize, out)),
         Request::Page { files, out } => answer_sheet(rt, files, SheetTask::Page(out)),
         Request::Annotate { files, number, out } => {
             answer_sheet(rt, files, SheetTask::Annotate(number as usize, out))

@@ -20,6 +20,11 @@ pub fn lost_input<R: Runtime>(rt: &R, request: &Request<'_>) -> Option<&'static 
             files,
             out: Some(out),
             ..
+        }
+        | Request::Repair {
+            files,
+            out: Some(out),
+            ..
         } => lost_of_game(rt, out, files),
         _ => None,
     }

@@ -3,13 +3,13 @@
 use crate::words::{push_no_word, push_ruled};
 use answer_json::push_refusal;
 use audit_lines::{AuditAnswer, corrected_text, is_corrected};
+use case_objects::case_text;
 use command_files::has_page;
 use engine::{Case, Decision, RunFault, Verdict};
 use exit_statuses::{Exit, exit_of_audit, exit_of_case};
 use game_answers::{FoundPlays, JudgedGame, ShownBoard};
 use game_json::{push_found_plays, push_judged_game};
 use game_page::{Contents, Maker, push_page};
-use json_commands::case_text;
 use lex_check::Checked;
 use page_pieces::PageText;
 use ref_tiles::Rules;

@@ -7,14 +7,13 @@ use crate::lines::{Lines, NextLine};
 use crate::telling::{NO_MEMORY_LINE, make_line, make_refusal, ready_line};
 use command_files::{
     Digests, GivenFiles, RulesFile, Told, UsedOutput, Words, digests_of, given_up, open_inputs,
-    shown, tell_others, write,
+    refuse_in_json, shown, tell_others, told_in_json, write,
 };
 use command_line::{PROGRAM, PairFiles, STANDARD_INPUT};
 use devices::FromRead;
 use engine::{Question, RunFault, ask};
 use exit_statuses::{Exit, Trouble};
 use game_page::Maker;
-use json_commands::{refuse_in_json, told_in_json};
 use serve_requests::Refusal;
 use std::alloc::{AllocError, Global};
 use std::io::{BufRead, BufReader, Input, Read};

@@ -1,4 +1,4 @@
-//! The commands that are about one sheet: `annotate`, `audit`, `explain` and `page`.
+//! The commands that are about one sheet: `annotate`, `audit`, `explain`, `page` and `repair`.
 #![tactic(auto)]
 
 mod annotating;
@@ -6,6 +6,7 @@ mod auditing;
 mod explaining;
 mod made_texts;
 mod paging;
+mod repairing;
 mod sheets;
 
 pub use sheets::{SheetTask, answer_sheet};

@@ -11,6 +11,7 @@ use crate::annotating::write_annotated;
 use crate::auditing::tell_audit;
 use crate::explaining::tell_case;
 use crate::paging::write_page;
+use crate::repairing::tell_repairs;
 use annotations::SheetToAnnotate;
 use command_files::{
     Digests, GivenFiles, RulesFile, SheetFile, Told, UsedOutput, Words, advise_bad_record,
@@ -38,13 +39,15 @@ pub enum SheetTask<'a> {
     Page(&'a str),
     /// To write it with notes, which have so many best plays, to a file.
     Annotate(usize, &'a str),
+    /// To tell the repairs of its record, in so many lines, and to write the repaired sheet to a file where one is named.
+    Repair(usize, Option<&'a str>),
 }
 
 impl<'a> SheetTask<'a> {
     /// The output that is written beside the report, where there is one.
     fn out(self) -> Option<&'a str> {
         match self {
-            SheetTask::Audit(out) => out,
+            SheetTask::Audit(out) | SheetTask::Repair(_, out) => out,
             SheetTask::Explain(_) => None,
             SheetTask::Page(out) | SheetTask::Annotate(_, out) => Some(out),
         }
@@ -162,6 +165,31 @@ fn annotate<'a, R: Runtime + AllocGlobal, F: Read + Drop, S: Read + Drop>(
     }
 }
 
+/// Tells what repairs the record of a sheet, in so many lines.
+fn repair<'a, R: Runtime + AllocGlobal, F: Read + Drop, S: Read + Drop>(
+    rt: &R,
+    given: &GivenFiles<'_, F, S>,
+    game: &mut SheetFile<S>,
+    number: usize,
+    out: Option<&'a str>,
+) -> Result<Told<'a>, RunFault>
+    requires { HasRoom (⟦<SheetFile<S> as Input>⟧.device game.old) }
+    ensures { Gives outcomes (game_source (⟦<SheetFile<S> as Input>⟧.device game.old) (⟦<SheetFile<S> as Input>⟧.device game.new) ∷ [])
+        (IsCaseTold given.now.rules.now (list_in given.now.pair.now)) result }
+{
+    match open_case(rt.alloc(), given.rules, given.pair, game) {
+        Ok(mut case) => Ok(Ok(tell_repairs(
+            rt,
+            given.rules,
+            given.pair.list(),
+            &mut case,
+            number,
+            out,
+        ))),
+        Err(fault) => Err(fault),
+    }
+}
+
 /// What is asked of a sheet, by a runtime to which the answer goes.
 #[derive(Clone, Copy)]
 struct SheetQuestion<'r, 'a, R> {
@@ -195,6 +223,7 @@ impl<'a, R: Runtime + AllocGlobal, F: Read + Drop, S: Read + Drop> Question<
             SheetTask::Explain(line) => explain(self.rt, given, game, line),
             SheetTask::Page(out) => page(self.rt, given, game, out),
             SheetTask::Annotate(number, out) => annotate(self.rt, given, game, number, out),
+            SheetTask::Repair(number, out) => repair(self.rt, given, game, number, out),
         }
     }
 

@@ -1,7 +1,8 @@
 //! Objects that every command may write: that an input is bad, and what kept the program from its end.
 
+use crate::inputs::write;
+use crate::sources::shown;
 use answer_json::{push_refusal, push_trouble};
-use command_files::{shown, write};
 use engine::Decision;
 use exit_statuses::{Exit, Trouble};
 use std::alloc::{AllocError, Global};

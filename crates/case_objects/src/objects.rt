@@ -1,0 +1,62 @@
+//! The object of what explains a case.
+
+use answer_json::push_bad_record;
+use case_explanations::explain;
+use engine::{Case, Entry, Finding, case_verdict};
+use explanation_json::{push_explained, push_no_game};
+use explanations::Explanation;
+use game_facts::line_of;
+use lex_list::WordList;
+use ref_tiles::Rules;
+use std::alloc::{AllocError, Global};
+
+/// The line that is explained, as it stands in the file.
+fn written_of<'t>(bytes: &'t [u8], told: &Option<Explanation<'_>>) -> Option<&'t [u8]> {
+    match told {
+        Some(
+            Explanation {
+                line: Some(line),
+                ..
+            },
+        ) => line_of(bytes, *line),
+        _ => None,
+    }
+}
+
+/// Appends the object of what explains a record, or its event on a line or after it.
+fn push_entry(
+    alloc: Global,
+    text: &mut Vec<u8>,
+    rules: &Rules,
+    list: &WordList,
+    case: &Case,
+    entry: &Entry,
+    line: Option<u32>,
+) -> Result<(), AllocError> {
+    if entry.finding == Finding::NoGame {
+        return push_no_game(alloc, text);
+    }
+    let told = explain(alloc, rules, list, entry, line)?;
+    let written = written_of(case.text.as_slice(), &told);
+    push_explained(alloc, text, &case_verdict(case), written, told.as_ref())
+}
+
+/// The object of what explains a case, or one of its lines.
+///
+/// # Errors
+///
+/// Memory was refused.
+pub fn case_text(
+    alloc: Global,
+    rules: &Rules,
+    list: &WordList,
+    case: &Case,
+    line: Option<u32>,
+) -> Result<Vec<u8>, AllocError> {
+    let mut text = Vec::new(alloc);
+    match &case.read {
+        Ok(entry) => push_entry(alloc, &mut text, rules, list, case, entry, line)?,
+        Err(fault) => push_bad_record(alloc, &mut text, *fault)?,
+    }
+    Ok(text)
+}

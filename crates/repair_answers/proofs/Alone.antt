@@ -1,0 +1,73 @@
+-- What is wrong with a record whose numbers alone are.
+use Rattle.std.proofs.Common.{◌≡◌, ℕ, List, true, false, Option, Some, None, ap, ◌∙◌, subst}
+use Rattle.std.specs.Option.{is_some}
+use Rattle.std.specs.List.{filter}
+use Rattle.ref_tiles.specs.declared.rulebook.Rules.{Rules}
+use Rattle.gcg_read.specs.declared.events.Event.{Event}
+use Rattle.gcg_read.specs.declared.players.Players.{Players}
+use Rattle.gcg_read.specs.declared.records.Record.{Record}
+use Rattle.event_notes.specs.Unlisted.{letters_in}
+use Rattle.game_sheets.specs.declared.wrong_numbers.WrongNumber.{WrongNumber}
+use Rattle.game_sheets.specs.Auditing.{IsAudited}
+use Rattle.game_sheets.specs.Corrections.{IsCorrection, HavePoints}
+use Rattle.game_sheets.proofs.Fronts.{one_correction}
+use Rattle.game_rows.specs.declared.refusals.Stop.{Stop}
+use Rattle.game_rows.specs.declared.walking.Walk.{Walk}
+use Rattle.game_rows.specs.Refusals.{EndsAt}
+use Rattle.game_rows.specs.Walks.{IsWalk}
+use Rattle.engine.specs.Verdicts.{IsGame}
+use Rattle.record_repairs.specs.Remaining.{is_on_line}
+use Rattle.record_repairs.specs.Trying.{IsWritable}
+use Rattle.record_repairs.specs.declared.remains.Remains.{Remains}
+use Rattle.record_repairs.proofs.Audits.{audited_right, audited_words}
+use Rattle.record_repairs.proofs.WrongLines.{lines_alone}
+use Rattle.repair_answers.specs.Unchanged.{MayBeGame, AreNumbersAlone, AreLeft}
+
+-- ---- where the correction stops, and where it does not
+
+stopped_none : (rules : Rules) (list : List (List ℕ)) (written right : List Event) (end : ℕ) (stopped : Option Stop) → EndsAt rules list written right end stopped → is_some stopped ≡ true
+    → (other : List Event) → IsWritable rules list written other → IsGame rules list other → ⊥
+stopped_none rules list written right end None ends stops other is game = cc
+stopped_none rules list written right end (Some stop) ends stops other is game = ends.none other is.points is.correction
+
+pub none_stopped : (rules : Rules) (list : List (List ℕ)) (written right : List Event) (walk : Walk) → IsWalk rules list written right walk → is_some walk.stopped ≡ true
+    → (other : List Event) → IsWritable rules list written other → IsGame rules list other → ⊥
+none_stopped rules list written right walk is stops other writable game = stopped_none rules list written right is.end walk.stopped is.ends stops other writable game
+
+whole_by : (rules : Rules) (list : List (List ℕ)) (written right : List Event) (end : ℕ) (stopped : Option Stop) → EndsAt rules list written right end stopped → is_some stopped ≡ false
+    → IsCorrection rules list written right
+whole_by rules list written right end None ends goes = ends.1
+whole_by rules list written right end (Some stop) ends goes = cc
+
+-- the correction of a record through all of which the walk goes
+pub whole : (rules : Rules) (list : List (List ℕ)) (written right : List Event) (walk : Walk) → IsWalk rules list written right walk → is_some walk.stopped ≡ false
+    → IsCorrection rules list written right
+whole rules list written right walk is goes = whole_by rules list written right is.end walk.stopped is.ends goes
+
+-- where it is no game, no correction is one
+pub none_game : (rules : Rules) (list : List (List ℕ)) (written right : List Event) → IsCorrection rules list written right → (IsGame rules list right → ⊥)
+    → (other : List Event) → IsWritable rules list written other → IsGame rules list other → ⊥
+none_game rules list written right is none other writable game =
+    none (subst (λ (es : List Event). IsGame rules list es) (one_correction rules list written other right writable.correction is) game)
+
+-- ---- the numbers alone are wrong
+
+pub numbers_alone : (rules : Rules) (list : List (List ℕ)) (written right : List Event) (wrong : List WrongNumber) (walk : Walk) (remains : Remains) → IsCorrection rules list written right
+    → HavePoints right → MayBeGame rules list right → IsAudited rules list written right wrong → IsWalk rules list written right walk → AreLeft list wrong walk.rows.items remains
+    → AreNumbersAlone rules list written remains
+numbers_alone rules list written right wrong walk remains is points may audited walked left =
+    let writable : IsWritable rules list written right = record { correction = is; points = points } in
+    let audit = audited_right rules list written written right right wrong writable is.renumbered audited in
+    record {
+      right = right;
+      correction = writable;
+      game = may;
+      wrong = left.wrong ∙ ap (filter is_on_line) audit.all ∙ lines_alone written right;
+      unlisted = audited_words rules list written written right right wrong walk (letters_in remains.unlisted.items) writable is.renumbered audit walked left.unlisted;
+    }
+
+-- ---- the record with the numbers that it had
+
+pub same_again : (old : Record) (players : Players) (events : List Event) → players ≡ old.players → events ≡ old.events
+    → ◌≡◌ {A = Record} (record { players = players; events = events }) old
+same_again old players events kept back = λ i. record { players = kept i; events = back i }

@@ -1,0 +1,40 @@
+-- What is answered of the case of a record.
+use Rattle.std.proofs.Common.{◌≡◌, ℕ, true, false, List, Option, Some, None, Result, Ok, Err, refl, subst}
+use Rattle.ref_tiles.specs.declared.rulebook.Rules.{Rules}
+use Rattle.gcg_read.specs.declared.events.Event.{Event}
+use Rattle.gcg_read.specs.declared.faults.ReadFault.{ReadFault}
+use Rattle.game_rows.specs.declared.walking.Walk.{Walk}
+use Rattle.engine.specs.declared.entries.Entry.{Entry}
+use Rattle.engine.specs.declared.explains.Case.{Case}
+use Rattle.engine.specs.declared.findings.Finding.{Finding}
+use Rattle.engine.specs.declared.findings.Finding.TheVariants as finding
+use Rattle.engine.specs.Explaining.{IsWalkFor}
+use Rattle.repair_answers.specs.Answers.{HasItsWalk, is_illegal, RepairsIn, RepairsBy, RepairsOf}
+use Rattle.repair_answers.specs.declared.answers.Faulty.{Faulty}
+
+pub none_legal : (what : Finding) (rules : Rules) (list : List (List ℕ)) (written : List Event) (walk : Walk) (most : ℕ) → is_illegal what ≡ false
+    → RepairsBy what rules list written (Some walk) most None
+none_legal finding.NoGame rules list written walk most legal = refl
+none_legal (finding.Legal complete) rules list written walk most legal = refl
+none_legal (finding.Illegal line fault) rules list written walk most legal = cc
+none_legal finding.Unsettled rules list written walk most legal = refl
+
+pub where_illegal : (what : Finding) (rules : Rules) (list : List (List ℕ)) (written : List Event) (walk : Walk) (most : ℕ) (f : Faulty) → is_illegal what ≡ true
+    → RepairsIn rules list written walk most f → RepairsBy what rules list written (Some walk) most (Some f)
+where_illegal finding.NoGame rules list written walk most f illegal is = cc
+where_illegal (finding.Legal complete) rules list written walk most f illegal is = cc
+where_illegal (finding.Illegal line fault) rules list written walk most f illegal is = is
+where_illegal finding.Unsettled rules list written walk most f illegal is = cc
+
+none_by : (read : Result Entry ReadFault) (rules : Rules) (list : List (List ℕ)) (walk : Option Walk) (most : ℕ) → walk ≡ None → IsWalkFor rules list read walk
+    → RepairsOf read rules list walk most None
+none_by (Ok entry) rules list (Some walk) most none is = cc
+none_by (Ok entry) rules list None most none is = absurd is
+none_by (Err fault) rules list walk most none is = refl
+
+-- there is no walk where the text is no record
+pub none_walked : (rules : Rules) (list : List (List ℕ)) (case : Case) (most : ℕ) → HasItsWalk rules list case → case.walk ≡ None → RepairsOf case.read rules list case.walk most None
+none_walked rules list case most has none = none_by case.read rules list case.walk most none has.1.2
+
+pub walked : (rules : Rules) (list : List (List ℕ)) (case : Case) (walk : Walk) → HasItsWalk rules list case → case.walk ≡ Some walk → IsWalkFor rules list case.read (Some walk)
+walked rules list case walk has is = subst (IsWalkFor rules list case.read) is has.1.2

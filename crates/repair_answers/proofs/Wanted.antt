@@ -1,0 +1,61 @@
+-- Repairs of which more are asked for than a list can hold.
+use Rattle.std.proofs.Common.{◌≡◌, ◌⊎◌, inl, inr, ℕ, ◌-◌, ◌*◌, ◌<◌, ◌≤◌, ◌^◌, List, length, Option, ap, ◌∙◌, subst, arith}
+use Rattle.std.specs.Prelude.{min, Contains}
+use Rattle.ref_tiles.specs.declared.rulebook.Rules.{Rules}
+use Rattle.gcg_read.specs.declared.events.Event.{Event}
+use Rattle.game_rows.specs.declared.walking.Walk.{Walk}
+use Rattle.record_repairs.specs.Costs.{Rank}
+use Rattle.record_repairs.specs.Repairs.{AreFirstRepairs, AreAhead, IsToldAt}
+use Rattle.record_repairs.specs.declared.listed.Listed.{Listed}
+use Rattle.record_repairs.specs.declared.repair.Repair.{Repair}
+use Rattle.repair_answers.specs.Answers.{below_of, RepairsIn}
+use Rattle.repair_answers.specs.Lines.{AreLines}
+use Rattle.repair_answers.specs.Tried.{tried_changes}
+use Rattle.repair_answers.specs.Unchanged.{IsUnchanged}
+use Rattle.repair_answers.specs.declared.answers.Faulty.{Faulty}
+
+few_wanted : (told most wanted : ℕ) → wanted ≡ min (most * 27) (2 ^ 64 - 1) → told ≤ wanted → told ≤ 27 * most
+few_wanted told most wanted is few = omega arith
+
+many_wanted : (told most wanted : ℕ) → wanted ≡ min (most * 27) (2 ^ 64 - 1) → told < 2 ^ 63 → told ≡ wanted → told ≡ 27 * most
+many_wanted told most wanted is short many = omega arith
+
+ahead_wanted : (most wanted : ℕ) (told : List Repair) (by : Rank) → wanted ≡ min (most * 27) (2 ^ 64 - 1) → length told < 2 ^ 63 → AreAhead wanted told by → AreAhead (27 * most) told by
+ahead_wanted most wanted told by is short ahead = record { many = many_wanted (length told) most wanted is short ahead.many; each = ahead.each }
+
+one_wanted : (most wanted : ℕ) (told : List Repair) (left : List Listed) (listed : Listed) (right : List Event) (by : Rank) → wanted ≡ min (most * 27) (2 ^ 64 - 1) → length told < 2 ^ 63
+    → Contains left listed ⊎ IsToldAt told right by ⊎ AreAhead wanted told by → Contains left listed ⊎ IsToldAt told right by ⊎ AreAhead (27 * most) told by
+one_wanted most wanted told left listed right by is short (inl among) = inl among
+one_wanted most wanted told left listed right by is short (inr (inl at)) = inr (inl at)
+one_wanted most wanted told left listed right by is short (inr (inr ahead)) = inr (inr (ahead_wanted most wanted told by is short ahead))
+
+pub all_wanted : (rules : Rules) (list : List (List ℕ)) (written : List Event) (below : Option ℕ) (most wanted : ℕ) (told : List Repair) (left : List Listed)
+    → wanted ≡ min (most * 27) (2 ^ 64 - 1) → length told < 2 ^ 63 → AreFirstRepairs rules list written below wanted told left → AreFirstRepairs rules list written below (27 * most) told left
+all_wanted rules list written below most wanted told left is short first =
+    record {
+      repairs = first.repairs;
+      few = few_wanted (length told) most wanted is first.few;
+      ordered = first.ordered;
+      once = first.once;
+      unsettled = first.unsettled;
+      others = λ listed right makes. one_wanted most wanted told left listed right _ is short (first.others listed right makes);
+    }
+
+-- what is found of an illegal record
+pub found_of : (rules : Rules) (list : List (List ℕ)) (written between seen : List Event) (walk : Walk) (most wanted : ℕ) (below : Option ℕ) (shown : List Repair) (f : Faulty)
+    → between ≡ written → IsUnchanged rules list written f.unchanged → below ≡ below_of f.unchanged → wanted ≡ min (most * 27) (2 ^ 64 - 1)
+    → AreFirstRepairs rules list between below wanted f.found.told.items f.found.left.items → shown ≡ f.found.told.items → AreLines shown most f.lines.items
+    → seen ≡ written → f.tried ≡ length (tried_changes rules seen walk) → RepairsIn rules list written walk most f
+found_of rules list written between seen walk most wanted below shown f same alone limit is first told lines kept tried =
+    let ok = f.found.told.ok in
+    let small = f.found.told.small in
+    let here : AreFirstRepairs rules list written (below_of f.unchanged) wanted f.found.told.items f.found.left.items =
+    subst (λ (es : List Event). AreFirstRepairs rules list es (below_of f.unchanged) wanted f.found.told.items f.found.left.items) same
+    (subst (λ (o : Option ℕ). AreFirstRepairs rules list between o wanted f.found.told.items f.found.left.items) limit first) in
+    let short : length f.found.told.items < 2 ^ 63 = omega arith in
+    record {
+      alone = alone;
+      repairs = all_wanted rules list written (below_of f.unchanged) most wanted f.found.told.items f.found.left.items is short here;
+      lines = subst (λ (rs : List Repair). AreLines rs most f.lines.items) told lines;
+      tried = tried ∙ ap (λ (es : List Event). length (tried_changes rules es walk)) kept;
+    }

@@ -1,0 +1,5 @@
+use Rattle.repair_answers.proofs.Grouped.{AreLinesTo}
+use Rattle.repair_answers.proofs.evidence.lines_of.Given as goal
+
+abbrev pub invariant-loop-index : goal.invariant-loop-index
+invariant-loop-index l = record { so_far : AreLinesTo l.repairs l.most l.index l.lines.items }

@@ -1,0 +1,18 @@
+use Rattle.std.proofs.Common.{arith}
+use Rattle.repair_answers.proofs.Tries.{none_before, many_more, all_tried}
+use Rattle.repair_answers.proofs.lists.many_tried.Goals as goal
+
+pub loop-place-init : goal.loop-place-init
+loop-place-init c = record { so_far = none_before c.args.rules.now c.args.events.now; few = omega arith }
+
+pub loop-place-preserved : goal.loop-place-preserved
+loop-place-preserved c =
+    let few = c.loop-place.invariant.few in
+    let here = c.in_ok-many.ensures.few in
+    record {
+      so_far = many_more c.args.rules.now c.args.events.now c.loop-place.place c.loop-place.many c.in_ok-many.field-0 c.loop-place.invariant.so_far c.in_ok-many.ensures.many;
+      few = omega arith;
+    }
+
+pub returns : goal.returns
+returns c = all_tried c.args.rules.now c.args.events.now c.args.walk.now c.loop-place.place c.loop-place.many c.loop-place.invariant.so_far (omega arith)

@@ -1,0 +1,53 @@
+-- What is answered of the case of a record where repairs are asked for.
+use Rattle.std.specs.Prelude.{◌≡◌, ℕ, ◌+◌, ◌*◌, Bool, true, false, List, length, Option, Some, None, Result, Ok, Err}
+use Rattle.std.specs.Option.{option_map}
+use Rattle.ref_tiles.specs.declared.rulebook.Rules.{Rules}
+use Rattle.gcg_read.specs.declared.events.Event.{Event}
+use Rattle.gcg_read.specs.declared.faults.ReadFault.{ReadFault}
+use Rattle.game_rows.specs.declared.walking.Walk.{Walk}
+use Rattle.engine.specs.declared.entries.Entry.{Entry}
+use Rattle.engine.specs.declared.explains.Case.{Case}
+use Rattle.engine.specs.declared.findings.Finding.{Finding}
+use Rattle.engine.specs.declared.findings.Finding.TheVariants as finding
+use Rattle.engine.specs.Explaining.{case_verdict, IsCaseOf}
+use Rattle.record_repairs.specs.Repairs.{AreFirstRepairs}
+use Rattle.record_repairs.specs.declared.remains.Remains.{Remains}
+use Rattle.repair_answers.specs.Lines.{AreLines}
+use Rattle.repair_answers.specs.Tried.{tried_changes}
+use Rattle.repair_answers.specs.Unchanged.{IsUnchanged}
+use Rattle.repair_answers.specs.declared.answers.Faulty.{Faulty}
+use Rattle.repair_answers.specs.declared.answers.RepairAnswer.{RepairAnswer}
+
+-- a case of a record has its walk
+abbrev pub HasItsWalk : Rules → (list : List (List ℕ)) → Case → Type 0
+HasItsWalk rules list case = (text : List ℕ) × IsCaseOf rules list text case
+
+-- how many numbers and words are wrong where the numbers alone are: fewer must stay wrong with a repair
+abbrev pub below_of : Option Remains → Option ℕ
+below_of remains = option_map (λ (r : Remains). length r.wrong.items + length r.unlisted.items) remains
+
+-- What repairs an illegal record: what is wrong where its numbers alone are, its first repairs, as many as may be on so many lines, the lines, and how
+-- many changes were tried.
+pub record RepairsIn (rules : Rules) (list : List (List ℕ)) (written : List Event) (walk : Walk) (most : ℕ) (f : Faulty) : Type 0 where
+  pub alone : IsUnchanged rules list written f.unchanged
+  pub repairs : AreFirstRepairs rules list written (below_of f.unchanged) (27 * most) f.found.told.items f.found.left.items
+  pub lines : AreLines f.found.told.items most f.lines.items
+  pub tried : f.tried ≡ length (tried_changes rules written walk)
+
+abbrev pub is_illegal : Finding → Bool
+is_illegal (finding.Illegal line fault) = true
+is_illegal other = false
+
+abbrev pub RepairsBy : Finding → Rules → (list : List (List ℕ)) → List Event → Option Walk → (most : ℕ) → Option Faulty → Type 0
+RepairsBy (finding.Illegal line fault) rules list written (Some walk) most (Some f) = RepairsIn rules list written walk most f
+RepairsBy (finding.Illegal line fault) rules list written walk most answer = ⊥
+RepairsBy other rules list written walk most answer = answer ≡ None
+
+abbrev pub RepairsOf : Result Entry ReadFault → Rules → (list : List (List ℕ)) → Option Walk → (most : ℕ) → Option Faulty → Type 0
+RepairsOf (Ok entry) rules list walk most answer = RepairsBy entry.finding rules list entry.record.events walk most answer
+RepairsOf (Err fault) rules list walk most answer = answer ≡ None
+
+-- the verdict of a case, and what repairs its record where it is illegal
+pub record IsRepairAnswer (rules : Rules) (list : List (List ℕ)) (case : Case) (most : ℕ) (answer : RepairAnswer) : Type 0 where
+  pub verdict : answer.verdict ≡ case_verdict case.read
+  pub repairs : RepairsOf case.read rules list case.walk most answer.faulty

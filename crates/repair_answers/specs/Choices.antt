@@ -1,0 +1,34 @@
+-- Whether one repair is to be chosen.
+use Rattle.std.specs.Prelude.{◌≡◌, ◌+◌, ◌≤◌, List, [], ◌∷◌}
+use Rattle.record_repairs.specs.declared.listed.Listed.{Listed}
+use Rattle.record_repairs.specs.declared.repair.Repair.{Repair}
+use Rattle.repair_answers.specs.Alike.{cost_in}
+use Rattle.repair_answers.specs.declared.choices.Choice.{Choice}
+use Rattle.repair_answers.specs.declared.choices.Choice.TheVariants as choice
+
+-- one repair is ahead of another by a wrong number at the least, which costs 5
+abbrev pub IsFarAhead : (first second : Repair) → Type 0
+IsFarAhead first second = cost_in first + 5 ≤ cost_in second
+
+-- the first is ahead of the second by that, where there is a second
+abbrev pub IsAheadOfNext : Repair → List Repair → Type 0
+IsAheadOfNext first [] = Unit {0}
+IsAheadOfNext first (second ∷ rest) = IsFarAhead first second
+
+-- the first of them is a repair that is ahead of the second
+abbrev pub IsFirst : (told : List Repair) → Repair → Type 0
+IsFirst [] r = ⊥
+IsFirst (first ∷ rest) r = (r ≡ first) × IsAheadOfNext first rest
+
+-- the second is less than a number behind the first
+abbrev pub AreClose : (told : List Repair) → Type 0
+AreClose [] = ⊥
+AreClose (first ∷ []) = ⊥
+AreClose (first ∷ second ∷ rest) = IsFarAhead first second → ⊥
+
+-- Which of the repairs that were found is to be chosen, if one is: none where some change is left open.
+abbrev pub IsChoice : (told : List Repair) → (left : List Listed) → Choice → Type 0
+IsChoice told left choice.None = (told ≡ []) × (left ≡ [])
+IsChoice told left choice.Open = left ≡ [] → ⊥
+IsChoice told left choice.Close = (left ≡ []) × AreClose told
+IsChoice told left (choice.Clear repair) = (left ≡ []) × IsFirst told repair.now

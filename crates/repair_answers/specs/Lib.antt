@@ -1,0 +1,7 @@
+pub mod Spots
+pub mod Alike
+pub mod Tried
+pub mod Unchanged
+pub mod Lines
+pub mod Choices
+pub mod Answers

@@ -1,0 +1,65 @@
+-- Repairs in lines.
+use Rattle.std.specs.Prelude.{◌≡◌, ℕ, ◌+◌, ◌-◌, ◌*◌, not, Bool, true, false, List, [], ◌∷◌, ◌++◌, map, filter, take, length, All, slice_get, Option, Some, if◌then◌else◌}
+use Rattle.std.specs.List.{list_all, range_with_len}
+use Rattle.record_changes.specs.declared.slips.Slip.{Slip}
+use Rattle.record_changes.specs.declared.slips.Slip.TheVariants as slip
+use Rattle.record_repairs.specs.declared.repair.Repair.{Repair}
+use Rattle.repair_answers.specs.Alike.{is_like}
+use Rattle.repair_answers.specs.declared.evidence.Told.{Told}
+
+-- whether a line that should not be there is left out
+abbrev pub leaves_out : Slip → Bool
+leaves_out slip.Repeated = true
+leaves_out slip.Extra = true
+leaves_out other = false
+
+-- how many numbers of a sheet with so many events stand with a slip: a score and a total on each line, but for one that should not be there
+abbrev pub numbers_with : Slip → (events : ℕ) → ℕ
+numbers_with what events = 2 * (if leaves_out what then events - 1 else events)
+
+abbrev pub are_like : Option Repair → Option Repair → Bool
+are_like (Some one) (Some two) = is_like one two
+are_like one two = false
+
+-- whether the repairs at two numbers are alike
+abbrev pub like_at : List Repair → (first other : ℕ) → Bool
+like_at repairs first other = are_like (slice_get repairs first) (slice_get repairs other)
+
+-- the repair at a number is the first of its line: it is like none before it
+abbrev pub is_first : List Repair → (index : ℕ) → Bool
+is_first repairs index = list_all (λ before. not (like_at repairs before index)) (range_with_len 0 index)
+
+-- the number of another one, where it is like the one at a number
+abbrev pub those_like : List Repair → (first other : ℕ) → List ℕ
+those_like repairs first other = if like_at repairs first other then (other ∷ []) else []
+
+-- those behind it that are like it
+abbrev pub others_of : List Repair → (first : ℕ) → List ℕ
+others_of repairs first = filter (like_at repairs first) (range_with_len (first + 1) (length repairs - (first + 1)))
+
+-- a line has the repairs that are like its first
+abbrev pub IsLine : List Repair → Told → Type 0
+IsLine repairs line = line.others.items ≡ others_of repairs line.first
+
+-- the numbers of those that are the first of a line
+abbrev pub first_ones : List Repair → List ℕ
+first_ones repairs = filter (is_first repairs) (range_with_len 0 (length repairs))
+
+-- the line of the repair at a number is added, where it is the first of one
+pub record AddsOne (repairs : List Repair) (index : ℕ) (old new : List Told) : Type 0 where
+  pub line : Told
+  pub added : new ≡ old ++ line ∷ []
+  pub first : line.first ≡ index
+  pub is : IsLine repairs line
+
+abbrev pub AddsBy : Bool → List Repair → (index : ℕ) → (old new : List Told) → Type 0
+AddsBy true repairs index old new = AddsOne repairs index old new
+AddsBy false repairs index old new = new ≡ old
+
+abbrev pub AddsLine : List Repair → (index : ℕ) → (old new : List Told) → Type 0
+AddsLine repairs index old new = AddsBy (is_first repairs index) repairs index old new
+
+-- The first so many lines of some repairs, in the order of their first ones.
+pub record AreLines (repairs : List Repair) (most : ℕ) (lines : List Told) : Type 0 where
+  pub firsts : map (λ (line : Told). line.first) lines ≡ take most (first_ones repairs)
+  pub each : All (IsLine repairs) lines

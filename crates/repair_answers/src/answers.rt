@@ -1,0 +1,167 @@
+//! The answer of `repair`.
+ghost use Rattle.std.specs.Prelude.{◌≡◌, Some, IfOk, OnOk};
+ghost use Rattle.game_rows.specs.Walks.{IsWalkOf};
+ghost use Rattle.engine.specs.Explaining.{IsWalkFor};
+ghost use Rattle.repair_answers.specs.Answers.{below_of, is_illegal, RepairsIn, RepairsBy, RepairsOf, IsRepairAnswer, HasItsWalk};
+
+use crate::evidence::{Told, lines_of};
+use crate::lists::many_tried;
+use crate::unchanged::unchanged;
+use engine::{Case, Entry, Finding, Verdict, case_verdict};
+use game_rows::Walk;
+use gcg_read::{ReadFault, Record};
+use lex_list::WordList;
+use record_repairs::{Found, Remains, repairs};
+use ref_tiles::Rules;
+use std::alloc::{AllocError, Global};
+
+/// How many repairs one line may have: a letter more than there are.
+const MOST_ALIKE: usize = 27;
+
+/// What is answered of an illegal record.
+#[derive(Drop)]
+pub struct Faulty {
+    /// What is wrong where the numbers alone are; none where more is.
+    pub unchanged: Option<Remains>,
+    /// The first repairs, and the changes that are left open.
+    pub found: Found,
+    /// The first repairs in lines.
+    pub lines: Vec<Told>,
+    /// How many changes were tried.
+    pub tried: u128,
+}
+
+/// What is answered of a record.
+#[derive(Drop)]
+pub struct RepairAnswer {
+    /// The verdict, by a search.
+    pub verdict: Verdict,
+    /// What repairs it, where it is illegal.
+    pub faulty: Option<Faulty>,
+}
+
+/// How many numbers and words have to stay wrong with a repair at the most, and one more; none where any number may.
+fn below_of(unchanged: &Option<Remains>) -> Option<usize>
+    ensures { result ≡ below_of unchanged.now }
+{
+    match unchanged {
+        Some(remains) => Some(remains.wrong.len() + remains.unlisted.len()),
+        None => None,
+    }
+}
+
+/// What repairs an illegal record, in so many lines.
+fn faulty_of(
+    alloc: Global,
+    rules: &Rules,
+    list: &WordList,
+    game: &mut Record,
+    walk: &Walk,
+    most: usize,
+) -> Result<Faulty, AllocError>
+    requires { IsWalkOf rules.now list.now game.old.events walk.now }
+    ensures faulty { IfOk result (RepairsIn rules.now list.now game.old.events walk.now most) }
+    ensures same { OnOk result (game.new ≡ game.old) }
+{
+    let remains = unchanged(alloc, rules, list, game)?;
+    let below = below_of(&remains);
+    let wanted = most.saturating_mul(MOST_ALIKE);
+    let found = repairs(alloc, rules, list, &mut game.events, below, wanted)?;
+    let lines = lines_of(alloc, found.told.as_slice(), most)?;
+    let tried = many_tried(alloc, rules, list, walk, game.events.as_slice())?;
+    Ok(Faulty {
+        unchanged: remains,
+        found,
+        lines,
+        tried,
+    })
+}
+
+/// Whether a record is illegal.
+fn is_illegal(finding: &Finding) -> bool
+    ensures { result ≡ is_illegal finding.now }
+{
+    match finding {
+        Finding::Illegal { .. } => true,
+        Finding::NoGame | Finding::Legal { .. } | Finding::Unsettled => false,
+    }
+}
+
+/// What repairs the record of an entry, where it is illegal.
+#[tactic(auto, using(crate::proofs::Answered::none_legal, crate::proofs::Answered::where_illegal))]
+fn faulty_entry(
+    alloc: Global,
+    rules: &Rules,
+    list: &WordList,
+    entry: &mut Entry,
+    walk: &Walk,
+    most: usize,
+) -> Result<Option<Faulty>, AllocError>
+    requires { IsWalkOf rules.now list.now entry.old.record.events walk.now }
+    ensures repairs { IfOk result (RepairsBy entry.old.finding rules.now list.now entry.old.record.events (Some walk.now) most) }
+    ensures same { OnOk result (entry.new ≡ entry.old) }
+{
+    if !is_illegal(&entry.finding) {
+        return Ok(None);
+    }
+    let faulty = faulty_of(alloc, rules, list, &mut entry.record, walk, most)?;
+    Ok(Some(faulty))
+}
+
+/// What repairs a record that was read, where it is illegal.
+fn faulty_read(
+    alloc: Global,
+    rules: &Rules,
+    list: &WordList,
+    read: &mut Result<Entry, ReadFault>,
+    walk: &Walk,
+    most: usize,
+) -> Result<Option<Faulty>, AllocError>
+    requires { IsWalkFor rules.now list.now read.old (Some walk.now) }
+    ensures repairs { IfOk result (RepairsOf read.old rules.now list.now (Some walk.now) most) }
+    ensures same { OnOk result (read.new ≡ read.old) }
+{
+    match read {
+        Ok(entry) => faulty_entry(alloc, rules, list, entry, walk, most),
+        Err(_) => Ok(None),
+    }
+}
+
+/// What repairs the record of a case, where it is illegal.
+#[tactic(auto, using(crate::proofs::Answered::none_walked, crate::proofs::Answered::walked))]
+fn faulty_in(
+    alloc: Global,
+    rules: &Rules,
+    list: &WordList,
+    case: &mut Case,
+    most: usize,
+) -> Result<Option<Faulty>, AllocError>
+    requires { HasItsWalk rules.now list.now case.old }
+    ensures repairs { IfOk result (RepairsOf case.old.read rules.now list.now case.old.walk most) }
+    ensures same { OnOk result (case.new ≡ case.old) }
+{
+    match &case.walk {
+        Some(walk) => faulty_read(alloc, rules, list, &mut case.read, walk, most),
+        None => Ok(None),
+    }
+}
+
+/// The answer of `repair` on the case of a record: its verdict and, where it is illegal, its first repairs in so many lines. Behind it the case is as it
+/// was.
+///
+/// It fails only where memory runs out.
+pub fn answer_repairs(
+    alloc: Global,
+    rules: &Rules,
+    list: &WordList,
+    case: &mut Case,
+    most: usize,
+) -> Result<RepairAnswer, AllocError>
+    requires { HasItsWalk rules.now list.now case.old }
+    ensures answer { IfOk result (IsRepairAnswer rules.now list.now case.old most) }
+    ensures same { OnOk result (case.new ≡ case.old) }
+{
+    let verdict = case_verdict(case);
+    let faulty = faulty_in(alloc, rules, list, case, most)?;
+    Ok(RepairAnswer { verdict, faulty })
+}

@@ -1,0 +1,17 @@
+//! What `repair` answers of a record: its verdict and, where it is illegal, the first repairs.
+//!
+//! [`answer_repairs`] makes the answer of the case of a record. It is plain data: text and objects are made of it alone.
+#![tactic(auto)]
+
+mod alike;
+mod answers;
+mod choices;
+mod evidence;
+mod lists;
+mod spots;
+mod unchanged;
+
+pub use answers::{Faulty, RepairAnswer, answer_repairs};
+pub use choices::{Choice, choice_of};
+pub use evidence::{Told, numbers_with};
+pub use spots::{Spot, spot_of};

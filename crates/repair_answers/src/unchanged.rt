@@ -1,0 +1,156 @@
+//! A record with no change but for its numbers.
+ghost use Rattle.std.specs.Prelude.{◌≡◌, ◌++◌, filter, IfOk, OnOk};
+ghost use Rattle.event_notes.specs.Unlisted.{letters_in};
+ghost use Rattle.game_sheets.specs.Corrections.{HavePoints};
+ghost use Rattle.game_turns.specs.Passing.{rules_in, record_in, list_in};
+ghost use Rattle.game_turns.specs.Places.{AreAllowed};
+ghost use Rattle.record_repairs.specs.Remaining.{is_on_line, words_of_rows};
+ghost use Rattle.repair_answers.specs.Unchanged.{IsFound, IsUnchanged, AreLeft, HasOtherNumbers};
+
+use deal_cuts::law_of_fronts;
+use engine::{RackFinding, play_through, settle_racks};
+use event_notes::{SpelledWord, unlisted_of};
+use game_deal::law_of_bounds;
+use game_rows::{Audited, Row, audit, numbers_of, renumber};
+use game_sheets::WrongNumber;
+use game_turns::Passed;
+use gcg_read::{Event, Record};
+use lex_list::WordList;
+use record_repairs::Remains;
+use ref_tiles::Rules;
+use std::alloc::{AllocError, Global};
+
+/// Whether a number stands on a line, and is not the last total of a player, which the lines tell too.
+fn is_on_line(number: &WrongNumber) -> bool
+    ensures { result ≡ is_on_line number.now }
+{
+    match number {
+        WrongNumber::Score { .. } | WrongNumber::Sum { .. } => true,
+        WrongNumber::Total { .. } => false,
+    }
+}
+
+/// The numbers that stand on a line.
+fn keep_lines(wrong: &mut Vec<WrongNumber>)
+    ensures { wrong.new.items ≡ filter is_on_line wrong.old.items }
+{
+    wrong.retain(|number| is_on_line(number));
+}
+
+/// Puts words behind others.
+#[tactic(auto, using(record_repairs::proofs::Weighing::letters_joined))]
+fn push_words(words: &mut Vec<SpelledWord>, mut more: Vec<SpelledWord>) -> Result<(), AllocError>
+    ensures { OnOk result (letters_in words.new.items ≡ letters_in words.old.items ++ letters_in more.items) }
+{
+    words.append(&mut more)?;
+    Ok(())
+}
+
+/// The words of some rows that stand and are not in the list.
+fn unlisted_words(
+    alloc: Global,
+    list: &WordList,
+    rows: &[Row],
+) -> Result<Vec<SpelledWord>, AllocError>
+    ensures { IfOk result (λ words. letters_in words.items ≡ words_of_rows list.now rows.now) }
+{
+    let mut words = Vec::new(alloc);
+    for row in rows {
+        let more = unlisted_of(alloc, list, row.behind.standing_words())?;
+        push_words(&mut words, more)?;
+    }
+    Ok(words)
+}
+
+/// What is left of an audit, without the last totals.
+fn left_of(alloc: Global, list: &WordList, audited: Audited) -> Result<Remains, AllocError>
+    ensures { IfOk result (AreLeft list.now audited.wrong.items audited.walk.rows.items) }
+{
+    let unlisted = unlisted_words(alloc, list, audited.walk.rows.as_slice())?;
+    let mut wrong = audited.wrong;
+    keep_lines(&mut wrong);
+    Ok(Remains { wrong, unlisted })
+}
+
+/// Each score and each total is one that a record can write. The call changes nothing: its contract is the law.
+fn law_of_points(events: &[Event])
+    ensures { HavePoints events.now }
+{
+    for event in events {
+        let _score = event.score.value();
+        let _total = event.total.value();
+    }
+}
+
+/// Whether no racks of a record that passed are ruled out.
+#[tactic(auto, using(crate::proofs::Found::a_game, record_repairs::proofs::Outcomes::none_past, record_repairs::proofs::Outcomes::none_by, crate::proofs::Found::unsettled))]
+fn may_be_game(alloc: Global, passed: &Passed<'_>) -> Result<bool, AllocError>
+    requires { AreAllowed (rules_in passed.now) (list_in passed.now) (record_in passed.now).events }
+    ensures { IfOk result (IsFound (rules_in passed.now) (list_in passed.now) (record_in passed.now).events) }
+{
+    law_of_bounds();
+    law_of_fronts();
+    match settle_racks(alloc, passed)? {
+        RackFinding::Dealt => Ok(true),
+        RackFinding::Unknown => Ok(true),
+        RackFinding::PastBound(_) => Ok(false),
+        RackFinding::NoDeal { .. } => Ok(false),
+    }
+}
+
+/// Whether no racks of a record are ruled out, each event of which the rules allow.
+fn may_be_dealt(
+    alloc: Global,
+    rules: &Rules,
+    list: &WordList,
+    game: &Record,
+) -> Result<bool, AllocError>
+    requires { AreAllowed rules.now list.now game.now.events }
+    ensures { IfOk result (IsFound rules.now list.now game.now.events) }
+{
+    match play_through(rules, game, list) {
+        Ok(passed) => may_be_game(alloc, &passed),
+        Err(_) => unreachable!(),
+    }
+}
+
+/// What is wrong with the right numbers of a record, as [`unchanged`] says; behind it the record has these numbers.
+fn with_right_numbers(
+    alloc: Global,
+    rules: &Rules,
+    list: &WordList,
+    game: &mut Record,
+) -> Result<Option<Remains>, AllocError>
+    ensures remains { IfOk result (IsUnchanged rules.now list.now game.old.events) }
+    ensures others { OnOk result (HasOtherNumbers game.old game.new) }
+{
+    let audited = audit(alloc, rules, list, &mut game.events)?;
+    if audited.walk.stopped.is_some() {
+        return Ok(None);
+    }
+    law_of_points(game.events.as_slice());
+    if !may_be_dealt(alloc, rules, list, game)? {
+        return Ok(None);
+    }
+    let remains = left_of(alloc, list, audited)?;
+    Ok(Some(remains))
+}
+
+/// What of a record is wrong where its numbers alone are: once they are corrected the rules allow each event, and no racks are ruled out. None
+/// where more is wrong. Behind it the record is as it was.
+///
+/// It fails only where memory runs out.
+pub(crate) fn unchanged(
+    alloc: Global,
+    rules: &Rules,
+    list: &WordList,
+    game: &mut Record,
+) -> Result<Option<Remains>, AllocError>
+    ensures remains { IfOk result (IsUnchanged rules.now list.now game.old.events) }
+    ensures same { OnOk result (game.new ≡ game.old) }
+{
+    let written = numbers_of(alloc, game.events.as_slice())?;
+    let remains = with_right_numbers(alloc, rules, list, game)?;
+    renumber(&mut game.events, written.as_slice());
+    Ok(remains)
+}

@@ -1,0 +1,121 @@
+//! An answer as an object.
+
+use crate::changes::{RepairObject, repair_object};
+use crate::evidence::{EvidenceObject, evidence_object};
+use answer_json::{FaultObject, VerdictFields, push_object, verdict_fields};
+use gcg_read::Record;
+use repair_answers::{Faulty, RepairAnswer};
+use serde::Serialize;
+use std::alloc::{AllocError, Global};
+
+/// An answer. What is said of an illegal record alone is null for every other.
+#[derive(Drop, Serialize)]
+struct AnswerObject {
+    verdict: &'static str,
+    line: Option<u32>,
+    fault: Option<FaultObject>,
+    ending: Option<&'static str>,
+    numbers_alone: Option<EvidenceObject>,
+    repairs: Vec<RepairObject>,
+    left: Option<usize>,
+    tried: Option<u128>,
+}
+
+/// That a record has no event.
+#[derive(Drop, Serialize)]
+struct NoGameObject {
+    verdict: &'static str,
+    line: Option<u32>,
+    fault: Option<FaultObject>,
+}
+
+/// The repairs, a line for each.
+fn repair_objects(
+    alloc: Global,
+    record: &Record,
+    faulty: &Faulty,
+) -> Result<Vec<RepairObject>, AllocError> {
+    let repairs = faulty.found.told.as_slice();
+    let mut objects = Vec::new(alloc);
+    for told in faulty.lines.as_slice() {
+        if let Some(repair) = repairs.get(told.first) {
+            objects.push(repair_object(alloc, record, repairs, repair, told)?)?;
+        }
+    }
+    Ok(objects)
+}
+
+/// What is wrong where the numbers alone are.
+fn alone_object(
+    alloc: Global,
+    record: &Record,
+    faulty: &Faulty,
+) -> Result<Option<EvidenceObject>, AllocError> {
+    match &faulty.unchanged {
+        Some(remains) => {
+            let numbers = 2 * record.events.len() as u128;
+            Ok(Some(evidence_object(alloc, remains, numbers)?))
+        }
+        None => Ok(None),
+    }
+}
+
+/// The object of an illegal record.
+fn faulty_object(
+    alloc: Global,
+    fields: VerdictFields,
+    record: &Record,
+    faulty: &Faulty,
+) -> Result<AnswerObject, AllocError> {
+    Ok(AnswerObject {
+        verdict: fields.verdict,
+        line: fields.line,
+        fault: fields.fault,
+        ending: fields.ending,
+        numbers_alone: alone_object(alloc, record, faulty)?,
+        repairs: repair_objects(alloc, record, faulty)?,
+        left: Some(faulty.found.left.len()),
+        tried: Some(faulty.tried),
+    })
+}
+
+/// The object of any other record.
+fn bare_object(alloc: Global, fields: VerdictFields) -> AnswerObject {
+    AnswerObject {
+        verdict: fields.verdict,
+        line: fields.line,
+        fault: fields.fault,
+        ending: fields.ending,
+        numbers_alone: None,
+        repairs: Vec::new(alloc),
+        left: None,
+        tried: None,
+    }
+}
+
+/// Appends an answer on a record: its verdict and, where it is illegal, its repairs with their evidence.
+///
+/// It fails only where memory runs out.
+pub fn push_repair_answer(
+    alloc: Global,
+    text: &mut Vec<u8>,
+    record: &Record,
+    answer: &RepairAnswer,
+) -> Result<(), AllocError> {
+    let fields = verdict_fields(alloc, &answer.verdict)?;
+    let object = match &answer.faulty {
+        Some(faulty) => faulty_object(alloc, fields, record, faulty)?,
+        None => bare_object(alloc, fields),
+    };
+    push_object(alloc, text, &object)
+}
+
+/// Appends that a record has no event.
+pub fn push_no_game(alloc: Global, text: &mut Vec<u8>) -> Result<(), AllocError> {
+    let object = NoGameObject {
+        verdict: "no game",
+        line: None,
+        fault: None,
+    };
+    push_object(alloc, text, &object)
+}

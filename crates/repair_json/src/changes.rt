@@ -1,0 +1,145 @@
+//! A repair as an object.
+
+use crate::evidence::{EvidenceObject, evidence_object};
+use crate::slip_names::slip_name;
+use answer_json::text_of;
+use gcg_read::{Event, Players, Record};
+use gcg_write::line_text;
+use record_changes::{Change, Slip, weight_of, wrong_events};
+use record_repairs::Repair;
+use repair_answers::{Spot, Told, numbers_with, spot_of};
+use serde::Serialize;
+use std::alloc::{AllocError, Global};
+
+/// A repair: where it stands, the lines of the sheet that it replaces, what stands in their place, and the evidence.
+#[derive(Drop, Serialize)]
+pub(crate) struct RepairObject {
+    at: &'static str,
+    line: u32,
+    slip: &'static str,
+    replaces: Vec<u32>,
+    lines: Vec<String>,
+    others: Vec<String>,
+    weight: usize,
+    cost: u128,
+    evidence: EvidenceObject,
+}
+
+/// Whether a change is on a line, before it or behind it.
+fn at_name(spot: Spot) -> &'static str {
+    match spot {
+        Spot::On(_) => "on",
+        Spot::Before(_) => "before",
+        Spot::Behind(_) => "behind",
+    }
+}
+
+/// The line of the file where a change stands.
+fn line_in(spot: Spot) -> u32 {
+    match spot {
+        Spot::On(line) | Spot::Before(line) | Spot::Behind(line) => line,
+    }
+}
+
+/// The lines of the events that a change replaces.
+fn replaced_lines(
+    alloc: Global,
+    events: &[Event],
+    change: &Change,
+) -> Result<Vec<u32>, AllocError> {
+    let mut lines = Vec::new(alloc);
+    for behind in 0..wrong_events(&change.slip) {
+        if let Some(event) = events.get(change.place.saturating_add(behind)) {
+            lines.push(event.line)?;
+        }
+    }
+    Ok(lines)
+}
+
+/// How many events stand in the place of those that a slip concerns.
+fn right_events(slip: &Slip) -> usize {
+    match slip {
+        Slip::Repeated | Slip::Extra => 0,
+        Slip::Missing(_) => 1,
+        _ => wrong_events(slip),
+    }
+}
+
+/// The line of an event, as records write it.
+fn event_text(alloc: Global, players: &Players, event: &Event) -> Result<String, AllocError> {
+    let mut line = Vec::new(alloc);
+    line_text(players, event, &mut line)?;
+    text_of(alloc, line.as_slice())
+}
+
+/// The lines that stand in the place of those that a repair replaces.
+fn right_lines(
+    alloc: Global,
+    players: &Players,
+    repair: &Repair,
+) -> Result<Vec<String>, AllocError> {
+    let change = &repair.listed.change;
+    let right = repair.right.as_slice();
+    let mut lines = Vec::new(alloc);
+    for behind in 0..right_events(&change.slip) {
+        if let Some(event) = right.get(change.place.saturating_add(behind)) {
+            lines.push(event_text(alloc, players, event)?)?;
+        }
+    }
+    Ok(lines)
+}
+
+/// The line that stands at the place of another repair.
+fn other_line(
+    alloc: Global,
+    players: &Players,
+    repair: &Repair,
+) -> Result<Option<String>, AllocError> {
+    match repair.right.as_slice().get(repair.listed.change.place) {
+        Some(event) => Ok(Some(event_text(alloc, players, event)?)),
+        None => Ok(None),
+    }
+}
+
+/// The lines that the other repairs have there which are told with one.
+fn other_lines(
+    alloc: Global,
+    players: &Players,
+    repairs: &[Repair],
+    others: &[usize],
+) -> Result<Vec<String>, AllocError> {
+    let mut lines = Vec::new(alloc);
+    for index in others {
+        if let Some(repair) = repairs.get(*index) {
+            if let Some(line) = other_line(alloc, players, repair)? {
+                lines.push(line)?;
+            }
+        }
+    }
+    Ok(lines)
+}
+
+/// A repair, with those that are told with it.
+pub(crate) fn repair_object(
+    alloc: Global,
+    record: &Record,
+    repairs: &[Repair],
+    repair: &Repair,
+    told: &Told,
+) -> Result<RepairObject, AllocError> {
+    let events = record.events.as_slice();
+    let change = &repair.listed.change;
+    let spot = spot_of(events, change);
+    let numbers = numbers_with(&change.slip, events.len());
+    Ok(RepairObject {
+        at: at_name(spot),
+        line: line_in(spot),
+        slip: slip_name(&change.slip),
+        replaces: replaced_lines(alloc, events, change)?,
+        lines: right_lines(alloc, &record.players, repair)?,
+        others: other_lines(alloc, &record.players, repairs, told.others.as_slice())?,
+        weight: weight_of(&change.slip),
+        cost: repair.remains.cost(&change.slip),
+        evidence: evidence_object(alloc, &repair.remains, numbers)?,
+    })
+}

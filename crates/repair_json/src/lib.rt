@@ -1,0 +1,12 @@
+//! The answer of `repair` as JSON, for programs: one object and an LF.
+//!
+//! [`push_repair_answer`] takes the answer that `repair_answers` makes and gives bytes, as `answer_json` does for all other answers. It asks no engine
+//! and tries no change.
+#![tactic(auto)]
+
+mod answers;
+mod changes;
+mod evidence;
+mod slip_names;
+
+pub use answers::{push_no_game, push_repair_answer};

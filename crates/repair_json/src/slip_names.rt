@@ -1,0 +1,105 @@
+//! The names of slips.
+
+use record_changes::{CodeSlip, MissingLine, PositionSlip, Slip, SpellingSlip, TileSlip, TilesOf};
+
+/// The name of a slip of a position.
+fn position_name(slip: &PositionSlip) -> &'static str {
+    match slip {
+        PositionSlip::OtherDirection => "other direction",
+        PositionSlip::OneOff(_) => "one square off",
+        PositionSlip::Further(_) => "other square",
+        PositionSlip::Interchanged => "row and column interchanged",
+    }
+}
+
+/// The name of a slip of a text.
+fn spelling_name(slip: &SpellingSlip) -> &'static str {
+    match slip {
+        SpellingSlip::OtherTile { .. } => "letter or blank",
+        SpellingSlip::Dot { .. } => "letter in place of dot",
+        SpellingSlip::Letter { .. } => "dot in place of letter",
+        SpellingSlip::OtherLetter { .. } => "other letter",
+        SpellingSlip::Extra { .. } => "symbol too many",
+        SpellingSlip::MissingDot { .. } => "dot missing",
+        SpellingSlip::MissingLetter { .. } => "letter missing",
+        SpellingSlip::Twisted { .. } => "symbols interchanged",
+        SpellingSlip::Laid(_) => "dots too many or too few",
+    }
+}
+
+/// The name of a slip of the tiles of a rack.
+fn rack_name(slip: &TileSlip) -> &'static str {
+    match slip {
+        TileSlip::Other { .. } => "other tile on rack",
+        TileSlip::Extra { .. } => "tile too many on rack",
+        TileSlip::Missing { .. } => "tile missing on rack",
+    }
+}
+
+/// The name of a slip of tiles that are exchanged.
+fn exchange_name(slip: &TileSlip) -> &'static str {
+    match slip {
+        TileSlip::Other { .. } => "other tile exchanged",
+        TileSlip::Extra { .. } => "tile too many exchanged",
+        TileSlip::Missing { .. } => "tile missing in exchange",
+    }
+}
+
+/// The name of a slip of a last rack.
+fn last_rack_name(slip: &TileSlip) -> &'static str {
+    match slip {
+        TileSlip::Other { .. } => "other tile on last rack",
+        TileSlip::Extra { .. } => "tile too many on last rack",
+        TileSlip::Missing { .. } => "tile missing on last rack",
+    }
+}
+
+/// The name of a slip of tiles.
+fn tile_name(of: TilesOf, slip: &TileSlip) -> &'static str {
+    match of {
+        TilesOf::Rack => rack_name(slip),
+        TilesOf::Exchange => exchange_name(slip),
+        TilesOf::LastRack => last_rack_name(slip),
+    }
+}
+
+/// The name of a slip of a code.
+fn code_name(slip: &CodeSlip) -> &'static str {
+    match slip {
+        CodeSlip::Pass => "pass",
+        CodeSlip::Exchange(_) => "exchange",
+        CodeSlip::Withdrawal => "withdrawal",
+    }
+}
+
+/// The name of a line that is missing.
+fn missing_name(line: &MissingLine) -> &'static str {
+    match line {
+        MissingLine::Pass(_) => "pass missing",
+        MissingLine::Exchange { .. } => "exchange missing",
+        MissingLine::Time { .. } => "penalty missing",
+        MissingLine::Withdrawal(_) => "withdrawal missing",
+        MissingLine::Challenge { .. } => "bonus missing",
+        MissingLine::Rest { .. } => "last rack missing",
+    }
+}
+
+/// The name of a slip.
+pub(crate) fn slip_name(slip: &Slip) -> &'static str {
+    match slip {
+        Slip::Position(slip) => position_name(slip),
+        Slip::Spelling(slip) => spelling_name(slip),
+        Slip::Tile { of, slip } => tile_name(*of, slip),
+        Slip::NoRack => "other rack",
+        Slip::Number(_) => "other number of tiles",
+        Slip::Code(slip) => code_name(slip),
+        Slip::Rest(_) => "other last rack",
+        Slip::Amount(_) => "other amount",
+        Slip::OtherPlayer => "other player",
+        Slip::Repeated => "line repeated",
+        Slip::Extra => "line too many",
+        Slip::Swapped => "lines interchanged",
+        Slip::SwappedOver => "lines interchanged over another",
+        Slip::Missing(line) => missing_name(line),
+    }
+}

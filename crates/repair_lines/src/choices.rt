@@ -1,0 +1,48 @@
+//! Whether the repaired sheet is written.
+
+use engine::Case;
+use gcg_read::Players;
+use record_repairs::Repair;
+use repair_answers::{Choice, RepairAnswer, choice_of};
+use repaired_sheets::can_be_written;
+use std::alloc::AllocError;
+
+/// Appends why the sheet with a repair is not written, where it cannot be.
+fn push_unwritten(
+    text: &mut Vec<u8>,
+    players: &Players,
+    repair: &Repair,
+) -> Result<(), AllocError> {
+    if can_be_written(players, repair.right.as_slice()) {
+        return Ok(());
+    }
+    text.extend_from_slice(b"not written: a player of the repaired sheet has no nickname\n")
+}
+
+/// Appends why the repaired sheet is not written, where it is not.
+///
+/// It fails only where memory runs out.
+pub fn push_choice(
+    text: &mut Vec<u8>,
+    case: &Case,
+    answer: &RepairAnswer,
+) -> Result<(), AllocError> {
+    let Ok(entry) = &case.read else {
+        return Ok(());
+    };
+    let Some(faulty) = &answer.faulty else {
+        return text.extend_from_slice(b"not written: there is nothing to repair\n");
+    };
+    match choice_of(&faulty.found) {
+        Choice::Clear(repair) => push_unwritten(text, &entry.record.players, repair),
+        Choice::None => text.extend_from_slice(b"not written: no single change repairs it\n"),
+        Choice::Open => {
+            text.extend_from_slice(
+                b"not written: it is not known whether another change repairs it\n",
+            )
+        }
+        Choice::Close => text.extend_from_slice(
+            b"not written: the second repair is nearly as likely as the first\n",
+        ),
+    }
+}

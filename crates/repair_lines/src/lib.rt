@@ -1,0 +1,17 @@
+//! What `repair` says of a record, in plain words for a director.
+//!
+//! [`push_repairs`] writes the verdict line and, where the record is illegal, the repairs with their evidence. All of it stands in the answer that
+//! `repair_answers` makes; here it is only put into words.
+#![tactic(auto)]
+
+mod choices;
+mod evidence;
+mod letters;
+mod lines;
+mod missing;
+mod names;
+mod slips;
+mod words;
+
+pub use choices::push_choice;
+pub use lines::{push_change, push_repairs};

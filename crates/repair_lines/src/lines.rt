@@ -1,0 +1,150 @@
+//! The lines of an answer.
+
+use crate::evidence::push_evidence;
+use crate::letters::push_difference;
+use crate::slips::push_slip;
+use decimal_text::push_number;
+use engine::{Case, case_line};
+use gcg_read::{Event, Players, Record};
+use record_changes::Change;
+use record_repairs::Repair;
+use repair_answers::{Faulty, RepairAnswer, Spot, Told, numbers_with, spot_of};
+use sentence_parts::{Part, say, say_of_line};
+use std::alloc::{AllocError, Global};
+
+/// Appends where a change stands in the file.
+fn push_spot(text: &mut Vec<u8>, spot: Spot) -> Result<(), AllocError> {
+    match spot {
+        Spot::On(line) => say_of_line(text, "line ", line, ": "),
+        Spot::Before(line) => say_of_line(text, "before line ", line, ": "),
+        Spot::Behind(line) => say_of_line(text, "after line ", line, ": "),
+    }
+}
+
+/// Appends a change: where it stands in the file, what should be there, and what is.
+pub fn push_change(
+    text: &mut Vec<u8>,
+    players: &Players,
+    events: &[Event],
+    change: &Change,
+    right: &[Event],
+) -> Result<(), AllocError> {
+    push_spot(text, spot_of(events, change))?;
+    let place = change.place;
+    push_slip(
+        text,
+        players,
+        &change.slip,
+        right.get(place),
+        events.get(place),
+    )
+}
+
+/// Appends what the other repairs of a line have where they differ from the first.
+fn push_others(text: &mut Vec<u8>, repairs: &[Repair], others: &[usize]) -> Result<(), AllocError> {
+    if others.is_empty() {
+        return Ok(());
+    }
+    let mut between: &[u8] = b" (or with ";
+    for index in others {
+        text.extend_from_slice(between)?;
+        if let Some(repair) = repairs.get(*index) {
+            push_difference(text, &repair.listed.change.slip)?;
+        }
+        between = b", ";
+    }
+    text.extend_from_slice(b")")
+}
+
+/// Appends a repair and those that are like it.
+fn push_told(
+    text: &mut Vec<u8>,
+    record: &Record,
+    repairs: &[Repair],
+    told: &Told,
+) -> Result<(), AllocError> {
+    let Some(repair) = repairs.get(told.first) else {
+        return Ok(());
+    };
+    let events = record.events.as_slice();
+    let change = &repair.listed.change;
+    push_change(
+        text,
+        &record.players,
+        events,
+        change,
+        repair.right.as_slice(),
+    )?;
+    push_others(text, repairs, told.others.as_slice())?;
+    text.extend_from_slice(b"\n")?;
+    push_evidence(
+        text,
+        &repair.remains,
+        numbers_with(&change.slip, events.len()),
+    )
+}
+
+/// Appends that the numbers alone are wrong, where that is so.
+fn push_unchanged(text: &mut Vec<u8>, record: &Record, faulty: &Faulty) -> Result<(), AllocError> {
+    let Some(remains) = &faulty.unchanged else {
+        return Ok(());
+    };
+    text.extend_from_slice(b"with only the numbers corrected it is a game\n")?;
+    push_evidence(text, remains, 2 * record.events.len() as u128)
+}
+
+/// Appends that no single change helps, where that is so.
+fn push_none(text: &mut Vec<u8>, faulty: &Faulty) -> Result<(), AllocError> {
+    if !faulty.lines.is_empty() {
+        return Ok(());
+    }
+    text.extend_from_slice(b"none of ")?;
+    push_number(text, faulty.tried)?;
+    match &faulty.unchanged {
+        Some(_) => text.extend_from_slice(b" single changes leaves fewer errors\n"),
+        None => text.extend_from_slice(b" single changes makes it a game\n"),
+    }
+}
+
+/// Appends how many changes are left open, where there are any.
+fn push_left(text: &mut Vec<u8>, faulty: &Faulty) -> Result<(), AllocError> {
+    let left = faulty.found.left.len();
+    if left == 0 {
+        return Ok(());
+    }
+    say(
+        text,
+        &[
+            Part::Say("with "),
+            Part::Things(left, "more change"),
+            Part::Say(" every event stands, but no deal was found\n"),
+        ],
+    )
+}
+
+/// Appends what repairs an illegal record.
+fn push_faulty(text: &mut Vec<u8>, record: &Record, faulty: &Faulty) -> Result<(), AllocError> {
+    push_unchanged(text, record, faulty)?;
+    for told in faulty.lines.as_slice() {
+        push_told(text, record, faulty.found.told.as_slice(), told)?;
+    }
+    push_none(text, faulty)?;
+    push_left(text, faulty)
+}
+
+/// Appends the answer on the case of a record: its verdict line and, where the record is illegal, its repairs with their evidence.
+///
+/// It fails only where memory runs out.
+pub fn push_repairs(
+    alloc: Global,
+    text: &mut Vec<u8>,
+    case: &Case,
+    answer: &RepairAnswer,
+) -> Result<(), AllocError> {
+    let line = case_line(alloc, case)?;
+    text.extend_from_slice(line.as_slice())?;
+    match (&case.read, &answer.faulty) {
+        (Ok(entry), Some(faulty)) => push_faulty(text, &entry.record, faulty),
+        _ => Ok(()),
+    }
+}

@@ -1,0 +1,163 @@
+//! The words of a slip: what should stand on a line, and what stands there.
+
+use crate::missing::push_missing;
+use crate::names::nick;
+use crate::words::{push_kind, push_position, push_word};
+use gcg_read::{Event, EventKind, Players};
+use record_changes::{Slip, TilesOf};
+use sentence_parts::{Part, say};
+use std::alloc::AllocError;
+
+/// Appends what stands between what should be there and what is.
+fn push_not(text: &mut Vec<u8>) -> Result<(), AllocError> {
+    text.extend_from_slice(b", not ")
+}
+
+/// Appends that a play has another position.
+fn push_moved(text: &mut Vec<u8>, right: &Event, written: &Event) -> Result<(), AllocError> {
+    push_kind(text, &right.kind)?;
+    text.extend_from_slice(b", not at ")?;
+    match &written.kind {
+        EventKind::Play { at, dir, .. } => push_position(text, *at, *dir),
+        _ => Ok(()),
+    }
+}
+
+/// Appends that a play has another text.
+fn push_spelled(text: &mut Vec<u8>, right: &Event, written: &Event) -> Result<(), AllocError> {
+    push_kind(text, &right.kind)?;
+    push_not(text)?;
+    match &written.kind {
+        EventKind::Play { word, .. } => push_word(text, word.as_slice()),
+        _ => Ok(()),
+    }
+}
+
+/// Appends what happened where something else should have: its tiles or how many they are, where the same was done with other ones.
+fn push_instead(
+    text: &mut Vec<u8>,
+    right: &EventKind,
+    written: &EventKind,
+) -> Result<(), AllocError> {
+    match (right, written) {
+        (EventKind::Exchange(_), EventKind::Exchange(tiles)) => say(text, &[Part::Tiles(tiles)]),
+        (EventKind::LastRack(_), EventKind::LastRack(tiles)) => say(text, &[Part::Tiles(tiles)]),
+        (EventKind::ExchangeUnknown(_), EventKind::ExchangeUnknown(number)) => {
+            say(text, &[Part::Many(*number as usize)])
+        }
+        _ => push_kind(text, written),
+    }
+}
+
+/// Appends that something else happened.
+fn push_other(text: &mut Vec<u8>, right: &Event, written: &Event) -> Result<(), AllocError> {
+    push_kind(text, &right.kind)?;
+    push_not(text)?;
+    push_instead(text, &right.kind, &written.kind)
+}
+
+/// Appends the rack of an event.
+fn push_rack(text: &mut Vec<u8>, event: &Event) -> Result<(), AllocError> {
+    match &event.rack {
+        Some(tiles) => say(text, &[Part::Tiles(tiles)]),
+        None => text.extend_from_slice(b"another one"),
+    }
+}
+
+/// Appends that the rack is another one.
+fn push_racks(text: &mut Vec<u8>, right: &Event, written: &Event) -> Result<(), AllocError> {
+    text.extend_from_slice(b"the rack is ")?;
+    push_rack(text, right)?;
+    push_not(text)?;
+    push_rack(text, written)
+}
+
+/// Appends that tiles are others.
+fn push_tiles(
+    text: &mut Vec<u8>,
+    of: TilesOf,
+    right: &Event,
+    written: &Event,
+) -> Result<(), AllocError> {
+    match of {
+        TilesOf::Rack => push_racks(text, right, written),
+        TilesOf::Exchange | TilesOf::LastRack => push_other(text, right, written),
+    }
+}
+
+/// Appends that a bonus or a penalty is another one.
+fn push_amount(text: &mut Vec<u8>, right: &Event, written: &Event) -> Result<(), AllocError> {
+    push_kind(text, &right.kind)?;
+    say(
+        text,
+        &[
+            Part::Say(", "),
+            Part::Points(right.score.value()),
+            Part::Say(", not "),
+            Part::Points(written.score.value()),
+        ],
+    )
+}
+
+/// Appends whose line it is.
+fn push_player(
+    text: &mut Vec<u8>,
+    players: &Players,
+    right: &Event,
+    written: &Event,
+) -> Result<(), AllocError> {
+    say(
+        text,
+        &[
+            Part::Raw(nick(players, right.player)),
+            Part::Say("'s line, not "),
+            Part::Raw(nick(players, written.player)),
+            Part::Say("'s"),
+        ],
+    )
+}
+
+/// Appends the words of a slip that changes one line.
+fn push_changed(
+    text: &mut Vec<u8>,
+    players: &Players,
+    slip: &Slip,
+    right: &Event,
+    written: &Event,
+) -> Result<(), AllocError> {
+    match slip {
+        Slip::Position(_) => push_moved(text, right, written),
+        Slip::Spelling(_) => push_spelled(text, right, written),
+        Slip::Tile { of, .. } => push_tiles(text, *of, right, written),
+        Slip::NoRack => push_racks(text, right, written),
+        Slip::Number(_) | Slip::Code(_) | Slip::Rest(_) => push_other(text, right, written),
+        Slip::Amount(_) => push_amount(text, right, written),
+        Slip::OtherPlayer => push_player(text, players, right, written),
+        _ => Ok(()),
+    }
+}
+
+/// Appends the words of a slip at a place of the events, beside the events as they should be.
+pub(crate) fn push_slip(
+    text: &mut Vec<u8>,
+    players: &Players,
+    slip: &Slip,
+    right: Option<&Event>,
+    written: Option<&Event>,
+) -> Result<(), AllocError> {
+    match slip {
+        Slip::Repeated => {
+            text.extend_from_slice(b"it repeats the line before it and should not be there")
+        }
+        Slip::Extra => text.extend_from_slice(b"it should not be there"),
+        Slip::Swapped => text.extend_from_slice(b"it belongs after the next line"),
+        Slip::SwappedOver => {
+            text.extend_from_slice(b"it should change places with the line after the next one")
+        }
+        Slip::Missing(line) => push_missing(text, players, line),
+        _ => match (right, written) {
+            (Some(right), Some(written)) => push_changed(text, players, slip, right, written),
+            _ => Ok(()),
+        },
+    }
+}

@@ -1,0 +1,5 @@
+pub mod Places
+pub mod Lines
+pub mod Rounds
+pub mod Ends
+pub mod Names

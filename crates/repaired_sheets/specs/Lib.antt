@@ -1,0 +1,5 @@
+pub mod EventLines
+pub mod Replacing
+pub mod Texts
+pub mod Ends
+pub mod Names

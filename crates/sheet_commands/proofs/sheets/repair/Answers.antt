@@ -1,0 +1,25 @@
+use Rattle.std.proofs.Common.{Ok, [], List, ℕ, refl, subst, sym}
+use Rattle.lex_check.specs.Pairs.{list_in}
+use Rattle.call_stages.specs.Runs.{outcomes}
+use Rattle.call_stages.proofs.Giving.{gives_failed, gives_last}
+use Rattle.engine.specs.Explaining.{IsCaseOf}
+use Rattle.command_files.specs.Telling.{IsCaseTold}
+use Rattle.sheet_commands.proofs.sheets.repair.Goals as goal
+
+pub tell_repairs-requires : goal.tell_repairs-requires
+tell_repairs-requires g c =
+    let text = c.in-Ok.ensures.taken.text in
+    (text, subst (λ (l : List (List ℕ)). IsCaseOf c.args.given.now.rules.now l text c.in-Ok.case) (sym c.list.ensures.list) c.in-Ok.ensures.taken.means)
+
+pub returns-in-Ok : goal.returns-in-Ok
+returns-in-Ok g c =
+    let rules = c.args.given.now.rules.now in
+    let list = list_in c.args.given.now.pair.now in
+    gives_last outcomes _ (IsCaseOf rules list) (IsCaseTold rules list) c.in-Ok.case (Ok c.tell_repairs.result) c.in-Ok.ensures
+    (λ text means. (c.in-Ok.case, means, record { verdict_is = refl; told = refl }))
+
+pub returns-in-Err : goal.returns-in-Err
+returns-in-Err g c =
+    let rules = c.args.given.now.rules.now in
+    let list = list_in c.args.given.now.pair.now in
+    gives_failed outcomes _ [] (IsCaseOf rules list) (IsCaseTold rules list) c.in-Err.fault c.in-Err.ensures tt

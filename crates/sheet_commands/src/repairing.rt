@@ -1,0 +1,100 @@
+//! `repair`: the single changes of a faulty record after which it is a game.
+ghost use Rattle.repair_answers.specs.Answers.{HasItsWalk};
+
+use command_files::{NO_GAME, has_no_event, write_beside, write_out};
+use engine::Case;
+use exit_statuses::{Exit, Trouble, exit_of_case};
+use lex_list::WordList;
+use name_texts::Encoding;
+use record_repairs::Repair;
+use ref_tiles::Rules;
+use repair_answers::{Choice, RepairAnswer, answer_repairs, choice_of};
+use repair_lines::{push_choice, push_repairs};
+use repaired_sheets::{can_be_written, repaired_text};
+use std::alloc::{AllocError, Global};
+use std::rt::Runtime;
+
+/// Tells what repairs the record of a case, by the rules and the word list, in so many lines: writes it to standard output, and the repaired sheet
+/// to the output `out`, where one is named and one repair is to be chosen. Where that is standard output, the rest goes to standard error.
+pub fn tell_repairs<'a, R: Runtime + AllocGlobal>(
+    rt: &R,
+    rules: &Rules,
+    list: &WordList,
+    case: &mut Case,
+    number: usize,
+    out: Option<&'a str>,
+) -> Result<Exit, Trouble<'a>>
+    requires { HasItsWalk rules.now list.now case.old }
+{
+    if has_no_event(case) {
+        write_beside(rt, out, NO_GAME)?;
+        return Ok(exit_of_case(case, None));
+    }
+    let Ok(answer) = answer_repairs(rt.alloc(), rules, list, case, number) else {
+        return Err(Trouble::NoMemory);
+    };
+    let Ok(told) = text_of(rt.alloc(), case, &answer, out.is_some()) else {
+        return Err(Trouble::NoMemory);
+    };
+    if let Some(out) = out {
+        keep(rt, out, case, &answer)?;
+    }
+    write_beside(rt, out, told.as_slice())?;
+    Ok(exit_of_case(case, None))
+}
+
+/// What repairs the record of a case. Where the record states its encoding, names in it are UTF-8.
+fn text_of(
+    alloc: Global,
+    case: &Case,
+    answer: &RepairAnswer,
+    kept: bool,
+) -> Result<Vec<u8>, AllocError> {
+    let mut told = Vec::new(alloc);
+    push_repairs(alloc, &mut told, case, answer)?;
+    if kept {
+        push_choice(&mut told, case, answer)?;
+    }
+    match Encoding::of(case.text.as_slice()) {
+        Encoding::Utf8 => Ok(told),
+        Encoding::Latin1 => {
+            let text = Encoding::Latin1.text_of(alloc, told.as_slice())?;
+            Ok(text.into_bytes())
+        }
+    }
+}
+
+/// The text of the sheet of a case with a repair; none where it cannot be written.
+fn sheet_with(alloc: Global, case: &Case, repair: &Repair) -> Result<Option<Vec<u8>>, AllocError> {
+    let Ok(entry) = &case.read else {
+        return Ok(None);
+    };
+    let players = &entry.record.players;
+    let right = repair.right.as_slice();
+    if !can_be_written(players, right) {
+        return Ok(None);
+    }
+    let change = &repair.listed.change;
+    let text = repaired_text(alloc, case.text.as_slice(), players, change, right)?;
+    Ok(Some(text))
+}
+
+/// Writes the sheet of a case with the repair that is to be chosen to the output `out`, which is opened once its text is made.
+fn keep<'a, R: Runtime + AllocGlobal>(
+    rt: &R,
+    out: &'a str,
+    case: &Case,
+    answer: &RepairAnswer,
+) -> Result<(), Trouble<'a>> {
+    let Some(faulty) = &answer.faulty else {
+        return Ok(());
+    };
+    let Choice::Clear(repair) = choice_of(&faulty.found) else {
+        return Ok(());
+    };
+    match sheet_with(rt.alloc(), case, repair) {
+        Ok(Some(text)) => write_out(rt, out, text.as_slice()),
+        Ok(None) => Ok(()),
+        Err(_) => Err(Trouble::NoMemory),
+    }
+}

@@ -1,0 +1,143 @@
+"""Compares `referee repair` with worked records and with the second judge: compare_repairs PROGRAM CASES SEED
+
+The worked records are those of `repair_rows`: the first repair has to be the known one, with its cost, its line and what stands there then. Then as
+many games that were dealt for real have one slip of the pen, and the second judge lists the repairs: those that are told have to be the same, with the
+same costs, as far as both tell them.
+"""
+import json
+import random
+
+from comparing import Differences, compared
+from compare_changes import all_changes, line_of
+from deals import events_of
+from lexicons import build
+from repair_rows import LINES, NONE, ROWS
+from repair_figures import SLIPS, STYLES, TURNS, some_sheet
+from repair_texts import repair_text
+from repairs import WRONG_NUMBER, repairs
+from rules import ENGLISH
+from rules_texts import text_of
+
+MOST = 100
+
+
+def told_by(differences, rules, listed, text, number=MOST):
+    """What the program tells of a record."""
+    differences.put("words", "\n".join(sorted(listed)).encode())
+    differences.put("lexicon", build(listed))
+    differences.put("game", text.encode())
+    differences.put("rules", text_of(rules))
+    done = differences.run("repair", "--json", "--rules", "rules", "--number", str(number), "words", "lexicon", "game")
+    return done.returncode, json.loads(done.stdout)
+
+
+def named(line):
+    """A line, with a nickname for the player who has none since the record has no line of B."""
+    return line.replace(">: ", ">B: ") + "\n"
+
+
+def first(answer):
+    """The first repair: its cost, its line, and what stands there."""
+    if not answer["repairs"]:
+        return None
+    it = answer["repairs"][0]
+    return it["cost"], it["line"], "".join(map(named, it["lines"]))
+
+
+def rows(differences):
+    for rules, words, record, cost, line, there in ROWS:
+        status, answer = told_by(differences, rules, set(words.split()), record)
+        told = first(answer)
+        behind = told and answer["repairs"][0]["at"] == "behind"
+        good = told and (told[0], told[1] + behind, told[2]) == (cost, line, there) and status == 1
+        differences.expect(good, record, f"told {status} {told} for {(cost, line, there)}")
+        texts(differences, rules, set(words.split()), record, "worked")
+    for rules, words, record in NONE:
+        status, answer = told_by(differences, rules, set(words.split()), record)
+        differences.expect(not answer["repairs"], record, f"told {first(answer)}")
+    for rules, words, record, wanted in LINES:
+        status, answer = told_by(differences, rules, set(words.split()), record)
+        many = 1 + len(answer["repairs"][0]["others"])
+        differences.expect(many == wanted, record, f"{many} on the first line for {wanted}")
+
+
+def all_told(answer):
+    """Each repair that the program tells: its cost and what stands there, those that are told with another one too."""
+    for it in answer["repairs"]:
+        yield it["cost"], "".join(map(named, it["lines"]))
+        yield from ((it["cost"], named(other)) for other in it["others"])
+
+
+def expected(events, listed, rules):
+    """The same by the second judge."""
+    for it in repairs(events, listed, rules):
+        if it.dealt:
+            place = it.change.place
+            yield it.cost, "".join(map(line_of, it.right()[place : place + len(it.change.there)]))
+
+
+def texts(differences, rules, listed, text, name):
+    """Compares all that is printed of an illegal record after the verdict line, if the second judge knows of every change whether a deal fits."""
+    events = events_of(text)
+    if not all(it.dealt for it in repairs(events, listed, rules)):
+        return
+    nicks = [nick if f">{nick}:" in text else "the other player" for nick in "AB"]
+    tried = len(all_changes(rules, events, listed))
+    done = differences.run("repair", "--rules", "rules", "words", "lexicon", "game")
+    told = done.stdout.decode().split("\n", 1)[1]
+    wanted = repair_text(events, listed, rules, nicks, tried=tried)
+    told = "".join(line + "\n" for line in told.split("\n")[:-1] if not line.endswith("but no deal was found"))
+    differences.expect(told == wanted, name, text, told, "second judge", wanted)
+
+
+def is_clear(found):
+    """Whether the first repair is ahead of the second by a number at the least, and nothing is left open."""
+    return all(it.dealt for it in found) and (len(found) == 1 or len(found) > 1 and found[0].cost + WRONG_NUMBER <= found[1].cost)
+
+
+def repaired(differences, text, found):
+    """Compares the repaired sheet with the right events of the first repair, each line of the file but those of events as it was."""
+    (differences.folder / "out").unlink(missing_ok=True)
+    noted = "#title a game\n" + text.replace("\n", "\r\n#note as it was\n")
+    differences.put("game", noted.encode())
+    done = differences.run("repair", "--repaired", "out", "words", "lexicon", "game")
+    wanted = "".join(map(line_of, found[0].right())) if is_clear(found) else None
+    there = (differences.folder / "out").exists()
+    made = (differences.folder / "out").read_bytes().decode() if there else ""
+    lines = [line.rstrip("\r") + "\n" for line in made.split("\n") if line.startswith(">")]
+    kept = [line for line in made.split("\n") if line.startswith("#")]
+    differences.seen["repaired sheets"] += there
+    differences.expect(("".join(lines) if there else None) == wanted, text, f"repaired {made}", f"second judge {wanted}", done.stdout.decode())
+    if there:
+        differences.expect(kept == [line for line in noted.split("\n") if line.startswith("#")], text, f"other lines of {made}")
+
+
+def case(differences, number):
+    name = random.choice(list(SLIPS))
+    _, events, listed = some_sheet(SLIPS[name], TURNS, random.choice(STYLES))
+    text = "".join(map(line_of, events))
+    status, answer = told_by(differences, ENGLISH, listed, text)
+    differences.seen[f"status {status}"] += 1
+    if status == 1:
+        texts(differences, ENGLISH, listed, text, name)
+        told, wanted = list(all_told(answer)), list(expected(events, listed, ENGLISH))
+        last = min((max(them)[0] for them in (told, wanted) if them), default=0)
+        few = [sorted({it for it in them if it[0] < last}) for them in (told, wanted)]
+        found = repairs(events, listed, ENGLISH)
+        if found:
+            repaired(differences, text, found)
+        differences.expect(few[0] == few[1], name, text, f"program {few[0][:5]}", f"second judge {few[1][:5]}")
+
+
+def main():
+    def compare(differences, cases):
+        rows(differences)
+        for number in range(cases):
+            case(differences, number)
+
+    differences, cases = compared(Differences, compare)
+    differences.end(cases + len(ROWS) + len(NONE) + len(LINES), "records")
+
+
+if __name__ == "__main__":
+    main()

@@ -1,0 +1,98 @@
+"""Checks the second judge's repairs on records that were made by hand and whose first repair is known: repair_rows CASES SEED
+
+Then as many random games as CASES says, with and without a wrong rack: they must be refused at the line whose bound `deals.py` finds exceeded.
+"""
+import random
+import sys
+from collections import Counter
+from dataclasses import replace
+
+from compare_changes import line_of
+from dealing import Dealer, spoiled
+from deals import bound, course, events_of
+from games import go_through
+from repairs import Front, lines, repairs
+from rules import ENGLISH
+
+SMALL = replace(ENGLISH, tiles=Counter("AADEEINORRSTTW"))
+WORDS = "WORD AT RA DT EAT OE"
+WORD, AT, EAT = ">A: AADEORW 8E WORD +16 16\n", ">B: AT 9G AT +9 9\n", ">A: E 9F E.. +5 21\n"
+RETAINS, REST = ">A: AEINRST 8D RETAINS +66 66\n", ">A: (ADEORTW) +22 88\n"
+
+# Records with one slip: the rules, the words, the record, and of the first repair the cost, the line and what it puts there.
+ROWS = [
+    (ENGLISH, WORDS, WORD + ">B: AT 9H AT +9 9\n" + EAT, 2, 2, AT),
+    (ENGLISH, WORDS, ">A: AADEORW E8 WORD +16 16\n" + AT + EAT, 2, 1, WORD),
+    (ENGLISH, WORDS, ">A: AADEOW? 8E WORD +14 14\n>B: AT 9G AT +8 8\n", 2, 1, ">A: AADEOW? 8E WOrD +14 14\n"),
+    (ENGLISH, WORDS, WORD + AT + ">A: E 9F E. +5 21\n", 2, 3, EAT),
+    (ENGLISH, WORDS, WORD + AT + ">A: E 9F EET +5 21\n", 2, 3, ">A: E 9F E.T +5 21\n"),
+    (ENGLISH, WORDS, WORD + ">A: AT 9G AT +9 25\n", 2, 2, ">B: - +0 0\n"),
+    (ENGLISH, WORDS, WORD + AT + AT + EAT, 1, 3, ""),
+    (ENGLISH, WORDS, WORD + EAT + AT, 2, 2, AT + EAT),
+    (ENGLISH, WORDS, WORD + ">A: AT 9G AT +9 9\n" + EAT, 2, 2, AT),
+    (ENGLISH, "AT", WORD + ">A: - -16 0\n>B: AT 8G AT +4 4\n", 2, 2, ">A: -- -16 0\n"),
+    (ENGLISH, WORDS, WORD + AT + ">B: (challenge) +40 14\n", 2, 3, ">B: (challenge) +5 14\n"),
+    (ENGLISH, WORDS, WORD + AT + ">A: E 9F E.. +5 26\n", 3, 2, ">A: (challenge) +5 21\n"),
+    (ENGLISH, WORDS, ">A: AABCDDT -AAX +0 0\n", 3, 1, ">A: AABCDDT -AAB +0 0\n"),
+    (ENGLISH, "RETAINS", ">A: AEINRSS 8D RETAINS +66 66\n", 3, 1, RETAINS),
+    (SMALL, "RETAINS", RETAINS + ">A: (ADEORTT) +22 88\n", 2, 2, REST),
+    (SMALL, "RETAINS", RETAINS + ">A: (EEEEEEE) +22 88\n", 3, 2, REST),
+]
+
+# Records without a repair: two legal ones, and one with two slips.
+NONE = [
+    (ENGLISH, WORDS, WORD + AT + EAT),
+    (ENGLISH, "WORD", WORD + AT + EAT),
+    (ENGLISH, WORDS, WORD + ">B: AT 9H AT +9 10\n>A: E 9F E.. +15 21\n>B: A1 AT +4 13\n"),
+]
+
+# Repairs that are on one line: the rules, the words, the record, how many repairs the first line has.
+LINES = [
+    (ENGLISH, WORDS, ">A: AABCDDT -AAX +0 0\n", 4),
+    (SMALL, "RETAINS", RETAINS + ">A: (ADEORTT) +22 88\n", 1),
+]
+
+
+def first(rules, words, record):
+    """The first repair of a record: its cost, its line, and what it puts there, with right numbers; None if there is none."""
+    found = repairs(events_of(record), set(words.split()), rules)
+    if not found:
+        return None
+    repair, place = found[0], found[0].change.place
+    there = repair.right()[place : place + len(repair.change.there)]
+    return repair.cost, place + 1, "".join(map(line_of, there))
+
+
+def rows():
+    for rules, words, record, *wanted in ROWS:
+        told = first(rules, words, record)
+        assert told == tuple(wanted), f"{record}told {told} for {wanted}"
+    for rules, words, record in NONE:
+        assert first(rules, words, record) is None, (record, first(rules, words, record))
+    for rules, words, record, wanted in LINES:
+        events = events_of(record)
+        told = len(lines(repairs(events, set(words.split()), rules), events)[0])
+        assert told == wanted, f"{record}told {told} for {wanted}"
+    print(f"{len(ROWS)} records with a repair, {len(NONE)} without, {len(LINES)} with lines", flush=True)
+
+
+def bounds(cases):
+    """Random games: how far they go has to be how far no bound is exceeded."""
+    seen = Counter()
+    for _ in range(cases):
+        kinds = random.choice([(), ("known",), ("unknown",), ("known", "unknown")])
+        events, _, listed = Dealer(ENGLISH, random.choice([6, 24, 60]), kinds, random.choice(["whole", "mixed", "one"])).game()
+        record = random.choice([events, spoiled(events) or events])
+        if go_through(record, listed)[0].startswith("illegal"):
+            continue
+        exceeded = bound(course(record, listed), ENGLISH.tiles)
+        told = len(Front(ENGLISH, record, listed).taken)
+        assert told == (exceeded[0] - 1 if exceeded else len(record)), (exceeded, told, record)
+        seen[exceeded[1].split(" ")[0] if exceeded else "none"] += 1
+    print(f"bounds exceeded: {', '.join(f'{name} {times}' for name, times in sorted(seen.items()))}")
+
+
+if __name__ == "__main__":
+    rows()
+    random.seed(int(sys.argv[2]))
+    bounds(int(sys.argv[1]))

@@ -1,0 +1,144 @@
+"""What `repair` prints of an illegal record behind the verdict line, by code of the second judge."""
+from collections import Counter
+
+from changes import ordered
+from repairs import NOTHING, Front, lines, repairs
+from rules import ENGLISH
+
+LINES = 10
+
+
+def things(many, one):
+    return f"{many} {one}{'' if many == 1 else 's'}"
+
+
+def position(event):
+    row, column = str(event.at[0] + 1), chr(65 + event.at[1])
+    return row + column if event.direction == (0, 1) else column + row
+
+
+def tiles_in(tiles):
+    return ordered(tiles) or "no tile"
+
+
+def what_happened(event):
+    """What stands on a line, in words."""
+    if event.kind == "play":
+        return f"{event.word} at {position(event)}"
+    if event.kind == "exchange":
+        return f"an exchange of {tiles_in(event.tiles)}"
+    if event.kind == "unknown":
+        return f"an exchange of {things(event.size, 'tile')}"
+    if event.kind == "rack":
+        return f"the last rack {tiles_in(event.tiles)}"
+    others = {"pass": "a pass", "withdraw": "a play that is taken back", "challenge": "a bonus for a challenge", "time": "a penalty for time"}
+    return others[event.kind]
+
+
+def what_is_missing(event, nicks):
+    """A line that is missing, in words."""
+    nick = nicks[event.player]
+    said = {
+        "pass": " passes",
+        "unknown": f" exchanges {things(event.size, 'tile')}",
+        "time": f" gets a penalty for time, {event.score}",
+        "withdraw": " takes the play back",
+        "challenge": f" gets {event.score} points for a failed challenge",
+        "rack": f" gets the points of the last rack {tiles_in(event.tiles)}",
+    }
+    return nick + said[event.kind]
+
+
+def what_is_other(written, right, nicks):
+    """What should stand on a line, and what stands there."""
+    if written.player != right.player:
+        return f"{nicks[right.player]}'s line, not {nicks[written.player]}'s"
+    if ordered(written.rack) != ordered(right.rack):
+        return f"the rack is {ordered(right.rack) or 'another one'}, not {ordered(written.rack) or 'another one'}"
+    if written.kind == "play" and written.word != right.word:
+        return f"{what_happened(right)}, not {written.word}"
+    if written.kind == "play":
+        return f"{what_happened(right)}, not at {position(written)}"
+    if written.kind == right.kind and written.kind in ("challenge", "time"):
+        return f"{what_happened(right)}, {right.score}, not {written.score}"
+    if written.kind == right.kind:
+        return f"{what_happened(right)}, not {written.size if written.kind == 'unknown' else tiles_in(written.tiles)}"
+    return f"{what_happened(right)}, not {what_happened(written)}"
+
+
+def what_changes(repair, events, nicks):
+    """Where a change stands, and what it changes, in words."""
+    change = repair.change
+    line, there = change.place + 1, repair.right()[change.place : change.place + len(change.there)]
+    if not change.replaced:
+        spot = f"before line {line}" if change.place < len(events) else f"after line {line - 1}"
+        return f"{spot}: {what_is_missing(there[0], nicks)}"
+    if not there:
+        told = "it repeats the line before it and should not be there" if change.weight == 1 else "it should not be there"
+    elif change.replaced == 2:
+        told = "it belongs after the next line"
+    elif change.replaced == 3:
+        told = "it should change places with the line after the next one"
+    else:
+        told = what_is_other(events[change.place], there[0], nicks)
+    return f"line {line}: {told}"
+
+
+def differing(repair, events):
+    """The letter, the tile or the number of tiles in which a repair differs from those that are like it."""
+    change, right = repair.change, repair.right()[repair.change.place]
+    written = events[change.place] if change.replaced else None
+    if right.kind == "unknown" and (not written or written.rack == right.rack):
+        return str(right.size)
+    for field in ("tiles", "rack"):
+        one, other = Counter(getattr(written, field)), Counter(getattr(right, field))
+        if one != other:
+            return ordered(other - one or one - other)
+    if len(written.word) == len(right.word):
+        return next(b for a, b in zip(written.word, right.word) if a != b)
+    return next(right.word[k] for k in range(len(right.word)) if right.word[:k] + right.word[k + 1 :] == written.word)
+
+
+def wrong_on_sheet(change, events, right):
+    """The scores and sums of the sheet that are wrong, each by its line, and how many numbers there are."""
+    own = [(k + 1, event) for k, event in enumerate(events)]
+    moved = own[change.place : change.place + change.replaced]
+    there = moved[::-1] if change.replaced > 1 else [(moved[0][0] if moved else None, event) for event in change.there]
+    told, had, many = [], [0, 0], 0
+    for (line, one), other in zip([*own[: change.place], *there, *own[change.place + change.replaced :]], right):
+        if line is None:
+            had[one.player] += other.score
+            continue
+        many += 2
+        total = had[one.player] + one.score
+        if one.score != other.score:
+            told.append(f"  line {line}: score {one.score}, should be {other.score}\n")
+        if one.total != total:
+            told.append(f"  line {line}: sum {one.total}, should be {total}\n")
+        had[one.player] = one.total
+    return told, many
+
+
+def evidence(repair, events, unlisted):
+    """How many numbers of the sheet are right, those that are not, and the words that are not in the list."""
+    told, many = wrong_on_sheet(repair.change, events, repair.right())
+    words = f"  not in the list: {', '.join(unlisted)}\n" if unlisted else ""
+    return f"  {many - len(told)} of {things(many, 'number')} right\n" + "".join(told) + words
+
+
+def repair_text(events, listed, rules=ENGLISH, nicks="AB", number=LINES, tried=None):
+    """All lines behind the verdict line of an illegal record. `tried` is how many changes there are."""
+    found, text = repairs(events, listed, rules), ""
+    front = Front(rules, events, listed)
+    nothing = front.with_change(NOTHING)
+    alone = nothing and front.dealt(nothing)
+    if alone:
+        text += "with only the numbers corrected it is a game\n" + evidence(alone, events, alone.words())
+    told = [it for it in found if it.dealt]
+    for line in lines(told, events)[:number]:
+        others = [differing(it, events) for it in line[1:]]
+        more = f" (or with {', '.join(others)})" if others else ""
+        text += what_changes(line[0], events, nicks) + more + "\n" + evidence(line[0], events, line[0].words())
+    if not told:
+        text += f"none of {tried} single changes {'leaves fewer errors' if alone else 'makes it a game'}\n"
+    return text

@@ -1,0 +1,272 @@
+"""The repairs of a record, by the second judge: the single changes that make a game of it, the likeliest first.
+
+A change is a repair if the rules allow every event of the changed record once its scores and totals are recomputed, and a deal yields its racks.
+"""
+from collections import Counter
+from copy import copy
+from dataclasses import dataclass, field, replace
+from math import inf
+
+from audits import mended
+from boards import Refused, check
+from changes import changes_at, ordered
+from deals import Place, course, judged_rack, kinds_of, settle
+from games import Event, Game, step
+from rules import ENGLISH
+
+WRONG_NUMBER, UNLISTED_WORD = 5, 3
+
+
+@dataclass
+class Change:
+    """Other events in place of some neighbours, from a place on: of none, if a line is missing there."""
+
+    place: int
+    replaced: int
+    weight: int
+    there: list
+
+    def applied(self, events):
+        return [*events[: self.place], *self.there, *events[self.place + self.replaced :]]
+
+    def adds(self, place):
+        """Whether the event at a place of the changed record is on no line of the sheet."""
+        return bool(self.there) and not self.replaced and place == self.place
+
+
+NOTHING = Change(0, 0, 0, [])
+
+
+@dataclass
+class Taken:
+    """An event that the rules allow: with its right numbers, the tiles that it puts down, and those of its words that stand unlisted."""
+
+    event: Event
+    new: dict
+    unlisted: list
+
+    def what_happened(self):
+        """The event, however its text is written: a tile of the board may be a dot or a letter there."""
+        event = self.event
+        numbers = event.score, event.total, event.size
+        return event.player, event.kind, numbers, frozenset(self.new.items()), ordered(event.tiles), ordered(event.rack)
+
+
+@dataclass
+class Repair:
+    """A change, the record with it and with right numbers, how many numbers of the sheet are wrong then, how many words stand unlisted, and
+    whether the rule of completion finds a deal; if not, no bound is exceeded, and only a search can say."""
+
+    change: Change
+    taken: list
+    wrong: int
+    unlisted: int
+    dealt: bool = None
+
+    @property
+    def cost(self):
+        return WRONG_NUMBER * self.wrong + UNLISTED_WORD * self.unlisted + self.change.weight
+
+    def right(self):
+        return [it.event for it in self.taken]
+
+    def words(self):
+        """The words that stand unlisted."""
+        return [word for it in self.taken for word in it.unlisted]
+
+    def record(self):
+        return tuple(it.what_happened() for it in self.taken)
+
+
+# ---- a record with right numbers
+
+
+def two():
+    return [Counter(), Counter()]
+
+
+@dataclass
+class Hands:
+    """What the racks of a record show of each player: the tiles laid before the player's latest exchange of unknown tiles, and since then those
+    that left the rack, those of them that were thrown, and those that the player had in hand, at the least."""
+
+    laid: list = field(default_factory=two)
+    gone: list = field(default_factory=two)
+    thrown: list = field(default_factory=two)
+    had: list = field(default_factory=two)
+
+    def judge(self, place, tiles):
+        """Refuses a rack that exceeds a bound."""
+        holder = place.holder
+        if holder is None:
+            return
+        self.had[holder] = self.had[holder] | (self.gone[holder] + place.need)
+        check(self.had[holder].total() <= self.gone[holder].total() + place.racks[holder], "RackTooBig")
+        held = [self.laid[player] + self.had[player] - self.thrown[player] for player in (0, 1)]
+        check(held[0] + held[1] <= tiles, "TilesShort")
+
+    def go_on(self, place):
+        player = place.event.player
+        self.gone[player] = self.gone[player] + Counter(place.leaves(player))
+        self.thrown[player] = self.thrown[player] + place.throws()
+        if place.renews(player):
+            self.laid[player] = self.laid[player] + self.gone[player] - self.thrown[player]
+            self.gone[player], self.thrown[player], self.had[player] = Counter(), Counter(), Counter()
+
+
+@dataclass
+class State:
+    """What is known before an event: of the game, and of the racks."""
+
+    game: Game
+    hands: Hands = field(default_factory=Hands)
+
+    def copy(self):
+        game, hands = copy(self.game), copy(self.hands)
+        game.board, game.totals, game.racks = dict(game.board), list(game.totals), list(game.racks)
+        game.timed, game.ended = list(game.timed), list(game.ended)
+        hands.laid, hands.gone, hands.thrown, hands.had = list(hands.laid), list(hands.gone), list(hands.thrown), list(hands.had)
+        return State(game, hands)
+
+    def take(self, event, following, listed):
+        """Takes an event with its right numbers, and refuses it if the rules do, or if a rack exceeds a bound there."""
+        game, racks, bag, out = self.game, tuple(self.game.racks), self.game.bag, self.game.out
+        event, new, stands, unlisted = right_event(game, event, following, listed), {}, False, []
+        if event.kind == "play":
+            new, stands = game.latest["new"], game.latest["stands"]
+            unlisted = [word for word in game.latest["words"] if word not in listed] if stands else []
+        place = Place(None, event, stands, None, racks, bag, None, kinds_of(new.values()))
+        place.holder, place.need = judged_rack(place, out)
+        self.hands.judge(place, game.rules.tiles)
+        self.hands.go_on(place)
+        return Taken(event, new, unlisted)
+
+    def goes_on(self, events, place, listed):
+        """Takes the events from a place on, one after the other."""
+        for now in range(place, len(events)):
+            yield self.take(events[now], events[now + 1] if now + 1 < len(events) else None, listed)
+
+
+def right_event(game, event, following, listed):
+    """Takes an event with the numbers that the rules give, and gives it with them. A refused event leaves the game as it is."""
+    while True:
+        try:
+            step(game, event, following, listed)
+            return event
+        except Refused as fault:
+            event = mended(event, fault)
+            if event is None:
+                raise
+
+
+def wrong_numbers(change, changed, right):
+    """How many scores and totals of a sheet are wrong. A total that carries on an earlier mistake is not; a line that is missing has its right
+    score, and the total before the next line is with it."""
+    wrong, had = 0, [0, 0]
+    for place, (one, other) in enumerate(zip(changed, right)):
+        if change.adds(place):
+            had[one.player] += other.score
+        else:
+            wrong += (one.score != other.score) + (one.total != had[one.player] + one.score)
+            had[one.player] = one.total
+    return wrong
+
+
+# ---- which changes are repairs
+
+
+class Front:
+    """The events of a record up to the first that is refused with any numbers, or whose rack exceeds a bound: no change after it makes up for that.
+    `states` are those before each of these events, and `taken` are the events before it."""
+
+    def __init__(self, rules, events, listed):
+        self.rules, self.events, self.listed = rules, events, listed
+        state, self.states, self.taken = State(Game(rules)), [State(Game(rules))], []
+        try:
+            for it in state.goes_on(events, 0, listed):
+                self.taken.append(it)
+                self.states.append(state.copy())
+        except Refused:
+            pass
+
+    def changes(self):
+        """The changes up to the front, in the order of the list. Those that need all plays of a rack will follow the others of their place."""
+        for place, state in enumerate(self.states):
+            for replaced, weight, there in changes_at(state.game, self.events, place):
+                yield Change(place, replaced, weight, there)
+
+    def with_change(self, change):
+        """The record with a change, or None if an event of it is refused. The change may take back the play before it."""
+        start, changed = max(0, change.place - 1), change.applied(self.events)
+        try:
+            rest = list(self.states[start].copy().goes_on(changed, start, self.listed))
+        except Refused:
+            return None
+        both = [*self.taken[:start], *rest]
+        wrong = wrong_numbers(change, changed, [it.event for it in both])
+        return Repair(change, both, wrong, sum(len(it.unlisted) for it in both))
+
+    def dealt(self, repair):
+        """The repair with what deals say of it, or None if they refuse it."""
+        said = settle(course(repair.right(), self.listed, self.rules), self.rules.tiles)
+        return None if said and said != "unsettled" else replace(repair, dealt=said is None)
+
+
+def ranked(candidates):
+    """Each resulting record once, by its cheapest change and of these the first, in the order of the rank."""
+    seen = set()
+    for repair in sorted(candidates, key=lambda it: it.cost):
+        record = repair.record()
+        if record not in seen:
+            seen.add(record)
+            yield repair
+
+
+def repairs(events, listed, rules=ENGLISH):
+    """The repairs of a record, in the order of the rank. If only its numbers are wrong, a change has to leave fewer wrong numbers and unlisted
+    words; if nothing is wrong, there is none."""
+    front, most = Front(rules, events, listed), inf
+    nothing = front.with_change(NOTHING)
+    if nothing and front.dealt(nothing):
+        most = nothing.wrong + nothing.unlisted if nothing.wrong else 0
+    tried = map(front.with_change, front.changes() if most else [])
+    found = map(front.dealt, ranked(it for it in tried if it and it.wrong + it.unlisted < most))
+    return [it for it in found if it]
+
+
+# ---- lines
+
+
+def blotted(word, right):
+    """The right text of a play with a star for the letter that is another one, or that is missing."""
+    if len(right) == len(word):
+        places = [k for k, symbol in enumerate(right) if symbol.lower() != word[k].lower()]
+    elif len(right) == len(word) + 1:
+        places = [k for k in range(len(right)) if right[:k] + right[k + 1 :] == word][:1]
+    else:
+        places = []
+    return right[: places[0]] + "*" + right[places[0] + 1 :] if len(places) == 1 and right[places[0]] != "." else right
+
+
+def other_tile(wrong, right):
+    """The tile that is another one, where as many are there; or that they are the same."""
+    return ordered(Counter(wrong) - Counter(right)) if len(wrong) == len(right) else True
+
+
+def shape(change, events):
+    """What the repairs of one line have in common: all but a letter of a play, a tile that should be there, and how many tiles are exchanged."""
+    if not change.replaced or len(change.there) != 1:
+        return [(it.player, it.kind, it.score) for it in change.there]
+    wrong, right = events[change.place], change.there[0]
+    tiles = [(len(other), other_tile(one, other)) for one, other in ((wrong.rack, right.rack), (wrong.tiles, right.tiles))]
+    return right.player, right.kind, right.score, right.at, right.direction, blotted(wrong.word, right.word), tiles
+
+
+def lines(found, events):
+    """The repairs in lines, by their first repairs: those of one kind at one place that cost the same and differ in a letter are one line."""
+    grouped = {}
+    for repair in found:
+        change = repair.change
+        key = change.place, change.replaced, change.weight, repair.cost, str(shape(change, events))
+        grouped.setdefault(key, []).append(repair)
+    return list(grouped.values())
