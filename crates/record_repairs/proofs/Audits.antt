@@ -1,5 +1,5 @@
 -- What an audit of the sheet with a change tells.
-use Rattle.std.proofs.Common.{◌≡◌, ◌⊎◌, inl, inr, ℕ, ℤ, zero, suc, ◌+◌, ◌<◌, ◌≤◌, List, [], ◌∷◌, ◌++◌, map, length, set, take, get_or, slice_get, Option, Some, None, refl, sym, ap, ◌∙◌, subst, arith}
+use Rattle.std.proofs.Common.{◌≡◌, ◌⊎◌, inl, inr, ℕ, zero, suc, ◌+◌, ◌<◌, List, [], ◌∷◌, ◌++◌, map, length, set, take, get_or, slice_get, Option, Some, None, refl, sym, ap, ◌∙◌, subst, arith}
 use Rattle.std.specs.List.{filter, flat_map, range_with_len}
 use Rattle.std.proofs.lemmas.Bool.{cases_eq}
 use Rattle.std.proofs.lemmas.List.{append-nil, length-set, take_more}
@@ -8,12 +8,12 @@ use Rattle.std.proofs.lemmas.Option.{same_Some}
 use Rattle.ref_tiles.specs.declared.rulebook.Rules.{Rules}
 use Rattle.gcg_read.specs.declared.events.Event.{Event}
 use Rattle.game_turns.specs.LatestEvents.{standing_words}
-use Rattle.game_turns.specs.Tallies.{State, tally_at}
+use Rattle.game_turns.specs.Tallies.{State}
 use Rattle.game_sheets.specs.Auditing.{IsAudited}
-use Rattle.game_sheets.specs.Corrections.{is_given, IsRenumbered, AreRenumbered, IsCorrection}
+use Rattle.game_sheets.specs.Corrections.{IsRenumbered, AreRenumbered, IsCorrection}
 use Rattle.game_sheets.specs.WrongNumbers.{wrong_lines, wrong_totals}
 use Rattle.game_sheets.specs.declared.wrong_numbers.WrongNumber.{WrongNumber}
-use Rattle.game_sheets.proofs.Fronts.{itself, one_correction}
+use Rattle.game_sheets.proofs.Fronts.{one_correction}
 use Rattle.game_sheets.proofs.Mends.{set_there, set_elsewhere}
 use Rattle.game_rows.specs.declared.refusals.Stop.{Stop}
 use Rattle.game_rows.specs.declared.rows.Row.{Row}

@@ -4,7 +4,6 @@ use Rattle.ref_tiles.specs.declared.rulebook.Rules.{Rules}
 use Rattle.gcg_read.specs.declared.events.Event.{Event}
 use Rattle.game_turns.specs.Tallies.{State, tally_at}
 use Rattle.game_sheets.specs.Corrections.{AreRenumbered}
-use Rattle.record_changes.specs.declared.slips.Slip.{Slip}
 use Rattle.change_lists.specs.Changes.{slips_by, change_at, changes_at}
 use Rattle.change_lists.specs.Laws.{SlipsAreByBoard}
 use Rattle.record_repairs.proofs.Shapes.{same_board, same_out, same_complete}

@@ -1,28 +1,26 @@
--- What a walk that corrects says of the correction of a record.
-use Rattle.std.proofs.Common.{◌≡◌, ℕ, List, Bool, true, false, Option, Some, None}
-use Rattle.std.specs.Option.{is_some}
+-- The correction of a record, event by event.
+use Rattle.std.proofs.Common.{◌≡◌, ℕ, List, length, sym, ◌∙◌, subst, arith}
 use Rattle.ref_tiles.specs.declared.rulebook.Rules.{Rules}
 use Rattle.gcg_read.specs.declared.events.Event.{Event}
-use Rattle.game_sheets.specs.Corrections.{HavePoints}
-use Rattle.game_rows.specs.declared.refusals.Stop.{Stop}
-use Rattle.game_rows.specs.declared.walking.Walk.{Walk}
-use Rattle.game_rows.specs.Refusals.{EndsAt}
-use Rattle.game_rows.specs.Walks.{IsWalk}
-use Rattle.record_repairs.specs.Trying.{IsWritable, HaveNone}
+use Rattle.game_turns.specs.declared.machine.Machine.{Machine}
+use Rattle.game_turns.specs.Machines.{rules_of, state_of}
+use Rattle.game_turns.specs.Tallies.{tally_at}
+use Rattle.game_sheets.specs.Corrections.{IsCorrection}
+use Rattle.game_sheets.proofs.Fronts.{all_themselves}
+use Rattle.game_sheets.proofs.Sheets.{whole}
+use Rattle.record_repairs.specs.Trying.{StandsBefore}
+use Rattle.record_repairs.proofs.Lists.{same_items, same_take}
+use Rattle.record_repairs.proofs.Trials.{GoesTo}
 
-none_by : (rules : Rules) (list : List (List ℕ)) (changed right : List Event) (end : ℕ) (stopped : Option Stop) → EndsAt rules list changed right end stopped → is_some stopped ≡ true
-    → HaveNone rules list changed
-none_by rules list changed right end None ends some other is = cc
-none_by rules list changed right end (Some stop) ends some other is = ends.none other is.points is.correction
+pub stands_first : (rules : Rules) (list : List (List ℕ)) (events : List Event) (machine : Machine) → rules_of machine ≡ rules → state_of machine ≡ tally_at rules events 0
+    → StandsBefore rules list events 0 machine
+stands_first rules list events machine by state =
+    record { front = events; renumbered = all_themselves events; allowed = λ k below. absurd (omega (arith, below)); by = by; state = state }
 
-pub none_stopped : (rules : Rules) (list : List (List ℕ)) (changed right : List Event) (walk : Walk) → IsWalk rules list changed right walk → is_some walk.stopped ≡ true → HaveNone rules list changed
-none_stopped rules list changed right walk is some = none_by rules list changed right is.end walk.stopped is.ends some
-
-through_by : (rules : Rules) (list : List (List ℕ)) (changed right : List Event) (end : ℕ) (stopped : Option Stop) → EndsAt rules list changed right end stopped → is_some stopped ≡ false
-    → HavePoints right → IsWritable rules list changed right
-through_by rules list changed right end None ends none points = record { correction = ends.1; points = points }
-through_by rules list changed right end (Some stop) ends none points = cc
-
-pub right_through : (rules : Rules) (list : List (List ℕ)) (changed right : List Event) (walk : Walk) → IsWalk rules list changed right walk → is_some walk.stopped ≡ false → HavePoints right
-    → IsWritable rules list changed right
-right_through rules list changed right walk is none points = through_by rules list changed right is.end walk.stopped is.ends none points
+-- from the first place on there is no other front than the events
+pub went_through : (rules : Rules) (list : List (List ℕ)) (old now : List Event) (place : ℕ) (machine : Machine) → GoesTo rules list old now 0 place machine → place ≡ length old
+    → IsCorrection rules list old now
+went_through rules list old now place machine at end =
+    let front = at.front in
+    let same = same_items front now (at.up.renumbered.as_many ∙ sym at.long) (same_take front now (length front) (λ k below. at.there k (omega arith))) in
+    subst (IsCorrection rules list old) same (whole rules list old front place at.up end)

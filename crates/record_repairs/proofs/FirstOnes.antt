@@ -1,9 +1,9 @@
 -- The first repairs among candidates, one candidate after another.
-use Rattle.std.proofs.Common.{◌≡◌, ◌⊎◌, inl, inr, ℕ, zero, suc, ◌+◌, ◌<◌, ◌≤◌, true, false, List, [], ◌∷◌, ◌++◌, length, get_or, slice_get, Option, Some, refl, sym, ap, ◌∙◌, subst, arith}
-use Rattle.std.specs.Prelude.{All, AllPairs, Any, Contains}
+use Rattle.std.proofs.Common.{◌≡◌, ◌⊎◌, inl, inr, ℕ, zero, suc, ◌+◌, ◌<◌, ◌≤◌, true, List, [], ◌∷◌, ◌++◌, length, get_or, slice_get, Option, Some, refl, sym, ap, ◌∙◌, subst, arith}
+use Rattle.std.specs.Prelude.{All, AllPairs, Contains}
 use Rattle.std.proofs.lemmas.Bool.{cases_lt}
 use Rattle.std.proofs.lemmas.List.{length_push}
-use Rattle.std.proofs.lemmas.List.Elements.{All-push, All-contains, Contains-append_left, Contains-push}
+use Rattle.std.proofs.lemmas.List.Elements.{All-push, Contains-append_left, Contains-push}
 use Rattle.std.proofs.lemmas.List.Quantifiers.{all_pairs_push}
 use Rattle.std.proofs.lemmas.Option.{same_Some, slice_get_read, slice_get_within, get_or_from_slice_get}
 use Rattle.ref_tiles.specs.declared.rulebook.Rules.{Rules}
@@ -12,10 +12,10 @@ use Rattle.game_sheets.proofs.Fronts.{one_correction}
 use Rattle.engine.specs.Verdicts.{IsGame, IsUnsettled}
 use Rattle.record_changes.specs.Applied.{applied}
 use Rattle.record_repairs.specs.Costs.{Rank, costs, rank_at, rank_of, is_ahead, cost_of}
-use Rattle.record_repairs.specs.Candidates.{rank_in, IsCandidate, MayBeTold, IsThere, AreCandidates}
+use Rattle.record_repairs.specs.Candidates.{rank_in, IsCandidate, AreCandidates}
 use Rattle.record_repairs.specs.Remaining.{AreFewer, Remain, many_left}
 use Rattle.record_repairs.specs.Repairs.{MakesGame, IsRepair, SameRecord, IsAmong, IsLeftOpen, IsToldAt, AreAhead, AreFirstRepairs}
-use Rattle.record_repairs.specs.Telling.{AddsRepair, AddsOpen, AddsNone, IsTriedWith, IsTried}
+use Rattle.record_repairs.specs.Telling.{IsTriedWith, IsTried}
 use Rattle.record_repairs.specs.Trying.{IsWritable}
 use Rattle.record_repairs.specs.declared.candidate.Candidate.{Candidate}
 use Rattle.record_repairs.specs.declared.found.Found.{Found}

@@ -1,11 +1,11 @@
 -- What is said of a place of a record hangs on the events up to it.
-use Rattle.std.proofs.Common.{◌≡◌, ℕ, ◌+◌, ◌<◌, ◌≤◌, List, length, reverse, take, slice_get, Option, Some, None, refl, sym, ap, ◌∙◌, arith}
+use Rattle.std.proofs.Common.{◌≡◌, ℕ, ◌+◌, ◌<◌, ◌≤◌, List, length, reverse, take, slice_get, Option, Some, sym, ap, ◌∙◌, arith}
 use Rattle.std.specs.Prelude.{min}
 use Rattle.std.proofs.lemmas.List.{length-take}
 use Rattle.std.proofs.lemmas.Option.{slice_get_within}
 use Rattle.ref_tiles.specs.declared.rulebook.Rules.{Rules}
 use Rattle.gcg_read.specs.declared.events.Event.{Event}
-use Rattle.game_turns.specs.Places.{fault_at, fault_of_event, AreAllowed, AreAllowedTo}
+use Rattle.game_turns.specs.Places.{fault_at, fault_of_event, AreAllowedTo}
 use Rattle.game_turns.specs.Tallies.{tally, tally_at, withdraws}
 use Rattle.game_sheets.specs.Corrections.{AreRenumbered, IsCorrection, HavePoints}
 use Rattle.record_repairs.proofs.Lists.{get_take, take_less}

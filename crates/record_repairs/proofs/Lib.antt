@@ -9,10 +9,14 @@ pub mod Shapes
 pub mod Changes
 pub mod WrongLines
 pub mod SheetLines
+pub mod Leaving
 pub mod WrongSums
+pub mod StayingWrong
+pub mod Counted
+pub mod Skipping
+pub mod Corrected
 pub mod RackStops
 pub mod Sorting
-pub mod Corrected
 pub mod Weighing
 pub mod AllOf
 pub mod SameLists

@@ -1,13 +1,12 @@
 -- The candidates among the changes at a place, change by change.
-use Rattle.std.proofs.Common.{◌≡◌, ◌⊎◌, inl, inr, ℕ, zero, suc, ◌+◌, ◌<◌, ◌≤◌, Bool, true, false, ◌&&◌, ◌||◌, ◌==◌, nat_lt, List, [], ◌∷◌, ◌++◌, map, length, get_or, slice_get, Option, Some, None, refl, sym, ap, ◌∙◌, subst, arith}
-use Rattle.std.proofs.lemmas.Bool.{cases_lt, eq-eqb, lt-ltb, ltb-true}
+use Rattle.std.proofs.Common.{◌≡◌, ◌⊎◌, inl, inr, ℕ, ◌+◌, ◌<◌, ◌≤◌, Bool, true, false, ◌&&◌, ◌||◌, ◌==◌, nat_lt, List, [], ◌∷◌, ◌++◌, map, length, get_or, slice_get, Option, Some, None, refl, sym, ap, ◌∙◌, subst, arith}
+use Rattle.std.proofs.lemmas.Bool.{cases_lt, eq-eqb, lt-ltb}
 use Rattle.std.proofs.lemmas.List.{append_assoc, append-nil, length-map}
 use Rattle.std.proofs.lemmas.Option.{same_Some, slice_get_read, slice_get_within}
 use Rattle.ref_tiles.specs.declared.rulebook.Rules.{Rules}
 use Rattle.gcg_read.specs.declared.events.Event.{Event}
 use Rattle.game_turns.specs.declared.machine.Machine.{Machine}
 use Rattle.game_turns.specs.Machines.{state_of}
-use Rattle.game_sheets.specs.Corrections.{AreRenumbered}
 use Rattle.game_rows.specs.declared.refusals.Stop.{Stop}
 use Rattle.game_rows.specs.declared.walking.Walk.{Walk}
 use Rattle.game_rows.specs.Refusals.{EndsAt}
@@ -16,10 +15,9 @@ use Rattle.record_changes.specs.declared.slips.Change.{Change}
 use Rattle.record_changes.specs.declared.slips.Slip.{Slip}
 use Rattle.change_lists.specs.Changes.{slips_by, change_at, changes_at}
 use Rattle.change_lists.specs.Laws.{SlipsAreByBoard}
-use Rattle.record_repairs.specs.Costs.{is_earlier}
-use Rattle.record_repairs.specs.Candidates.{rank_in, IsCandidate, MayBeTold, AreAllOf, AddsAllOf}
+use Rattle.record_repairs.specs.Candidates.{MayBeTold, AreAllOf, AddsAllOf}
 use Rattle.record_repairs.specs.Repairs.{IsListed}
-use Rattle.record_repairs.specs.Trying.{IsWeighed, IsWeight, StandsBefore}
+use Rattle.record_repairs.specs.Trying.{IsWeight, NoneFewer, StandsBefore}
 use Rattle.record_repairs.specs.declared.listed.Listed.{Listed}
 use Rattle.record_repairs.specs.declared.candidate.Candidate.{Candidate}
 use Rattle.record_repairs.proofs.AllOf.{none_of, one_of, among_others, joined}
@@ -79,6 +77,16 @@ pub adds_one : (rules : Rules) (list : List (List ℕ)) (written : List Event) (
 adds_one rules list written below l cost old new listed weighed is =
     let c : Candidate = record { listed = l; cost = cost } in
     record { more = c ∷ []; added = is; are = one_of rules list written below c (record { single = listed; weighed = weighed }) }
+
+-- no change at a place leaves few enough numbers and words wrong
+pub adds_none_at : (rules : Rules) (list : List (List ℕ)) (written : List Event) (below : Option ℕ) (place : ℕ) (found : List Candidate)
+    → ((change : Change) → change.place ≡ place → NoneFewer rules list written below change) → AddsAllOf rules list written below (λ l. l.change.place ≡ place) found found
+adds_none_at rules list written below place found none =
+    record {
+      more = [];
+      added = sym (append-nil found);
+      are = none_of rules list written below (λ l. l.change.place ≡ place) (λ l at may. none l.change at may.right may.correction may.fewer);
+    }
 
 -- ---- the changes at a place up to an index
 

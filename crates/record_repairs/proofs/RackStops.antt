@@ -1,5 +1,5 @@
 -- Where no racks fit the first steps of a correction, no change behind them and the next event helps.
-use Rattle.std.proofs.Common.{◌≡◌, ℕ, ◌+◌, ◌<◌, ◌≤◌, List, [], length, take, slice_get, Option, Some, None, refl, sym, ap, ◌∙◌, subst, arith}
+use Rattle.std.proofs.Common.{◌≡◌, ℕ, ◌+◌, ◌<◌, List, [], take, slice_get, Option, Some, None, refl, sym, ap, ◌∙◌, subst, arith}
 use Rattle.std.proofs.lemmas.Option.{slice_get_past}
 use Rattle.ref_tiles.specs.declared.rulebook.Rules.{Rules}
 use Rattle.gcg_read.specs.declared.events.Event.{Event}
@@ -11,10 +11,9 @@ use Rattle.deal_cuts.specs.Laws.{FrontsDecide}
 use Rattle.deal_steps.specs.declared.steps.Step.{Step}
 use Rattle.game_deal.specs.Recorded.{step_in, steps_of}
 use Rattle.game_deal.proofs.StepLaws.{length-steps, step_is}
-use Rattle.record_changes.specs.declared.slips.Change.{Change}
 use Rattle.record_changes.specs.Applied.{applied}
 use Rattle.record_repairs.specs.Laws.{NoneBehindRacks}
-use Rattle.record_repairs.proofs.Lists.{get_take, take_less, same_take, past_of}
+use Rattle.record_repairs.proofs.Lists.{get_take, same_take, past_of}
 use Rattle.record_repairs.proofs.Fronts.{same_tally, front_correction}
 use Rattle.record_repairs.proofs.Stops.{same_front}
 

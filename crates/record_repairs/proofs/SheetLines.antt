@@ -1,9 +1,8 @@
 -- A missing line with the numbers that it would have on the sheet.
-use Rattle.std.proofs.Common.{◌≡◌, ℕ, ℤ, zero, suc, ◌+◌, ◌≤◌, Bool, true, false, nat_le, List, [], ◌∷◌, ◌++◌, map, length, take, drop, set, slice_get, Option, Some, None, refl, sym, ap, ◌∙◌, arith, if◌then◌else◌}
+use Rattle.std.proofs.Common.{◌≡◌, ℕ, ℤ, zero, suc, ◌+◌, ◌≤◌, Bool, true, false, nat_le, List, [], ◌∷◌, ◌++◌, map, length, take, drop, set, slice_get, Some, None, refl, sym, ap, ◌∙◌, arith, if◌then◌else◌}
 use Rattle.std.proofs.lemmas.Bool.{leb-true, leb-false}
 use Rattle.std.proofs.lemmas.Option.{same_Some, slice_get_within}
 use Rattle.gcg_read.specs.declared.events.Event.{Event}
-use Rattle.gcg_read.specs.Changes.{IsChangedAt}
 use Rattle.game_sheets.specs.WrongNumbers.{had_before}
 use Rattle.game_sheets.proofs.Mends.{set_there}
 use Rattle.record_changes.specs.Splices.{spliced}

@@ -1,5 +1,5 @@
 -- All candidates, sorted by what they cost.
-use Rattle.std.proofs.Common.{◌≡◌, ◌⊎◌, inl, inr, ℕ, ◌+◌, ◌<◌, Bool, true, false, ◌&&◌, ◌||◌, ◌==◌, nat_lt, List, length, get_or, Option, refl, arith}
+use Rattle.std.proofs.Common.{◌≡◌, ◌⊎◌, inl, inr, ℕ, ◌+◌, ◌<◌, Bool, true, false, ◌&&◌, ◌||◌, ◌==◌, nat_lt, List, length, get_or, Option, refl}
 use Rattle.std.specs.List.Sorted.{IsNonDecreasingBy, IsPermutation, IsStableByKey}
 use Rattle.std.specs.Ordering.{nat_cmp}
 use Rattle.std.proofs.lemmas.Bool.{eq-eqb, lt-ltb}
@@ -10,7 +10,7 @@ use Rattle.gcg_read.specs.declared.events.Event.{Event}
 use Rattle.game_rows.specs.declared.walking.Walk.{Walk}
 use Rattle.game_rows.specs.Walks.{IsWalkOf}
 use Rattle.record_repairs.specs.Costs.{is_earlier, is_ahead}
-use Rattle.record_repairs.specs.Candidates.{rank_in, IsCandidate, MayBeTold, AreAllOf, AreCandidates}
+use Rattle.record_repairs.specs.Candidates.{rank_in, IsCandidate, AreAllOf, AreCandidates}
 use Rattle.record_repairs.specs.declared.candidate.Candidate.{Candidate}
 use Rattle.record_repairs.proofs.PlaceChanges.{within_walk}
 use Rattle.record_repairs.proofs.Sorting.{sorted_pairs}

@@ -1,5 +1,5 @@
 -- The game before a place of a record, and of the same record with a change.
-use Rattle.std.proofs.Common.{◌≡◌, ◌⊎◌, inl, inr, ℕ, ◌+◌, ◌-◌, ◌<◌, ◌≤◌, Bool, true, false, List, [], ◌∷◌, ◌++◌, length, reverse, take, drop, slice_get, Option, Some, None, refl, sym, ap, ◌∙◌, subst, arith}
+use Rattle.std.proofs.Common.{◌≡◌, ◌⊎◌, inl, inr, ℕ, ◌+◌, ◌-◌, ◌<◌, ◌≤◌, Bool, true, false, List, [], ◌++◌, length, reverse, take, drop, slice_get, Some, refl, sym, ap, ◌∙◌, subst, arith}
 use Rattle.std.proofs.lemmas.Bool.{cases_lt}
 use Rattle.std.proofs.lemmas.List.{length-append, length-drop, length-take-le}
 use Rattle.std.proofs.lemmas.Option.{same_Some}
@@ -35,7 +35,7 @@ none_before rules true false = refl
 none_before rules false true = refl
 none_before rules false false = refl
 
-tally_joined : (rules : Rules) (written changed front : List Event) (start : ℕ) → AreRenumbered written front → start ≤ length front
+pub tally_joined : (rules : Rules) (written changed front : List Event) (start : ℕ) → AreRenumbered written front → start ≤ length front
     → (start ≡ 0) ⊎ (withdraws (slice_get changed start) ≡ withdraws (slice_get written start)) → tally_at rules (joined_at start front changed) start ≡ tally_at rules front start
 tally_joined rules written changed front start like within (inl first) =
     let at_first : tally_at rules (joined_at 0 front changed) 0 ≡ tally_at rules front 0 = none_before rules (withdraws (slice_get changed 0)) (withdraws (slice_get front 0)) in
@@ -56,6 +56,25 @@ pub record IsReady (rules : Rules) (list : List (List ℕ)) (events : List Event
   pub by : rules_of machine ≡ rules
   pub state : state_of machine ≡ tally_at rules front place
 
+-- a front of the one, joined with the other, is one of the other
+pub front_like : (written changed front : List Event) (place start : ℕ) → AreRenumbered written front → IsStart written changed place start → start ≤ length written → start ≤ length changed
+    → ((j : ℕ) → j < place → slice_get changed j ≡ slice_get written j) → AreRenumbered changed (joined_at start front changed)
+front_like written changed front place start like is within long same =
+    let enough : start ≤ length front = subst (λ n. start ≤ n) (sym like.as_many) within in
+    let near = is.before in
+    let all = length-append (take start front) (drop start changed) in
+    let one = length-take-le start front enough in
+    let other = length-drop start changed in
+    record {
+      as_many = omega (arith, all, one, other, long);
+      each = λ k a b of_a of_b. each_joined written changed front start k a b like enough (λ j below. same j (omega (arith, near, below))) of_a of_b (cases_lt k start);
+    }
+
+pub front_allowed : (rules : Rules) (list : List (List ℕ)) (changed front : List Event) (start : ℕ) → start ≤ length front → AreAllowedTo rules list front start
+    → AreAllowedTo rules list (joined_at start front changed) start
+front_allowed rules list changed front start enough allowed k below =
+    same_fault rules list front (joined_at start front changed) k (take_front front (drop start changed) start (k + 1) (omega (arith, below)) enough) ∙ allowed k below
+
 -- a machine that stands before a place of the one is ready there for the other
 pub ready : (rules : Rules) (list : List (List ℕ)) (written changed : List Event) (place start : ℕ) (machine : Machine) → StandsBefore rules list written start machine
     → IsStart written changed place start → start ≤ length written → start ≤ length changed → ((j : ℕ) → j < place → slice_get changed j ≡ slice_get written j)
@@ -63,18 +82,10 @@ pub ready : (rules : Rules) (list : List (List ℕ)) (written changed : List Eve
 ready rules list written changed place start machine at is within long same =
     let front = at.front in
     let enough : start ≤ length front = subst (λ n. start ≤ n) (sym at.renumbered.as_many) within in
-    let near = is.before in
-    let all = length-append (take start front) (drop start changed) in
-    let one = length-take-le start front enough in
-    let other = length-drop start changed in
     record {
       front = joined_at start front changed;
-      renumbered = record {
-        as_many = omega (arith, all, one, other, long);
-        each = λ k a b of_a of_b.
-            each_joined written changed front start k a b at.renumbered enough (λ j below. same j (omega (arith, near, below))) of_a of_b (cases_lt k start);
-      };
-      allowed = λ k below. same_fault rules list front (joined_at start front changed) k (take_front front (drop start changed) start (k + 1) (omega (arith, below)) enough) ∙ at.allowed k below;
+      renumbered = front_like written changed front place start at.renumbered is within long same;
+      allowed = front_allowed rules list changed front start enough at.allowed;
       behind = λ k behind. get_behind front changed start k enough behind;
       by = at.by;
       state = at.state ∙ sym (tally_joined rules written changed front start at.renumbered enough is.same);

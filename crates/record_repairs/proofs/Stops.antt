@@ -1,9 +1,7 @@
 -- Behind the event at which the correction of a record stops no change helps.
-use Rattle.std.proofs.Common.{◌≡◌, ℕ, ◌+◌, ◌<◌, List, take, slice_get, Some, sym, ap, ◌∙◌, subst, arith}
-use Rattle.ref_tiles.specs.declared.rulebook.Rules.{Rules}
+use Rattle.std.proofs.Common.{◌≡◌, ℕ, ◌+◌, ◌<◌, List, take, ◌∙◌, subst, arith}
 use Rattle.gcg_read.specs.declared.events.Event.{Event}
-use Rattle.game_turns.specs.declared.faults.RuleFault.{RuleFault}
-use Rattle.game_sheets.specs.Corrections.{IsCorrection, StopsAt}
+use Rattle.game_sheets.specs.Corrections.{IsCorrection}
 use Rattle.game_sheets.proofs.Fronts.{no_correction}
 use Rattle.record_changes.specs.declared.slips.Change.{Change}
 use Rattle.record_changes.specs.Applied.{applied}

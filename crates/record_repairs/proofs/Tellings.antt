@@ -1,5 +1,5 @@
 -- What becomes of a candidate, by the correction that it has.
-use Rattle.std.proofs.Common.{◌≡◌, ℕ, List, subst}
+use Rattle.std.proofs.Common.{ℕ, List, subst}
 use Rattle.std.specs.Prelude.{Result, Ok, Err, OnOk}
 use Rattle.ref_tiles.specs.declared.rulebook.Rules.{Rules}
 use Rattle.gcg_read.specs.declared.events.Event.{Event}

@@ -1,6 +1,6 @@
 -- Going on with a machine from a place of some events, and giving each its right numbers.
-use Rattle.std.proofs.Common.{◌≡◌, ◌⊎◌, inl, inr, ℕ, ◌+◌, ◌-◌, ◌<◌, ◌≤◌, List, length, take, drop, slice_get, Option, Some, None, refl, sym, ap, ◌∙◌, subst, arith}
-use Rattle.std.specs.Prelude.{◌++◌, Bool, true, false, Result, Ok, Err, IfErr, OnOk}
+use Rattle.std.proofs.Common.{◌≡◌, ◌⊎◌, inl, inr, ℕ, ◌+◌, ◌<◌, ◌≤◌, List, length, take, drop, slice_get, Option, Some, None, refl, sym, ap, ◌∙◌, subst, arith}
+use Rattle.std.specs.Prelude.{true, false, Result, Ok, Err, IfErr, OnOk}
 use Rattle.std.specs.Result.{is_err}
 use Rattle.std.proofs.lemmas.Bool.{cases_lt}
 use Rattle.std.proofs.lemmas.List.{length-append, length-drop, length-take-le}
@@ -17,7 +17,7 @@ use Rattle.game_turns.specs.Tallies.{State, tally_at}
 use Rattle.game_sheets.specs.Corrections.{IsRenumbered, AreRenumbered, IsLeft}
 use Rattle.game_sheets.specs.Mending.{IsMendedAt, after_event, state_behind}
 use Rattle.game_sheets.proofs.Fronts.{itself, all_through, no_correction}
-use Rattle.game_sheets.proofs.Sheets.{IsUpTo, IsThere, some_event, before_kept, fault_mended, one_more, state_more}
+use Rattle.game_sheets.proofs.Sheets.{IsUpTo, some_event, before_kept, fault_mended, one_more, state_more}
 use Rattle.record_repairs.specs.Trying.{HaveNone, StandsBefore}
 use Rattle.record_repairs.proofs.Lists.{get_front, get_behind}
 use Rattle.record_changes.specs.Laws.{FrontStays}

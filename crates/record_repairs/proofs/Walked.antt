@@ -1,19 +1,18 @@
 -- The game before a place of a record that was walked over.
-use Rattle.std.proofs.Common.{◌≡◌, ℕ, ◌+◌, ◌-◌, ◌<◌, ◌≤◌, List, length, slice_get, Option, Some, None, refl, sym, ap, ◌∙◌, subst, arith}
+use Rattle.std.proofs.Common.{◌≡◌, ℕ, ◌+◌, ◌-◌, ◌<◌, List, slice_get, Option, Some, None, ap, ◌∙◌, arith}
 use Rattle.std.proofs.lemmas.Option.{slice_get_within}
 use Rattle.ref_tiles.specs.declared.rulebook.Rules.{Rules}
 use Rattle.gcg_read.specs.declared.events.Event.{Event}
-use Rattle.game_turns.specs.Machines.{rules_of, state_of}
 use Rattle.game_turns.specs.Tallies.{tally_at}
 use Rattle.game_sheets.specs.Corrections.{AreRenumbered}
 use Rattle.game_rows.specs.declared.refusals.Stop.{Stop}
 use Rattle.game_rows.specs.declared.rows.Row.{Row}
 use Rattle.game_rows.specs.declared.walking.Walk.{Walk}
 use Rattle.game_rows.specs.Refusals.{EndsAt}
-use Rattle.game_rows.specs.Walks.{IsWalk, IsWalkOf}
+use Rattle.game_rows.specs.Walks.{IsWalkOf}
 use Rattle.record_repairs.specs.Trying.{StandsBefore}
 
-renumbered_by : (rules : Rules) (list : List (List ℕ)) (written right : List Event) (end : ℕ) (stopped : Option Stop) → EndsAt rules list written right end stopped → AreRenumbered written right
+pub renumbered_by : (rules : Rules) (list : List (List ℕ)) (written right : List Event) (end : ℕ) (stopped : Option Stop) → EndsAt rules list written right end stopped → AreRenumbered written right
 renumbered_by rules list written right end None ends = ends.1.renumbered
 renumbered_by rules list written right end (Some stop) ends = ends.stops.before.renumbered
 

@@ -1,12 +1,13 @@
 -- The sums that are wrong whatever the right scores are.
-use Rattle.std.proofs.Common.{◌≡◌, ◌⊎◌, inl, inr, ℕ, ℤ, zero, suc, ◌+◌, ◌<◌, ◌≤◌, Bool, true, false, List, [], ◌∷◌, ◌++◌, map, length, min, set, take, get_or, slice_get, Option, Some, None, refl, sym, ap, ◌∙◌, subst, arith, if◌then◌else◌}
-use Rattle.std.specs.Prelude.{pos, ◌+ℤ◌, not}
+use Rattle.std.proofs.Common.{◌≡◌, ◌⊎◌, inl, inr, ℕ, ℤ, suc, ◌+◌, ◌<◌, ◌≤◌, Bool, true, false, List, [], ◌∷◌, ◌++◌, map, length, min, set, take, get_or, slice_get, Option, Some, None, refl, sym, ap, ◌∙◌, subst, arith, if◌then◌else◌}
+use Rattle.std.specs.Prelude.{pos, ◌+ℤ◌}
 use Rattle.std.specs.Ordering.{int_eq}
 use Rattle.std.specs.List.{flat_map, range_with_len}
 use Rattle.std.specs.Option.{unwrap_or}
 use Rattle.std.proofs.lemmas.Bool.{cases_eq}
-use Rattle.std.proofs.lemmas.List.{append_assoc, append-nil, length-append, length-set}
+use Rattle.std.proofs.lemmas.List.{length-append, length-set}
 use Rattle.std.proofs.lemmas.Option.{same_Some, slice_get_within, slice_get-get_or, slice_get_read, get_or_from_slice_get}
+use Rattle.ref_tiles.specs.declared.rulebook.Rules.{Rules}
 use Rattle.gcg_read.specs.Players.{same_seat}
 use Rattle.gcg_read.specs.declared.events.Event.{Event}
 use Rattle.gcg_read.specs.declared.events.Seat.{Seat}
@@ -24,61 +25,53 @@ use Rattle.record_changes.specs.declared.slips.Change.{Change}
 use Rattle.record_changes.specs.declared.slips.Slip.{Slip}
 use Rattle.record_changes.specs.declared.slips.Slip.TheVariants as slip
 use Rattle.record_repairs.specs.OnSheet.{line_on_sheet, sheet_by, on_sheet}
-use Rattle.record_repairs.specs.Remaining.{AreFewer, wrong_with}
+use Rattle.record_repairs.specs.Remaining.{many_left, wrong_with, unlisted_at, unlisted_words}
+use Rattle.record_repairs.specs.Counting.{score_of, many_at, many_sums, sum_from}
+use Rattle.record_repairs.proofs.Leaving.{range_last, sum_lengths, sum_two, sum_within}
 use Rattle.record_repairs.specs.Sums.{sum_of, sum_at, sums_to, IsSheetBut, place_by, missing_place, Knows, next_had, many_by, many_wrong}
 use Rattle.record_repairs.proofs.Lists.{past_of}
 use Rattle.record_repairs.proofs.SheetLines.{one_spliced, none_spliced}
 
 -- ---- the sums of both players are among the wrong numbers
 
-two_among : {X : Type 0} (f g h : ℕ → List X) → ((k : ℕ) → length (g k) + length (h k) ≤ length (f k)) → (places : List ℕ)
-    → length (flat_map g places) + length (flat_map h places) ≤ length (flat_map f places)
-two_among f g h each [] = omega arith
-two_among f g h each (k ∷ places) =
-    let here = each k in
-    let rest = two_among f g h each places in
-    let of_f = length-append (f k) (flat_map f places) in
-    let of_g = length-append (g k) (flat_map g places) in
-    let of_h = length-append (h k) (flat_map h places) in
-    omega (arith, here, rest, of_f, of_g, of_h)
-
 by_seat : (sheet : List Event) (place : ℕ) (e r : Event) (p : Seat)
     → length (if same_seat p First then wrong_sum (had_before sheet First place) e else []) + length (if same_seat p Second then wrong_sum (had_before sheet Second place) e else [])
-    ≤ length (wrong_score e r ++ wrong_sum (had_before sheet p place) e)
+    + length (wrong_score e r) ≤ length (wrong_score e r ++ wrong_sum (had_before sheet p place) e)
 by_seat sheet place e r First = let all = length-append (wrong_score e r) (wrong_sum (had_before sheet First place) e) in omega (arith, all)
 by_seat sheet place e r Second = let all = length-append (wrong_score e r) (wrong_sum (had_before sheet Second place) e) in omega (arith, all)
 
-both_among : (sheet right : List Event) → length right ≡ length sheet → (place : ℕ) (o r : Option Event) → slice_get sheet place ≡ o → slice_get right place ≡ r
-    → length (sum_of First sheet place o) + length (sum_of Second sheet place o) ≤ length (wrong_of sheet place o r)
-both_among sheet right long place None r at there = omega arith
-both_among sheet right long place (Some e) None at there =
+-- the sum of a line is that of one player
+three_among : (sheet right : List Event) → length right ≡ length sheet → (place : ℕ) (o r : Option Event) → slice_get sheet place ≡ o → slice_get right place ≡ r
+    → length (sum_of First sheet place o) + length (sum_of Second sheet place o) + length (score_of o r) ≤ length (wrong_of sheet place o r)
+three_among sheet right long place None r at there = omega arith
+three_among sheet right long place (Some e) None at there =
     let within = slice_get_within sheet place e at in
     let past = past_of right place there in
     absurd (omega (arith, long, within, past))
-both_among sheet right long place (Some e) (Some r) at there = by_seat sheet place e r e.player
+three_among sheet right long place (Some e) (Some r) at there = by_seat sheet place e r e.player
 
-pub wrong_among : (sheet right : List Event) (many : ℕ) → length right ≡ length sheet → length sheet ≡ many
-    → length (sums_to First sheet many) + length (sums_to Second sheet many) ≤ length (wrong_lines sheet right)
+abbrev scores_at : (sheet right : List Event) → (place : ℕ) → ℕ
+scores_at sheet right place = length (score_of (slice_get sheet place) (slice_get right place))
+
+-- the sums of both players and the scores are the wrong numbers
+lines_few : (sheet right : List Event) (many : ℕ) → length right ≡ length sheet → length sheet ≡ many
+    → many_sums sheet many + sum_from (scores_at sheet right) 0 many ≤ length (wrong_lines sheet right)
 unfolding wrong_lines
-wrong_among sheet right many long same =
+lines_few sheet right many long same =
     let all : min (length sheet) (length right) ≡ many = omega (arith, long, same) in
-    subst (λ n. length (sums_to First sheet many) + length (sums_to Second sheet many) ≤ length (flat_map (wrong_at sheet right) (range_with_len 0 n))) (sym all)
-    (two_among (wrong_at sheet right) (sum_at First sheet) (sum_at Second sheet)
-    (λ k. both_among sheet right long k (slice_get sheet k) (slice_get right k) refl refl) (range_with_len 0 many))
-
-pub both_few : (events sheet right : List Event) (missing : Option ℕ) (one two : ℕ) → IsSheetBut events missing sheet → length right ≡ length sheet
-    → one ≤ length (sums_to First sheet (length events)) → two ≤ length (sums_to Second sheet (length events)) → one + two ≤ length (wrong_lines sheet right)
-both_few events sheet right missing one two is long of_one of_two =
-    let all = wrong_among sheet right (length events) long is.as_many in
-    omega (arith, all, of_one, of_two)
+    let first = sum_lengths (sum_at First sheet) many in
+    let second = sum_lengths (sum_at Second sheet) many in
+    let lines = sum_lengths (wrong_at sheet right) many in
+    let sums = sum_two (λ k. length (sum_at First sheet k)) (λ k. length (sum_at Second sheet k)) (λ k. length (sum_at First sheet k) + length (sum_at Second sheet k)) many (λ k. refl) in
+    let three = sum_two (λ k. length (sum_at First sheet k) + length (sum_at Second sheet k)) (scores_at sheet right)
+    (λ k. length (sum_at First sheet k) + length (sum_at Second sheet k) + scores_at sheet right k) many (λ k. refl) in
+    let few : sum_from (λ k. length (sum_at First sheet k) + length (sum_at Second sheet k) + scores_at sheet right k) 0 many ≤ sum_from (λ k. length (wrong_at sheet right k)) 0 many =
+    sum_within (λ k. length (sum_at First sheet k) + length (sum_at Second sheet k) + scores_at sheet right k) (λ k. length (wrong_at sheet right k)) 0 many
+    (λ k from below. three_among sheet right long k (slice_get sheet k) (slice_get right k) refl refl) in
+    subst (λ n. many_sums sheet many + sum_from (scores_at sheet right) 0 many ≤ length (flat_map (wrong_at sheet right) (range_with_len 0 n))) (sym all)
+    (omega (arith, first, second, lines, sums, three, few))
 
 -- ---- one line more
-
-range_last : {A : Type 0} (f : ℕ → List A) (a n : ℕ) → flat_map f (range_with_len a (suc n)) ≡ flat_map f (range_with_len a n) ++ f (a + n)
-range_last f a zero = append-nil (f a) ∙ ap f (omega arith)
-range_last {A} f a (suc n) =
-    ap (λ (xs : List A). f a ++ xs) (range_last f (a + 1) n) ∙ sym (append_assoc (f a) (flat_map f (range_with_len (a + 1) n)) (f (a + 1 + n)))
-    ∙ ap (λ k. (f a ++ flat_map f (range_with_len (a + 1) n)) ++ f k) (omega arith)
 
 sums_more : (player : Seat) (sheet : List Event) (place : ℕ) → length (sums_to player sheet (place + 1)) ≡ length (sums_to player sheet place) + length (sum_at player sheet place)
 sums_more player sheet place =
@@ -168,7 +161,7 @@ changed_but changed right place e at =
     player_by changed right place k e a b at of_a of_b (inr other) =
         ap (λ (y : Event). y.player) (same_Some b a (sym of_b ∙ set_elsewhere changed place k (line_on_sheet changed right place e) other ∙ of_a))
 
-itself_but : (changed : List Event) (missing : Option ℕ) → IsSheetBut changed missing changed
+pub itself_but : (changed : List Event) (missing : Option ℕ) → IsSheetBut changed missing changed
 itself_but changed missing = record { as_many = refl; same = λ k other. refl; players = λ k a b of_a of_b. ap (λ (y : Event). y.player) (same_Some b a (sym of_b ∙ of_a)) }
 
 missing_but : (changed right : List Event) (place : ℕ) (o : Option Event) → slice_get changed place ≡ o
@@ -194,22 +187,28 @@ sheet_but slip.Extra place changed right = itself_but changed None
 sheet_but slip.Swapped place changed right = itself_but changed None
 sheet_but slip.SwappedOver place changed right = itself_but changed None
 
-fewer_of : (below : Option ℕ) (one all : ℕ) → one ≤ all → AreFewer below all → AreFewer below one
-fewer_of None one all less fewer = tt
-fewer_of (Some many) one all less fewer = omega (arith, less, fewer)
+-- the sheet with a change, beside the right events
+pub sheet_with : (change : Change) (written changed right : List Event) → changed ≡ applied change written → IsSheetBut changed (missing_place change) (on_sheet change (applied change written) right)
+sheet_with change written changed right is =
+    subst (λ (es : List Event). IsSheetBut es (missing_place change) (on_sheet change (applied change written) right)) (sym is) (sheet_but change.slip change.place (applied change written) right)
 
--- where so many sums are wrong, too many numbers and words stay wrong
-pub too_many : (change : Change) (written changed right : List Event) (below : Option ℕ) (least words : ℕ) → changed ≡ applied change written → AreRenumbered (applied change written) right
-    → ((sheet other : List Event) → IsSheetBut changed (missing_place change) sheet → length other ≡ length sheet → least ≤ length (wrong_lines sheet other))
-    → AreFewer below (length (wrong_with change written right) + words) → AreFewer below least
-unfolding wrong_with
-too_many change written changed right below least words is are enough fewer =
+-- The sums of a sheet with a change that are wrong, and its scores and words, stay wrong.
+pub all_few : (rules : Rules) (list : List (List ℕ)) (change : Change) (written changed right : List Event) → changed ≡ applied change written → AreRenumbered (applied change written) right
+    → many_sums (on_sheet change (applied change written) right) (length changed) + sum_from (many_at rules list (on_sheet change (applied change written) right) right) 0 (length changed)
+    ≤ many_left rules list change written right
+unfolding wrong_with unlisted_words
+all_few rules list change written changed right is are =
     let own = applied change written in
     let sheet : List Event = on_sheet change own right in
-    let but : IsSheetBut own (missing_place change) sheet = sheet_but change.slip change.place own right in
-    let here : IsSheetBut changed (missing_place change) sheet = subst (λ (es : List Event). IsSheetBut es (missing_place change) sheet) (sym is) but in
-    let few : least ≤ length (wrong_lines sheet right) = enough sheet right here (are.as_many ∙ sym but.as_many) in
-    fewer_of below least (length (wrong_lines sheet right) + words) (omega (arith, few)) fewer
+    let but : IsSheetBut changed (missing_place change) sheet = sheet_with change written changed right is in
+    let many : length own ≡ length changed = ap (λ (es : List Event). length es) (sym is) in
+    let long : length right ≡ length changed = are.as_many ∙ many in
+    let lines = lines_few sheet right (length changed) (long ∙ sym but.as_many) but.as_many in
+    let words = sum_lengths (unlisted_at rules list right) (length changed) in
+    let both = sum_two (scores_at sheet right) (λ k. length (unlisted_at rules list right k)) (many_at rules list sheet right) (length changed) (λ k. refl) in
+    let end : length (flat_map (unlisted_at rules list right) (range_with_len 0 (length right))) ≡ length (flat_map (unlisted_at rules list right) (range_with_len 0 (length changed))) =
+    ap (λ n. length (flat_map (unlisted_at rules list right) (range_with_len 0 n))) long in
+    omega (arith, lines, words, both, end)
 
 pub wrong_one : (had : Option ℤ) (e : Event) (player : Seat) (gone : Bool) → many_wrong had e player gone ≤ 1
 wrong_one had e player true = omega arith
@@ -230,7 +229,3 @@ wrong_one had e player false = by_own (same_seat e.player player)
 -- what the first line has before it
 pub first_known : (player : Seat) (sheet : List Event) (had : Option ℤ) → had ≡ Some (pos 0) → Knows player sheet 0 had
 first_known player sheet had is h of_h = same_Some (pos 0) h (sym is ∙ of_h)
-
-pub not_both : (b : Bool) → not b ≡ true → b ≡ true → ⊥
-not_both true wrong is = cc
-not_both false wrong is = cc

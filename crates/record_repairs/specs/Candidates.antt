@@ -1,5 +1,5 @@
 -- The changes with which a record has a correction, and which of them are told.
-use Rattle.std.specs.Prelude.{◌≡◌, ◌⊎◌, ℕ, ◌<◌, true, List, ◌++◌, All, AllPairs, Contains, Option}
+use Rattle.std.specs.Prelude.{◌≡◌, ℕ, ◌<◌, true, List, ◌++◌, All, AllPairs, Contains, Option}
 use Rattle.ref_tiles.specs.declared.rulebook.Rules.{Rules}
 use Rattle.gcg_read.specs.declared.events.Event.{Event}
 use Rattle.record_changes.specs.Applied.{applied}

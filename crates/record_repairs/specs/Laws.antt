@@ -1,5 +1,5 @@
 -- Laws: where no change helps.
-use Rattle.std.specs.Prelude.{◌≡◌, ℕ, ◌+◌, ◌<◌, List, take}
+use Rattle.std.specs.Prelude.{ℕ, ◌+◌, ◌<◌, List, take}
 use Rattle.ref_tiles.specs.declared.rulebook.Rules.{Rules}
 use Rattle.gcg_read.specs.declared.events.Event.{Event}
 use Rattle.game_turns.specs.declared.faults.RuleFault.{RuleFault}

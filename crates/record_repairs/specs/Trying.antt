@@ -1,5 +1,5 @@
 -- Trying one change.
-use Rattle.std.specs.Prelude.{◌≡◌, ◌⊎◌, ℕ, ◌+◌, ◌≤◌, Bool, List, length, slice_get, Option, Some, None}
+use Rattle.std.specs.Prelude.{◌≡◌, ◌⊎◌, ℕ, ◌-◌, ◌≤◌, List, length, slice_get, Option, Some, None}
 use Rattle.ref_tiles.specs.declared.rulebook.Rules.{Rules}
 use Rattle.gcg_read.specs.declared.events.Event.{Event}
 use Rattle.game_turns.specs.declared.machine.Machine.{Machine}
@@ -10,7 +10,9 @@ use Rattle.game_sheets.specs.Corrections.{IsCorrection, HavePoints, AreRenumbere
 use Rattle.record_changes.specs.declared.slips.Change.{Change}
 use Rattle.record_changes.specs.Applied.{applied}
 use Rattle.record_repairs.specs.Costs.{cost_of}
-use Rattle.record_repairs.specs.Remaining.{AreFewer, many_left, wrong_with}
+use Rattle.record_repairs.specs.Remaining.{AreFewer, many_left}
+use Rattle.record_repairs.specs.Sums.{IsSheetBut}
+use Rattle.record_repairs.specs.Counting.{many_at, sum_from}
 
 -- a correction that a record can write
 pub record IsWritable (rules : Rules) (list : List (List ℕ)) (changed right : List Event) : Type 0 where
@@ -21,10 +23,17 @@ pub record IsWritable (rules : Rules) (list : List (List ℕ)) (changed right : 
 abbrev pub HaveNone : Rules → (list : List (List ℕ)) → (changed : List Event) → Type 0
 HaveNone rules list changed = (right : List Event) → IsWritable rules list changed right → ⊥
 
--- With each numbers too many stay wrong, however many words do.
-abbrev pub NoneFewer : (below : Option ℕ) → Change → (written : List Event) → Type 0
-NoneFewer below change written =
-    (right : List Event) (words : ℕ) → AreRenumbered (applied change written) right → AreFewer below (length (wrong_with change written right) + words) → ⊥
+-- With each correction that a record can write more scores and words are wrong from a place on than there is room for, whatever numbers a
+-- missing line has on the sheet.
+abbrev pub NoneFrom : Rules → (list : List (List ℕ)) → (changed : List Event) → (start : ℕ) → (missing room : Option ℕ) → Type 0
+NoneFrom rules list changed start missing room =
+    (right sheet : List Event) → IsWritable rules list changed right → IsSheetBut changed missing sheet
+    → AreFewer room (sum_from (many_at rules list sheet right) start (length changed - start)) → ⊥
+
+-- With each correction that a record can write too many numbers and words stay wrong.
+abbrev pub NoneFewer : Rules → (list : List (List ℕ)) → (written : List Event) → (below : Option ℕ) → Change → Type 0
+NoneFewer rules list written below change =
+    (right : List Event) → IsWritable rules list (applied change written) right → AreFewer below (many_left rules list change written right) → ⊥
 
 -- the correction that a record can write, or that there is none
 abbrev pub IsCorrectionOf : Rules → (list : List (List ℕ)) → (changed : List Event) → Option (List Event) → Type 0
@@ -53,6 +62,5 @@ pub record IsWeighed (rules : Rules) (list : List (List ℕ)) (written : List Ev
 
 -- the same, or that there is no such correction
 abbrev pub IsWeight : Rules → (list : List (List ℕ)) → (written : List Event) → (below : Option ℕ) → Change → Option ℕ → Type 0
-IsWeight rules list written below change None =
-    (right : List Event) → IsWritable rules list (applied change written) right → AreFewer below (many_left rules list change written right) → ⊥
+IsWeight rules list written below change None = NoneFewer rules list written below change
 IsWeight rules list written below change (Some number) = IsWeighed rules list written below change number

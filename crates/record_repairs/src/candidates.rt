@@ -1,19 +1,25 @@
 //! The changes of a record with which it has a correction.
-ghost use Rattle.std.specs.Prelude.{◌≡◌, ◌≤◌, map, length, IfOk, OnOk};
+ghost use Rattle.std.specs.Prelude.{◌≡◌, ◌≤◌, map, length, IsTrue, IfOk, OnOk};
+ghost use Rattle.ref_tiles.specs.declared.rulebook.Rules.{Rules};
 ghost use Rattle.change_lists.specs.Changes.{change_at, changes_at};
 ghost use Rattle.game_rows.specs.Walks.{IsWalkOf};
 ghost use Rattle.record_repairs.specs.Candidates.{AreCandidates, AddsCandidates, AddsListed};
+ghost use Rattle.record_changes.specs.declared.slips.Change.{Change};
 ghost use Rattle.record_repairs.specs.Repairs.{IsListed};
+ghost use Rattle.record_repairs.specs.Trying.{NoneFewer};
 
 use crate::candidate::Candidate;
+use crate::counting::behind_rows;
 use crate::listed::Listed;
+use crate::rooms::is_full;
 use crate::standing::game_before;
+use crate::sums::behind_sums;
 use crate::trying::weigh;
 use change_lists::{law_of_slips, slips_at};
 use game_rows::Walk;
 use gcg_read::Event;
 use lex_list::WordList;
-use record_changes::{Change, Slip};
+use record_changes::{Change, Slip, law_of_changes};
 use ref_tiles::Rules;
 use std::alloc::{AllocError, Global};
 
@@ -66,6 +72,26 @@ fn push_slips(
     Ok(())
 }
 
+/// Whether so many numbers and words are wrong before a place that too many stay wrong with each change there. The row before the place
+/// does not count: with a change its event may be taken back, or no longer.
+fn is_past_room(
+    list: &WordList,
+    walk: &Walk,
+    events: &[Event],
+    below: Option<usize>,
+    place: usize,
+) -> bool
+    requires place { place ≤ length walk.now.rows.items }
+    requires within { place ≤ length events.now }
+    ensures { (rules : Rules) → IsWalkOf rules list.now events.now walk.now → IsTrue result
+        → (change : Change) → change.place ≡ place → NoneFewer rules list.now events.now below change }
+{
+    law_of_changes();
+    let room = behind_sums(below, &events[..place], None);
+    let before = place.saturating_sub(1);
+    is_full(behind_rows(room, list, walk.rows.as_slice(), before))
+}
+
 /// Adds the changes at a place with which the record has a correction, in the order of the list.
 fn push_candidates(
     alloc: Global,
@@ -81,6 +107,9 @@ fn push_candidates(
     requires place { place ≤ length walk.now.rows.items }
     ensures { OnOk result (AddsCandidates rules.now list.now events.now below place found.old.items found.new.items) }
 {
+    if is_past_room(list, walk, events, below, place) {
+        return Ok(());
+    }
     law_of_slips();
     let Some(game) = game_before(walk, place) else {
         unreachable!()

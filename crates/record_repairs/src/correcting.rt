@@ -1,15 +1,32 @@
 //! The correction of a record with a change.
-ghost use Rattle.std.specs.Prelude.{IfOk};
+ghost use Rattle.std.specs.Prelude.{IsTrue, IsFalse, IfOk};
+ghost use Rattle.game_sheets.specs.Corrections.{IsCorrection};
 ghost use Rattle.record_changes.specs.Applied.{applied};
-ghost use Rattle.record_repairs.specs.Trying.{IsCorrectionOf};
+ghost use Rattle.record_repairs.specs.Trying.{HaveNone, IsCorrectionOf};
 
 use crate::writable::law_of_points;
-use game_rows::walk_and_correct;
+use game_sheets::mend;
+use game_turns::{Machine, law_of_tallies};
 use gcg_read::{Event, Events};
 use lex_list::WordList;
 use record_changes::{Change, apply};
 use ref_tiles::Rules;
 use std::alloc::{AllocError, Global};
+
+/// Gives each event of a record its right numbers. It is false where an event is refused whatever its numbers are.
+fn correct(rules: &Rules, list: &WordList, events: &mut Events) -> bool
+    ensures right { IsTrue result → IsCorrection rules.now list.now events.old events.new }
+    ensures none { IsFalse result → HaveNone rules.now list.now events.old }
+{
+    law_of_tallies();
+    let mut machine = Machine::new(rules);
+    for place in 0..events.len() {
+        if mend(&mut machine, events, place, list).is_err() {
+            return false;
+        }
+    }
+    true
+}
 
 /// The events of a record with a change and with their right numbers, where there are such numbers that a record can write.
 ///
@@ -24,8 +41,7 @@ pub(crate) fn corrected(
     ensures { IfOk result (IsCorrectionOf rules.now list.now (applied change.now events.now)) }
 {
     let mut right = apply(alloc, change, events)?;
-    let walk = walk_and_correct(alloc, rules, list, &mut right)?;
-    if walk.stopped.is_some() {
+    if !correct(rules, list, &mut right) {
         return Ok(None);
     }
     law_of_points(right.as_slice());

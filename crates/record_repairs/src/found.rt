@@ -44,7 +44,6 @@ impl Found {
         if is_among(self.told.as_slice(), right.as_slice()) {
             return Ok(());
         }
-        let remains = what_remains(alloc, rules, list, &listed.change, events, right.as_slice())?;
         let players = Players::unnamed(alloc);
         let game = Record {
             players,
@@ -52,6 +51,8 @@ impl Found {
         };
         match settled(alloc, rules, list, &game)? {
             Outcome::Game => {
+                let right = &game.events;
+                let remains = what_remains(alloc, rules, list, &listed.change, events, right)?;
                 self.told.push(Repair {
                     listed,
                     right: game.events,

@@ -1,36 +1,85 @@
-//! What stays wrong with a change, by an audit of the sheet with it.
-ghost use Rattle.std.specs.Prelude.{◌≡◌, ◌++◌, IfOk, OnOk, filter};
+//! What stays wrong with a change, beside the right events.
+ghost use Rattle.std.specs.Prelude.{◌≡◌, ◌<◌, ◌++◌, length, IfOk, OnOk};
+ghost use Rattle.gcg_read.specs.Numerals.{IsPoints};
+ghost use Rattle.game_sheets.specs.WrongNumbers.{wrong_score, wrong_sum, wrong_at, wrong_lines};
+ghost use Rattle.game_turns.specs.Places.{AreAllowed};
 ghost use Rattle.event_notes.specs.Unlisted.{letters_in};
 ghost use Rattle.record_changes.specs.Applied.{applied};
-ghost use Rattle.record_repairs.specs.Remaining.{is_on_line, words_of_rows, Remain};
+ghost use Rattle.record_repairs.specs.Remaining.{unlisted_words, Remain};
 ghost use Rattle.record_repairs.specs.Trying.{IsWritable};
 
 use crate::remains::Remains;
 use crate::sheets::on_sheet;
 use event_notes::{SpelledWord, unlisted_of};
-use game_rows::{Row, audit};
-use game_sheets::WrongNumber;
-use gcg_read::Event;
+use game_sheets::{WrongNumber, had_before, take};
+use game_turns::{Machine, law_of_tallies};
+use gcg_read::{Event, Events};
 use lex_list::WordList;
 use record_changes::Change;
 use ref_tiles::Rules;
 use std::alloc::{AllocError, Global};
 
-/// Whether a number stands on a line, and is not the last total of a player, which the lines tell too.
-fn is_on_line(number: &WrongNumber) -> bool
-    ensures { result ≡ is_on_line number.now }
+/// Adds the score of an event, where it is not the right one.
+fn push_score(wrong: &mut Vec<WrongNumber>, event: &Event, right: &Event) -> Result<(), AllocError>
+    ensures { OnOk result (wrong.new.items ≡ wrong.old.items ++ wrong_score event.now right.now) }
 {
-    match number {
-        WrongNumber::Score { .. } | WrongNumber::Sum { .. } => true,
-        WrongNumber::Total { .. } => false,
+    if event.score.value() != right.score.value() {
+        wrong.push(WrongNumber::Score {
+            line: event.line,
+            written: event.score.value(),
+            right: right.score.value(),
+        })?;
     }
+    Ok(())
 }
 
-/// The numbers that stand on a line.
-fn keep_lines(wrong: &mut Vec<WrongNumber>)
-    ensures { wrong.new.items ≡ filter is_on_line wrong.old.items }
+/// Adds the total of an event, where it is not what the player had and the score.
+fn push_sum(wrong: &mut Vec<WrongNumber>, had: i32, event: &Event) -> Result<(), AllocError>
+    requires { IsPoints had }
+    ensures { OnOk result (wrong.new.items ≡ wrong.old.items ++ wrong_sum had event.now) }
 {
-    wrong.retain(|number| is_on_line(number));
+    let sum = had + event.score.value();
+    if event.total.value() != sum {
+        wrong.push(WrongNumber::Sum {
+            line: event.line,
+            written: event.total.value(),
+            right: sum,
+        })?;
+    }
+    Ok(())
+}
+
+/// Adds what is wrong at a place.
+fn push_wrong(
+    wrong: &mut Vec<WrongNumber>,
+    sheet: &[Event],
+    right: &[Event],
+    place: usize,
+) -> Result<(), AllocError>
+    requires sheet { place < length sheet.now }
+    requires right { place < length right.now }
+    ensures { OnOk result (wrong.new.items ≡ wrong.old.items ++ wrong_at sheet.now right.now place) }
+{
+    let event = &sheet[place];
+    push_score(wrong, event, &right[place])?;
+    push_sum(wrong, had_before(sheet, event.player, place), event)?;
+    Ok(())
+}
+
+/// The wrong scores and sums of a sheet beside the right events, in the order of the sheet.
+fn wrong_lines(
+    alloc: Global,
+    sheet: &[Event],
+    right: &[Event],
+) -> Result<Vec<WrongNumber>, AllocError>
+    requires { length right.now ≡ length sheet.now }
+    ensures { IfOk result (λ wrong. wrong.items ≡ wrong_lines sheet.now right.now) }
+{
+    let mut wrong = Vec::new(alloc);
+    for place in 0..sheet.len() {
+        push_wrong(&mut wrong, sheet, right, place)?;
+    }
+    Ok(wrong)
 }
 
 /// Puts words behind others.
@@ -42,17 +91,24 @@ fn push_words(words: &mut Vec<SpelledWord>, mut more: Vec<SpelledWord>) -> Resul
     Ok(())
 }
 
-/// The words of some rows that stand and are not in the list.
+/// The words of a record that stand and are not in the list, where the rules allow each of its events.
 fn unlisted_words(
     alloc: Global,
+    rules: &Rules,
     list: &WordList,
-    rows: &[Row],
+    right: &Events,
 ) -> Result<Vec<SpelledWord>, AllocError>
-    ensures { IfOk result (λ words. letters_in words.items ≡ words_of_rows list.now rows.now) }
+    requires { AreAllowed rules.now list.now right.now }
+    ensures { IfOk result (λ words. letters_in words.items ≡ unlisted_words rules.now list.now right.now) }
 {
+    law_of_tallies();
+    let mut machine = Machine::new(rules);
     let mut words = Vec::new(alloc);
-    for row in rows {
-        let more = unlisted_of(alloc, list, row.behind.standing_words())?;
+    for place in 0..right.len() {
+        if take(&mut machine, right, place, list).is_err() {
+            unreachable!()
+        }
+        let more = unlisted_of(alloc, list, machine.standing_words())?;
         push_words(&mut words, more)?;
     }
     Ok(words)
@@ -67,15 +123,13 @@ pub(crate) fn what_remains(
     list: &WordList,
     change: &Change,
     events: &[Event],
-    right: &[Event],
+    right: &Events,
 ) -> Result<Remains, AllocError>
     requires { IsWritable rules.now list.now (applied change.now events.now) right.now }
     ensures { IfOk result (Remain rules.now list.now change.now events.now right.now) }
 {
-    let mut sheet = on_sheet(alloc, change, events, right)?;
-    let audited = audit(alloc, rules, list, &mut sheet)?;
-    let unlisted = unlisted_words(alloc, list, audited.walk.rows.as_slice())?;
-    let mut wrong = audited.wrong;
-    keep_lines(&mut wrong);
+    let sheet = on_sheet(alloc, change, events, right.as_slice())?;
+    let wrong = wrong_lines(alloc, sheet.as_slice(), right.as_slice())?;
+    let unlisted = unlisted_words(alloc, rules, list, right)?;
     Ok(Remains { wrong, unlisted })
 }

@@ -1,10 +1,11 @@
 //! How many sums of a sheet are wrong, whatever its right scores are.
 ghost use Rattle.std.specs.Prelude.{◌≡◌, ◌↔◌, ◌≤◌, List, length, Some, IsTrue};
 ghost use Rattle.gcg_read.specs.declared.events.Event.{Event};
-ghost use Rattle.game_sheets.specs.WrongNumbers.{wrong_lines};
+ghost use Rattle.record_repairs.specs.Counting.{Leaves, many_sums};
 ghost use Rattle.record_repairs.specs.Sums.{sums_to, IsSheetBut, missing_place};
 
 use crate::had::Had;
+use crate::rooms::less;
 use gcg_read::{Event, Seat};
 use record_changes::{Change, Slip};
 
@@ -19,7 +20,7 @@ pub(crate) fn missing_place(change: &Change) -> Option<usize>
 }
 
 /// Whether the line at a place is the missing one.
-fn is_missing_at(missing: Option<usize>, place: usize) -> bool
+pub(crate) fn is_missing_at(missing: Option<usize>, place: usize) -> bool
     ensures { IsTrue result ↔ (missing ≡ Some place) }
 {
     match missing {
@@ -40,9 +41,18 @@ fn sums_of(events: &[Event], player: Seat, missing: Option<usize>) -> usize
     many
 }
 
-/// How many sums of a sheet are wrong at the least, whatever numbers the missing line has.
-pub(crate) fn wrong_sums(events: &[Event], missing: Option<usize>) -> u128
-    ensures { (sheet right : List Event) → IsSheetBut events.now missing sheet → length right ≡ length sheet → result ≤ length (wrong_lines sheet right) }
+/// The room that the wrong sums of a sheet leave, whatever numbers the missing line has. Where nothing limits, none is counted.
+#[tactic(auto, using(crate::proofs::Leaving::leaves_any))]
+pub(crate) fn behind_sums(
+    room: Option<usize>,
+    events: &[Event],
+    missing: Option<usize>,
+) -> Option<usize>
+    ensures { (sheet : List Event) → IsSheetBut events.now missing sheet → Leaves room (many_sums sheet (length events.now)) result }
 {
-    sums_of(events, Seat::First, missing) as u128 + sums_of(events, Seat::Second, missing) as u128
+    if room.is_none() {
+        return None;
+    }
+    let left = less(room, sums_of(events, Seat::First, missing));
+    less(left, sums_of(events, Seat::Second, missing))
 }

@@ -1,6 +1,5 @@
-use Rattle.std.proofs.Common.{◌≡◌, ℕ, rules, arith, sym, subst, length, ◌<◌, ◌+◌}
+use Rattle.std.proofs.Common.{◌≡◌, ℕ, rules, arith, sym, subst, length, ◌+◌}
 use Rattle.std.proofs.lemmas.List.Sorted.{IsNonDecreasingBy-from_sort_by_key, answers_always}
-use Rattle.game_rows.specs.declared.rows.Row.{Row}
 use Rattle.record_repairs.specs.Candidates.{AreBefore}
 use Rattle.record_repairs.specs.declared.candidate.Candidate.{Candidate}
 use Rattle.record_repairs.proofs.PlaceChanges.{before_first, before_more}

@@ -1,4 +1,3 @@
-use Rattle.std.proofs.Common.{◌<◌}
 use Rattle.record_repairs.specs.Candidates.{AreBefore}
 use Rattle.record_repairs.proofs.candidates.all_candidates.Given as goal
 

@@ -1,9 +1,8 @@
-use Rattle.std.proofs.Common.{◌≡◌, ◌<◌, ◌+◌, ◌∙◌, ℕ, List, length, get_or, refl, sym, ap, subst, arith}
+use Rattle.std.proofs.Common.{◌≡◌, ◌<◌, ◌+◌, ◌∙◌, length, get_or, refl, sym, ap, subst, arith}
 use Rattle.std.proofs.lemmas.Iterator.Adapters.{YieldsList-from_vec}
 use Rattle.std.proofs.lemmas.Iterator.Consumers.{YieldsList-turn, YieldsList-end}
 use Rattle.std.proofs.lemmas.List.{length_push}
-use Rattle.record_repairs.specs.Candidates.{AddsAllOf}
-use Rattle.record_repairs.proofs.PlaceChanges.{IsUpTo, is_listed, at_none, up_more, up_all}
+use Rattle.record_repairs.proofs.PlaceChanges.{is_listed, at_none, up_more, up_all}
 use Rattle.record_repairs.proofs.candidates.push_slips.Goals as goal
 
 pub loop-slip-init : goal.loop-slip-init

@@ -1,4 +1,4 @@
-use Rattle.std.proofs.Common.{◌≡◌, ◌∙◌, List, refl, sym, ap, subst}
+use Rattle.std.proofs.Common.{List, refl, sym, subst}
 use Rattle.gcg_read.specs.declared.events.Event.{Event}
 use Rattle.record_repairs.specs.Repairs.{SameRecord}
 use Rattle.record_repairs.specs.declared.repair.Repair.{Repair}

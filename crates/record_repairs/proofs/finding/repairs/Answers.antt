@@ -1,4 +1,4 @@
-use Rattle.std.proofs.Common.{◌≡◌, ◌∙◌, List, sym, subst}
+use Rattle.std.proofs.Common.{◌∙◌, List, sym, subst}
 use Rattle.gcg_read.specs.declared.events.Event.{Event}
 use Rattle.game_rows.specs.Walks.{IsWalkOf}
 use Rattle.std.specs.Prelude.{IfOk}

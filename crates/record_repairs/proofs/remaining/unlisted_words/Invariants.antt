@@ -1,7 +1,15 @@
-use Rattle.std.proofs.Common.{◌≡◌, take}
+use Rattle.std.proofs.Common.{◌≡◌}
+use Rattle.std.specs.List.{flat_map, range_with_len}
+use Rattle.game_turns.specs.Machines.{rules_of, state_of}
+use Rattle.game_turns.specs.Tallies.{tally_at}
 use Rattle.event_notes.specs.Unlisted.{letters_in}
-use Rattle.record_repairs.specs.Remaining.{words_of_rows}
+use Rattle.record_repairs.specs.Remaining.{unlisted_at}
 use Rattle.record_repairs.proofs.remaining.unlisted_words.Given as goal
 
-abbrev pub invariant-loop-row : goal.invariant-loop-row
-invariant-loop-row l = record { so_far : letters_in l.words.items ≡ words_of_rows l.list (take l.row-index l.rows) }
+abbrev pub invariant-loop-place : goal.invariant-loop-place
+invariant-loop-place l =
+    record {
+      by : rules_of l.machine ≡ l.rules;
+      state : state_of l.machine ≡ tally_at l.rules l.right l.place;
+      so_far : letters_in l.words.items ≡ flat_map (unlisted_at l.rules l.list l.right) (range_with_len 0 l.place);
+    }

@@ -1,4 +1,4 @@
-use Rattle.std.proofs.Common.{◌≡◌, ℤ, List, ◌<◌, ◌∙◌, Option, Some, None, length, slice_get, refl, sym, ap, subst, arith, rules, w32, to_z, of_z, to_z-of_z}
+use Rattle.std.proofs.Common.{◌≡◌, ℤ, List, ◌<◌, ◌∙◌, Some, None, length, slice_get, refl, sym, ap, subst, rules, w32, to_z, of_z, to_z-of_z}
 use Rattle.std.proofs.lemmas.Bool.{ltb-true, ltb-false}
 use Rattle.std.proofs.lemmas.Int.{ints}
 use Rattle.std.proofs.lemmas.Option.{slice_get_read, slice_get_past}

@@ -1,7 +1,6 @@
-use Rattle.std.proofs.Common.{◌≡◌, ◌∙◌, List, sym, ap, subst}
-use Rattle.gcg_read.specs.declared.events.Event.{Event}
+use Rattle.std.proofs.Common.{subst}
 use Rattle.record_changes.specs.Applied.{applied}
-use Rattle.record_repairs.specs.Remaining.{AreFewer, Remain}
+use Rattle.record_repairs.specs.Remaining.{AreFewer}
 use Rattle.record_repairs.specs.Trying.{IsCorrectionOf}
 use Rattle.record_repairs.proofs.Weighing.{many_is, cost_is, none_fewer}
 use Rattle.record_repairs.proofs.trying.weigh.Goals as goal
@@ -16,7 +15,7 @@ returns-then-not-are_fewer c =
     let right = c.in-Some.right in
     let left = c.in_ok-left.left in
     let is = subst (IsCorrectionOf rules list changed) c.in-Some.is c.in_ok-right.ensures in
-    let remain = subst (λ (es : List Event). Remain rules list change written es left) c.as_slice.ensures c.in_ok-left.ensures in
+    let remain = c.in_ok-left.ensures in
     λ other of_other fewer.
     none_fewer rules list change written changed right other c.args.below c.many.result is (many_is rules list change written right left c.many.result remain c.many.ensures)
     (λ enough. let yes_it = c.are_fewer.ensures.1 enough in let not_it = c.if-not-are_fewer.true in cc) of_other fewer
@@ -30,7 +29,7 @@ returns c =
     let right = c.in-Some.right in
     let left = c.in_ok-left.left in
     let is = subst (IsCorrectionOf rules list (applied change written)) c.in-Some.is c.in_ok-right.ensures in
-    let remain = subst (λ (es : List Event). Remain rules list change written es left) c.as_slice.ensures c.in_ok-left.ensures in
+    let remain = c.in_ok-left.ensures in
     record {
       right = right;
       is = is;

@@ -1,6 +1,4 @@
-use Rattle.std.proofs.Common.{◌≡◌, ◌∙◌, rules, inl, inr, List, refl, sym, ap, subst}
-use Rattle.gcg_read.specs.declared.events.Event.{Event}
-use Rattle.record_repairs.specs.Remaining.{Remain}
+use Rattle.std.proofs.Common.{rules, inl, inr, List, refl, sym, subst}
 use Rattle.record_repairs.specs.Repairs.{IsAmong}
 use Rattle.record_repairs.specs.Settling.{IsOutcome}
 use Rattle.record_repairs.specs.declared.repair.Repair.{Repair}
@@ -15,12 +13,12 @@ pub returns-in_ok-push-in-Game : goal.returns-in_ok-push-in-Game
 returns-in_ok-push-in-Game c =
     inl
     (record {
-      repair = record { listed = c.args.listed; right = c.args.right; remains = c.in_ok-remains.remains };
+      repair = record { listed = c.args.listed; right = c.args.right; remains = c.in_ok-remains-in-Game.remains };
       added = search rules;
       same_left = refl;
       by = refl;
       makes = refl;
-      remain = subst (λ (es : List Event). Remain c.args.rules.now c.args.list.now c.args.listed.change c.args.events.now es c.in_ok-remains.remains) c.as_slice-3.ensures c.in_ok-remains.ensures;
+      remain = c.in_ok-remains-in-Game.ensures;
       game = subst (IsOutcome c.args.rules.now c.args.list.now c.args.right) c.in-Game.is c.in_ok-settled.ensures;
       fresh = λ among.
           let shown = subst (IsAmong c.args.self.now.told.items) (sym c.as_slice-2.ensures) among in

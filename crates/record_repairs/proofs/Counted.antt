@@ -1,0 +1,230 @@
+-- The scores and words that a trial of a change counts are wrong beside each correction.
+use Rattle.std.proofs.Common.{◌≡◌, ◌⊎◌, inl, inr, ℕ, ◌+◌, ◌-◌, ◌<◌, ◌≤◌, Bool, true, false, List, [], ◌∷◌, length, take, drop, slice_get, Option, Some, None, refl, sym, ap, ◌∙◌, subst, arith, if◌then◌else◌}
+use Rattle.std.specs.Ordering.{int_eq}
+use Rattle.std.proofs.lemmas.Bool.{cases_lt}
+use Rattle.std.proofs.lemmas.Option.{same_Some}
+use Rattle.ref_tiles.specs.declared.rulebook.Rules.{Rules}
+use Rattle.gcg_read.specs.declared.events.Event.{Event}
+use Rattle.game_turns.specs.declared.machine.Machine.{Machine}
+use Rattle.game_turns.specs.LatestEvents.{standing_words}
+use Rattle.game_turns.specs.Machines.{state_of}
+use Rattle.game_turns.specs.Places.{AreAllowedTo}
+use Rattle.game_turns.specs.Tallies.{State, tally_at, withdraws}
+use Rattle.game_rows.specs.declared.numbers.Numbers.{Numbers}
+use Rattle.game_rows.specs.declared.rows.Row.{Row}
+use Rattle.game_rows.specs.declared.walking.Walk.{Walk}
+use Rattle.game_rows.specs.Rows.{AreRowsTo}
+use Rattle.game_rows.specs.Walks.{IsWalkOf}
+use Rattle.game_sheets.specs.Corrections.{AreRenumbered}
+use Rattle.game_sheets.specs.declared.wrong_numbers.WrongNumber.{WrongNumber}
+use Rattle.game_sheets.specs.declared.wrong_numbers.WrongNumber.TheVariants as wrong_number
+use Rattle.game_sheets.specs.WrongNumbers.{wrong_score}
+use Rattle.game_sheets.proofs.Fronts.{both_renumbered, fronts_agree, same_tally}
+use Rattle.event_notes.specs.Unlisted.{unlisted_of}
+use Rattle.record_changes.specs.Applied.{applied}
+use Rattle.record_changes.specs.declared.slips.Change.{Change}
+use Rattle.record_changes.specs.declared.slips.Slip.{Slip}
+use Rattle.record_changes.specs.declared.slips.Slip.TheVariants as slip
+use Rattle.record_repairs.specs.OnSheet.{on_sheet}
+use Rattle.record_repairs.specs.Remaining.{many_left, unlisted_at}
+use Rattle.record_repairs.specs.Sums.{IsSheetBut, place_by, missing_place}
+use Rattle.record_repairs.specs.Counting.{Leaves, score_of, many_at, sum_from, many_unlisted, many_scores, scores_but, many_by_row, many_in_rows, many_sums}
+use Rattle.record_repairs.specs.Trying.{IsStart, IsWritable, HaveNone, NoneFrom, NoneFewer}
+use Rattle.record_repairs.proofs.Lists.{get_take, get_front, take_less, take_front}
+use Rattle.record_repairs.proofs.Fronts.{same_tally as tally_of_front}
+use Rattle.record_repairs.proofs.Leaving.{leaves_none, leaves_itself, leaves_both, leaves_more, leaves_to, sum_more, sum_step, sum_joined, sum_within, words_many}
+use Rattle.record_repairs.proofs.Starts.{joined_at, front_like, front_allowed, tally_joined}
+use Rattle.record_repairs.proofs.Trials.{GoesTo}
+use Rattle.record_repairs.proofs.Walked.{renumbered_by}
+use Rattle.record_repairs.proofs.WrongSums.{sheet_with, all_few}
+
+-- ---- wrong scores
+
+scores_many : (e r : Event) → length (wrong_score e r) ≡ many_scores e.score r.score
+scores_many e r = by_test (wrong_number.Score e.line e.score r.score) (int_eq e.score r.score)
+  where
+    by_test : (number : WrongNumber) (b : Bool) → length (if b then [] else (number ∷ [])) ≡ (if b then 0 else 1)
+    by_test number true = refl
+    by_test number false = refl
+
+gone_or_not : (old sheet right : List Event) (missing : Option ℕ) (place : ℕ) (o e : Event) (gone : Bool) → IsSheetBut old missing sheet → slice_get old place ≡ Some o → slice_get right place ≡ Some e
+    → (missing ≡ Some place → gone ≡ true) → scores_but gone o.score e.score ≤ length (score_of (slice_get sheet place) (slice_get right place))
+gone_or_not old sheet right missing place o e true but stood there told = omega arith
+gone_or_not old sheet right missing place o e false but stood there told =
+    let on : slice_get sheet place ≡ Some o = but.same place (λ here. let gone = told here in cc) ∙ stood in
+    let same : length (score_of (slice_get sheet place) (slice_get right place)) ≡ length (wrong_score o e) =
+    ap (λ (x : Option Event). length (score_of x (slice_get right place))) on ∙ ap (λ (x : Option Event). length (score_of (Some o) x)) there in
+    let many = scores_many o e in
+    omega (arith, same, many)
+
+words_by : (rules : Rules) (list : List (List ℕ)) (right : List Event) (place : ℕ) (s : State) → tally_at rules right (place + 1) ≡ s
+    → length (unlisted_at rules list right place) ≡ length (unlisted_of list (standing_words s.latest))
+words_by rules list right place s same = ap (λ (t : State). length (unlisted_of list (standing_words t.latest))) same
+
+-- An event that was given its right numbers counts no more than what is wrong there beside a correction.
+pub event_counted : (rules : Rules) (list : List (List ℕ)) (old now new : List Event) (start place : ℕ) (machine next : Machine) (missing : Option ℕ) (right sheet : List Event) (o e : Event) (gone : Bool)
+    → GoesTo rules list old now start place machine → GoesTo rules list old new start (place + 1) next → start ≤ place → place < length old → IsWritable rules list old right
+    → IsSheetBut old missing sheet → slice_get now place ≡ Some o → slice_get new place ≡ Some e → (missing ≡ Some place → gone ≡ true)
+    → scores_but gone o.score e.score + many_unlisted list (standing_words (state_of next).latest) ≤ many_at rules list sheet right place
+event_counted rules list old now new start place machine next missing right sheet o e gone before at near within is but of_o of_e told =
+    let front = at.front in
+    let many = at.up.renumbered.as_many in
+    let like : AreRenumbered front right = both_renumbered old front right at.up.renumbered is.correction.renumbered in
+    let long = like.as_many in
+    let agree : take (place + 1) right ≡ take (place + 1) front =
+    fronts_agree rules list front right (place + 1) like (omega (arith, many, within)) at.up.allowed (λ k below. is.correction.allowed k (omega (arith, below, long, many, within))) in
+    let there : slice_get right place ≡ Some e =
+    sym (get_take right (place + 1) place (omega arith)) ∙ ap (λ (es : List Event). slice_get es place) agree ∙ get_take front (place + 1) place (omega arith) ∙ at.there place near ∙ of_e in
+    let stood : slice_get old place ≡ Some o = sym (before.up.untouched place (omega arith)) ∙ before.there place near ∙ of_o in
+    let words = words_by rules list right place (state_of next) (same_tally rules front right (place + 1) like agree ∙ sym at.state) in
+    let counted = words_many list (standing_words (state_of next).latest) in
+    let scores = gone_or_not old sheet right missing place o e gone but stood there told in
+    omega (arith, words, counted, scores)
+
+-- ---- the events from a start up to a place
+
+abbrev pub Counts : Rules → (list : List (List ℕ)) → (old : List Event) → (start place : ℕ) → (missing room left : Option ℕ) → Type 0
+Counts rules list old start place missing room left =
+    (right sheet : List Event) → IsWritable rules list old right → IsSheetBut old missing sheet → Leaves room (sum_from (many_at rules list sheet right) start (place - start)) left
+
+pub counts_none : (rules : Rules) (list : List (List ℕ)) (old : List Event) (start : ℕ) (missing room : Option ℕ) → Counts rules list old start start missing room room
+counts_none rules list old start missing room right sheet is but =
+    leaves_more room room 0 (sum_from (many_at rules list sheet right) start (start - start)) (omega arith) (leaves_itself room)
+
+pub counts_more : (rules : Rules) (list : List (List ℕ)) (old now new : List Event) (start place : ℕ) (machine next : Machine) (missing room left last : Option ℕ) (o e : Event) (gone : Bool) (scores : ℕ)
+    → GoesTo rules list old now start place machine → GoesTo rules list old new start (place + 1) next → start ≤ place → place < length old
+    → slice_get now place ≡ Some o → slice_get new place ≡ Some e → (missing ≡ Some place → gone ≡ true) → scores ≡ scores_but gone o.score e.score
+    → Leaves left (scores + many_unlisted list (standing_words (state_of next).latest)) last
+    → Counts rules list old start place missing room left → Counts rules list old start (place + 1) missing room last
+counts_more rules list old now new start place machine next missing room left last o e gone scores before at near within of_o of_e told made leaves counts right sheet is but =
+    let at_place : ℕ → ℕ = many_at rules list sheet right in
+    let more = scores + many_unlisted list (standing_words (state_of next).latest) in
+    let step = sum_step at_place start place near in
+    let here = event_counted rules list old now new start place machine next missing right sheet o e gone before at near within is but of_o of_e told in
+    leaves_more room last (sum_from at_place start (place - start) + more) (sum_from at_place start (place + 1 - start)) (omega (arith, step, here, made))
+    (leaves_both room left last (sum_from at_place start (place - start)) more (counts right sheet is but) leaves)
+
+pub counts_full : (rules : Rules) (list : List (List ℕ)) (old : List Event) (start place : ℕ) (missing room left : Option ℕ) → Counts rules list old start place missing room left → left ≡ Some 0
+    → place ≤ length old → NoneFrom rules list old start missing room
+counts_full rules list old start place missing room left counts full within right sheet is but fewer =
+    let at_place : ℕ → ℕ = many_at rules list sheet right in
+    leaves_none room left (sum_from at_place start (place - start)) (sum_from at_place start (length old - start)) (counts right sheet is but) full
+    (sum_more at_place start (place - start) (length old - start) (omega (arith, within))) fewer
+
+pub refused_from : (rules : Rules) (list : List (List ℕ)) (old : List Event) (start : ℕ) (missing room : Option ℕ) → HaveNone rules list old → NoneFrom rules list old start missing room
+refused_from rules list old start missing room none right sheet is but fewer = none right is
+
+-- ---- the rows before a start
+
+-- right events agree with those of a walk up to a start
+record Agree (rules : Rules) (right front : List Event) (start : ℕ) : Type 0 where
+  events : (k : ℕ) → k < start → slice_get right k ≡ slice_get front k
+  tallies : (k : ℕ) → k < start → tally_at rules right (k + 1) ≡ tally_at rules front (k + 1)
+
+tally_up_to : (rules : Rules) (written changed front : List Event) (start k : ℕ) → AreRenumbered written front → start ≤ length front
+    → (start ≡ 0) ⊎ (withdraws (slice_get changed start) ≡ withdraws (slice_get written start)) → k < start → (k + 1 < start) ⊎ (start ≤ k + 1)
+    → tally_at rules (joined_at start front changed) (k + 1) ≡ tally_at rules front (k + 1)
+tally_up_to rules written changed front start k like enough same below (inl less) =
+    tally_of_front rules front (joined_at start front changed) (k + 1) (take_front front (drop start changed) start (k + 1 + 1) (omega (arith, less)) enough)
+tally_up_to rules written changed front start k like enough same below (inr not_less) =
+    let last : start ≡ k + 1 = omega (arith, below, not_less) in
+    subst (λ n. tally_at rules (joined_at start front changed) n ≡ tally_at rules front n) last (tally_joined rules written changed front start like enough same)
+
+rows_agree : (rules : Rules) (list : List (List ℕ)) (written changed right front : List Event) (place start : ℕ) → AreRenumbered written front → AreAllowedTo rules list front start
+    → IsStart written changed place start → start ≤ length written → start ≤ length changed → ((j : ℕ) → j < place → slice_get changed j ≡ slice_get written j)
+    → IsWritable rules list changed right → Agree rules right front start
+rows_agree rules list written changed right front place start like allowed is within long same writable =
+    let f : List Event = joined_at start front changed in
+    let enough : start ≤ length front = subst (λ n. start ≤ n) (sym like.as_many) within in
+    let own = front_like written changed front place start like is within long same in
+    let both : AreRenumbered f right = both_renumbered changed f right own writable.correction.renumbered in
+    let of_f = own.as_many in
+    let of_right = both.as_many in
+    let agree : take start right ≡ take start f =
+    fronts_agree rules list f right start both (omega (arith, of_f, long)) (front_allowed rules list changed front start enough allowed)
+    (λ k below. writable.correction.allowed k (omega (arith, below, of_right, of_f, long))) in
+    record {
+      events = λ k below.
+          sym (get_take right start k below) ∙ ap (λ (es : List Event). slice_get es k) agree ∙ get_take f start k below ∙ get_front front (drop start changed) start k below enough;
+      tallies = λ k below.
+          same_tally rules f right (k + 1) both
+          (sym (take_less right start (k + 1) (omega (arith, below))) ∙ ap (λ (es : List Event). take (k + 1) es) agree ∙ take_less f start (k + 1) (omega (arith, below)))
+          ∙ tally_up_to rules written changed front start k like enough is.same below (cases_lt (k + 1) start);
+    }
+
+row_counted : (rules : Rules) (list : List (List ℕ)) (written right front sheet : List Event) (rows : List Row) (start end k : ℕ) (o : Option Row) → AreRowsTo rules list written front end rows
+    → Agree rules right front start → k < start → slice_get sheet k ≡ slice_get written k → slice_get rows k ≡ o → many_by_row list o ≤ many_at rules list sheet right k
+row_counted rules list written right front sheet rows start end k None are agree below same at = omega arith
+row_counted rules list written right front sheet rows start end k (Some row) are agree below same at =
+    let here = are.each k row at in
+    let on : slice_get sheet k ≡ Some here.own = same ∙ here.stood in
+    let there : slice_get right k ≡ Some here.event = agree.events k below ∙ here.stands in
+    let scores : length (score_of (slice_get sheet k) (slice_get right k)) ≡ length (wrong_score here.own here.event) =
+    ap (λ (x : Option Event). length (score_of x (slice_get right k))) on ∙ ap (λ (x : Option Event). length (score_of (Some here.own) x)) there in
+    let many = scores_many here.own here.event in
+    let by_row : many_scores row.written.score row.right.score ≡ many_scores here.own.score here.event.score =
+    ap (λ (n : Numbers). many_scores n.score row.right.score) here.own_numbers ∙ ap (λ (n : Numbers). many_scores here.own.score n.score) here.right_numbers in
+    let words = words_by rules list right k (state_of row.behind) (agree.tallies k below ∙ sym here.behind) in
+    omega (arith, scores, many, by_row, words)
+
+-- The rows before a start count no more than what is wrong there beside a correction of the changed record.
+pub rows_counted : (rules : Rules) (list : List (List ℕ)) (written changed right sheet : List Event) (walk : Walk) (missing : Option ℕ) (place start : ℕ) → IsWalkOf rules list written walk
+    → IsStart written changed place start → start ≤ length written → start ≤ length changed → start ≤ length walk.rows.items
+    → ((j : ℕ) → j < place → slice_get changed j ≡ slice_get written j) → IsWritable rules list changed right → IsSheetBut changed missing sheet → ((k : ℕ) → missing ≡ Some k → place ≤ k)
+    → many_in_rows list walk.rows.items start ≤ sum_from (many_at rules list sheet right) 0 start
+rows_counted rules list written changed right sheet walk missing place start walked is within long rows same writable but none =
+    let at = walked.is in
+    let many = at.rows.as_many in
+    let near = is.before in
+    let agree = rows_agree rules list written changed right walked.right place start (renumbered_by rules list written walked.right at.end walk.stopped at.ends)
+    (λ k below. at.allowed k (omega (arith, below, rows, many))) is within long same writable in
+    sum_within (λ k. many_by_row list (slice_get walk.rows.items k)) (many_at rules list sheet right) 0 start
+    (λ k from below.
+    let less : k < start = omega (arith, below) in
+    let apart : missing ≡ Some k → ⊥ = λ here. let far = none k here in omega (arith, far, less, near) in
+    row_counted rules list written right walked.right sheet walk.rows.items start at.end k (slice_get walk.rows.items k) at.rows agree less
+    (but.same k apart ∙ same k (omega (arith, less, near))) refl)
+
+-- ---- a change
+
+pub missing_at : (what : Slip) (place k : ℕ) → place_by what place ≡ Some k → place ≤ k
+missing_at (slip.Missing line) place k is = let same = same_Some place k is in omega (arith, same)
+missing_at (slip.Position s) place k is = cc
+missing_at (slip.Spelling s) place k is = cc
+missing_at (slip.Tile of s) place k is = cc
+missing_at slip.NoRack place k is = cc
+missing_at (slip.Number n) place k is = cc
+missing_at (slip.Code s) place k is = cc
+missing_at (slip.Rest counts) place k is = cc
+missing_at (slip.Amount score) place k is = cc
+missing_at slip.OtherPlayer place k is = cc
+missing_at slip.Repeated place k is = cc
+missing_at slip.Extra place k is = cc
+missing_at slip.Swapped place k is = cc
+missing_at slip.SwappedOver place k is = cc
+
+-- Where the sums, the rows before a start and the events from there on leave no room, too many numbers and words stay wrong.
+pub none_by : (rules : Rules) (list : List (List ℕ)) (change : Change) (written changed : List Event) (walk : Walk) (start : ℕ) (missing below first left : Option ℕ) → changed ≡ applied change written
+    → IsWalkOf rules list written walk → IsStart written changed change.place start → start ≤ length written → start ≤ length changed → start ≤ length walk.rows.items
+    → ((j : ℕ) → j < change.place → slice_get changed j ≡ slice_get written j) → missing ≡ missing_place change
+    → ((sheet : List Event) → IsSheetBut changed missing sheet → Leaves below (many_sums sheet (length changed)) first)
+    → Leaves first (many_in_rows list walk.rows.items start) left → NoneFrom rules list changed start missing left → NoneFewer rules list written below change
+none_by rules list change written changed walk start missing below first left is walked starts within long rows same where_missing sums of_rows none right writable fewer =
+    let sheet : List Event = on_sheet change (applied change written) right in
+    let own : IsWritable rules list changed right = subst (λ (es : List Event). IsWritable rules list es right) (sym is) writable in
+    let but : IsSheetBut changed missing sheet = subst (λ m. IsSheetBut changed m sheet) (sym where_missing) (sheet_with change written changed right is) in
+    let at_place : ℕ → ℕ = many_at rules list sheet right in
+    let all = all_few rules list change written changed right is writable.correction.renumbered in
+    let before = rows_counted rules list written changed right sheet walk missing change.place start walked starts within long rows same own but
+    (λ k here. missing_at change.slip change.place k (sym where_missing ∙ here)) in
+    let split = sum_joined at_place 0 start (length changed - start) in
+    let whole : sum_from at_place 0 (start + (length changed - start)) ≡ sum_from at_place 0 (length changed) = ap (sum_from at_place 0) (omega (arith, long)) in
+    let behind : sum_from at_place (0 + start) (length changed - start) ≡ sum_from at_place start (length changed - start) = ap (λ n. sum_from at_place n (length changed - start)) (omega arith) in
+    let counted = many_in_rows list walk.rows.items start in
+    none right sheet own but
+    (leaves_to below left (many_sums sheet (length changed) + counted) (leaves_both below first left (many_sums sheet (length changed)) counted (sums sheet but) of_rows)
+    (sum_from at_place start (length changed - start)) (many_left rules list change written right) (omega (arith, all, before, split, whole, behind)) fewer)
+
+pub from_by_rules : (own rules : Rules) (list : List (List ℕ)) (changed : List Event) (start : ℕ) (missing room : Option ℕ) → own ≡ rules → NoneFrom own list changed start missing room
+    → NoneFrom rules list changed start missing room
+from_by_rules own rules list changed start missing room by none = subst (λ (r : Rules). NoneFrom r list changed start missing room) by none

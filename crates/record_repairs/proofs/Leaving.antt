@@ -1,0 +1,157 @@
+-- How many may be wrong still, and how many are in all at some places.
+use Rattle.std.proofs.Common.{◌≡◌, ℕ, zero, suc, ◌+◌, ◌-◌, ◌<◌, ◌≤◌, Bool, true, false, List, [], ◌∷◌, ◌++◌, length, slice_get, get_or, Option, Some, None, refl, sym, ap, ◌∙◌, subst, arith, if◌then◌else◌}
+use Rattle.std.specs.Prelude.{not, cond}
+use Rattle.std.specs.List.{flat_map, range_with_len}
+use Rattle.std.proofs.lemmas.List.{append_assoc, append-nil, length-append}
+use Rattle.std.proofs.lemmas.List.Recursion.{is_count_by}
+use Rattle.std.proofs.lemmas.Option.{slice_get_read}
+use Rattle.lex_list.specs.Words.{is_listed}
+use Rattle.game_turns.specs.LatestEvents.{standing_words}
+use Rattle.game_turns.specs.Machines.{state_of}
+use Rattle.game_rows.specs.declared.rows.Row.{Row}
+use Rattle.event_notes.specs.Unlisted.{unlisted_one, unlisted_of}
+use Rattle.record_repairs.specs.Remaining.{AreFewer}
+use Rattle.record_repairs.specs.Counting.{less, Leaves, sum_from, many_unlisted, many_scores, many_by_row, many_in_rows}
+
+-- ---- rooms
+
+pub fewer_of : (below : Option ℕ) (one all : ℕ) → one ≤ all → AreFewer below all → AreFewer below one
+fewer_of None one all within fewer = tt
+fewer_of (Some many) one all within fewer = omega (arith, within, fewer)
+
+pub leaves_less : (room : Option ℕ) (many : ℕ) → Leaves room many (less room many)
+leaves_less None many others fewer = tt
+leaves_less (Some room) many others fewer = omega (arith, fewer)
+
+pub leaves_by : (room left : Option ℕ) (many : ℕ) → left ≡ less room many → Leaves room many left
+leaves_by room left many is = subst (Leaves room many) (sym is) (leaves_less room many)
+
+-- where nothing limits, nothing does behind it
+pub leaves_any : (room : Option ℕ) (many : ℕ) → room ≡ None → Leaves room many None
+leaves_any room many none others fewer = tt
+
+pub leaves_itself : (room : Option ℕ) → Leaves room 0 room
+leaves_itself room others fewer = fewer_of room others (0 + others) (omega arith) fewer
+
+pub leaves_both : (room left last : Option ℕ) (one two : ℕ) → Leaves room one left → Leaves left two last → Leaves room (one + two) last
+leaves_both room left last one two of_one of_two others fewer =
+    of_two others (of_one (two + others) (fewer_of room (one + (two + others)) (one + two + others) (omega arith) fewer))
+
+-- where more are wrong than were counted
+pub leaves_more : (room left : Option ℕ) (one all : ℕ) → one ≤ all → Leaves room one left → Leaves room all left
+leaves_more room left one all within leaves others fewer = leaves others (fewer_of room (one + others) (all + others) (omega (arith, within)) fewer)
+
+pub leaves_to : (room left : Option ℕ) (many : ℕ) → Leaves room many left → (others all : ℕ) → many + others ≤ all → AreFewer room all → AreFewer left others
+leaves_to room left many leaves others all within fewer = leaves others (fewer_of room (many + others) all within fewer)
+
+none_full : (left : Option ℕ) (others : ℕ) → left ≡ Some 0 → AreFewer left others → ⊥
+none_full None others full fewer = cc
+none_full (Some room) others full fewer = let is : room ≡ 0 = cc in absurd (omega (arith, fewer, is))
+
+-- where no room is left
+pub leaves_none : (room left : Option ℕ) (many all : ℕ) → Leaves room many left → left ≡ Some 0 → many ≤ all → AreFewer room all → ⊥
+leaves_none room left many all leaves full within fewer = none_full left 0 full (leaves_to room left many leaves 0 all (omega (arith, within)) fewer)
+
+pub not_false : (b : Bool) → not b ≡ false → b ≡ true
+not_false true is = refl
+not_false false is = cc
+
+-- ---- what leaves a room
+
+pub words_leave : (room left : Option ℕ) (many all : ℕ) → left ≡ less room many → many ≡ all → Leaves room all left
+words_leave room left many all is same = subst (λ n. Leaves room n left) same (subst (Leaves room many) (sym is) (leaves_less room many))
+
+pub event_leaves : (room first left : Option ℕ) (scores words : ℕ) → first ≡ less room scores → Leaves first words left → Leaves room (scores + words) left
+event_leaves room first left scores words is leaves =
+    leaves_both room first left scores words (subst (Leaves room scores) (sym is) (leaves_less room scores)) leaves
+
+pub words_many : (list : List (List ℕ)) (words : List (List ℕ)) → many_unlisted list words ≡ length (unlisted_of list words)
+words_many list words = sym (is_count_by (λ (ws : List (List ℕ)). length (unlisted_of list ws)) (λ (w : List ℕ). not (is_listed list w)) refl each words)
+  where
+    one_more : (word : List ℕ) (rest : List (List ℕ)) (b : Bool) → length (if b then [] else (word ∷ [])) + length rest ≡ cond (not b) (1 + length rest) (length rest)
+    one_more word rest true = omega arith
+    one_more word rest false = omega arith
+
+    each : (word : List ℕ) (rest : List (List ℕ))
+        → length (unlisted_of list (word ∷ rest)) ≡ cond (not (is_listed list word)) (1 + length (unlisted_of list rest)) (length (unlisted_of list rest))
+    each word rest = length-append (unlisted_one list word) (unlisted_of list rest) ∙ one_more word (unlisted_of list rest) (is_listed list word)
+
+pub row_leaves : (room left : Option ℕ) (list : List (List ℕ)) (row : Row) (scores : ℕ) → scores ≡ many_scores row.written.score row.right.score
+    → Leaves room (scores + many_unlisted list (standing_words (state_of row.behind).latest)) left → Leaves room (many_by_row list (Some row)) left
+row_leaves room left list row scores is leaves =
+    let words = words_many list (standing_words (state_of row.behind).latest) in
+    leaves_more room left (scores + many_unlisted list (standing_words (state_of row.behind).latest)) (many_by_row list (Some row)) (omega (arith, is, words)) leaves
+
+pub scores_leave : (room left : Option ℕ) (list : List (List ℕ)) (row : Row) (scores : ℕ) → scores ≡ many_scores row.written.score row.right.score → left ≡ less room scores
+    → Leaves room (many_by_row list (Some row)) left
+scores_leave room left list row scores is made =
+    leaves_more room left scores (many_by_row list (Some row)) (omega (arith, is)) (subst (Leaves room scores) (sym made) (leaves_less room scores))
+
+-- ---- sums over places
+
+pub sum_within : (f g : ℕ → ℕ) (start many : ℕ) → ((k : ℕ) → start ≤ k → k < start + many → f k ≤ g k) → sum_from f start many ≤ sum_from g start many
+sum_within f g start zero each = omega arith
+sum_within f g start (suc many) each =
+    let rest = sum_within f g start many (λ k from below. each k from (omega (arith, below))) in
+    let here = each (start + many) (omega arith) (omega arith) in
+    omega (arith, rest, here)
+
+pub sum_joined : (f : ℕ → ℕ) (start one two : ℕ) → sum_from f start (one + two) ≡ sum_from f start one + sum_from f (start + one) two
+sum_joined f start one zero =
+    let none : one + 0 ≡ one = omega arith in
+    let same : sum_from f start (one + 0) ≡ sum_from f start one = ap (sum_from f start) none in
+    omega (arith, same)
+sum_joined f start one (suc two) =
+    let rest = sum_joined f start one two in
+    let step : one + suc two ≡ suc (one + two) = omega arith in
+    let at : f (start + (one + two)) ≡ f (start + one + two) = ap f (omega arith) in
+    ap (sum_from f start) step ∙ omega (arith, rest, at)
+
+-- more places, and no fewer in all
+pub sum_more : (f : ℕ → ℕ) (start one two : ℕ) → one ≤ two → sum_from f start one ≤ sum_from f start two
+sum_more f start one two within =
+    let all = sum_joined f start one (two - one) in
+    let same : sum_from f start (one + (two - one)) ≡ sum_from f start two = ap (sum_from f start) (omega (arith, within)) in
+    omega (arith, all, same)
+
+-- one place more
+pub sum_step : (f : ℕ → ℕ) (start place : ℕ) → start ≤ place → sum_from f start (place + 1 - start) ≡ sum_from f start (place - start) + f place
+sum_step f start place behind =
+    let step : place + 1 - start ≡ suc (place - start) = omega (arith, behind) in
+    ap (sum_from f start) step ∙ ap (λ k. sum_from f start (place - start) + f k) (omega (arith, behind))
+
+pub row_more : (list : List (List ℕ)) (rows : List Row) (place : ℕ) → many_in_rows list rows (place + 1) ≡ many_in_rows list rows place + many_by_row list (slice_get rows place)
+row_more list rows place =
+    let step : place + 1 ≡ suc place = omega arith in
+    let here : 0 + place ≡ place = omega arith in
+    ap (many_in_rows list rows) step ∙ ap (λ k. many_in_rows list rows place + many_by_row list (slice_get rows k)) here
+
+-- the rows before a place, and one more
+pub rows_leave : (room left last : Option ℕ) (list : List (List ℕ)) (rows : List Row) (place : ℕ) (row : Row) → place < length rows → row ≡ get_or rows place row
+    → Leaves room (many_in_rows list rows place) left → Leaves left (many_by_row list (Some row)) last → Leaves room (many_in_rows list rows (place + 1)) last
+rows_leave room left last list rows place row within read before one =
+    let at : slice_get rows place ≡ Some row = slice_get_read rows (length rows) place row refl within read in
+    let step = row_more list rows place in
+    let here : many_by_row list (slice_get rows place) ≡ many_by_row list (Some row) = ap (many_by_row list) at in
+    leaves_more room last (many_in_rows list rows place + many_by_row list (Some row)) (many_in_rows list rows (place + 1)) (omega (arith, step, here))
+    (leaves_both room left last (many_in_rows list rows place) (many_by_row list (Some row)) before one)
+
+pub range_last : {A : Type 0} (f : ℕ → List A) (a n : ℕ) → flat_map f (range_with_len a (suc n)) ≡ flat_map f (range_with_len a n) ++ f (a + n)
+range_last f a zero = append-nil (f a) ∙ ap f (omega arith)
+range_last {A} f a (suc n) =
+    ap (λ (xs : List A). f a ++ xs) (range_last f (a + 1) n) ∙ sym (append_assoc (f a) (flat_map f (range_with_len (a + 1) n)) (f (a + 1 + n)))
+    ∙ ap (λ k. (f a ++ flat_map f (range_with_len (a + 1) n)) ++ f k) (omega arith)
+
+pub sum_lengths : {X : Type 0} (f : ℕ → List X) (many : ℕ) → length (flat_map f (range_with_len 0 many)) ≡ sum_from (λ k. length (f k)) 0 many
+sum_lengths f zero = refl
+sum_lengths {X} f (suc many) =
+    let rest = sum_lengths f many in
+    let all = length-append (flat_map f (range_with_len 0 many)) (f (0 + many)) in
+    ap (λ (xs : List X). length xs) (range_last f 0 many) ∙ omega (arith, rest, all)
+
+pub sum_two : (f g h : ℕ → ℕ) (many : ℕ) → ((k : ℕ) → h k ≡ f k + g k) → sum_from h 0 many ≡ sum_from f 0 many + sum_from g 0 many
+sum_two f g h zero each = refl
+sum_two f g h (suc many) each =
+    let rest = sum_two f g h many each in
+    let here = each (0 + many) in
+    omega (arith, rest, here)
