@@ -1315,6 +1315,19 @@ def repairs_listed(run):
     found = "illegal line 3: NotYourTurn\nline 3: it repeats the line before it and should not be there\n  4 of 4 numbers right\n"
     run.row(["repair", "--number", "1", *twice], 1, found + "  not in the list: DT\n")
     run.row(["repair", "--number", "1", "--repaired", "out", *twice], 1, found + "  not in the list: DT\n", wrote=(WORD + at).encode())
+    Path(run.folder, "all").write_text("AT\nDT\nEAT\nOE\nRA\nWORD\n")
+    run.row(["build", "all", "all.gad"], 0)
+    wrong = ">A: AADEORW E8 WORD +16 16\n>B: AT 9H AT +9 9\n"
+    Path(run.folder, "two").write_text(wrong)
+    Path(run.folder, "three").write_text(wrong + ">A: E 9F E.. +5 21\n")
+    none = "illegal line 1: MissesCentre\nnone of 503 single changes makes it a game\n"
+    pair = "with two changes:\nline 1: WORD at 8E, not at E8; and line 2: AT at 9G, not at 9H\n  6 of 6 numbers right\n"
+    run.row(["repair", "--number", "1", "all", "all.gad", "three"], 1, none + pair)
+    run.row(["repair", "--number", "1", "--repaired", "out", "all", "all.gad", "three"], 1, none + pair + "not written: no single change repairs it\n")
+    found = "illegal line 1: MissesCentre\nline 1: WORD at 8E, not at E8\n  3 of 4 numbers right\n  line 2: score 9, should be 6\n  not in the list: DA\n"
+    pair = "with two changes:\nline 1: WORD at 8E, not at E8; and line 1: WORD at 8F, not at 8E\n  4 of 4 numbers right\n"
+    likelier = "not written: two changes are likelier than the first repair\n"
+    run.row(["repair", "--number", "1", "--repaired", "out", "all", "all.gad", "two"], 1, found + pair + likelier)
     run.row([*told, "nowhere"], 4, error="referee: cannot open nowhere: no such file")
     run.row(["repair", "word", "folder", "line"], 4, error="referee: read failed: folder: is a folder")
     run.row(["repair", "--repaired", "no/where", *twice], 4, error="referee: cannot open no/where: no such file")

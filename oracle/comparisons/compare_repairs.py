@@ -3,7 +3,7 @@
 The worked records are those of `repair_rows`: the first repair has to be the known one, with its cost, its line and what stands there then. Then as
 many games that were dealt for real have one slip of the pen, and the second judge lists the repairs: those that are told have to be the same, with the
 same costs, as far as both tell them. A record is passed over if the rule of completion, which is all that the second judge has, leaves open whether
-a deal fits with some change.
+a deal fits with some change. Each third game has two slips, and the pairs of changes are compared.
 """
 import json
 import random
@@ -12,14 +12,16 @@ from comparing import Differences, compared
 from compare_changes import all_changes, line_of
 from deals import events_of
 from lexicons import build
-from repair_rows import LINES, NONE, ROWS
-from repair_figures import SLIPS, STYLES, TURNS, some_sheet
-from repair_texts import repair_text
+from pairs import pairs
+from repair_rows import LINES, NONE, ROWS, TWO, puts
+from repair_figures import SLIPS, STYLES, TURNS, some_sheet, with_two_slips
+from repair_texts import pairs_text, repair_text
 from repairs import WRONG_NUMBER, repairs
 from rules import ENGLISH
 from rules_texts import text_of
 
 MOST = 100
+TWO_CHANGES = "with two changes:\n"
 
 
 def told_by(differences, rules, listed, text, number=MOST):
@@ -56,6 +58,13 @@ def rows(differences):
     for rules, words, record in NONE:
         status, answer = told_by(differences, rules, set(words.split()), record)
         differences.expect(not answer["repairs"], record, f"told {first(answer)}")
+    for rules, words, record, cost, there in TWO:
+        status, answer = told_by(differences, rules, set(words.split()), record)
+        told = next(pairs_told(answer), None)
+        differences.expect(told == (cost, *there) and status == 1, record, f"told {status} {told} for {(cost, there)}")
+        found = known_pairs(differences, rules, set(words.split()), events_of(record))
+        if found is not None:
+            pair_texts(differences, record, "worked", found)
     for rules, words, record, wanted in LINES:
         status, answer = told_by(differences, rules, set(words.split()), record)
         many = 1 + len(answer["repairs"][0]["others"])
@@ -67,6 +76,14 @@ def all_told(answer):
     for it in answer["repairs"]:
         yield it["cost"], "".join(map(named, it["lines"]))
         yield from ((it["cost"], named(other)) for other in it["others"])
+
+
+def pairs_told(answer):
+    """Each pair that the program tells: its cost, and what stands there with each of its changes."""
+    for it in answer["pairs"]:
+        one, other = ("".join(map(named, change["lines"])) for change in it["changes"])
+        yield it["cost"], one, other
+        yield from ((it["cost"], one, named(line)) for line in it["others"])
 
 
 def expected(found):
@@ -84,24 +101,46 @@ def texts(differences, rules, listed, text, name):
     nicks = [nick if f">{nick}:" in text else "the other player" for nick in "AB"]
     tried = len(all_changes(rules, events, listed))
     done = differences.run("repair", "--rules", "rules", "words", "lexicon", "game")
-    told = done.stdout.decode().split("\n", 1)[1]
+    told = done.stdout.decode().split("\n", 1)[1].split(TWO_CHANGES)[0]
     wanted = repair_text(events, listed, rules, nicks, tried=tried)
     told = "".join(line + "\n" for line in told.split("\n")[:-1] if not line.endswith("but no deal was found"))
     differences.expect(told == wanted, name, text, told, "second judge", wanted)
 
 
-def is_clear(found):
-    """Whether the first repair is ahead of the second by a number at the least, and nothing is left open."""
-    return all(it.dealt for it in found) and (len(found) == 1 or len(found) > 1 and found[0].cost + WRONG_NUMBER <= found[1].cost)
+def known_pairs(differences, rules, listed, events):
+    """The pairs of changes of a record; None if the second judge leaves open whether a deal fits with some change."""
+    found, known = pairs(events, listed, rules)
+    if known and all(it.dealt for it in repairs(events, listed, rules)):
+        differences.seen["records with pairs"] += bool(found)
+        return found
+    differences.seen["deals left open"] += 1
+    return None
 
 
-def repaired(differences, text, found):
+def pair_texts(differences, text, name, found):
+    """Compares all that is printed of pairs of changes."""
+    nicks = [nick if f">{nick}:" in text else "the other player" for nick in "AB"]
+    done = differences.run("repair", "--rules", "rules", "words", "lexicon", "game")
+    parts = done.stdout.decode().split(TWO_CHANGES)
+    told, wanted = TWO_CHANGES + parts[1] if parts[1:] else "", pairs_text(events_of(text), found, nicks)
+    differences.expect(told == wanted, name, text, told, "second judge", wanted)
+
+
+def is_clear(found, two):
+    """Whether the first repair is ahead of the second by a number at the least, no two changes cost less, and nothing is left open."""
+    return bool(found) and not two and all(it.dealt for it in found) and all(found[0].cost + WRONG_NUMBER <= it.cost for it in found[1:2])
+
+
+def repaired(differences, listed, text, found):
     """Compares the repaired sheet with the right events of the first repair, each line of the file but those of events as it was."""
     (differences.folder / "out").unlink(missing_ok=True)
     noted = "#title a game\n" + text.replace("\n", "\r\n#note as it was\n")
     differences.put("game", noted.encode())
     done = differences.run("repair", "--repaired", "out", "words", "lexicon", "game")
-    wanted = "".join(map(line_of, found[0].right())) if is_clear(found) else None
+    two, known = pairs(events_of(text), listed)
+    if not known:
+        return
+    wanted = "".join(map(line_of, found[0].right())) if is_clear(found, two) else None
     there = (differences.folder / "out").exists()
     made = (differences.folder / "out").read_bytes().decode() if there else ""
     lines = [line.rstrip("\r") + "\n" for line in made.split("\n") if line.startswith(">")]
@@ -127,18 +166,35 @@ def case(differences, number):
         last = min((max(them)[0] for them in (told, wanted) if them), default=0)
         few = [sorted({it for it in them if it[0] < last}) for them in (told, wanted)]
         if found:
-            repaired(differences, text, found)
+            repaired(differences, listed, text, found)
         differences.expect(few[0] == few[1], name, text, f"program {few[0][:5]}", f"second judge {few[1][:5]}")
+
+
+def two_slips(differences):
+    """A record with two slips: the program has to tell the same pairs as the second judge, with the same costs, as far as both tell them."""
+    sheet, listed = with_two_slips(TURNS, random.choice(STYLES))[1:]
+    text = "".join(map(line_of, sheet))
+    status, answer = told_by(differences, ENGLISH, listed, text)
+    if status != 1:
+        return
+    found = known_pairs(differences, ENGLISH, listed, sheet)
+    if found is None:
+        return
+    pair_texts(differences, text, "two slips", found)
+    told, wanted = list(pairs_told(answer)), [(it.cost, *puts(it)) for it in found]
+    last = min((max(them)[0] for them in (told, wanted) if them), default=0)
+    few = [sorted({it for it in them if it[0] < last}) for them in (told, wanted)]
+    differences.expect(few[0] == few[1], "two slips", text, f"program {few[0][:5]}", f"second judge {few[1][:5]}")
 
 
 def main():
     def compare(differences, cases):
         rows(differences)
         for number in range(cases):
-            case(differences, number)
+            case(differences, number) if number % 3 else two_slips(differences)
 
     differences, cases = compared(Differences, compare)
-    differences.end(cases + len(ROWS) + len(NONE) + len(LINES), "records")
+    differences.end(cases + len(ROWS) + len(NONE) + len(TWO) + len(LINES), "records")
 
 
 if __name__ == "__main__":

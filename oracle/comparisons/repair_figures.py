@@ -3,7 +3,7 @@
 Each sheet is a game that was dealt and played for real, with one slip of a known kind and the numbers of the true game, as a scorer writes them.
 A third of the sheets state both players' racks, a third one player's, and a third none. With `none` for PROGRAM the second judge finds the repairs.
 For each kind the table says how many sheets are faulty, and for how many of these the true record is among the repairs, is the first of them, and
-is on the first line or one of the first three. Then come the lines in the mean, and the seconds for a record in the mean and at 95 of 100.
+is on the first line or one of the first three. The last row is of sheets with two slips of any of these kinds, with pairs of changes among the repairs. Then come the lines in the mean, and the seconds for a record in the mean and at 95 of 100.
 """
 import random
 import sys
@@ -15,6 +15,8 @@ from changes import LETTERS, ordered
 from dealing import Dealer
 from deals import decide
 from games import Event
+from pairs import pairs
+from repair_texts import pair_lines
 from repairs import Front, lines, repairs
 from rules import ENGLISH, KINDS, RACK, SIDE
 
@@ -250,6 +252,21 @@ def some_sheet(slip, turns, stated):
             return *made, listed
 
 
+def with_two_slips(turns, stated):
+    """The true events, those of a sheet with two slips, and the list."""
+    while True:
+        events, sheet, listed = some_sheet(SLIPS[choose(list(SLIPS))], turns, stated)
+        made = SLIPS[choose(list(SLIPS))](sheet)
+        if made and made[0] == sheet and made[1] not in (sheet, events):
+            return events, made[1], listed
+
+
+def all_found_by(program, events, listed):
+    """The repairs of a sheet with one change and with two, in lines, those that cost least first."""
+    two, _ = pairs(events, listed)
+    return sorted([*found_by(program, events, listed), *pair_lines(two)], key=lambda line: line[0].cost)
+
+
 def found_by(program, events, listed):
     """The repairs of a sheet, in lines: by the second judge."""
     if program != "none":
@@ -257,14 +274,14 @@ def found_by(program, events, listed):
     return lines(repairs(events, listed), events)
 
 
-def tried(program, slip, turns, stated, seen):
-    """Makes a sheet with a slip, finds its repairs, and counts."""
-    events, sheet, listed = some_sheet(slip, turns, stated)
+def tried(program, made, find, seen):
+    """Finds the repairs of a sheet, and counts."""
+    events, sheet, listed = made
     if not decide(sheet, listed)[0].startswith("illegal"):
         return
     true = tuple(it.what_happened() for it in Front(ENGLISH, events, listed).taken)
     start = time.process_time()
-    found = found_by(program, sheet, listed)
+    found = find(program, sheet, listed)
     seen["seconds"].append(time.process_time() - start)
     seen["lines"].append(len(found))
     places = [k for k, line in enumerate(found) if any(it.record() == true for it in line)]
@@ -300,11 +317,16 @@ def main():
             random.seed(f"{seed} {name}")
             seen = defaultdict(list)
             for number in range(records):
-                tried(program, slip, turns, STYLES[(seed + number) % len(STYLES)], seen)
+                tried(program, some_sheet(slip, turns, STYLES[(seed + number) % len(STYLES)]), found_by, seen)
             for it, figures in seen.items():
                 whole[it] += figures
             print(row(name, seen), flush=True)
     print(row("all", whole))
+    random.seed(f"{seed} two slips")
+    seen = defaultdict(list)
+    for number in range(records):
+        tried(program, with_two_slips(TURNS, STYLES[(seed + number) % len(STYLES)]), all_found_by, seen)
+    print(row("two slips of any kinds", seen))
 
 
 if __name__ == "__main__":

@@ -11,6 +11,7 @@ from compare_changes import line_of
 from dealing import Dealer, spoiled
 from deals import bound, course, events_of
 from games import go_through
+from pairs import pairs
 from repairs import Front, lines, repairs
 from rules import ENGLISH
 
@@ -39,11 +40,20 @@ ROWS = [
     (SMALL, "RETAINS", RETAINS + ">A: (EEEEEEE) +22 88\n", 3, 2, REST),
 ]
 
-# Records without a repair: two legal ones, and one with two slips.
+# Records without a single repair: two legal ones, and one with two slips.
 NONE = [
     (ENGLISH, WORDS, WORD + AT + EAT),
     (ENGLISH, "WORD", WORD + AT + EAT),
     (ENGLISH, WORDS, WORD + ">B: AT 9H AT +9 10\n>A: E 9F E.. +15 21\n>B: A1 AT +4 13\n"),
+]
+
+# Records with two slips: the rules, the words, the record, what the first pair costs, and what each of its changes puts there.
+TWICE_AT = WORD + AT + AT
+TWO = [
+    (ENGLISH, WORDS, ">A: AADEORW E8 WORD +16 16\n>B: AT 9H AT +9 9\n" + EAT, 4, (WORD, AT)),
+    (ENGLISH, WORDS, TWICE_AT + ">A: E 9E E.. +5 21\n", 3, ("", EAT)),
+    (ENGLISH, WORDS, WORD + ">A: AT 9H AT +9 25\n", 4, (">B: - +0 0\n", ">A: AADEORW 8F WORD +16 16\n")),
+    (ENGLISH, WORDS, ">A: AADEORW E8 WORD +16 16\n" + AT + AT + EAT, 3, (WORD, "")),
 ]
 
 # Repairs that are on one line: the rules, the words, the record, how many repairs the first line has.
@@ -63,6 +73,19 @@ def first(rules, words, record):
     return repair.cost, place + 1, "".join(map(line_of, there))
 
 
+def first_pair(rules, words, record):
+    """The first pair of changes of a record: its cost, and what each change puts there."""
+    found, _ = pairs(events_of(record), set(words.split()), rules)
+    return (found[0].cost, puts(found[0])) if found else None
+
+
+def puts(pair):
+    """What each of two changes puts there: the first with the numbers of the sheet, the second with right ones."""
+    one, other = pair.head.change, pair.then.change
+    there = pair.head.made[one.place : one.place + len(one.there)], pair.then.right()[other.place : other.place + len(other.there)]
+    return tuple("".join(map(line_of, events)) for events in there)
+
+
 def rows():
     for rules, words, record, *wanted in ROWS:
         told = first(rules, words, record)
@@ -73,7 +96,10 @@ def rows():
         events = events_of(record)
         told = len(lines(repairs(events, set(words.split()), rules), events)[0])
         assert told == wanted, f"{record}told {told} for {wanted}"
-    print(f"{len(ROWS)} records with a repair, {len(NONE)} without, {len(LINES)} with lines", flush=True)
+    for rules, words, record, *wanted in TWO:
+        told = first_pair(rules, words, record)
+        assert told == tuple(wanted), f"{record}told {told} for {wanted}"
+    print(f"{len(ROWS)} records with a repair, {len(NONE)} without, {len(TWO)} with two slips, {len(LINES)} with lines", flush=True)
 
 
 def bounds(cases):

@@ -66,12 +66,24 @@ def what_is_other(written, right, nicks):
     return f"{what_happened(right)}, not {what_happened(written)}"
 
 
-def what_changes(repair, events, nicks):
-    """Where a change stands, and what it changes, in words."""
-    change = repair.change
-    line, there = change.place + 1, repair.right()[change.place : change.place + len(change.there)]
+def numbered(events):
+    """Events, each with its line of the file."""
+    return [(k + 1, event) for k, event in enumerate(events)]
+
+
+def with_change(own, change):
+    """Numbered events with a change. A line that is missing has no number."""
+    moved = own[change.place : change.place + change.replaced]
+    there = moved[::-1] if change.replaced > 1 else [(moved[0][0] if moved else None, event) for event in change.there]
+    return [*own[: change.place], *there, *own[change.place + change.replaced :]]
+
+
+def what_changes(change, right, own, nicks):
+    """Where a change stands in the file, and what it changes, in words."""
+    there = right[change.place : change.place + len(change.there)]
+    line = next((line for line, _ in own[change.place :] if line), None)
     if not change.replaced:
-        spot = f"before line {line}" if change.place < len(events) else f"after line {line - 1}"
+        spot = f"before line {line}" if line else f"after line {next((it for it, _ in own[::-1] if it), 0)}"
         return f"{spot}: {what_is_missing(there[0], nicks)}"
     if not there:
         told = "it repeats the line before it and should not be there" if change.weight == 1 else "it should not be there"
@@ -80,7 +92,7 @@ def what_changes(repair, events, nicks):
     elif change.replaced == 3:
         told = "it should change places with the line after the next one"
     else:
-        told = what_is_other(events[change.place], there[0], nicks)
+        told = what_is_other(own[change.place][1], there[0], nicks)
     return f"line {line}: {told}"
 
 
@@ -99,13 +111,10 @@ def differing(repair, events):
     return next(right.word[k] for k in range(len(right.word)) if right.word[:k] + right.word[k + 1 :] == written.word)
 
 
-def wrong_on_sheet(change, events, right):
-    """The scores and sums of the sheet that are wrong, each by its line, and how many numbers there are."""
-    own = [(k + 1, event) for k, event in enumerate(events)]
-    moved = own[change.place : change.place + change.replaced]
-    there = moved[::-1] if change.replaced > 1 else [(moved[0][0] if moved else None, event) for event in change.there]
+def wrong_on_sheet(own, right):
+    """The scores and sums of numbered events that are wrong, each by its line, and how many numbers there are."""
     told, had, many = [], [0, 0], 0
-    for (line, one), other in zip([*own[: change.place], *there, *own[change.place + change.replaced :]], right):
+    for (line, one), other in zip(own, right):
         if line is None:
             had[one.player] += other.score
             continue
@@ -119,26 +128,52 @@ def wrong_on_sheet(change, events, right):
     return told, many
 
 
-def evidence(repair, events, unlisted):
+def evidence(repair, own):
     """How many numbers of the sheet are right, those that are not, and the words that are not in the list."""
-    told, many = wrong_on_sheet(repair.change, events, repair.right())
+    unlisted = repair.words()
+    told, many = wrong_on_sheet(with_change(own, repair.change), repair.right())
     words = f"  not in the list: {', '.join(unlisted)}\n" if unlisted else ""
     return f"  {many - len(told)} of {things(many, 'number')} right\n" + "".join(told) + words
 
 
+def pair_lines(found):
+    """Pairs in lines, by their first pairs: those of one head whose second changes are told in one line."""
+    told = {}
+    for pair in found:
+        told.setdefault(id(pair.head), (pair.head, []))[1].append(pair)
+    grouped = []
+    for head, those in told.values():
+        by_repair = {id(pair.then): pair for pair in those}
+        grouped += [[by_repair[id(it)] for it in line] for line in lines([pair.then for pair in those], head.made)]
+    return sorted(grouped, key=lambda line: found.index(line[0]))
+
+
+def pairs_text(events, found, nicks="AB", number=LINES):
+    """The lines about two changes."""
+    own, text = numbered(events), ""
+    for line in pair_lines(found)[:number]:
+        head, then = line[0].head, line[0].then
+        made = [(it, event) for (it, _), event in zip(with_change(own, head.change), head.made)]
+        others = [differing(it.then, head.made) for it in line[1:]]
+        more = f" (or with {', '.join(others)})" if others else ""
+        first, second = what_changes(head.change, head.made, own, nicks), what_changes(then.change, then.right(), made, nicks)
+        text += f"{first}; and {second}{more}\n" + evidence(then, made)
+    return "with two changes:\n" + text if text else ""
+
+
 def repair_text(events, listed, rules=ENGLISH, nicks="AB", number=LINES, tried=None):
-    """All lines behind the verdict line of an illegal record. `tried` is how many changes there are."""
-    found, text = repairs(events, listed, rules), ""
+    """All lines behind the verdict line of an illegal record, but for those about two changes. `tried` is how many changes there are."""
+    found, text, own = repairs(events, listed, rules), "", numbered(events)
     front = Front(rules, events, listed)
     nothing = front.with_change(NOTHING)
     alone = nothing and front.dealt(nothing)
     if alone:
-        text += "with only the numbers corrected it is a game\n" + evidence(alone, events, alone.words())
+        text += "with only the numbers corrected it is a game\n" + evidence(alone, own)
     told = [it for it in found if it.dealt]
     for line in lines(told, events)[:number]:
         others = [differing(it, events) for it in line[1:]]
         more = f" (or with {', '.join(others)})" if others else ""
-        text += what_changes(line[0], events, nicks) + more + "\n" + evidence(line[0], events, line[0].words())
+        text += what_changes(line[0].change, line[0].right(), own, nicks) + more + "\n" + evidence(line[0], own)
     if not told:
         text += f"none of {tried} single changes {'leaves fewer errors' if alone else 'makes it a game'}\n"
     return text

@@ -177,11 +177,11 @@ def wrong_numbers(change, changed, right):
 
 class Front:
     """The events of a record up to the first that is refused with any numbers, or whose rack exceeds a bound: no change after it makes up for that.
-    `states` are those before each of these events, and `taken` are the events before it."""
+    `states` are those before each of these events, and `taken` are the events before it. What racks show is judged by `hands`."""
 
-    def __init__(self, rules, events, listed):
+    def __init__(self, rules, events, listed, hands=Hands):
         self.rules, self.events, self.listed = rules, events, listed
-        state, self.states, self.taken = State(Game(rules)), [State(Game(rules))], []
+        state, self.states, self.taken = State(Game(rules), hands()), [State(Game(rules), hands())], []
         try:
             for it in state.goes_on(events, 0, listed):
                 self.taken.append(it)
@@ -229,6 +229,11 @@ def repairs(events, listed, rules=ENGLISH):
     nothing = front.with_change(NOTHING)
     if nothing and front.dealt(nothing):
         most = nothing.wrong + nothing.unlisted if nothing.wrong else 0
+    return repairs_below(front, most)
+
+
+def repairs_below(front, most):
+    """The changes of a record that repair it and leave fewer numbers and words wrong than so many."""
     tried = map(front.with_change, front.changes() if most else [])
     found = map(front.dealt, ranked(it for it in tried if it and it.wrong + it.unlisted < most))
     return [it for it in found if it]

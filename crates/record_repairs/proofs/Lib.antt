@@ -27,3 +27,4 @@ pub mod Itself
 pub mod FirstOnes
 pub mod SortedOnes
 pub mod Tellings
+pub mod OneRepair

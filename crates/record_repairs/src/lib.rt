@@ -10,6 +10,7 @@ mod comparing;
 mod correcting;
 mod counting;
 mod finding;
+mod first_changes;
 mod found;
 mod had;
 mod laws;
@@ -27,6 +28,7 @@ mod trying;
 mod writable;
 
 pub use finding::repairs;
+pub use first_changes::{makes, sheet_with};
 pub use found::Found;
 pub use laws::{law_of_rack_stops, law_of_stops};
 pub use listed::Listed;

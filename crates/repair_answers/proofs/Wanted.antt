@@ -8,6 +8,8 @@ use Rattle.record_repairs.specs.Costs.{Rank}
 use Rattle.record_repairs.specs.Repairs.{AreFirstRepairs, AreAhead, IsToldAt}
 use Rattle.record_repairs.specs.declared.listed.Listed.{Listed}
 use Rattle.record_repairs.specs.declared.repair.Repair.{Repair}
+use Rattle.repair_pairs.specs.Pairs.{ArePairs}
+use Rattle.repair_pairs.specs.declared.found.Pairs.{Pairs}
 use Rattle.repair_answers.specs.Answers.{below_of, RepairsIn}
 use Rattle.repair_answers.specs.Lines.{AreLines}
 use Rattle.repair_answers.specs.Tried.{tried_changes}
@@ -41,21 +43,31 @@ all_wanted rules list written below most wanted told left is short first =
       others = λ listed right makes. one_wanted most wanted told left listed right _ is short (first.others listed right makes);
     }
 
+pub pairs_wanted : (rules : Rules) (list : List (List ℕ)) (written : List Event) (singles : List Repair) (most wanted : ℕ) (pairs : Pairs) → wanted ≡ min (most * 27) (2 ^ 64 - 1)
+    → ArePairs rules list written singles wanted pairs → ArePairs rules list written singles (27 * most) pairs
+pairs_wanted rules list written singles most wanted pairs is are =
+    record { each = are.each; few = few_wanted (length pairs.told.items) most wanted is are.few; ordered = are.ordered; once = are.once }
+
 -- what is found of an illegal record
-pub found_of : (rules : Rules) (list : List (List ℕ)) (written between seen : List Event) (walk : Walk) (most wanted : ℕ) (below : Option ℕ) (shown : List Repair) (f : Faulty)
+pub found_of : (rules : Rules) (list : List (List ℕ)) (written between between_too seen : List Event) (walk : Walk) (most wanted : ℕ) (below : Option ℕ) (shown singles : List Repair) (f : Faulty)
     → between ≡ written → IsUnchanged rules list written f.unchanged → below ≡ below_of f.unchanged → wanted ≡ min (most * 27) (2 ^ 64 - 1)
     → AreFirstRepairs rules list between below wanted f.found.told.items f.found.left.items → shown ≡ f.found.told.items → AreLines shown most f.lines.items
+    → between_too ≡ written → singles ≡ f.found.told.items → ArePairs rules list between_too singles wanted f.pairs
     → seen ≡ written → f.tried ≡ length (tried_changes rules seen walk) → RepairsIn rules list written walk most f
-found_of rules list written between seen walk most wanted below shown f same alone limit is first told lines kept tried =
+found_of rules list written between between_too seen walk most wanted below shown singles f same alone limit is first told lines still of pairs kept tried =
     let ok = f.found.told.ok in
     let small = f.found.told.small in
     let here : AreFirstRepairs rules list written (below_of f.unchanged) wanted f.found.told.items f.found.left.items =
     subst (λ (es : List Event). AreFirstRepairs rules list es (below_of f.unchanged) wanted f.found.told.items f.found.left.items) same
     (subst (λ (o : Option ℕ). AreFirstRepairs rules list between o wanted f.found.told.items f.found.left.items) limit first) in
     let short : length f.found.told.items < 2 ^ 63 = omega arith in
+    let both : ArePairs rules list written f.found.told.items wanted f.pairs =
+    subst (λ (es : List Event). ArePairs rules list es f.found.told.items wanted f.pairs) still
+    (subst (λ (rs : List Repair). ArePairs rules list between_too rs wanted f.pairs) of pairs) in
     record {
       alone = alone;
       repairs = all_wanted rules list written (below_of f.unchanged) most wanted f.found.told.items f.found.left.items is short here;
       lines = subst (λ (rs : List Repair). AreLines rs most f.lines.items) told lines;
+      pairs = pairs_wanted rules list written f.found.told.items most wanted f.pairs is both;
       tried = tried ∙ ap (λ (es : List Event). length (tried_changes rules es walk)) kept;
     }

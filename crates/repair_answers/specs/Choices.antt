@@ -1,7 +1,8 @@
 -- Whether one repair is to be chosen.
-use Rattle.std.specs.Prelude.{◌≡◌, ◌+◌, ◌≤◌, List, [], ◌∷◌}
+use Rattle.std.specs.Prelude.{◌≡◌, ◌+◌, ◌<◌, ◌≤◌, List, [], ◌∷◌}
 use Rattle.record_repairs.specs.declared.listed.Listed.{Listed}
 use Rattle.record_repairs.specs.declared.repair.Repair.{Repair}
+use Rattle.repair_pairs.specs.declared.found.Pair.{Pair}
 use Rattle.repair_answers.specs.Alike.{cost_in}
 use Rattle.repair_answers.specs.declared.choices.Choice.{Choice}
 use Rattle.repair_answers.specs.declared.choices.Choice.TheVariants as choice
@@ -26,9 +27,27 @@ AreClose [] = ⊥
 AreClose (first ∷ []) = ⊥
 AreClose (first ∷ second ∷ rest) = IsFarAhead first second → ⊥
 
--- Which of the repairs that were found is to be chosen, if one is: none where some change is left open.
-abbrev pub IsChoice : (told : List Repair) → (left : List Listed) → Choice → Type 0
-IsChoice told left choice.None = (told ≡ []) × (left ≡ [])
-IsChoice told left choice.Open = left ≡ [] → ⊥
-IsChoice told left choice.Close = (left ≡ []) × AreClose told
-IsChoice told left (choice.Clear repair) = (left ≡ []) × IsFirst told repair.now
+-- the cheapest of some pairs of changes costs less than a repair
+abbrev pub HasRival : Repair → (pairs : List Pair) → Type 0
+HasRival first [] = ⊥
+HasRival first (pair ∷ rest) = pair.cost < cost_in first
+
+-- a repair is chosen, or a pair is its rival
+abbrev pub IsChosen : Repair → (pairs : List Pair) → Choice → Type 0
+IsChosen first pairs (choice.Clear repair) = (repair.now ≡ first) × (HasRival first pairs → ⊥)
+IsChosen first pairs choice.Pair = HasRival first pairs
+IsChosen first pairs other = ⊥
+
+-- the first of them has a rival among the pairs
+abbrev pub HasFirstRival : (told : List Repair) → (pairs : List Pair) → Type 0
+HasFirstRival [] pairs = ⊥
+HasFirstRival (first ∷ rest) pairs = HasRival first pairs
+
+-- Which of the repairs that were found is to be chosen, if one is: none where some change is left open, and none where two changes
+-- cost less.
+abbrev pub IsChoice : (told : List Repair) → (left : List Listed) → (pairs : List Pair) → Choice → Type 0
+IsChoice told left pairs choice.None = (told ≡ []) × (left ≡ [])
+IsChoice told left pairs choice.Open = left ≡ [] → ⊥
+IsChoice told left pairs choice.Close = (left ≡ []) × AreClose told
+IsChoice told left pairs choice.Pair = (left ≡ []) × HasFirstRival told pairs
+IsChoice told left pairs (choice.Clear repair) = (left ≡ []) × IsFirst told repair.now × (HasRival repair.now pairs → ⊥)

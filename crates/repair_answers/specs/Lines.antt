@@ -17,6 +17,10 @@ leaves_out other = false
 abbrev pub numbers_with : Slip → (events : ℕ) → ℕ
 numbers_with what events = 2 * (if leaves_out what then events - 1 else events)
 
+-- how many stand with two slips
+abbrev pub numbers_with_both : (first second : Slip) → (events : ℕ) → ℕ
+numbers_with_both first second events = if leaves_out first then numbers_with second (events - 1) else numbers_with second events
+
 abbrev pub are_like : Option Repair → Option Repair → Bool
 are_like (Some one) (Some two) = is_like one two
 are_like one two = false

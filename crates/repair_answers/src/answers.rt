@@ -6,6 +6,7 @@ ghost use Rattle.repair_answers.specs.Answers.{below_of, is_illegal, RepairsIn, 
 
 use crate::evidence::{Told, lines_of};
 use crate::lists::many_tried;
+use crate::pair_lines::pair_lines;
 use crate::unchanged::unchanged;
 use engine::{Case, Entry, Finding, Verdict, case_verdict};
 use game_rows::Walk;
@@ -13,6 +14,7 @@ use gcg_read::{ReadFault, Record};
 use lex_list::WordList;
 use record_repairs::{Found, Remains, repairs};
 use ref_tiles::Rules;
+use repair_pairs::{Pairs, pairs};
 use std::alloc::{AllocError, Global};
 
 /// How many repairs one line may have: a letter more than there are.
@@ -27,6 +29,10 @@ pub struct Faulty {
     pub found: Found,
     /// The first repairs in lines.
     pub lines: Vec<Told>,
+    /// Pairs of changes that repair it and cost less than each of the first repairs.
+    pub pairs: Pairs,
+    /// The pairs in lines.
+    pub pair_lines: Vec<Told>,
     /// How many changes were tried.
     pub tried: u128,
 }
@@ -68,11 +74,16 @@ fn faulty_of(
     let wanted = most.saturating_mul(MOST_ALIKE);
     let found = repairs(alloc, rules, list, &mut game.events, below, wanted)?;
     let lines = lines_of(alloc, found.told.as_slice(), most)?;
+    let singles = found.told.as_slice();
+    let pairs = pairs(alloc, rules, list, &mut game.events, singles, wanted)?;
+    let pair_lines = pair_lines(alloc, pairs.told.as_slice(), most)?;
     let tried = many_tried(alloc, rules, list, walk, game.events.as_slice())?;
     Ok(Faulty {
         unchanged: remains,
         found,
         lines,
+        pairs,
+        pair_lines,
         tried,
     })
 }

@@ -1,9 +1,11 @@
 //! Whether the first repair is the likeliest by far.
-ghost use Rattle.std.specs.Prelude.{◌≡◌, ◌↔◌, IsTrue};
+ghost use Rattle.std.specs.Prelude.{◌≡◌, ◌↔◌, IsTrue, IsFalse};
 ghost use Rattle.repair_answers.specs.Alike.{cost_in};
-ghost use Rattle.repair_answers.specs.Choices.{IsFarAhead, IsChoice};
+ghost use Rattle.repair_answers.specs.Choices.{IsFarAhead, HasRival, IsChosen, IsChoice};
 
-use record_repairs::{Found, Repair};
+use crate::answers::Faulty;
+use record_repairs::Repair;
+use repair_pairs::Pair;
 
 /// What a wrong number costs.
 const NUMBER: u128 = 5;
@@ -17,7 +19,9 @@ pub enum Choice<'a> {
     Open,
     /// The second repair is less than a wrong number behind the first.
     Close,
-    /// The first repair is ahead of the second by a wrong number at the least, or it is the only one.
+    /// Two changes together cost less than the first repair.
+    Pair,
+    /// The first repair is ahead of the second by a wrong number at the least, or it is the only one, and no two changes cost less.
     Clear(&'a Repair),
 }
 
@@ -35,18 +39,43 @@ fn is_far_ahead(first: &Repair, second: &Repair) -> bool
     cost_of(second).saturating_sub(cost_of(first)) >= NUMBER
 }
 
-/// Which of the repairs that were found is to be chosen, if one is.
-pub fn choice_of(found: &Found) -> Choice<'_>
-    ensures { IsChoice found.now.told.items found.now.left.items result }
+/// Whether the cheapest pair costs less than a repair.
+fn has_rival(first: &Repair, pairs: &[Pair]) -> bool
+    ensures yes { IsTrue result → HasRival first.now pairs.now }
+    ensures no { IsFalse result → HasRival first.now pairs.now → ⊥ }
 {
-    if !found.left.is_empty() {
+    match pairs {
+        [] => false,
+        [pair, ..] => pair.cost < cost_of(first),
+    }
+}
+
+/// The choice of a repair, where no pair costs less.
+fn chosen<'a>(first: &'a Repair, pairs: &[Pair]) -> Choice<'a>
+    ensures { IsChosen first.now pairs.now result }
+{
+    if has_rival(first, pairs) {
+        Choice::Pair
+    } else {
+        Choice::Clear(first)
+    }
+}
+
+/// Which of the repairs that were found is to be chosen, if one is.
+pub fn choice_of(faulty: &Faulty) -> Choice<'_>
+    ensures { IsChoice faulty.now.found.told.items faulty.now.found.left.items faulty.now.pairs.told.items result }
+{
+    if !faulty.found.left.is_empty() {
         return Choice::Open;
     }
-    match found.told.as_slice() {
+    let pairs = faulty.pairs.told.as_slice();
+    match faulty.found.told.as_slice() {
         [] => Choice::None,
-        [first] => Choice::Clear(first),
+        [first] => chosen(first, pairs),
         [first, second, ..] => {
-            if is_far_ahead(first, second) {
+            if has_rival(first, pairs) {
+                Choice::Pair
+            } else if is_far_ahead(first, second) {
                 Choice::Clear(first)
             } else {
                 Choice::Close

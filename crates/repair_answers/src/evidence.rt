@@ -1,6 +1,6 @@
 //! Repairs that are told in one line, and how many numbers of the sheet there are with them.
 ghost use Rattle.std.specs.Prelude.{◌≡◌, ◌<◌, ◌++◌, length, IfOk, OnOk};
-ghost use Rattle.repair_answers.specs.Lines.{leaves_out, numbers_with, like_at, is_first, those_like, others_of, AddsLine, AreLines};
+ghost use Rattle.repair_answers.specs.Lines.{leaves_out, numbers_with, numbers_with_both, like_at, is_first, those_like, others_of, AddsLine, AreLines};
 
 use crate::alike::is_like;
 use record_changes::Slip;
@@ -34,6 +34,17 @@ pub fn numbers_with(slip: &Slip, events: usize) -> u128
         2 * events.saturating_sub(1) as u128
     } else {
         2 * events as u128
+    }
+}
+
+/// How many numbers of a sheet with so many events stand with two slips.
+pub fn numbers_with_both(first: &Slip, second: &Slip, events: usize) -> u128
+    ensures { result ≡ numbers_with_both first.now second.now events }
+{
+    if leaves_out(first) {
+        numbers_with(second, events.saturating_sub(1))
+    } else {
+        numbers_with(second, events)
     }
 }
 

@@ -8,10 +8,11 @@ mod answers;
 mod choices;
 mod evidence;
 mod lists;
+mod pair_lines;
 mod spots;
 mod unchanged;
 
 pub use answers::{Faulty, RepairAnswer, answer_repairs};
 pub use choices::{Choice, choice_of};
-pub use evidence::{Told, numbers_with};
-pub use spots::{Spot, spot_of};
+pub use evidence::{Told, numbers_with, numbers_with_both};
+pub use spots::{Spot, second_spot, spot_of};

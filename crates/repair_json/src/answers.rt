@@ -2,6 +2,7 @@
 
 use crate::changes::{RepairObject, repair_object};
 use crate::evidence::{EvidenceObject, evidence_object};
+use crate::pairs::{PairObject, pair_object};
 use answer_json::{FaultObject, VerdictFields, push_object, verdict_fields};
 use gcg_read::Record;
 use repair_answers::{Faulty, RepairAnswer};
@@ -17,6 +18,7 @@ struct AnswerObject {
     ending: Option<&'static str>,
     numbers_alone: Option<EvidenceObject>,
     repairs: Vec<RepairObject>,
+    pairs: Vec<PairObject>,
     left: Option<usize>,
     tried: Option<u128>,
 }
@@ -40,6 +42,24 @@ fn repair_objects(
     for told in faulty.lines.as_slice() {
         if let Some(repair) = repairs.get(told.first) {
             objects.push(repair_object(alloc, record, repairs, repair, told)?)?;
+        }
+    }
+    Ok(objects)
+}
+
+/// The pairs of changes, a line for each.
+fn pair_objects(
+    alloc: Global,
+    record: &Record,
+    faulty: &Faulty,
+) -> Result<Vec<PairObject>, AllocError> {
+    let pairs = &faulty.pairs;
+    let mut objects = Vec::new(alloc);
+    for told in faulty.pair_lines.as_slice() {
+        if let Some(pair) = pairs.told.as_slice().get(told.first) {
+            if let Some(head) = pairs.heads.as_slice().get(pair.head) {
+                objects.push(pair_object(alloc, record, pairs, head, pair, told)?)?;
+            }
         }
     }
     Ok(objects)
@@ -74,6 +94,7 @@ fn faulty_object(
         ending: fields.ending,
         numbers_alone: alone_object(alloc, record, faulty)?,
         repairs: repair_objects(alloc, record, faulty)?,
+        pairs: pair_objects(alloc, record, faulty)?,
         left: Some(faulty.found.left.len()),
         tried: Some(faulty.tried),
     })
@@ -88,6 +109,7 @@ fn bare_object(alloc: Global, fields: VerdictFields) -> AnswerObject {
         ending: fields.ending,
         numbers_alone: None,
         repairs: Vec::new(alloc),
+        pairs: Vec::new(alloc),
         left: None,
         tried: None,
     }

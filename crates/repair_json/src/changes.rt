@@ -26,7 +26,7 @@ pub(crate) struct RepairObject {
 }
 
 /// Whether a change is on a line, before it or behind it.
-fn at_name(spot: Spot) -> &'static str {
+pub(crate) fn at_name(spot: Spot) -> &'static str {
     match spot {
         Spot::On(_) => "on",
         Spot::Before(_) => "before",
@@ -35,14 +35,14 @@ fn at_name(spot: Spot) -> &'static str {
 }
 
 /// The line of the file where a change stands.
-fn line_in(spot: Spot) -> u32 {
+pub(crate) fn line_in(spot: Spot) -> u32 {
     match spot {
         Spot::On(line) | Spot::Before(line) | Spot::Behind(line) => line,
     }
 }
 
 /// The lines of the events that a change replaces.
-fn replaced_lines(
+pub(crate) fn replaced_lines(
     alloc: Global,
     events: &[Event],
     change: &Change,
@@ -72,14 +72,13 @@ fn event_text(alloc: Global, players: &Players, event: &Event) -> Result<String,
     text_of(alloc, line.as_slice())
 }
 
-/// The lines that stand in the place of those that a repair replaces.
-fn right_lines(
+/// The lines of some events that stand in the place of those that a change replaces.
+pub(crate) fn right_lines(
     alloc: Global,
     players: &Players,
-    repair: &Repair,
+    change: &Change,
+    right: &[Event],
 ) -> Result<Vec<String>, AllocError> {
-    let change = &repair.listed.change;
-    let right = repair.right.as_slice();
     let mut lines = Vec::new(alloc);
     for behind in 0..right_events(&change.slip) {
         if let Some(event) = right.get(change.place.saturating_add(behind)) {
@@ -90,7 +89,7 @@ fn right_lines(
 }
 
 /// The line that stands at the place of another repair.
-fn other_line(
+pub(crate) fn other_line(
     alloc: Global,
     players: &Players,
     repair: &Repair,
@@ -136,7 +135,7 @@ pub(crate) fn repair_object(
         line: line_in(spot),
         slip: slip_name(&change.slip),
         replaces: replaced_lines(alloc, events, change)?,
-        lines: right_lines(alloc, &record.players, repair)?,
+        lines: right_lines(alloc, &record.players, change, repair.right.as_slice())?,
         others: other_lines(alloc, &record.players, repairs, told.others.as_slice())?,
         weight: weight_of(&change.slip),
         cost: repair.remains.cost(&change.slip),

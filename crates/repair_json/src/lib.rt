@@ -7,6 +7,7 @@
 mod answers;
 mod changes;
 mod evidence;
+mod pairs;
 mod slip_names;
 
 pub use answers::{push_no_game, push_repair_answer};

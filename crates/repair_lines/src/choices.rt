@@ -33,7 +33,7 @@ pub fn push_choice(
     let Some(faulty) = &answer.faulty else {
         return text.extend_from_slice(b"not written: there is nothing to repair\n");
     };
-    match choice_of(&faulty.found) {
+    match choice_of(faulty) {
         Choice::Clear(repair) => push_unwritten(text, &entry.record.players, repair),
         Choice::None => text.extend_from_slice(b"not written: no single change repairs it\n"),
         Choice::Open => {
@@ -43,6 +43,9 @@ pub fn push_choice(
         }
         Choice::Close => text.extend_from_slice(
             b"not written: the second repair is nearly as likely as the first\n",
+        ),
+        Choice::Pair => text.extend_from_slice(
+            b"not written: two changes are likelier than the first repair\n",
         ),
     }
 }

@@ -8,7 +8,10 @@ use engine::{Case, case_line};
 use gcg_read::{Event, Players, Record};
 use record_changes::Change;
 use record_repairs::Repair;
-use repair_answers::{Faulty, RepairAnswer, Spot, Told, numbers_with, spot_of};
+use repair_answers::{
+    Faulty, RepairAnswer, Spot, Told, numbers_with, numbers_with_both, second_spot, spot_of,
+};
+use repair_pairs::{Head, Pair, Pairs};
 use sentence_parts::{Part, say, say_of_line};
 use std::alloc::{AllocError, Global};
 
@@ -84,6 +87,78 @@ fn push_told(
     )
 }
 
+/// Appends both changes of a pair.
+fn push_both(
+    text: &mut Vec<u8>,
+    record: &Record,
+    head: &Head,
+    pair: &Pair,
+) -> Result<(), AllocError> {
+    let events = record.events.as_slice();
+    let made = head.made.as_slice();
+    push_change(text, &record.players, events, &head.first.change, made)?;
+    text.extend_from_slice(b"; and ")?;
+    let second = &pair.then.listed.change;
+    push_spot(text, second_spot(made, second))?;
+    push_slip(
+        text,
+        &record.players,
+        &second.slip,
+        pair.then.right.as_slice().get(second.place),
+        made.get(second.place),
+    )
+}
+
+/// Appends what the other pairs of a line have where they differ from the first.
+fn push_other_pairs(text: &mut Vec<u8>, pairs: &Pairs, others: &[usize]) -> Result<(), AllocError> {
+    if others.is_empty() {
+        return Ok(());
+    }
+    let mut between: &[u8] = b" (or with ";
+    for index in others {
+        text.extend_from_slice(between)?;
+        if let Some(pair) = pairs.told.as_slice().get(*index) {
+            push_difference(text, &pair.then.listed.change.slip)?;
+        }
+        between = b", ";
+    }
+    text.extend_from_slice(b")")
+}
+
+/// Appends a pair of changes and those that are like it.
+fn push_pair(
+    text: &mut Vec<u8>,
+    record: &Record,
+    pairs: &Pairs,
+    told: &Told,
+) -> Result<(), AllocError> {
+    let Some(pair) = pairs.told.as_slice().get(told.first) else {
+        return Ok(());
+    };
+    let Some(head) = pairs.heads.as_slice().get(pair.head) else {
+        return Ok(());
+    };
+    push_both(text, record, head, pair)?;
+    push_other_pairs(text, pairs, told.others.as_slice())?;
+    text.extend_from_slice(b"\n")?;
+    let first = &head.first.change.slip;
+    let second = &pair.then.listed.change.slip;
+    let numbers = numbers_with_both(first, second, record.events.len());
+    push_evidence(text, &pair.then.remains, numbers)
+}
+
+/// Appends the pairs of changes that repair a record, where there are any.
+fn push_pairs(text: &mut Vec<u8>, record: &Record, faulty: &Faulty) -> Result<(), AllocError> {
+    if faulty.pair_lines.is_empty() {
+        return Ok(());
+    }
+    text.extend_from_slice(b"with two changes:\n")?;
+    for told in faulty.pair_lines.as_slice() {
+        push_pair(text, record, &faulty.pairs, told)?;
+    }
+    Ok(())
+}
+
 /// Appends that the numbers alone are wrong, where that is so.
 fn push_unchanged(text: &mut Vec<u8>, record: &Record, faulty: &Faulty) -> Result<(), AllocError> {
     let Some(remains) = &faulty.unchanged else {
@@ -129,7 +204,8 @@ fn push_faulty(text: &mut Vec<u8>, record: &Record, faulty: &Faulty) -> Result<(
         push_told(text, record, faulty.found.told.as_slice(), told)?;
     }
     push_none(text, faulty)?;
-    push_left(text, faulty)
+    push_left(text, faulty)?;
+    push_pairs(text, record, faulty)
 }
 
 /// Appends the answer on the case of a record: its verdict line and, where the record is illegal, its repairs with their evidence.

@@ -89,7 +89,7 @@ fn keep<'a, R: Runtime + AllocGlobal>(
     let Some(faulty) = &answer.faulty else {
         return Ok(());
     };
-    let Choice::Clear(repair) = choice_of(&faulty.found) else {
+    let Choice::Clear(repair) = choice_of(faulty) else {
         return Ok(());
     };
     match sheet_with(rt.alloc(), case, repair) {

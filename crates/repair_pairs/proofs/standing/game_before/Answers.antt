@@ -3,7 +3,7 @@ use Rattle.std.proofs.lemmas.Bool.{ltb-true}
 use Rattle.std.proofs.lemmas.Option.{slice_get_read}
 use Rattle.game_rows.specs.declared.rows.Row.{Row}
 use Rattle.record_repairs.proofs.Walked.{next_game}
-use Rattle.repair_answers.proofs.lists.game_before.Goals as goal
+use Rattle.repair_pairs.proofs.standing.game_before.Goals as goal
 
 pub returns-in-Some-clause-game : goal.returns-in-Some-clause-game
 returns-in-Some-clause-game c =

@@ -1,0 +1,5 @@
+pub mod Windows
+pub mod Examples
+pub mod Firsts
+pub mod Adding
+pub mod Making

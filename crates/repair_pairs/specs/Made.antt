@@ -1,0 +1,26 @@
+-- The record that a first change makes.
+use Rattle.std.specs.Prelude.{◌≡◌, ℕ, ◌+◌, List}
+use Rattle.ref_tiles.specs.declared.rulebook.Rules.{Rules}
+use Rattle.gcg_read.specs.declared.events.Event.{Event}
+use Rattle.game_turns.specs.Places.{AreAllowedTo}
+use Rattle.game_sheets.specs.Corrections.{AreRenumbered}
+use Rattle.record_changes.specs.declared.slips.Change.{Change}
+use Rattle.record_changes.specs.declared.slips.Slip.{Slip}
+use Rattle.record_changes.specs.declared.slips.Slip.TheVariants as slip
+use Rattle.record_changes.specs.Applied.{applied, wrong_events}
+use Rattle.record_repairs.specs.OnSheet.{on_sheet}
+
+-- how many lines stand in the place of those that a slip concerns
+abbrev pub lines_there : Slip → ℕ
+lines_there slip.Repeated = 0
+lines_there slip.Extra = 0
+lines_there (slip.Missing line) = 1
+lines_there other = wrong_events other
+
+-- The record that a change makes, with the numbers of the sheet. Once they are corrected, the rules allow it up to the lines of the change; a line that is
+-- missing has the score that it has then, and the total that goes with it, so that it does not count as wrong what nobody wrote.
+pub record IsMade (rules : Rules) (list : List (List ℕ)) (written : List Event) (change : Change) (made : List Event) : Type 0 where
+  pub right : List Event
+  pub renumbered : AreRenumbered (applied change written) right
+  pub allowed : AreAllowedTo rules list right (change.place + lines_there change.slip)
+  pub sheet : made ≡ on_sheet change (applied change written) right

@@ -1,0 +1,67 @@
+-- Pairs of changes that repair a record.
+use Rattle.std.specs.Prelude.{◌≡◌, ℕ, ◌+◌, ◌<◌, ◌≤◌, ◌==◌, not, Bool, true, List, length, take, drop, All, AllPairs, slice_get, Option, Some, None}
+use Rattle.ref_tiles.specs.declared.rulebook.Rules.{Rules}
+use Rattle.gcg_read.specs.declared.events.Event.{Event}
+use Rattle.game_sheets.specs.declared.wrong_numbers.WrongNumber.{WrongNumber}
+use Rattle.game_sheets.specs.declared.wrong_numbers.WrongNumber.TheVariants as number
+use Rattle.record_changes.specs.declared.slips.Change.{Change}
+use Rattle.record_changes.specs.Applied.{wrong_events}
+use Rattle.record_changes.specs.Weights.{weight_of}
+use Rattle.record_repairs.specs.Costs.{costs, rank_of}
+use Rattle.record_repairs.specs.Repairs.{IsListed, IsRepair, SameRecord, IsAmong}
+use Rattle.record_repairs.specs.declared.repair.Repair.{Repair}
+use Rattle.repair_pairs.specs.Made.{IsMade}
+use Rattle.repair_pairs.specs.declared.found.Head.{Head}
+use Rattle.repair_pairs.specs.declared.found.Pair.{Pair}
+use Rattle.repair_pairs.specs.declared.found.Pairs.{Pairs}
+
+-- a first change is one of the record's single changes, beside the record that it makes
+pub record IsHead (rules : Rules) (list : List (List ℕ)) (written : List Event) (head : Head) : Type 0 where
+  pub single : IsListed rules written head.first
+  pub made : IsMade rules list written head.first.change head.made
+
+-- each line that a change concerns stands on the sheet: a line that a first change puts there has the number 0
+abbrev pub ConcernsSheet : (made : List Event) → Change → Type 0
+ConcernsSheet made change = All (λ (e : Event). e.line ≡ 0 → ⊥) (take (wrong_events change.slip) (drop change.place made))
+
+-- whether a number that is wrong stands on the sheet
+abbrev pub is_on_sheet : WrongNumber → Bool
+is_on_sheet (number.Score line written right) = not (line == 0)
+is_on_sheet (number.Sum line written right) = not (line == 0)
+is_on_sheet (number.Total player written right) = true
+
+abbrev pub WrongOnSheet : Repair → Type 0
+WrongOnSheet then = All (λ (w : WrongNumber). is_on_sheet w ≡ true) then.remains.wrong.items
+
+-- so much is less than each of some repairs costs
+abbrev pub CostsLess : (singles : List Repair) → (cost : ℕ) → Type 0
+CostsLess singles cost = All (λ (single : Repair). cost < (rank_of single).cost) singles
+
+-- a repair makes another record than each of some others
+abbrev pub MakesOther : (singles : List Repair) → Repair → Type 0
+MakesOther singles then = IsAmong singles then.right → ⊥
+
+-- Two slips cost what both weigh, and what stays wrong with both counts as with a single one.
+abbrev pub cost_with : (weight : ℕ) → (then : Repair) → ℕ
+cost_with weight then = weight + costs (length then.remains.wrong.items) (length then.remains.unlisted.items) then.listed.change.slip
+
+-- A pair of changes: one of the record's single changes, and a repair of the record that it makes. The second concerns lines of the sheet, and so does each
+-- number that stays wrong. Both cost less than each single repair, and make another record.
+pub record IsPair (rules : Rules) (list : List (List ℕ)) (written : List Event) (singles : List Repair) (heads : List Head) (p : Pair) : Type 0 where
+  pub head : Head
+  pub there : slice_get heads p.head ≡ Some head
+  pub first : IsHead rules list written head
+  pub second : IsRepair rules list head.made None p.then
+  pub lines : ConcernsSheet head.made p.then.listed.change
+  pub numbers : WrongOnSheet p.then
+  pub cheaper : CostsLess singles p.cost
+  pub other : MakesOther singles p.then
+  pub costs : p.cost ≡ cost_with (weight_of head.first.change.slip) p.then
+
+-- Some pairs that repair a record, so many at most, in the order of their costs. Each record that they make is made once. That they are all, or the
+-- first of all, is not said.
+pub record ArePairs (rules : Rules) (list : List (List ℕ)) (written : List Event) (singles : List Repair) (most : ℕ) (pairs : Pairs) : Type 0 where
+  pub each : All (IsPair rules list written singles pairs.heads.items) pairs.told.items
+  pub few : length pairs.told.items ≤ most
+  pub ordered : AllPairs (λ (a b : Pair). a.cost ≤ b.cost) pairs.told.items
+  pub once : AllPairs (λ (a b : Pair). SameRecord a.then.right b.then.right → ⊥) pairs.told.items

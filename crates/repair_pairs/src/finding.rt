@@ -1,0 +1,188 @@
+//! The pairs of changes that repair a record.
+ghost use Rattle.std.specs.Prelude.{◌≡◌, IfOk, OnOk};
+ghost use Rattle.game_rows.specs.Walks.{IsWalkOf};
+ghost use Rattle.repair_pairs.specs.Pairs.{ArePairs};
+ghost use Rattle.repair_pairs.specs.Finding.{AddsPairs, AddsPair, ArePairsSoFar, AreSorted};
+
+use crate::found::{Head, Pair, Pairs};
+use crate::heads::{HeadAt, heads_of};
+use crate::listed::listed_at;
+use crate::made::made_by;
+use crate::news::{is_told, least_cost};
+use crate::ordering::first_pairs;
+use game_rows::{Walk, walk_as_written};
+use gcg_read::{Event, Events};
+use lex_list::WordList;
+use record_changes::weight_of;
+use record_repairs::{Repair, repairs};
+use ref_tiles::Rules;
+use std::alloc::{AllocError, Global};
+
+/// How many first changes are gone on with.
+const MOST_HEADS: usize = 3;
+
+/// What a wrong number costs. A repair that costs no more is likely enough: no pair is looked for beside it.
+const NUMBER: usize = 5;
+
+/// Fewer numbers and words than these have to stay wrong with both changes, as each costs 3 at the least; none where no single repair is known.
+fn below_of(singles: &[Repair], weight: usize) -> Option<usize> {
+    let least = least_cost(singles)?;
+    let left = least.saturating_sub(weight) / 3;
+    Some(left.saturating_add(1))
+}
+
+/// Whether pairs are looked for: where the rules refuse an event whatever its numbers are, and no single repair is likely.
+fn is_open(walk: &Walk, singles: &[Repair]) -> bool {
+    if walk.stopped.is_none() {
+        return false;
+    }
+    match least_cost(singles) {
+        Some(least) => least > NUMBER,
+        None => true,
+    }
+}
+
+/// Adds a pair of the head with a number, where it is told beside the single repairs.
+fn push_pair(
+    told: &mut Vec<Pair>,
+    singles: &[Repair],
+    made: &[Event],
+    head: usize,
+    weight: usize,
+    then: Repair,
+) -> Result<(), AllocError>
+    ensures { OnOk result (AddsPair singles.now made.now head weight then told.old.items told.new.items) }
+{
+    let slips = weight as u128 + weight_of(&then.listed.change.slip) as u128;
+    let wrong = then.remains.wrong.len() as u128;
+    let unlisted = then.remains.unlisted.len() as u128;
+    let cost = 5 * wrong + 3 * unlisted + slips;
+    if !is_told(singles, made, &then, cost) {
+        return Ok(());
+    }
+    told.push(Pair { head, then, cost })?;
+    Ok(())
+}
+
+/// Adds the pairs of the head with a number that are told beside the single repairs.
+fn push_pairs(
+    told: &mut Vec<Pair>,
+    singles: &[Repair],
+    made: &[Event],
+    head: usize,
+    weight: usize,
+    found: Vec<Repair>,
+) -> Result<(), AllocError>
+    ensures { OnOk result (AddsPairs singles.now made.now head weight found.items told.old.items told.new.items) }
+{
+    for then in found {
+        push_pair(told, singles, made, head, weight, then)?;
+    }
+    Ok(())
+}
+
+/// Adds a head, and its pairs with the first repairs of the record that it makes.
+fn push_head(
+    alloc: Global,
+    pairs: &mut Pairs,
+    rules: &Rules,
+    list: &WordList,
+    walk: &Walk,
+    events: &[Event],
+    singles: &[Repair],
+    at: HeadAt,
+    most: usize,
+) -> Result<(), AllocError>
+    requires walk { IsWalkOf rules.now list.now events.now walk.now }
+    ensures { OnOk result (ArePairsSoFar rules.now list.now events.now singles.now pairs.old → ArePairsSoFar rules.now list.now events.now singles.now pairs.new) }
+{
+    let Some(first) = listed_at(alloc, rules, list, walk, events, at.place, at.index)? else {
+        return Ok(());
+    };
+    let Some(mut made) = made_by(alloc, rules, list, events, &first.change)? else {
+        return Ok(());
+    };
+    let weight = weight_of(&first.change.slip);
+    let below = below_of(singles, weight);
+    let found = repairs(alloc, rules, list, &mut made, below, most)?;
+    let number = pairs.heads.len();
+    push_pairs(
+        &mut pairs.told,
+        singles,
+        made.as_slice(),
+        number,
+        weight,
+        found.told,
+    )?;
+    pairs.heads.push(Head { first, made })?;
+    Ok(())
+}
+
+/// The pairs of the cheapest heads.
+fn pairs_of(
+    alloc: Global,
+    rules: &Rules,
+    list: &WordList,
+    walk: &Walk,
+    events: &[Event],
+    singles: &[Repair],
+    most: usize,
+) -> Result<Pairs, AllocError>
+    requires { IsWalkOf rules.now list.now events.now walk.now }
+    ensures { IfOk result (ArePairsSoFar rules.now list.now events.now singles.now) }
+{
+    let mut pairs = Pairs {
+        heads: Vec::new(alloc),
+        told: Vec::new(alloc),
+    };
+    if !is_open(walk, singles) {
+        return Ok(pairs);
+    }
+    let heads = heads_of(alloc, rules, list, walk, events)?;
+    for at in heads.as_slice() {
+        if pairs.heads.len() == MOST_HEADS {
+            return Ok(pairs);
+        }
+        push_head(
+            alloc, &mut pairs, rules, list, walk, events, singles, *at, most,
+        )?;
+    }
+    Ok(pairs)
+}
+
+/// The first so many of the pairs of some heads, in the order of their costs.
+fn first_of(alloc: Global, pairs: Pairs, most: usize) -> Result<Pairs, AllocError>
+    ensures { IfOk result (λ first. AreSorted pairs most first) }
+{
+    let mut all = pairs.told;
+    all.sort_by_key(|pair| pair.cost)?;
+    let told = first_pairs(alloc, all, most)?;
+    Ok(Pairs {
+        heads: pairs.heads,
+        told,
+    })
+}
+
+/// Pairs of changes after which a record is a legal game once its numbers are corrected, those that cost least first and at most so many: the first is one
+/// of its single changes, and the second a repair of the record that the first makes. Each costs less than each of the single repairs that are given, and
+/// makes another record. Behind it the events are as they are written.
+///
+/// Pairs are looked for where the rules refuse an event whatever its numbers are and no single repair is likely, and only among some first changes: there
+/// may be others.
+///
+/// It fails only where memory runs out.
+pub fn pairs(
+    alloc: Global,
+    rules: &Rules,
+    list: &WordList,
+    events: &mut Events,
+    singles: &[Repair],
+    most: usize,
+) -> Result<Pairs, AllocError>
+    ensures told { IfOk result (ArePairs rules.now list.now events.old singles.now most) }
+    ensures same { OnOk result (events.new ≡ events.old) }
+{
+    let walk = walk_as_written(alloc, rules, list, events)?;
+    let found = pairs_of(alloc, rules, list, &walk, events.as_slice(), singles, most)?;
+    first_of(alloc, found, most)
+}

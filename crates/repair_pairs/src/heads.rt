@@ -1,0 +1,183 @@
+//! The search for heads: changes with which the rules allow the first refused event too, so that the fault moves on. Nothing is claimed of it: what a head
+//! is, `listed_at` and `made_by` say.
+ghost use Rattle.std.specs.Prelude.{◌≤◌};
+ghost use Rattle.gcg_read.specs.Numerals.{IsPoints};
+
+use crate::made::lines_there;
+use change_lists::slips_at;
+use event_notes::unlisted_of;
+use game_rows::{Row, Walk, walk_as_written};
+use game_sheets::{had_before, mend};
+use game_turns::{Machine, withdraws};
+use gcg_read::{Event, Events};
+use lex_list::WordList;
+use record_changes::{Change, apply, weight_of};
+use record_repairs::sheet_with;
+use ref_tiles::Rules;
+use std::alloc::{AllocError, Global};
+
+/// A change with which the fault moves on, by where it stands in the list of all.
+#[derive(Clone, Copy)]
+pub(crate) struct HeadAt {
+    /// Its place in the record.
+    pub(crate) place: usize,
+    /// Its number among the changes there.
+    pub(crate) index: usize,
+    /// What it costs up to the first refused event.
+    cost: u128,
+}
+
+/// The place from which on a change has to be tried: the one before it, where with the change the event there is taken back and else is not, or the other
+/// way round.
+fn start_of(events: &[Event], changed: &[Event], place: usize) -> usize {
+    if withdraws(changed.get(place)) == withdraws(events.get(place)) {
+        place
+    } else {
+        place.saturating_sub(1)
+    }
+}
+
+/// How many events have to be allowed with a change: up to the first refused one, or up to the last that the change puts there.
+fn end_of(walk: &Walk, events: &[Event], changed: &[Event], change: &Change) -> usize {
+    let behind = events
+        .len()
+        .saturating_sub(walk.rows.len())
+        .saturating_sub(1);
+    let refused = changed.len().saturating_sub(behind);
+    let there = change.place.saturating_add(lines_there(&change.slip));
+    if there > refused { there } else { refused }
+}
+
+/// Whether the events from one place to another are allowed once they have their right numbers, which they get.
+fn goes_to(
+    game: &Machine,
+    changed: &mut Events,
+    start: usize,
+    end: usize,
+    list: &WordList,
+) -> bool {
+    let mut machine = game.copy();
+    for place in start..end {
+        if mend(&mut machine, changed, place, list).is_err() {
+            return false;
+        }
+    }
+    true
+}
+
+/// How many numbers of a line are wrong, by what the player had before it.
+fn wrong_on(row: &Row, had: i32) -> u128
+    requires { IsPoints had }
+    ensures { result ≤ 2 }
+{
+    let score = row.written.score.value();
+    let mut wrong = 0;
+    if score != row.right.score.value() {
+        wrong += 1;
+    }
+    if row.written.total.value() != had + score {
+        wrong += 1;
+    }
+    wrong
+}
+
+/// What a line costs: its wrong numbers, and those of its words that stand and are not in the list.
+fn line_cost(alloc: Global, list: &WordList, row: &Row, had: i32) -> Result<u128, AllocError>
+    requires { IsPoints had }
+{
+    let words = unlisted_of(alloc, list, row.behind.standing_words())?;
+    Ok(5 * wrong_on(row, had) + 3 * words.len() as u128)
+}
+
+/// What the first lines of a sheet cost, so many.
+fn front_cost(
+    alloc: Global,
+    rules: &Rules,
+    list: &WordList,
+    sheet: &mut Events,
+    end: usize,
+) -> Result<u128, AllocError> {
+    let walk = walk_as_written(alloc, rules, list, sheet)?;
+    let events = sheet.as_slice();
+    let mut cost: u128 = 0;
+    for place in 0..end {
+        let Some(row) = walk.rows.as_slice().get(place) else {
+            return Ok(cost);
+        };
+        let Some(event) = events.get(place) else {
+            return Ok(cost);
+        };
+        let had = had_before(events, event.player, place);
+        cost = cost.saturating_add(line_cost(alloc, list, row, had)?);
+    }
+    Ok(cost)
+}
+
+/// What a change costs, where the fault moves on with it.
+fn head_cost(
+    alloc: Global,
+    rules: &Rules,
+    list: &WordList,
+    walk: &Walk,
+    events: &[Event],
+    change: &Change,
+) -> Result<Option<u128>, AllocError> {
+    let mut changed = apply(alloc, change, events)?;
+    let end = end_of(walk, events, changed.as_slice(), change);
+    let start = start_of(events, changed.as_slice(), change.place);
+    let Some(game) = walk.before(start) else {
+        return Ok(None);
+    };
+    if !goes_to(game, &mut changed, start, end, list) {
+        return Ok(None);
+    }
+    let mut sheet = sheet_with(alloc, change, events, changed.as_slice())?;
+    let cost = front_cost(alloc, rules, list, &mut sheet, end)?;
+    Ok(Some(cost.saturating_add(weight_of(&change.slip) as u128)))
+}
+
+/// Adds the changes at a place with which the fault moves on.
+fn push_heads(
+    alloc: Global,
+    found: &mut Vec<HeadAt>,
+    rules: &Rules,
+    list: &WordList,
+    walk: &Walk,
+    events: &[Event],
+    place: usize,
+) -> Result<(), AllocError> {
+    if place > events.len() {
+        return Ok(());
+    }
+    let Some(game) = walk.before(place) else {
+        return Ok(());
+    };
+    let slips = slips_at(alloc, rules, game, events, place)?;
+    let mut index: usize = 0;
+    for slip in slips {
+        let change = Change { place, slip };
+        if let Some(cost) = head_cost(alloc, rules, list, walk, events, &change)? {
+            found.push(HeadAt { place, index, cost })?;
+        }
+        index = index.saturating_add(1);
+    }
+    Ok(())
+}
+
+/// The changes with which the fault moves on, those that cost least first, and of equal costs in the order of the list.
+///
+/// It fails only where memory runs out.
+pub(crate) fn heads_of(
+    alloc: Global,
+    rules: &Rules,
+    list: &WordList,
+    walk: &Walk,
+    events: &[Event],
+) -> Result<Vec<HeadAt>, AllocError> {
+    let mut found = Vec::new(alloc);
+    for place in 0..walk.rows.len() + 1 {
+        push_heads(alloc, &mut found, rules, list, walk, events, place)?;
+    }
+    found.sort_by_key(|head| head.cost)?;
+    Ok(found)
+}

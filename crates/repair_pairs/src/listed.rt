@@ -1,0 +1,42 @@
+//! A change of the list, by its place and its number there.
+ghost use Rattle.std.specs.Prelude.{IfOk, IfSome};
+ghost use Rattle.game_rows.specs.Walks.{IsWalkOf};
+ghost use Rattle.record_repairs.specs.Repairs.{IsListed};
+
+use crate::standing::game_before;
+use change_lists::{law_of_slips, slips_at};
+use game_rows::Walk;
+use gcg_read::Event;
+use lex_list::WordList;
+use record_changes::Change;
+use record_repairs::Listed;
+use ref_tiles::Rules;
+use std::alloc::{AllocError, Global};
+
+/// The change with a number among those at a place, where there is one.
+///
+/// It fails only where memory runs out.
+pub(crate) fn listed_at(
+    alloc: Global,
+    rules: &Rules,
+    list: &WordList,
+    walk: &Walk,
+    events: &[Event],
+    place: usize,
+    index: usize,
+) -> Result<Option<Listed>, AllocError>
+    requires { IsWalkOf rules.now list.now events.now walk.now }
+    ensures { IfOk result (λ found. IfSome found (IsListed rules.now events.now)) }
+{
+    law_of_slips();
+    let Some(game) = game_before(walk, place) else {
+        return Ok(None);
+    };
+    let mut slips = slips_at(alloc, rules, game, events, place)?;
+    if index >= slips.len() {
+        return Ok(None);
+    }
+    let slip = slips.swap_remove(index);
+    let change = Change { place, slip };
+    Ok(Some(Listed { change, index }))
+}

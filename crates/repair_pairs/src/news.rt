@@ -1,0 +1,94 @@
+//! Whether two changes are told, beside single repairs of the record.
+ghost use Rattle.std.specs.Prelude.{◌≡◌, IsTrue};
+ghost use Rattle.repair_pairs.specs.Pairs.{ConcernsSheet, is_on_sheet, WrongOnSheet, CostsLess, MakesOther};
+
+use game_sheets::WrongNumber;
+use gcg_read::Event;
+use record_changes::{Change, weight_of, wrong_events};
+use record_repairs::{Repair, makes};
+
+/// Whether each line that a change concerns stands on the sheet, and is none that a first change put there.
+fn concerns_sheet(made: &[Event], change: &Change) -> bool
+    ensures { IsTrue result → ConcernsSheet made.now change.now }
+{
+    let many = wrong_events(&change.slip);
+    if change.place > made.len() || many > made.len() - change.place {
+        return false;
+    }
+    for place in change.place..change.place + many {
+        if made[place].line == 0 {
+            return false;
+        }
+    }
+    true
+}
+
+/// Whether a number that is wrong stands on the sheet.
+fn is_on_sheet(number: &WrongNumber) -> bool
+    ensures { result ≡ is_on_sheet number.now }
+{
+    match number {
+        WrongNumber::Score { line, .. } => *line != 0,
+        WrongNumber::Sum { line, .. } => *line != 0,
+        WrongNumber::Total { .. } => true,
+    }
+}
+
+/// Whether each number that stays wrong stands on the sheet, and on no line that a first change put there.
+fn wrong_on_sheet(then: &Repair) -> bool
+    ensures { IsTrue result → WrongOnSheet then.now }
+{
+    for number in then.remains.wrong.as_slice() {
+        if !is_on_sheet(number) {
+            return false;
+        }
+    }
+    true
+}
+
+/// Whether so much is less than each of these repairs costs.
+fn costs_less(singles: &[Repair], cost: u128) -> bool
+    ensures { IsTrue result → CostsLess singles.now cost }
+{
+    for single in singles {
+        if cost >= single.remains.cost(&single.listed.change.slip) {
+            return false;
+        }
+    }
+    true
+}
+
+/// Whether none of these repairs makes the same record.
+fn makes_other(singles: &[Repair], then: &Repair) -> bool
+    ensures { IsTrue result → MakesOther singles.now then.now }
+{
+    for single in singles {
+        if makes(single, then.right.as_slice()) {
+            return false;
+        }
+    }
+    true
+}
+
+/// Whether two changes are told that cost so much, beside single repairs: the second concerns lines of the sheet, and so does each number that stays wrong;
+/// each of the single repairs costs more, and makes another record.
+pub(crate) fn is_told(singles: &[Repair], made: &[Event], then: &Repair, cost: u128) -> bool
+    ensures lines { IsTrue result → ConcernsSheet made.now then.now.listed.change }
+    ensures numbers { IsTrue result → WrongOnSheet then.now }
+    ensures cheaper { IsTrue result → CostsLess singles.now cost }
+    ensures other { IsTrue result → MakesOther singles.now then.now }
+{
+    concerns_sheet(made, &then.listed.change)
+        && wrong_on_sheet(then)
+        && costs_less(singles, cost)
+        && makes_other(singles, then)
+}
+
+/// What the likeliest of some repairs costs; none where there is no repair.
+pub(crate) fn least_cost(singles: &[Repair]) -> Option<usize> {
+    let first = singles.first()?;
+    let numbers = first.remains.wrong.len().saturating_mul(5);
+    let words = first.remains.unlisted.len().saturating_mul(3);
+    let weight = weight_of(&first.listed.change.slip);
+    Some(numbers.saturating_add(words).saturating_add(weight))
+}
