@@ -1,0 +1,4 @@
+pub mod Alike
+pub mod Aligned
+pub mod Merged
+pub mod Made

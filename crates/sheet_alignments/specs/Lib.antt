@@ -1,0 +1,5 @@
+pub mod Agreeing
+pub mod Alignments
+pub mod Fronts
+pub mod Merging
+pub mod Laws

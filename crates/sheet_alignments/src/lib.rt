@@ -1,0 +1,21 @@
+//! Two sheets of one game, line beside line, and the records that can be made of both.
+//!
+//! [`align`] puts the events of two sheets beside each other: those of one event of the game in a pair, and a line that the other sheet
+//! lacks alone. [`merge`] makes a record of both: where the lines of a pair say different things, a choice takes one of them.
+#![tactic(auto)]
+
+mod agreeing;
+mod aligning;
+mod copying;
+mod costs;
+mod fronts;
+mod laws;
+mod merging;
+mod pairs;
+mod tables;
+
+pub use agreeing::agree;
+pub use aligning::align;
+pub use laws::{law_of_itself, law_of_merging};
+pub use merging::{MOST_ITEMS, NumbersOf, chosen_side, many_choices, many_items, merge, own_side};
+pub use pairs::{Pair, Side};

@@ -1,0 +1,280 @@
+//! Records that are made of two sheets.
+ghost use Rattle.std.specs.Prelude.{◌≡◌, ◌++◌, ◌∷◌, [], ◌<◌, ◌≤◌, true, false, List, length, if◌then◌else◌, IfOk, OnOk};
+ghost use Rattle.std.specs.Option.{option_or, option_copied};
+ghost use Rattle.sheet_alignments.specs.Merging.{line_at, own_side, of_side, rack_of, with_numbers_of, numbered, taken, events_of, tells_tiles, fuller_side, chosen_side, side_of, next_item, taken_of, merged, items_of, many_choices};
+
+use crate::agreeing::has_amount;
+use crate::copying::copy_with_rack;
+use crate::pairs::{Pair, Side};
+use gcg_read::{Event, EventKind, Events, Seat, same_seat};
+use ref_tiles::Counts;
+use std::alloc::{AllocError, Global};
+
+/// How many items are varied at the most.
+pub const MOST_ITEMS: usize = 12;
+
+/// Whose numbers the events have that are taken of two sheets.
+#[derive(Clone, Copy, Debug, PartialEq, Eq)]
+pub enum NumbersOf {
+    /// Those of the line that is taken.
+    Taken,
+    /// Those of one sheet, where it has a line of the event. An amount that no rule gives is that of the line that is taken.
+    Sheet(Side),
+}
+
+/// Which sheet is a player's own, where the first one is the owner's.
+pub fn own_side(owner: Seat, player: Seat) -> Side
+    ensures { result ≡ own_side owner player }
+{
+    if same_seat(owner, player) {
+        Side::First
+    } else {
+        Side::Second
+    }
+}
+
+/// That of two lines which stands on a sheet.
+fn of_side<'a>(side: Side, first: &'a Event, second: &'a Event) -> &'a Event
+    ensures { result.now ≡ of_side side first.now second.now }
+{
+    match side {
+        Side::First => first,
+        Side::Second => second,
+    }
+}
+
+/// The rack that one line states, or else the other.
+fn rack_or(rack: &Option<Counts>, other: &Option<Counts>) -> Option<Counts>
+    ensures { result ≡ option_or rack.now other.now }
+{
+    match rack {
+        Some(tiles) => Some(*tiles),
+        None => *other,
+    }
+}
+
+/// The rack of an event that is taken of two lines.
+fn rack_of(owner: Seat, first: &Event, second: &Event, event: &Event) -> Option<Counts>
+    ensures { result ≡ rack_of owner first.now second.now event.now }
+{
+    if !same_seat(first.player, second.player) {
+        return event.rack;
+    }
+    match own_side(owner, event.player) {
+        Side::First => rack_or(&first.rack, &second.rack),
+        Side::Second => rack_or(&second.rack, &first.rack),
+    }
+}
+
+/// Gives an event the total of a line, and its score, where that is not an amount that no rule gives.
+fn renumber(event: &mut Event, line: &Event)
+    ensures { event.new ≡ with_numbers_of event.old line.now }
+{
+    if !has_amount(&event.kind) {
+        event.score = line.score;
+    }
+    event.total = line.total;
+}
+
+/// Gives an event that is taken of two lines the numbers that it should have.
+fn number(event: &mut Event, whose: NumbersOf, first: &Event, second: &Event)
+    ensures { event.new ≡ numbered whose first.now second.now event.old }
+{
+    match whose {
+        NumbersOf::Taken => {}
+        NumbersOf::Sheet(side) => renumber(event, of_side(side, first, second)),
+    }
+}
+
+/// The event that is taken of two lines.
+fn taken(owner: Seat, whose: NumbersOf, side: Side, first: &Event, second: &Event) -> Event
+    ensures { result ≡ taken owner whose side first.now second.now }
+{
+    let line = of_side(side, first, second);
+    let rack = rack_of(owner, first, second, line);
+    let mut event = copy_with_rack(line, &rack);
+    number(&mut event, whose, first, second);
+    event
+}
+
+/// The line at a place, where there is a place.
+pub(crate) fn line_at(events: &[Event], place: Option<usize>) -> Option<&Event>
+    ensures { option_copied result ≡ line_at events.now place }
+{
+    match place {
+        Some(place) => events.get(place),
+        None => None,
+    }
+}
+
+/// Whether a line tells the tiles of an exchange.
+fn tells_tiles(line: Option<&Event>) -> bool
+    ensures { result ≡ tells_tiles (option_copied line.entry) }
+{
+    match line {
+        Some(event) => match &event.kind {
+            EventKind::Exchange(_) => true,
+            _ => false,
+        },
+        None => false,
+    }
+}
+
+/// Which line tells more where both agree.
+fn fuller_side(first: Option<&Event>, second: Option<&Event>) -> Side
+    ensures { result ≡ fuller_side (option_copied first.entry) (option_copied second.entry) }
+{
+    if !tells_tiles(first) && tells_tiles(second) {
+        Side::Second
+    } else {
+        Side::First
+    }
+}
+
+/// Which side a choice takes of the item with a number.
+pub fn chosen_side(choice: usize, number: usize) -> Side
+    ensures { result ≡ chosen_side choice number }
+{
+    if number < MOST_ITEMS && (choice >> number) % 2 == 1 {
+        Side::Second
+    } else {
+        Side::First
+    }
+}
+
+/// Which side is taken of a pair.
+fn side_of(
+    choice: usize,
+    number: usize,
+    pair: &Pair,
+    first: Option<&Event>,
+    second: Option<&Event>,
+) -> Side
+    ensures { result ≡ side_of choice number pair.now (option_copied first.entry) (option_copied second.entry) }
+{
+    if pair.agrees {
+        fuller_side(first, second)
+    } else {
+        chosen_side(choice, number)
+    }
+}
+
+/// Adds a line that one sheet has alone, where it is taken.
+fn push_alone(events: &mut Events, line: &Event, is_taken: bool) -> Result<(), AllocError>
+    ensures { OnOk result (events.new ≡ events.old ++ (if is_taken then (line.now ∷ []) else [])) }
+{
+    if is_taken {
+        events.push(copy_with_rack(line, &line.rack))?;
+    }
+    Ok(())
+}
+
+/// Adds what is taken of two lines, or of one alone.
+fn push_events(
+    events: &mut Events,
+    owner: Seat,
+    whose: NumbersOf,
+    side: Side,
+    first: Option<&Event>,
+    second: Option<&Event>,
+) -> Result<(), AllocError>
+    ensures { OnOk result (events.new ≡ events.old ++ events_of owner whose side (option_copied first.entry) (option_copied second.entry)) }
+{
+    match (first, second) {
+        (Some(line), Some(other)) => {
+            events.push(taken(owner, whose, side, line, other))?;
+            Ok(())
+        }
+        (Some(line), None) => push_alone(events, line, is_first(side)),
+        (None, Some(line)) => push_alone(events, line, !is_first(side)),
+        (None, None) => Ok(()),
+    }
+}
+
+/// Whether a side is the first.
+fn is_first(side: Side) -> bool
+    ensures { result ≡ of_side side true false }
+{
+    match side {
+        Side::First => true,
+        Side::Second => false,
+    }
+}
+
+/// The number of the item behind a pair.
+fn next_item(number: usize, pair: &Pair) -> usize
+    requires { number < 18446744073709551615 }
+    ensures { result ≡ next_item number pair.now }
+{
+    if pair.agrees { number } else { number + 1 }
+}
+
+/// Adds what is taken of a pair, if its item has this number.
+fn push_pair(
+    events: &mut Events,
+    owner: Seat,
+    whose: NumbersOf,
+    choice: usize,
+    number: usize,
+    first: &[Event],
+    second: &[Event],
+    pair: &Pair,
+) -> Result<(), AllocError>
+    ensures { OnOk result (events.new ≡ events.old ++ taken_of owner whose choice number first.now second.now pair.now) }
+{
+    let line = line_at(first, pair.first);
+    let other = line_at(second, pair.second);
+    let side = side_of(choice, number, pair, line, other);
+    push_events(events, owner, whose, side, line, other)
+}
+
+/// The record that a choice makes of two sheets, where the first one is the owner's.
+///
+/// It fails only where memory runs out.
+pub fn merge(
+    alloc: Global,
+    owner: Seat,
+    whose: NumbersOf,
+    choice: usize,
+    first: &[Event],
+    second: &[Event],
+    pairs: &[Pair],
+) -> Result<Events, AllocError>
+    ensures { IfOk result (λ events. events ≡ merged owner whose choice first.now second.now pairs.now) }
+{
+    let mut events = Events::new(alloc);
+    let mut number = 0;
+    for pair in pairs {
+        push_pair(
+            &mut events,
+            owner,
+            whose,
+            choice,
+            number,
+            first,
+            second,
+            pair,
+        )?;
+        number = next_item(number, pair);
+    }
+    Ok(events)
+}
+
+/// How many pairs differ.
+pub fn many_items(pairs: &[Pair]) -> usize
+    ensures { result ≡ length (items_of pairs.now) }
+{
+    let mut many = 0;
+    for pair in pairs {
+        many = next_item(many, pair);
+    }
+    many
+}
+
+/// How many choices there are.
+pub fn many_choices(pairs: &[Pair]) -> usize
+    ensures { result ≡ many_choices pairs.now }
+{
+    let items = many_items(pairs).min(MOST_ITEMS);
+    1 << items
+}

@@ -1,0 +1,6 @@
+pub mod Outcomes
+pub mod Corrected
+pub mod Found
+pub mod Wrong
+pub mod Racks
+pub mod Ahead

@@ -1,0 +1,25 @@
+-- What comes of one choice.
+use Rattle.std.specs.Prelude.{◌≡◌, ℕ, List}
+use Rattle.ref_tiles.specs.declared.rulebook.Rules.{Rules}
+use Rattle.gcg_read.specs.declared.events.Event.{Event}
+use Rattle.engine.specs.Verdicts.{IsGame}
+use Rattle.sheet_alignments.specs.declared.merging.NumbersOf.TheVariants.{Taken}
+use Rattle.sheet_comparisons.specs.declared.sheets.Sheets.{Sheets}
+use Rattle.sheet_comparisons.specs.declared.trials.Trial.{Trial}
+use Rattle.sheet_comparisons.specs.declared.trials.Trial.TheVariants as trial
+use Rattle.sheet_comparisons.specs.Choices.{choice_events, IsRight}
+use Rattle.sheet_comparisons.specs.Corrected.{Stops}
+use Rattle.sheet_comparisons.specs.Finds.{IsGameOf, IsOpen}
+
+-- the rules allow each event with its right numbers, but no deal yields the racks
+pub record MakesNoGame (rules : Rules) (list : List (List ℕ)) (s : Sheets) (choice : ℕ) : Type 0 where
+  pub right : List Event
+  pub is : IsRight rules list (choice_events s Taken choice) right
+  pub none : IsGame rules list right → ⊥
+
+-- What comes of a choice: an event is refused whatever its numbers are, or no deal yields the racks, or that is not known, or it makes a game.
+abbrev pub IsTrial : Rules → (list : List (List ℕ)) → Sheets → (choice : ℕ) → Trial → Type 0
+IsTrial rules list s choice (trial.Stops stopped) = Stops rules list (choice_events s Taken choice) stopped
+IsTrial rules list s choice trial.NoGame = MakesNoGame rules list s choice
+IsTrial rules list s choice trial.Open = IsOpen rules list s choice
+IsTrial rules list s choice (trial.Game b) = IsGameOf rules list s b × (b.choice ≡ choice)

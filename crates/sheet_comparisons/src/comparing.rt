@@ -1,0 +1,181 @@
+//! The comparison of two sheets.
+ghost use Rattle.std.specs.Prelude.{◌≡◌, ◌⊎◌, ◌<◌, IfOk, OnOk};
+ghost use Rattle.sheet_alignments.specs.Merging.{many_choices};
+ghost use Rattle.sheet_comparisons.specs.Finds.{IsFoundTo};
+ghost use Rattle.sheet_comparisons.specs.Comparisons.{flipped, AreFlips, FlipsOf, IsStop, IsComparison};
+
+use crate::best::Best;
+use crate::corrections::{Correction, Stopped, correct};
+use crate::finds::Find;
+use crate::sheets::Sheets;
+use crate::trials::{Trial, what_comes_of};
+use lex_list::WordList;
+use ref_tiles::Rules;
+use sheet_alignments::{MOST_ITEMS, NumbersOf, many_choices, many_items};
+use std::alloc::{AllocError, Global};
+
+/// A choice that makes no game, and where its correction stops.
+#[derive(Clone, Copy, Debug, PartialEq, Eq)]
+pub struct Stop {
+    /// The choice.
+    pub choice: usize,
+    /// Where it stops.
+    pub stopped: Stopped,
+}
+
+/// The comparison of two sheets.
+#[derive(Drop)]
+pub struct Comparison {
+    /// The best of all choices.
+    pub find: Find,
+    /// What comes of the best choice with the other line of an item, for each item that is varied; none where no choice is known to make a game.
+    pub flips: Vec<Trial>,
+    /// Where no choice is known to make a game, one that goes furthest, if the rules refuse each.
+    pub furthest: Option<Stop>,
+}
+
+/// A choice with the other line of the item with a number.
+fn flipped(choice: usize, number: usize) -> usize
+    requires { number < 12 }
+    ensures { result ≡ flipped choice number }
+{
+    choice ^ (1 << number)
+}
+
+/// The best of all choices.
+fn find_best(
+    alloc: Global,
+    rules: &Rules,
+    list: &WordList,
+    sheets: &Sheets,
+) -> Result<Find, AllocError>
+    ensures { IfOk result (IsFoundTo rules.now list.now sheets.now (many_choices sheets.now.pairs.items)) }
+{
+    let mut found = Find::new(alloc);
+    for choice in 0..many_choices(sheets.pairs.as_slice()) {
+        found.try_choice(alloc, rules, list, sheets, choice)?;
+    }
+    Ok(found)
+}
+
+/// What comes of a choice with the other line of each item.
+fn flips_of(
+    alloc: Global,
+    rules: &Rules,
+    list: &WordList,
+    sheets: &Sheets,
+    choice: usize,
+) -> Result<Vec<Trial>, AllocError>
+    ensures { IfOk result (λ flips. AreFlips rules.now list.now sheets.now choice flips.items) }
+{
+    let mut flips = Vec::new(alloc);
+    for number in 0..many_items(sheets.pairs.as_slice()).min(MOST_ITEMS) {
+        let flip = what_comes_of(alloc, rules, list, sheets, flipped(choice, number))?;
+        flips.push(flip)?;
+    }
+    Ok(flips)
+}
+
+/// The same of the best choice, where there is one.
+fn flips_by(
+    alloc: Global,
+    rules: &Rules,
+    list: &WordList,
+    sheets: &Sheets,
+    best: &Option<Best>,
+) -> Result<Vec<Trial>, AllocError>
+    ensures { IfOk result (λ flips. FlipsOf rules.now list.now sheets.now best.now flips.items) }
+{
+    match best {
+        Some(best) => flips_of(alloc, rules, list, sheets, best.choice),
+        None => Ok(Vec::new(alloc)),
+    }
+}
+
+/// Where the correction of a choice stops.
+fn stop_of(
+    alloc: Global,
+    rules: &Rules,
+    list: &WordList,
+    sheets: &Sheets,
+    choice: usize,
+) -> Result<Option<Stop>, AllocError>
+    ensures { IfOk result (IsStop rules.now list.now sheets.now) }
+{
+    let written = sheets.events(alloc, NumbersOf::Taken, choice)?;
+    match correct(alloc, rules, list, written)? {
+        Correction::Stops(stopped) => Ok(Some(Stop { choice, stopped })),
+        Correction::Right(_) => Ok(None),
+    }
+}
+
+/// That of two which goes further, or the first.
+fn further(first: Option<Stop>, second: Option<Stop>) -> Option<Stop>
+    ensures { (result ≡ first) ⊎ (result ≡ second) }
+{
+    match (first, second) {
+        (Some(one), Some(other)) => {
+            if other.stopped.place > one.stopped.place {
+                second
+            } else {
+                first
+            }
+        }
+        (None, _) => second,
+        (_, None) => first,
+    }
+}
+
+/// One of the choices that go furthest, of those that the rules refuse.
+fn furthest(
+    alloc: Global,
+    rules: &Rules,
+    list: &WordList,
+    sheets: &Sheets,
+) -> Result<Option<Stop>, AllocError>
+    ensures { IfOk result (IsStop rules.now list.now sheets.now) }
+{
+    let mut found = None;
+    for choice in 0..many_choices(sheets.pairs.as_slice()) {
+        let stop = stop_of(alloc, rules, list, sheets, choice)?;
+        found = further(found, stop);
+    }
+    Ok(found)
+}
+
+/// The same, where no choice is known to make a game.
+fn furthest_by(
+    alloc: Global,
+    rules: &Rules,
+    list: &WordList,
+    sheets: &Sheets,
+    best: &Option<Best>,
+) -> Result<Option<Stop>, AllocError>
+    ensures { IfOk result (IsStop rules.now list.now sheets.now) }
+{
+    if best.is_some() {
+        return Ok(None);
+    }
+    furthest(alloc, rules, list, sheets)
+}
+
+/// Compares two sheets of one game: tries each choice of their lines.
+///
+/// It fails only where memory runs out.
+pub fn compare(
+    alloc: Global,
+    rules: &Rules,
+    list: &WordList,
+    sheets: &Sheets,
+) -> Result<Comparison, AllocError>
+    ensures { IfOk result (IsComparison rules.now list.now sheets.now) }
+{
+    let find = find_best(alloc, rules, list, sheets)?;
+    let flips = flips_by(alloc, rules, list, sheets, &find.best)?;
+    let furthest = furthest_by(alloc, rules, list, sheets, &find.best)?;
+    Ok(Comparison {
+        find,
+        flips,
+        furthest,
+    })
+}

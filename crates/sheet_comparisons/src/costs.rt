@@ -1,0 +1,129 @@
+//! What is wrong on two sheets with a choice.
+ghost use Rattle.std.specs.Prelude.{◌≡◌, ◌+◌, ◌+ℤ◌, ◌<◌, ◌≤◌, ℕ, List, length, min, if◌then◌else◌, IfOk};
+ghost use Rattle.std.specs.Ordering.{int_eq};
+ghost use Rattle.gcg_read.specs.Numerals.{IsPoints};
+ghost use Rattle.ref_tiles.specs.declared.rulebook.Rules.{Rules};
+ghost use Rattle.engine.specs.Archiving.{unlisted_plays};
+ghost use Rattle.game_sheets.specs.WrongNumbers.{wrong_at, wrong_lines};
+ghost use Rattle.sheet_comparisons.specs.Choices.{wrong_on, costs, cost_of};
+
+use crate::corrections::Corrected;
+use crate::sheets::Sheets;
+use game_sheets::had_before;
+use gcg_read::Event;
+use sheet_alignments::{NumbersOf, Side};
+use std::alloc::{AllocError, Global};
+
+/// One where the score of a line is wrong, and else none.
+fn score_wrong(line: &Event, right: &Event) -> usize
+    ensures number { result ≡ (if int_eq line.now.score right.now.score then 0 else 1) }
+    ensures few { result ≤ 1 }
+{
+    if line.score.value() == right.score.value() {
+        0
+    } else {
+        1
+    }
+}
+
+/// One where the total of a line is wrong, by what its player had, and else none.
+fn sum_wrong(line: &Event, had: i32) -> usize
+    requires { IsPoints had }
+    ensures number { result ≡ (if int_eq line.now.total (had +ℤ line.now.score) then 0 else 1) }
+    ensures few { result ≤ 1 }
+{
+    if line.total.value() == had + line.score.value() {
+        0
+    } else {
+        1
+    }
+}
+
+/// The lesser of two numbers.
+fn lesser(number: usize, other: usize) -> usize
+    ensures { result ≡ min number other }
+{
+    if number < other { number } else { other }
+}
+
+/// How many numbers of a line are wrong.
+#[derive(Clone, Copy)]
+struct Wrong {
+    /// One where its score is, and else none.
+    score: usize,
+    /// One where its total is, and else none.
+    sum: usize,
+}
+
+/// How many numbers of the line at a place are wrong.
+fn wrong_at(written: &[Event], right: &[Event], place: usize) -> Wrong
+    requires within { place < length written.now }
+    requires also { place < length right.now }
+    ensures many { result.score + result.sum ≡ length (wrong_at written.now right.now place) }
+    ensures score { result.score ≤ 1 }
+    ensures sum { result.sum ≤ 1 }
+{
+    let line = &written[place];
+    let score = score_wrong(line, &right[place]);
+    let sum = sum_wrong(line, had_before(written, line.player, place));
+    Wrong { score, sum }
+}
+
+/// How many numbers of the lines are wrong beside the right ones.
+fn many_wrong(written: &[Event], right: &[Event]) -> u128
+    ensures many { result ≡ length (wrong_lines written.now right.now) }
+    ensures few { result ≤ 36893488147419103230 }
+{
+    let mut scores = 0;
+    let mut sums = 0;
+    let end = lesser(written.len(), right.len());
+    for place in 0..end {
+        let wrong = wrong_at(written, right, place);
+        scores += wrong.score;
+        sums += wrong.sum;
+    }
+    scores as u128 + sums as u128
+}
+
+/// How many numbers of a sheet are wrong with a choice.
+fn wrong_on(
+    alloc: Global,
+    sheets: &Sheets,
+    side: Side,
+    choice: usize,
+    right: &[Event],
+) -> Result<u128, AllocError>
+    ensures many { IfOk result (λ many. many ≡ wrong_on sheets.now side choice right.now) }
+    ensures few { IfOk result (λ many. many ≤ 36893488147419103230) }
+{
+    let written = sheets.events(alloc, NumbersOf::Sheet(side), choice)?;
+    Ok(many_wrong(written.as_slice(), right))
+}
+
+/// What it costs that so many numbers are wrong on each sheet, so many words are not in the list, and so many lines are left out.
+fn costs(first: u128, second: u128, unlisted: usize, left_out: usize) -> u128
+    requires first { first ≤ 36893488147419103230 }
+    requires second { second ≤ 36893488147419103230 }
+    ensures { result ≡ costs (first + second) unlisted left_out }
+{
+    5 * (first + second) + 3 * unlisted as u128 + left_out as u128
+}
+
+/// What a choice costs.
+///
+/// It fails only where memory runs out.
+pub(crate) fn cost_of(
+    alloc: Global,
+    sheets: &Sheets,
+    choice: usize,
+    corrected: &Corrected,
+) -> Result<u128, AllocError>
+    ensures { IfOk result (λ cost. (rules : Rules) (list : List (List ℕ)) → corrected.now.unlisted ≡ unlisted_plays rules list corrected.now.right
+        → cost ≡ cost_of rules list sheets.now choice corrected.now.right) }
+{
+    let right = corrected.right.as_slice();
+    let first = wrong_on(alloc, sheets, Side::First, choice, right)?;
+    let second = wrong_on(alloc, sheets, Side::Second, choice, right)?;
+    let left_out = sheets.pairs.len().saturating_sub(corrected.right.len());
+    Ok(costs(first, second, corrected.unlisted, left_out))
+}

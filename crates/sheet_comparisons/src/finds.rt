@@ -1,0 +1,158 @@
+//! The best of the choices.
+ghost use Rattle.std.specs.Prelude.{◌≡◌, ◌↔◌, ◌+◌, ◌<◌, ⊤, Some, None, IsTrue, OnOk};
+ghost use Rattle.sheet_alignments.specs.declared.merging.NumbersOf.TheVariants.{Taken};
+ghost use Rattle.sheet_comparisons.specs.Choices.{choice_events, cost_of};
+ghost use Rattle.sheet_comparisons.specs.Corrected.{IsCorrected};
+
+use crate::best::Best;
+use crate::corrections::{Corrected, Correction, correct};
+use crate::costs::cost_of;
+use crate::settling::{Outcome, settled};
+use crate::sheets::Sheets;
+use game_sheets::law_of_corrections;
+use gcg_read::{Players, Record};
+use lex_list::WordList;
+use ref_tiles::Rules;
+use sheet_alignments::NumbersOf;
+use std::alloc::{AllocError, Global};
+
+/// The best of the choices.
+#[derive(Drop)]
+pub struct Find {
+    /// One of those that make a game that costs the least; none where no choice is known to make a game.
+    pub best: Option<Best>,
+    /// The others that make a game and cost as little.
+    pub rivals: Vec<usize>,
+    /// Those of which it is not known whether they make a game, but for some that cost more.
+    pub left: Vec<usize>,
+}
+
+impl Find {
+    ghost use Rattle.sheet_comparisons.specs.Finds.{IsGameOf, IsBehind, IsAsGood, IsFoundTo};
+    ghost use Rattle.std.specs.Prelude.{List, ℕ};
+    ghost use Rattle.ref_tiles.specs.declared.rulebook.Rules.{Rules};
+
+    /// What is found before any choice was tried.
+    #[tactic(auto, using(crate::proofs::Found::none_found))]
+    pub(crate) fn new(alloc: Global) -> Find
+        ensures { (rules : Rules) (list : List (List ℕ)) (s : Sheets) → IsFoundTo rules list s 0 result }
+    {
+        Find {
+            best: None,
+            rivals: Vec::new(alloc),
+            left: Vec::new(alloc),
+        }
+    }
+
+    /// Whether there is a best that costs less.
+    fn is_cheaper(&self, cost: u128) -> bool
+        ensures { IsTrue result ↔ IsBehind self.now.best cost }
+    {
+        match &self.best {
+            Some(best) => best.cost < cost,
+            None => false,
+        }
+    }
+
+    /// Whether there is a best that costs as much.
+    fn is_as_good(&self, cost: u128) -> bool
+        ensures { IsTrue result ↔ IsAsGood self.now.best cost }
+    {
+        match &self.best {
+            Some(best) => best.cost == cost,
+            None => false,
+        }
+    }
+
+    /// Adds the next choice, which makes a game and costs no more than the best.
+    fn push_game(
+        &mut self,
+        alloc: Global,
+        rules: &Rules,
+        list: &WordList,
+        sheets: &Sheets,
+        game: Best,
+    ) -> Result<(), AllocError>
+        requires found { IsFoundTo rules.now list.now sheets.now game.choice self.old }
+        requires game { IsGameOf rules.now list.now sheets.now game }
+        requires least { IsBehind self.old.best game.cost → ⊥ }
+        ensures { OnOk result (IsFoundTo rules.now list.now sheets.now (game.choice + 1) self.new) }
+    {
+        law_of_corrections();
+        if self.is_as_good(game.cost) {
+            self.rivals.push(game.choice)?;
+            return Ok(());
+        }
+        self.best = Some(game);
+        self.rivals = Vec::new(alloc);
+        Ok(())
+    }
+
+    /// Tries the next choice, whose events have right numbers.
+    fn try_right(
+        &mut self,
+        alloc: Global,
+        rules: &Rules,
+        list: &WordList,
+        sheets: &Sheets,
+        choice: usize,
+        corrected: Corrected,
+    ) -> Result<(), AllocError>
+        requires found { IsFoundTo rules.now list.now sheets.now choice self.old }
+        requires right { IsCorrected rules.now list.now (choice_events sheets.now Taken choice) corrected }
+        ensures { OnOk result (IsFoundTo rules.now list.now sheets.now (choice + 1) self.new) }
+    {
+        law_of_corrections();
+        let cost = cost_of(alloc, sheets, choice, &corrected)?;
+        if self.is_cheaper(cost) {
+            return Ok(());
+        }
+        let unlisted = corrected.unlisted;
+        let players = Players::unnamed(alloc);
+        let game = Record {
+            players,
+            events: corrected.right,
+        };
+        match settled(alloc, rules, list, &game)? {
+            Outcome::NoGame => Ok(()),
+            Outcome::Unsettled => {
+                self.left.push(choice)?;
+                Ok(())
+            }
+            Outcome::Game { complete } => {
+                let right = game.events;
+                let game = Best {
+                    choice,
+                    right,
+                    cost,
+                    unlisted,
+                    complete,
+                };
+                self.push_game(alloc, rules, list, sheets, game)
+            }
+        }
+    }
+
+    /// Tries the next choice.
+    ///
+    /// It fails only where memory runs out.
+    pub(crate) fn try_choice(
+        &mut self,
+        alloc: Global,
+        rules: &Rules,
+        list: &WordList,
+        sheets: &Sheets,
+        choice: usize,
+    ) -> Result<(), AllocError>
+        requires { IsFoundTo rules.now list.now sheets.now choice self.old }
+        ensures { OnOk result (IsFoundTo rules.now list.now sheets.now (choice + 1) self.new) }
+    {
+        let written = sheets.events(alloc, NumbersOf::Taken, choice)?;
+        match correct(alloc, rules, list, written)? {
+            Correction::Stops(_) => Ok(()),
+            Correction::Right(corrected) => {
+                self.try_right(alloc, rules, list, sheets, choice, corrected)
+            }
+        }
+    }
+}

@@ -1,0 +1,24 @@
+//! Two players' sheets of one game: where they differ, and the record that the rules support.
+//!
+//! [`Sheets`] are two sheets line beside line. [`compare`] tries each choice of their lines, and finds the one of those that are a legal game
+//! once their numbers are corrected with which the least is wrong on both sheets.
+#![tactic(auto)]
+
+mod best;
+mod comparing;
+mod corrections;
+mod costs;
+mod finds;
+mod laws;
+mod points;
+mod settling;
+mod sheets;
+mod trials;
+
+pub use best::Best;
+pub use comparing::{Comparison, Stop, compare};
+pub use corrections::Stopped;
+pub use finds::Find;
+pub use laws::{law_of_bests, law_of_own_sheets};
+pub use sheets::Sheets;
+pub use trials::Trial;
