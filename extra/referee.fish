@@ -7,7 +7,7 @@ function __referee_words
     for word in (commandline -opc)[2..-1]
         if test -n "$passed"
             set passed
-        else if contains -- $word --rules --names --skip --pages --corrected --number --repaired --top --before
+        else if contains -- $word --rules --names --skip --pages --corrected --number --repaired --merged --top --before
             set passed yes
         else if not string match -qr -- '^-.' $word
             echo $word
@@ -40,6 +40,7 @@ complete -c referee -n __referee_none -f -a index -d 'Writes the index of the pa
 complete -c referee -n __referee_none -f -a audit -d 'Prints every wrong score and sum of a sheet, and can write the corrected record'
 complete -c referee -n __referee_none -f -a explain -d 'Explains the verdict on a game, or one of its lines, in plain words'
 complete -c referee -n __referee_none -f -a repair -d 'Lists the single changes of a faulty record after which it is a game, the likeliest first'
+complete -c referee -n __referee_none -f -a compare -d 'Compares two players'\'' sheets of one game, and tells which lines the rules support where they differ'
 complete -c referee -n __referee_none -f -a page -d 'Writes a game as a web page: its verdict, its board and its sheet'
 complete -c referee -n __referee_none -f -a annotate -d 'Writes a record with a note after each turn: the best play, and how many points more it gives'
 complete -c referee -n __referee_none -f -a build -d 'Writes the compiled lexicon of a word list'
@@ -65,6 +66,7 @@ complete -c referee -n '__referee_command archive' -s 0 -l null -d 'names of FIL
 complete -c referee -n '__referee_command archive' -l skip -r -F -d 'pass over names that have a line in this file of lines; - is standard input'
 complete -c referee -n '__referee_command archive' -l json -d 'write each line as a JSON object'
 complete -c referee -n '__referee_command archive' -l pages -x -a '(__fish_complete_directories)' -d 'write a page of each game, and their index, to this folder'
+complete -c referee -n '__referee_command archive' -l repairs -d 'end each line with the likely repair of an illegal game, and how many numbers are right with it'
 complete -c referee -n '__referee_command archive' -l progress -d 'show on standard error how many games are done'
 complete -c referee -n '__referee_command archive' -l quiet -d 'do not show how many games are done'
 complete -c referee -n '__referee_command archive' -l first-field -d 'read the first field of each line of WORDS, and ignore lines that begin with #'
@@ -91,6 +93,11 @@ complete -c referee -n '__referee_command repair' -l first-field -d 'read the fi
 complete -c referee -n '__referee_command repair' -l skip-others -d 'pass over the lines of WORDS that are no words of 2 to 15 letters'
 complete -c referee -n '__referee_command repair' -l rules -r -F -d 'the rules text; without it the rules are the English ones'
 complete -c referee -n '__referee_command repair' -s h -l help -d 'Print help'
+complete -c referee -n '__referee_command compare' -l merged -r -F -d 'write the merged record to this file, where one choice of the lines is ahead of all others; - is standard output'
+complete -c referee -n '__referee_command compare' -l first-field -d 'read the first field of each line of WORDS, and ignore lines that begin with #'
+complete -c referee -n '__referee_command compare' -l skip-others -d 'pass over the lines of WORDS that are no words of 2 to 15 letters'
+complete -c referee -n '__referee_command compare' -l rules -r -F -d 'the rules text; without it the rules are the English ones'
+complete -c referee -n '__referee_command compare' -s h -l help -d 'Print help'
 complete -c referee -n '__referee_command page' -l first-field -d 'read the first field of each line of WORDS, and ignore lines that begin with #'
 complete -c referee -n '__referee_command page' -l skip-others -d 'pass over the lines of WORDS that are no words of 2 to 15 letters'
 complete -c referee -n '__referee_command page' -l rules -r -F -d 'the rules text; without it the rules are the English ones'
@@ -133,4 +140,4 @@ complete -c referee -n '__referee_command serve' -l rules -r -F -d 'the rules te
 complete -c referee -n '__referee_command serve' -s h -l help -d 'Print help'
 complete -c referee -n '__referee_command rules' -s h -l help -d 'Print help'
 complete -c referee -n '__referee_command rules' -f
-complete -c referee -n '__referee_argument help 1 more' -f -a 'judge archive index audit explain repair page annotate build check word convert top tidy board serve rules help' -d 'COMMAND'
+complete -c referee -n '__referee_argument help 1 more' -f -a 'judge archive index audit explain repair compare page annotate build check word convert top tidy board serve rules help' -d 'COMMAND'

@@ -53,7 +53,8 @@ archive_scripts 30
 compare_audits 60
 compare_objects 30
 compare_explains 60
-compare_repairs 2
+compare_repairs 3
+compare_sheets 12
 compare_pages 40
 compare_annotations 40
 compare_serve 20

@@ -195,6 +195,8 @@ def try_examples(program, commands, statuses, failed):
     with tempfile.TemporaryDirectory() as folder:
         shutil.copytree(ROOT / "examples", folder, dirs_exist_ok=True)
         shutil.copy(program, Path(folder, "referee"))
+        for sheet in ("anna.gcg", "ben.gcg"):
+            shutil.copy(Path(folder, "game.gcg"), Path(folder, sheet))
         Path(folder, "names.txt").write_text("game.gcg\n")
         Path(folder, "lines.tsv").write_text("game.gcg\tlegal\tcomplete\t-\t-\t45\tAnn\t322\tBob\t356\t0\tgame.html\n")
         for name, (_, _, _, text) in commands.items():

@@ -16,6 +16,7 @@ from pathlib import Path
 from urllib.parse import unquote
 
 import web
+from explain_rows import explain_rows
 from hints import beside
 
 AT_FILE = bytes.fromhex("47414431 05000000 04000000 01000000 74000000 c0000000 61000000 01010000 d4010000")
@@ -989,6 +990,35 @@ def archived(run):
     archived_lines(run)
     archived_pages(run)
     archived_again(run)
+    archived_repairs(run)
+
+
+def archived_repairs(run):
+    """`archive --repairs`: two more fields at the end of each line, after that of the page."""
+    run.row(["build", "word-at-ra", "word-at-ra.gad"], 0)
+    Path(run.folder, "stands-twice").write_text(WORD + ">B: AT 9G AT +9 9\n" * 2)
+    rows = [  # a game, its line but for its name, its page, and its likely repair
+        ("line", "legal unfinished - - 1 A 16 - - 0", "line%.html", ("-", "-")),
+        ("stands-twice", "illegal - 3 NotYourTurn 3 A 16 B 9 -", "stands-twice%.html", ("line 3: it repeats the line before it and should not be there", "4 of 4")),
+        ("line-18", "illegal - 1 WrongScore_16 1 A 18 - - -", "line-18%.html", ("-", "-")),
+        ("third", "bad_record - 3 ThirdPlayer - - - - - -", "-", ("-", "-")),
+        ("nothing", "no_game - - - 0 - - - - 0", "-", ("-", "-")),
+        ("nowhere", "unread - - cannot_open - - - - - -", "-", ("-", "-")),
+    ]
+    names = [name for name, _, _, _ in rows]
+    lines = ["\t".join([*told_of(name, text), *repair]) + "\n" for name, text, _, repair in rows]
+    paged = ["\t".join([*told_of(name, text), page, *repair]) + "\n" for name, text, page, repair in rows]
+    run.row(["archive", "--repairs", "word-at-ra", "word-at-ra.gad", *names], 4, "".join(lines))
+    run.row(["archive", "--repairs", "--pages", "pages/repaired", "word-at-ra", "word-at-ra.gad", *names], 4, "".join(paged))
+    objects = subprocess.run([run.program, "archive", "--repairs", "--json", "word-at-ra", "word-at-ra.gad", *names], cwd=run.folder, capture_output=True, check=False)
+    told = [json.loads(text)["likely"] for text in objects.stdout.decode().splitlines()]
+    keys = ("change", "numbers_right")
+    run.expect("likely repairs in JSON", told == [dict(zip(keys, (None if it == "-" else it for it in repair))) for _, _, _, repair in rows])
+    for text in (lines, paged):
+        Path(run.folder, "repaired-lines").write_text("".join(text))
+        run.row(["archive", "--repairs", "--skip", "repaired-lines", "word-at-ra", "word-at-ra.gad", *names], 0, "")
+        run.row(["index", "repaired-lines", "repaired-index"], 0, "")
+    run.row(["archive", "--repairs", "--pages", "pages/repaired", "word-at-ra", "word-at-ra.gad", "line"], 0, paged[0])
 
 
 def archived_names(run):
@@ -1105,7 +1135,7 @@ def indexed(run, lines, objects, whole):
     run.expect("no links", not any(row.all("a") for row in rows))
     run.row(["index", "-", "out"], 0, stdin="")
     Path(run.folder, "out").write_bytes(b"as it was")
-    for bad in ("line\n", "\n", lines[0].replace("legal", "lawful"), lines[0].replace("16", "x"), lines[0].replace("line%.html", "a\tb"), lines[0][:-1], "{}\n",
+    for bad in ("line\n", "\n", lines[0].replace("legal", "lawful"), lines[0].replace("16", "x"), lines[0].replace("line%.html", "a\tb\tc\td"), lines[0][:-1], "{}\n",
                 objects.split("\n")[0].replace('"legal"', '"lawful"') + "\n", objects.split("\n")[0][:-1] + "\n"):
         run.row(["index", "-", "out"], 3, stdin=lines[1] + bad, error="referee: standard input line 2 is not a line of an archive", wrote=b"as it was")
     run.row(["index", "nowhere", "out"], 4, error="referee: cannot open nowhere: no such file", wrote=b"as it was")
@@ -1176,7 +1206,7 @@ def archived_lines(run):
 
 def served(run):
     """`serve`: what it says first, the answers to lines, and that each goes out before the next line is read."""
-    pair, ready = ["word", "word.gad"], '{"ready":true,"words":1,"version":"1.0.0"}\n'
+    pair, ready = ["word", "word.gad"], '{"ready":true,"words":1,"version":"1.1.0"}\n'
     asked = '{"id":1,"do":"word","words":["word"]}'
     told = '{"id":1,"status":0,"answer":{"verdict":"acceptable","line":null,"fault":null,"words":[{"word":"WORD","acceptable":true}]}}\n'
     run.row(["serve", *pair], 0, ready)
@@ -1264,6 +1294,13 @@ DEALT = "The rules allow every event, and a deal of the tiles gives the players 
 STANDS = DEALT + "Each word of every play that stands is in the word list.\nEvery turn shows its rack.\n"
 HIDDEN = DEALT + "Each word of every play that stands is in the word list.\nNo turn shows its rack.\n"
 WORD_SUMS = "WORD\n  8E W 4\n  8F O 1\n  8G R 1\n  8H D 2, double word\n  sum 8 x 2 = 16\nscore of the play: 16\n"
+DOWN_SUMS = "WORD\n  8H W 4, double word\n  9H O 1\n  10H R 1\n  11H D 2\n  sum 8 x 2 = 16\nscore of the play: 16\n"
+DOWN_MARKED = [
+    (" 8 = . . ' . . . - . . . ' . . =", " 8 = . . ' . . .[-]. . . ' . . ="),
+    (" 9 . . ' . . . ' . ' . . . ' . .", " 9 . . ' . . . '[.]' . . . ' . ."),
+    ("10 . \" . . . \" . . . \" . . . \" .", "10 . \" . . . \" .[.]. \" . . . \" ."),
+    ("11 . . . . - . . . . . - . . . .", "11 . . . . - . .[.]. . - . . . ."),
+]
 XORD_SUMS = "XORD, which is not in the word list\n  8E X 8\n  8F O 1\n  8G R 1\n  8H D 2, double word\n  sum 12 x 2 = 24\nscore of the play: 24\n"
 NOT_AN_EVENT = "8E is not an event: an event is a play with its position, word, score and total, or one of the codes -, --, -TILES, -NUMBER, (challenge), (time) and (TILES).\n"
 AT_SUMS = """\
@@ -1335,6 +1372,39 @@ def repairs_listed(run):
         run.row([*told, *words], 64, error=None)
 
 
+def compared(run):
+    """`compare`, by its statuses."""
+    run.row(["build", "word", "word.gad"], 0)
+    told = ["compare", "word", "word.gad"]
+    for game, out in (("line", "legal unfinished\n"), ("ends", "legal complete\n")):
+        run.row([*told, game, game], 0, out)
+        run.row([*told, "-", game], 0, out, stdin=Path(run.folder, game).read_text())
+    other = WORD.replace("8E", "8D")
+    Path(run.folder, "other").write_text(other)
+    merged = "#player1 A\n" + WORD.replace("DORWAAE", "AADEORW")
+    first = "line 1 | line 1: 8E WORD +16 16 | 8D WORD +16 16: the first; with the second, line 1 | line 1 is refused: MissesCentre\nlegal unfinished\n"
+    run.row([*told, "line", "other"], 1, first)
+    run.row([*told, "--merged", "out", "line", "other"], 1, first, wrote=merged.encode())
+    run.row([*told, "--merged", "-", "line", "other"], 1, merged, error=first.removesuffix("\n"))
+    Path(run.folder, "others").write_text(WORD.replace("8E", "8F"))
+    both = "line 1 | line 1: 8E WORD +16 16 | 8F WORD +16 16: both stand\n1 other choice of the lines would stand as well\nlegal unfinished\n"
+    run.row([*told, "line", "others"], 1, both)
+    Path(run.folder, "out").write_bytes(b"as it was")
+    run.row([*told, "--merged", "out", "line", "others"], 1, both + "not written: another choice of the lines would stand as well\n", wrote=b"as it was")
+    for words, out in [(["digit", "word.gad", "line", "line"], "bad word list line 2: BadLetter\n"), (["at", "extra.gad", "line", "line"], "bad lexicon: Extra A\n")]:
+        run.row(["compare", *words], 3, out)
+    for sheets in (["third", "line"], ["line", "third"]):
+        run.row([*told, *sheets], 3, "bad record line 3: ThirdPlayer\n", error=BAD["third"])
+    for sheets in (["nothing", "line"], ["line", "nothing"]):
+        run.row([*told, *sheets], 3, "no game\n", error=NO_EVENT["nothing"])
+    run.row([*told, "-", "-"], 64, error=None)
+    for sheet in ("line", "other"):
+        run.row([*told, "--merged", sheet, "line", "other"], 64, error=None)
+    run.row([*told, "line", "nowhere"], 4, error="referee: cannot open nowhere: no such file")
+    for words in ([], ["line"], ["line", "line", "line"]):
+        run.row([*told, *words], 64, error=None)
+
+
 def explained(run):
     """`explain`, by the verdict and by the line that is named."""
     run.row(["build", "word", "word.gad"], 0)
@@ -1353,6 +1423,9 @@ def explained(run):
     for line in ([], ["0"], ["1"]):
         score = "illegal line 1: WrongScore 16\nline 1: >A: DORWAAE 8E WORD +18 18\nThe play scores 16, but 18 is written.\n"
         told("line-18", 1, score + WORD_SUMS + picture_of(1, True, WORD_MARKED), *line)
+    down = "illegal line 1: WrongScore 16\nline 1: >A: DORWAAE H8 WORD +18 18\nThe play scores 16, but 18 is written.\n"
+    Path(run.folder, "down").write_text(">A: DORWAAE H8 WORD +18 18\n")
+    told("down", 1, down + DOWN_SUMS + picture_of(1, True, *DOWN_MARKED))
     total = "illegal line 1: WrongTotal 16\nline 1: >A: DORWAAE 8E WORD +16 17\nA had 0 and scores 16 on this line, which makes 16, but 17 is written.\n"
     told("line-17", 1, total + WORD_SUMS + picture_of(1, True, WORD_MARKED))
     turn = "illegal line 2: NotYourTurn\nline 2: >A: - +0 16\nIt is the other player's turn, not A's.\n"
@@ -1772,8 +1845,8 @@ def explained_in_json(run, told):
 
 def helped(run):
     """Help and the version, on standard output. The text of help is not fixed, but there is some."""
-    run.row(["--version"], 0, "referee 1.0.0\nrecords: GCG\nword lists: one word a line\nlexicons: GAD1, GAD2\n")
-    run.row(["-V"], 0, "referee 1.0.0\n")
+    run.row(["--version"], 0, "referee 1.1.0\nrecords: GCG\nword lists: one word a line\nlexicons: GAD1, GAD2\n")
+    run.row(["-V"], 0, "referee 1.1.0\n")
     run.row(["rules"], 0, ENGLISH_RULES)
     for words in (["help"], ["--help"], ["-h"], ["judge", "--help"], ["judge", "-h"], ["help", "help"]):
         run.row(words, 0, None)
@@ -1808,7 +1881,7 @@ def main():
     with tempfile.TemporaryDirectory() as folder:
         files(folder)
         run = Runner(os.path.abspath(sys.argv[1]), folder)
-        for part in (judged, settled, built_and_checked, converted, topped, topped_before, ruled, tidied, boarded, widest, from_standard_input, fielded, skipped, words_ruled, archived, served, audited, repairs_listed, explained, paged, annotated, in_json, put_out, overwritten, hinted, broken, helped, misused):
+        for part in (judged, settled, built_and_checked, converted, topped, topped_before, ruled, tidied, boarded, widest, from_standard_input, fielded, skipped, words_ruled, archived, served, audited, repairs_listed, compared, explained, explain_rows, paged, annotated, in_json, put_out, overwritten, hinted, broken, helped, misused):
             part(run)
         if sys.argv[2:] == ["large"]:
             converted_large(run)

@@ -1,7 +1,8 @@
 """Compares `referee explain` with the second judge, byte by byte: compare_explains PROGRAM CASES SEED
 
 Each case is a game that nobody dealt, or one that was dealt for real with mistakes of a director's day (`mistakes.py`). The verdict is
-explained, and then one of the lines. At the end stands how often each fault was explained.
+explained, and then one of the lines. The likely repair, with which the explanation of an illegal record may end, is compared by
+`compare_repairs`. The last line says how often each fault was explained.
 """
 import random
 
@@ -28,11 +29,15 @@ class Explaining(Differences):
         by = ["--rules", "rules"] if text is not None else []
         named = [] if asked is None else [str(asked)]
         ran = self.run("explain", *by, "words", "lexicon", "game", *named)
-        first = ran.stdout.split(b"\n")[0]
+        said, likely, _ = ran.stdout.partition(b"\nLikely: ")
+        said += b"\n" if likely else b""
+        self.seen["with a likely repair"] += bool(likely)
+        self.expect(not likely or asked is None and said.startswith(b"illegal "), "a likely repair of line", asked, said.decode("latin-1"))
+        first = said.split(b"\n")[0]
         if asked is None:
             self.seen[first.decode("latin-1").split(": ")[-1].split(" ")[0]] += 1
-        told = explained(words, lexicon, game, asked, ran.stdout, text)
-        if ran.stdout != told or ran.returncode != status_of(told) or ran.stderr != advice("explain", told, "game", game):
+        told = explained(words, lexicon, game, asked, said, text)
+        if said != told or ran.returncode != status_of(told) or ran.stderr != advice("explain", told, "game", game):
             self.differences += 1
             print("line", asked, "status", ran.returncode, ran.stderr, ran.stdout.decode("latin-1"), "for", told.decode("latin-1"), game.decode("latin-1"), sep="\n")
 

@@ -7,6 +7,7 @@ a deal fits with some change. Each third game has two slips, and the pairs of ch
 """
 import json
 import random
+import re
 
 from comparing import Differences, compared
 from compare_changes import all_changes, line_of
@@ -15,7 +16,7 @@ from lexicons import build
 from pairs import pairs
 from repair_rows import LINES, NONE, ROWS, TWO, puts
 from repair_figures import SLIPS, STYLES, TURNS, some_sheet, with_two_slips
-from repair_texts import pairs_text, repair_text
+from repair_texts import likely_repair, likely_text, pairs_text, repair_text
 from repairs import WRONG_NUMBER, repairs
 from rules import ENGLISH
 from rules_texts import text_of
@@ -64,7 +65,7 @@ def rows(differences):
         differences.expect(told == (cost, *there) and status == 1, record, f"told {status} {told} for {(cost, there)}")
         found = known_pairs(differences, rules, set(words.split()), events_of(record))
         if found is not None:
-            pair_texts(differences, record, "worked", found)
+            pair_texts(differences, record, "worked", found, events_of(record), nicks_in(record))
     for rules, words, record, wanted in LINES:
         status, answer = told_by(differences, rules, set(words.split()), record)
         many = 1 + len(answer["repairs"][0]["others"])
@@ -93,12 +94,22 @@ def expected(found):
         yield it.cost, "".join(map(line_of, it.right()[place : place + len(it.change.there)]))
 
 
+def nicks_in(text):
+    """The nicknames of a record as it is read: player 1 is the one whose line comes first."""
+    return [*dict.fromkeys(re.findall("(?m)^>([A-Z]):", text)), "the other player"][:2]
+
+
+def names_in(text):
+    """The nicknames of a record that was dealt, of which player 1 is A."""
+    return [nick if f">{nick}:" in text else "the other player" for nick in "AB"]
+
+
 def texts(differences, rules, listed, text, name):
     """Compares all that is printed of an illegal record after the verdict line, if the second judge knows of every change whether a deal fits."""
     events = events_of(text)
     if not all(it.dealt for it in repairs(events, listed, rules)):
         return
-    nicks = [nick if f">{nick}:" in text else "the other player" for nick in "AB"]
+    nicks = nicks_in(text)
     tried = len(all_changes(rules, events, listed))
     done = differences.run("repair", "--rules", "rules", "words", "lexicon", "game")
     told = done.stdout.decode().split("\n", 1)[1].split(TWO_CHANGES)[0]
@@ -117,12 +128,22 @@ def known_pairs(differences, rules, listed, events):
     return None
 
 
-def pair_texts(differences, text, name, found):
+def likely(differences, events, listed, text, found, two):
+    """Compares how the explanation of an illegal record ends: with its likely repair, or without one."""
+    names = names_in(text)
+    said = differences.run("explain", "words", "lexicon", "game").stdout.decode()
+    told = said[said.index("\nLikely: ") + 1 :] if "\nLikely: " in said else ""
+    repair = likely_repair(found, two, events, listed)
+    wanted = likely_text(repair, events, names) if repair else ""
+    differences.seen["likely repairs"] += bool(told)
+    differences.expect(told == wanted, text, f"explained {told}", f"second judge {wanted}")
+
+
+def pair_texts(differences, text, name, found, events, nicks):
     """Compares all that is printed of pairs of changes."""
-    nicks = [nick if f">{nick}:" in text else "the other player" for nick in "AB"]
     done = differences.run("repair", "--rules", "rules", "words", "lexicon", "game")
     parts = done.stdout.decode().split(TWO_CHANGES)
-    told, wanted = TWO_CHANGES + parts[1] if parts[1:] else "", pairs_text(events_of(text), found, nicks)
+    told, wanted = TWO_CHANGES + parts[1] if parts[1:] else "", pairs_text(events, found, nicks)
     differences.expect(told == wanted, name, text, told, "second judge", wanted)
 
 
@@ -162,6 +183,9 @@ def case(differences, number):
         differences.seen["deals left open"] += 1
     elif status == 1:
         texts(differences, ENGLISH, listed, text, name)
+        two, known = pairs(events, listed)
+        if known:
+            likely(differences, events, listed, text, found, two)
         told, wanted = list(all_told(answer)), list(expected(found))
         last = min((max(them)[0] for them in (told, wanted) if them), default=0)
         few = [sorted({it for it in them if it[0] < last}) for them in (told, wanted)]
@@ -180,7 +204,7 @@ def two_slips(differences):
     found = known_pairs(differences, ENGLISH, listed, sheet)
     if found is None:
         return
-    pair_texts(differences, text, "two slips", found)
+    pair_texts(differences, text, "two slips", found, sheet, names_in(text))
     told, wanted = list(pairs_told(answer)), [(it.cost, *puts(it)) for it in found]
     last = min((max(them)[0] for them in (told, wanted) if them), default=0)
     few = [sorted({it for it in them if it[0] < last}) for them in (told, wanted)]

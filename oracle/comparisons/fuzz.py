@@ -128,13 +128,14 @@ class Fuzzer:
             print(*words, "status", ran.returncode, ran.stdout, ran.stderr, "for", ways[:2], self.game.read_bytes(), sep="\n  ")
 
     def explain(self, by, words, lexicon, game, text):
-        """`explain`, of the verdict or of a line: after the verdict line, of which one of some has to come, each byte is known."""
+        """`explain`, of the verdict or of a line: after the verdict line, of which one of some has to come, each byte is known up to the likely repair."""
         asked = choose([None, None, random.randint(0, game.count(b"\n") + 2)])
         named = [] if asked is None else [str(asked)]
         line_ = [self.program, "explain", *by, self.words, self.lexicon, self.game, *named]
         printed = subprocess.run(line_, capture_output=True, check=False, timeout=60).stdout
-        told = explained(words, lexicon, game, asked, printed, text)
-        self.compare(line_[1:], told, status_of(told))
+        said, likely, repair = printed.partition(b"\nLikely: ")
+        told = explained(words, lexicon, game, asked, said + b"\n" if likely else said, text)
+        self.compare(line_[1:], told + b"Likely: " + repair if likely else told, status_of(told))
 
     def page(self, by, ways):
         """`page` has to print the verdict line of one of some answers, and to write a page that can be read exactly where there is a record."""

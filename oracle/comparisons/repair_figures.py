@@ -3,18 +3,27 @@
 Each sheet is a game that was dealt and played for real, with one slip of a known kind and the numbers of the true game, as a scorer writes them.
 A third of the sheets state both players' racks, a third one player's, and a third none. With `none` for PROGRAM the second judge finds the repairs.
 For each kind the table says how many sheets are faulty, and for how many of these the true record is among the repairs, is the first of them, and
-is on the first line or one of the first three. The last row is of sheets with two slips of any of these kinds, with pairs of changes among the repairs. Then come the lines in the mean, and the seconds for a record in the mean and at 95 of 100.
+is on the first line or one of the first three. The last row is of sheets with two slips of any of these kinds. Pairs of changes that are told count
+as repairs. Then come the lines in the mean, and the seconds of processor time for a record in the mean, at 95 of 100, and at
+most; of the program that is its whole process, with the reading of its files.
 """
+import json
 import random
+import resource
+import subprocess
 import sys
+import tempfile
 import time
 from collections import defaultdict
 from dataclasses import replace
+from pathlib import Path
 
 from changes import LETTERS, ordered
+from compare_changes import HEAD, line_of
 from dealing import Dealer
-from deals import decide
+from deals import decide, events_of
 from games import Event
+from lexicons import build
 from pairs import pairs
 from repair_texts import pair_lines
 from repairs import Front, lines, repairs
@@ -261,33 +270,80 @@ def with_two_slips(turns, stated):
             return events, made[1], listed
 
 
-def all_found_by(program, events, listed):
-    """The repairs of a sheet with one change and with two, in lines, those that cost least first."""
-    two, _ = pairs(events, listed)
-    return sorted([*found_by(program, events, listed), *pair_lines(two)], key=lambda line: line[0].cost)
+# ---- repairs: in lines, those that cost least first, each with the records that it makes
 
 
-def found_by(program, events, listed):
-    """The repairs of a sheet, in lines: by the second judge."""
-    if program != "none":
-        sys.exit("only `none` yet: referee has no command for repairs")
-    return lines(repairs(events, listed), events)
+def record_of(events, listed):
+    """What happened in a record, however it is written."""
+    return tuple(it.what_happened() for it in Front(ENGLISH, events, listed).taken)
 
 
-def tried(program, made, find, seen):
-    """Finds the repairs of a sheet, and counts."""
+def of_judge(sheet, listed):
+    """The repairs of a sheet by the second judge."""
+    one = [(line[0].cost, [it.record() for it in line]) for line in lines(repairs(sheet, listed), sheet)]
+    two = [(line[0].cost, [it.then.record() for it in line]) for line in pair_lines(pairs(sheet, listed)[0])]
+    return sorted([*one, *two], key=lambda line: line[0])
+
+
+def named(line):
+    """A line, with a nickname for the player who has none since the sheet has no line of B."""
+    return line.replace(">: ", ">B: ") + "\n"
+
+
+def with_lines(own, change, there):
+    """Numbered lines with a change that puts some lines there. A line that is missing has no number."""
+    at = [number for number, _ in own].index(change["line"])
+    if change["at"] != "on":
+        at += change["at"] == "behind"
+        return [*own[:at], *((None, named(line)) for line in there), *own[at:]]
+    many = len(change["replaces"])
+    numbers = [number for number, _ in own[at : at + many]]
+    return [*own[:at], *zip(numbers, map(named, there)), *own[at + many :]]
+
+
+def changed(own, listed):
+    """The record of numbered lines."""
+    return record_of(events_of(HEAD + "".join(text for _, text in own)), listed)
+
+
+def of_program(program, folder, sheet, listed):
+    """The repairs of a sheet by the program. A sheet is a line for each event."""
+    (folder / "words").write_text("\n".join(sorted(listed)))
+    (folder / "lexicon").write_bytes(build(listed))
+    (folder / "game").write_text("".join(map(line_of, sheet)))
+    words = [program, "repair", "--json", "--number", "100", "words", "lexicon", "game"]
+    told = json.loads(subprocess.run(words, cwd=folder, capture_output=True, check=False).stdout)
+    own, found = list(enumerate(map(line_of, sheet), 1)), []
+    for it in told["repairs"]:
+        puts = it["lines"], *([other] for other in it["others"])
+        found.append((it["cost"], [changed(with_lines(own, it, there), listed) for there in puts]))
+    for it in told.get("pairs", []):
+        first, second = it["changes"]
+        one, puts = with_lines(own, first, first["lines"]), (second["lines"], *([other] for other in it["others"]))
+        found.append((it["cost"], [changed(with_lines(one, second, there), listed) for there in puts]))
+    return sorted(found, key=lambda line: line[0])
+
+
+def seconds(program):
+    """The processor time so far, of this process or of the programs that it ran."""
+    used = resource.getrusage(resource.RUSAGE_CHILDREN)
+    return time.process_time() if program == "none" else used.ru_utime + used.ru_stime
+
+
+def tried(program, folder, made, seen):
+    """Finds the repairs of a sheet with slips, and counts."""
     events, sheet, listed = made
     if not decide(sheet, listed)[0].startswith("illegal"):
         return
-    true = tuple(it.what_happened() for it in Front(ENGLISH, events, listed).taken)
-    start = time.process_time()
-    found = find(program, sheet, listed)
-    seen["seconds"].append(time.process_time() - start)
+    true = record_of(events, listed)
+    start = seconds(program)
+    found = of_judge(sheet, listed) if program == "none" else of_program(program, folder, sheet, listed)
+    seen["seconds"].append(seconds(program) - start)
     seen["lines"].append(len(found))
-    places = [k for k, line in enumerate(found) if any(it.record() == true for it in line)]
+    places = [k for k, (_, line) in enumerate(found) if true in line]
     seen["faulty"].append(1)
     seen["among"].append(bool(places))
-    seen["first"].append(bool(found) and found[0][0].record() == true)
+    seen["first"].append(bool(found) and found[0][1][0] == true)
     seen["first line"].append(places[:1] == [0])
     seen["three lines"].append(bool(places) and places[0] < 3)
 
@@ -303,30 +359,32 @@ def high(numbers):
 
 def row(name, seen):
     figures = [str(sum(seen[it])) for it in COUNTED]
-    figures += [f"{mean(seen['lines']):.1f}", f"{mean(seen['seconds']):.1f}", f"{high(seen['seconds']):.1f}"]
+    spent = seen["seconds"]
+    figures += [f"{mean(seen['lines']):.1f}", f"{mean(spent):.3f}", f"{high(spent):.3f}", f"{max(spent, default=0):.2f}"]
     return f"| {name} | {' | '.join(figures)} |"
 
 
 def main():
     program, records, seed = sys.argv[1], int(sys.argv[2]), int(sys.argv[3])
+    program = program if program == "none" else str(Path(program).resolve())
     print(f"{records} sheets of each kind, seed {seed}")
-    print(f"| slip | {' | '.join(COUNTED)} | lines | seconds | at 95 |\n|---{'|---' * len(COUNTED)}|---|---|---|")
+    print(f"| slip | {' | '.join(COUNTED)} | lines | seconds | at 95 | at most |\n|---{'|---' * len(COUNTED)}|---|---|---|---|")
     whole = defaultdict(list)
-    for slips, turns in ((SLIPS, TURNS), (END_SLIPS, MORE_TURNS)):
-        for name, slip in slips.items():
+    with tempfile.TemporaryDirectory() as folder:
+        for name, slip, turns in [*((*it, TURNS) for it in SLIPS.items()), *((*it, MORE_TURNS) for it in END_SLIPS.items())]:
             random.seed(f"{seed} {name}")
             seen = defaultdict(list)
             for number in range(records):
-                tried(program, some_sheet(slip, turns, STYLES[(seed + number) % len(STYLES)]), found_by, seen)
+                tried(program, Path(folder), some_sheet(slip, turns, STYLES[(seed + number) % len(STYLES)]), seen)
             for it, figures in seen.items():
                 whole[it] += figures
             print(row(name, seen), flush=True)
-    print(row("all", whole))
-    random.seed(f"{seed} two slips")
-    seen = defaultdict(list)
-    for number in range(records):
-        tried(program, with_two_slips(TURNS, STYLES[(seed + number) % len(STYLES)]), all_found_by, seen)
-    print(row("two slips of any kinds", seen))
+        print(row("all", whole))
+        random.seed(f"{seed} two slips")
+        seen = defaultdict(list)
+        for number in range(records):
+            tried(program, Path(folder), with_two_slips(TURNS, STYLES[(seed + number) % len(STYLES)]), seen)
+        print(row("two slips of any kinds", seen))
 
 
 if __name__ == "__main__":

@@ -2,7 +2,7 @@
 from collections import Counter
 
 from changes import ordered
-from repairs import NOTHING, Front, lines, repairs
+from repairs import NOTHING, WRONG_NUMBER, Front, lines, repairs
 from rules import ENGLISH
 
 LINES = 10
@@ -159,6 +159,23 @@ def pairs_text(events, found, nicks="AB", number=LINES):
         first, second = what_changes(head.change, head.made, own, nicks), what_changes(then.change, then.right(), made, nicks)
         text += f"{first}; and {second}{more}\n" + evidence(then, made)
     return "with two changes:\n" + text if text else ""
+
+
+def likely_repair(found, two, events, listed, rules=ENGLISH):
+    """The first of the repairs, if it is ahead of the second by a number at the least, and also of the record as it is but for its numbers, and if no
+    two changes cost less."""
+    if not found or two or not all(it.dealt for it in found):
+        return None
+    front = Front(rules, events, listed)
+    nothing = front.with_change(NOTHING)
+    others = [*found[1:2], *([nothing] if nothing and front.dealt(nothing) else [])]
+    return found[0] if all(found[0].cost + WRONG_NUMBER <= it.cost for it in others) else None
+
+
+def likely_text(repair, events, nicks="AB"):
+    """What `explain` says of the likely repair, after the board."""
+    own = numbered(events)
+    return f"Likely: {what_changes(repair.change, repair.right(), own, nicks)}\n{evidence(repair, own)}"
 
 
 def repair_text(events, listed, rules=ENGLISH, nicks="AB", number=LINES, tried=None):

@@ -4,10 +4,11 @@ ghost use Rattle.devices.specs.Devices.{HasRoom};
 ghost use Rattle.archive_commands.specs.Telling.{AreGamesTold, games_later};
 
 use crate::done::Done;
+use crate::likely::likely_of;
 use crate::names::{Given, Listed, Names};
 use crate::pages::Pages;
 use crate::progress::Progress;
-use archive_lines::{Fields, PageField, Unread, push_json_line, push_tab_line};
+use archive_lines::{Fields, LikelyFields, PageField, Unread, push_json_line, push_tab_line};
 use command_files::{
     GivenFiles, Inputs, LexiconFile, RulesFile, Source, Told, UsedOutput, Words, digests_of,
     given_up, is_folder, open, open_inputs, open_source, refuse, sheet_of, shown, tell_others,
@@ -20,13 +21,14 @@ use engine::{Entry, Question, RulesSource, RunFault, archive_entry, ask};
 use exit_statuses::{Exit, Trouble, exit_of_line};
 use game_page::Maker;
 use lex_check::Checked;
+use lex_list::WordList;
 use name_texts::Encoding;
 use ref_tiles::Rules;
 use std::alloc::{AllocError, Global};
 use std::io::{self, BufReader, Read};
 use std::rt::{Files, Runtime};
 use std::str;
-use watching::{Front, Reason};
+use watching::Reason;
 
 /// Judges the games of an archive, each by the settled verdict, and writes a line for each to standard output before the next one is
 /// read. `watched` says whether somebody sees standard error.
@@ -47,6 +49,7 @@ pub fn archive<'r, 'a, R: Runtime + AllocGlobal>(
     let run = Run {
         done,
         json: request.json,
+        repairs: request.repairs,
         is_listed: matches!(&request.names, ArchiveNames::Listed(_)),
         progress,
         line: Vec::new(rt.alloc()),
@@ -207,6 +210,8 @@ struct Run {
     /// The games that have a line already, and are passed over.
     done: Done,
     json: bool,
+    /// Whether each line has the likely repair of its game.
+    repairs: bool,
     /// Whether the names of the games stand in a list, and not on the command line.
     is_listed: bool,
     progress: Progress,
@@ -243,7 +248,7 @@ impl Run {
     ) -> Result<(), Trouble<'a>> {
         if let Ok(name) = str::from_utf8(name) {
             let fields = match self.open_game(rt, name) {
-                Ok(game) => found(rt, rules, pair, pages, name, game),
+                Ok(game) => found(rt, rules, pair, pages, self.repairs, name, game),
                 Err(Trouble::NoMemory) => Fields::unread(name, Unread::NoMemory),
                 Err(_) => Fields::unread(name, Unread::CannotOpen),
             };
@@ -279,11 +284,17 @@ impl Run {
         if let Some(pages) = pages {
             pages.add(rt.alloc(), &mut fields);
         }
+        if self.repairs && fields.likely.is_none() {
+            fields.likely = Some(LikelyFields::NONE);
+        }
         let mut exit = exit_of_line(&fields);
         if self.make_line(rt.alloc(), &fields).is_err() {
             let mut unread = Fields::unread(fields.name, Unread::NoMemory);
             if fields.page.is_some() {
                 unread.page = Some(PageField::NoMemory);
+            }
+            if self.repairs {
+                unread.likely = Some(LikelyFields::NONE);
             }
             exit = exit_of_line(&unread);
             if self.make_line(rt.alloc(), &unread).is_err() {
@@ -307,41 +318,58 @@ impl Run {
     }
 }
 
-/// What is found of the open game of this name, whose page is written where pages are made.
+/// What is found of the open game of this name, with its likely repair where repairs are asked for. Its page is written where pages are made.
 fn found<'n, R: Runtime + AllocGlobal, F: Read + Drop>(
     rt: &R,
     rules: &Rules,
     pair: &Checked<'_>,
     pages: &mut Option<Pages<'_>>,
+    repairs: bool,
     name: &'n str,
     game: F,
 ) -> Fields<'n> {
     if let Some(pages) = pages {
-        return pages.found(rt, rules, pair, name, game);
+        return pages.found(rt, rules, pair, repairs, name, game);
     }
     let mut game = sheet_of(rt.alloc(), game);
-    let entry = match archive_entry(rt.alloc(), rules, pair, &mut game) {
+    let mut entry = match archive_entry(rt.alloc(), rules, pair, &mut game) {
         Ok(Ok(entry)) => entry,
         Ok(Err(fault)) => return Fields::bad_record(name, &fault),
         Err(fault) => return Fields::unread(name, unread_by(rt, name, fault)),
     };
-    match fields_of(rt.alloc(), name, &entry, game.inner().front()) {
+    let Some(text) = game.inner().front().whole() else {
+        return Fields::unread(name, Unread::NoMemory);
+    };
+    let encoding = Encoding::of(text);
+    match fields_of(
+        rt.alloc(),
+        rules,
+        pair.list(),
+        repairs,
+        name,
+        &mut entry,
+        encoding,
+    ) {
         Ok(fields) => fields,
         Err(_) => Fields::unread(name, Unread::NoMemory),
     }
 }
 
-/// What the line of a game says whose bytes are these.
-fn fields_of<'n>(
+/// What the line of a game says, with its likely repair where repairs are asked for.
+pub fn fields_of<'n>(
     alloc: Global,
+    rules: &Rules,
+    list: &WordList,
+    repairs: bool,
     name: &'n str,
-    entry: &Entry,
-    game: &Front,
+    entry: &mut Entry,
+    encoding: Encoding,
 ) -> Result<Fields<'n>, AllocError> {
-    let Some(text) = game.whole() else {
-        return Err(AllocError);
-    };
-    Fields::of_entry(alloc, name, entry, Encoding::of(text))
+    let mut fields = Fields::of_entry(alloc, name, entry, encoding)?;
+    if repairs {
+        fields.likely = Some(likely_of(alloc, rules, list, entry, encoding)?);
+    }
+    Ok(fields)
 }
 
 /// Why a game of this name is unread whose reading failed.

@@ -4,6 +4,7 @@
 mod archiving;
 mod done;
 mod indexing;
+mod likely;
 mod names;
 mod pages;
 mod progress;

@@ -1,6 +1,6 @@
 //! The pages of an archive: one for each game, and their index.
 
-use crate::archiving::unread_by;
+use crate::archiving::{fields_of, unread_by};
 use archive_lines::{Fields, PageField, Unread};
 use command_files::{has_page, unopened, write_whole_file};
 use devices::FromRead;
@@ -8,6 +8,7 @@ use engine::{Case, open_case};
 use exit_statuses::Trouble;
 use game_page::{Contents, Index, IndexPlayer, IndexRow, Maker, push_page};
 use lex_check::Checked;
+use lex_list::WordList;
 use name_texts::Encoding;
 use page_names::push_page_name;
 use page_pieces::PageText;
@@ -57,15 +58,17 @@ impl<'a> Pages<'a> {
         rt: &R,
         rules: &Rules,
         pair: &Checked<'_>,
+        repairs: bool,
         name: &'n str,
         game: F,
     ) -> Fields<'n> {
         let mut game = FromRead::new(game);
-        let case = match open_case(rt.alloc(), rules, pair, &mut game) {
+        let mut case = match open_case(rt.alloc(), rules, pair, &mut game) {
             Ok(case) => case,
             Err(fault) => return Fields::unread(name, unread_by(rt, name, fault)),
         };
-        let Ok(mut fields) = fields_of(rt.alloc(), name, &case) else {
+        let Ok(mut fields) = fields_in(rt.alloc(), rules, pair.list(), repairs, name, &mut case)
+        else {
             return Fields::unread(name, Unread::NoMemory);
         };
         fields.page = match self.write_page(rt, rules, pair, name, &case) {
@@ -134,10 +137,18 @@ impl<'a> Pages<'a> {
     }
 }
 
-/// What the line of a case says of its game.
-fn fields_of<'n>(alloc: Global, name: &'n str, case: &Case) -> Result<Fields<'n>, AllocError> {
-    match &case.read {
-        Ok(entry) => { Fields::of_entry(alloc, name, entry, Encoding::of(case.text.as_slice())) }
+/// What the line of a case says of its game, with its likely repair where repairs are asked for.
+fn fields_in<'n>(
+    alloc: Global,
+    rules: &Rules,
+    list: &WordList,
+    repairs: bool,
+    name: &'n str,
+    case: &mut Case,
+) -> Result<Fields<'n>, AllocError> {
+    let encoding = Encoding::of(case.text.as_slice());
+    match &mut case.read {
+        Ok(entry) => fields_of(alloc, rules, list, repairs, name, entry, encoding),
         Err(fault) => Ok(Fields::bad_record(name, fault)),
     }
 }

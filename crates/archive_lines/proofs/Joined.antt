@@ -13,6 +13,10 @@ behind_both [] two = refl
 behind_both (field ∷ one) two =
     ap (λ l. 9 ∷ escaped field ++ l) (behind_both one two) ∙ ap (λ l. 9 ∷ l) (sym (append_assoc (escaped field) (behind one) (behind two)))
 
+-- two parts, one after the other
+pub two_parts : (old : List ℕ) (one two : List (List ℕ)) → (old ++ behind one) ++ behind two ≡ old ++ behind (one ++ two)
+two_parts old one two = append_assoc old (behind one) (behind two) ∙ ap (λ l. old ++ l) (sym (behind_both one two))
+
 -- the first field, three parts of those after it, and the LF
 pub line_is : (old name : List ℕ) (one two three : List (List ℕ))
     → ((((old ++ escaped name) ++ behind one) ++ behind two) ++ behind three) ++ 10 ∷ [] ≡ old ++ line_text (name ∷ (one ++ (two ++ three)))

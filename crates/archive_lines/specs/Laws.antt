@@ -3,6 +3,7 @@ use Rattle.std.specs.Prelude.{◌≡◌, ◌==◌, ℕ, true, not, length, Optio
 use Rattle.std.specs.List.{list_all}
 use Rattle.tab_lines.specs.Lines.{joined, fields_read}
 use Rattle.archive_lines.specs.declared.fields.Fields.{Fields}
+use Rattle.archive_lines.specs.declared.likely.LikelyFields.{LikelyFields}
 use Rattle.archive_lines.specs.declared.pages.PageField.{PageField}
 use Rattle.archive_lines.specs.Tabs.{told}
 
@@ -10,13 +11,15 @@ use Rattle.archive_lines.specs.Tabs.{told}
 abbrev pub IsReadBack : Type 0
 IsReadBack = (f : Fields) → fields_read (joined (told f)) ≡ told f
 
--- how many fields there are, with pages and without
-abbrev pub many_with : Option PageField → ℕ
-many_with None = 11
-many_with (Some page) = 12
+-- how many fields there are, with pages and without, and with repairs and without
+abbrev pub many_with : Option PageField → Option LikelyFields → ℕ
+many_with None None = 11
+many_with (Some page) None = 12
+many_with None (Some likely) = 13
+many_with (Some page) (Some likely) = 14
 
 abbrev pub HasSoMany : Type 0
-HasSoMany = (f : Fields) → length (fields_read (joined (told f))) ≡ many_with f.page
+HasSoMany = (f : Fields) → length (fields_read (joined (told f))) ≡ many_with f.page f.likely
 
 -- no LF (10) is in the fields of a line
 abbrev pub IsOneLine : Type 0

@@ -31,6 +31,7 @@ pub record SaysEntry (name : Bor (List ℕ)) (entry : Entry) (encoding : Encodin
   pub total2 : f.total2 ≡ last_total Second entry.record.events
   pub unlisted : f.unlisted ≡ entry.unlisted
   pub page : f.page ≡ None
+  pub likely : f.likely ≡ None
   pub fault_name : option_map cow_str_bytes f.fault_name ≡ name_in (fault_in entry.finding)
   pub expected : f.expected ≡ expected_in entry.finding
 
@@ -48,6 +49,7 @@ pub record IsBare (name : Bor (List ℕ)) (verdict : Answer) (line : Option ℕ)
   pub total2 : f.total2 ≡ None
   pub unlisted : f.unlisted ≡ None
   pub page : f.page ≡ None
+  pub likely : f.likely ≡ None
   pub name_of_fault : option_map cow_str_bytes f.fault_name ≡ fault_name
   pub expected : f.expected ≡ None
 

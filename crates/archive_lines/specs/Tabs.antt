@@ -5,6 +5,7 @@ use Rattle.std.specs.String.{string_bytes}
 use Rattle.std.specs.Cow.{cow_str_bytes}
 use Rattle.tab_lines.specs.Lines.{escaped, line_text}
 use Rattle.archive_lines.specs.declared.fields.Fields.{Fields}
+use Rattle.archive_lines.specs.declared.likely.LikelyFields.{LikelyFields}
 use Rattle.archive_lines.specs.declared.pages.PageField.{PageField}
 use Rattle.archive_lines.specs.Answers.{answer_text, ending_text}
 use Rattle.archive_lines.specs.Pages.{page_text}
@@ -39,9 +40,18 @@ abbrev pub page_told : Option PageField → List (List ℕ)
 page_told None = []
 page_told (Some page) = shown (page_text page) ∷ []
 
+-- the likely repair, where repairs are asked for
+abbrev pub likely_told : Option LikelyFields → List (List ℕ)
+likely_told None = []
+likely_told (Some likely) = shown (option_map string_bytes likely.change) ∷ shown (option_map string_bytes likely.numbers_right) ∷ []
+
+-- what is told only if it is asked for
+abbrev pub options_told : Option PageField → Option LikelyFields → List (List ℕ)
+options_told page likely = page_told page ++ likely_told likely
+
 -- the fields that a line says, in their order
 abbrev pub told : Fields → List (List ℕ)
-told f = f.name.now ∷ (verdict_told f ++ (record_told f ++ page_told f.page))
+told f = f.name.now ∷ (verdict_told f ++ (record_told f ++ options_told f.page f.likely))
 
 -- the line itself
 unfoldable pub tab_line : Fields → List ℕ

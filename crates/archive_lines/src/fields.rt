@@ -5,6 +5,7 @@ ghost use Rattle.archive_lines.specs.Said.{IsBare, SaysEntry, SaysBadRecord, Say
 
 use crate::answers::{Answer, Ending, Unread, answer_of, ending_in};
 use crate::faults::{expected_in, fault_in, line_in, line_of_fault, name_in, owned};
+use crate::likely::LikelyFields;
 use crate::pages::PageField;
 use crate::players::{nick_of, total_of};
 use engine::Entry;
@@ -42,6 +43,9 @@ pub struct Fields<'a> {
     /// The page of the game; none where no pages are made, and then no line has the field.
     #[serde(skip_serializing_if = "Option::is_none")]
     pub page: Option<PageField>,
+    /// The likely repair of the game; none where repairs are not asked for, and then no line has its fields.
+    #[serde(skip_serializing_if = "Option::is_none")]
+    pub likely: Option<LikelyFields>,
     /// The name of the fault of a game or a record, without a number or a tile behind it. Only the JSON object has it.
     pub fault_name: Option<CowStr<'a, Global>>,
     /// The number that was expected in the place of the one that is wrong. Only the JSON object has it.
@@ -72,6 +76,7 @@ impl<'a> Fields<'a> {
             total2: None,
             unlisted: None,
             page: None,
+            likely: None,
             fault_name,
             expected: None,
         }
@@ -128,6 +133,7 @@ impl<'a> Fields<'a> {
             total2: total_of(events, Seat::Second),
             unlisted: entry.unlisted,
             page: None,
+            likely: None,
             fault_name: owned(fault_name),
             expected: expected_in(entry.finding),
         })

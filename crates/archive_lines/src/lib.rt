@@ -1,8 +1,8 @@
 //! The lines of an archive: what one says of a game, as plain data, and the two forms in which it is written.
 //!
 //! [`Fields`] is what a line says. [`push_tab_line`] writes it as fields separated by tabs, [`push_json_line`] as a JSON object with the
-//! same fields by name. The field of the page of the game stands in a line only where pages are made. [`law_of_tab_lines`] says that a
-//! line has exactly its fields, and [`LineRead`] is what its reader has.
+//! same fields by name. A line has the field of the page of its game only if pages are made, and the two fields of its likely repair only if repairs are
+//! asked for. [`law_of_tab_lines`] says that a line has exactly its fields, and [`LineRead`] is what its reader has.
 #![tactic(auto)]
 
 mod answers;
@@ -10,6 +10,7 @@ mod faults;
 mod fields;
 mod json_lines;
 mod laws;
+mod likely;
 mod pages;
 mod players;
 mod reading;
@@ -19,6 +20,7 @@ pub use answers::{Answer, Ending, Unread};
 pub use fields::Fields;
 pub use json_lines::push_json_line;
 pub use laws::law_of_tab_lines;
+pub use likely::LikelyFields;
 pub use pages::PageField;
 pub use reading::LineRead;
 pub use tabs::push_tab_line;

@@ -6,7 +6,7 @@ use std::alloc::{AllocError, Global};
 use std::str::{self, FromStr};
 use tab_lines::read_fields;
 
-/// How many fields a line with tabs has where no pages are made.
+/// How many fields a line with tabs has at least. A page is one more, and a likely repair two more.
 const FIELDS: usize = 11;
 
 /// What a line of an archive says, as its reader has it: of the fields those that name a game and its result.
@@ -74,7 +74,7 @@ impl LineRead {
             return Ok(None);
         }
         let fields = read_fields(alloc, line)?;
-        if fields.len() != FIELDS && fields.len() != FIELDS + 1 {
+        if fields.len() < FIELDS || fields.len() > FIELDS + 3 {
             return Ok(None);
         }
         LineRead::of_fields(alloc, fields.as_slice())
@@ -96,7 +96,7 @@ impl LineRead {
             player2: shown_at(alloc, fields, 8)?,
             total2: numbers.total2,
             unlisted: numbers.unlisted,
-            page: shown_at(alloc, fields, FIELDS)?,
+            page: page_in(alloc, fields)?,
         }))
     }
 
@@ -176,6 +176,15 @@ fn shown_at(alloc: Global, fields: &[Vec<u8>], place: usize) -> Result<Option<St
     match text_at(fields, place) {
         "" | "-" => Ok(None),
         text => Ok(Some(String::from_str(alloc, text)?)),
+    }
+}
+
+/// The field of the page, where a line has one: then it has an even number of fields.
+fn page_in(alloc: Global, fields: &[Vec<u8>]) -> Result<Option<String>, AllocError> {
+    if fields.len() % 2 == 0 {
+        shown_at(alloc, fields, FIELDS)
+    } else {
+        Ok(None)
     }
 }
 

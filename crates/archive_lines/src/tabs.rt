@@ -5,10 +5,11 @@ ghost use Rattle.std.specs.Cow.{cow_str_bytes};
 ghost use Rattle.tab_lines.specs.Lines.{escaped};
 ghost use Rattle.archive_lines.specs.Answers.{ending_text};
 ghost use Rattle.archive_lines.specs.Pages.{page_text};
-ghost use Rattle.archive_lines.specs.Tabs.{shown, behind, verdict_told, record_told, page_told, tab_line};
+ghost use Rattle.archive_lines.specs.Tabs.{shown, behind, verdict_told, record_told, page_told, likely_told, options_told, tab_line};
 
 use crate::answers::Ending;
 use crate::fields::Fields;
+use crate::likely::LikelyFields;
 use crate::pages::PageField;
 use itoa::{Buffer, Integer};
 use std::alloc::{AllocError, Global};
@@ -58,13 +59,13 @@ fn push_fault(line: &mut Vec<u8>, fault: &Option<CowStr<'_, Global>>) -> Result<
     }
 }
 
-/// Appends the field of a nickname, or of none.
-fn push_nick(line: &mut Vec<u8>, nick: &Option<String>) -> Result<(), AllocError>
-    ensures { OnOk result (line.new.items ≡ line.old.items ++ 9 ∷ escaped (shown (option_map string_bytes nick.now))) }
+/// Appends the field of a text that the line owns, or of none.
+fn push_owned(line: &mut Vec<u8>, text: &Option<String>) -> Result<(), AllocError>
+    ensures { OnOk result (line.new.items ≡ line.old.items ++ 9 ∷ escaped (shown (option_map string_bytes text.now))) }
 {
-    match nick {
+    match text {
         None => push_field(line, b"-"),
-        Some(nick) => push_field(line, nick.as_bytes()),
+        Some(text) => push_field(line, text.as_bytes()),
     }
 }
 
@@ -83,9 +84,9 @@ fn push_record(line: &mut Vec<u8>, fields: &Fields<'_>) -> Result<(), AllocError
     ensures { OnOk result (line.new.items ≡ line.old.items ++ behind (record_told fields.now)) }
 {
     push_known(line, fields.events)?;
-    push_nick(line, &fields.player1)?;
+    push_owned(line, &fields.player1)?;
     push_known(line, fields.total1)?;
-    push_nick(line, &fields.player2)?;
+    push_owned(line, &fields.player2)?;
     push_known(line, fields.total2)?;
     push_known(line, fields.unlisted)
 }
@@ -100,8 +101,30 @@ fn push_page(line: &mut Vec<u8>, page: &Option<PageField>) -> Result<(), AllocEr
     }
 }
 
+/// Appends the fields of the likely repair, where repairs are asked for.
+fn push_likely(line: &mut Vec<u8>, likely: &Option<LikelyFields>) -> Result<(), AllocError>
+    ensures { OnOk result (line.new.items ≡ line.old.items ++ behind (likely_told likely.now)) }
+{
+    match likely {
+        None => Ok(()),
+        Some(likely) => {
+            push_owned(line, &likely.change)?;
+            push_owned(line, &likely.numbers_right)
+        }
+    }
+}
+
+/// Appends the fields that a line has only if they are asked for.
+#[tactic(auto, using(crate::proofs::Joined::two_parts))]
+fn push_options(line: &mut Vec<u8>, fields: &Fields<'_>) -> Result<(), AllocError>
+    ensures { OnOk result (line.new.items ≡ line.old.items ++ behind (options_told fields.now.page fields.now.likely)) }
+{
+    push_page(line, &fields.page)?;
+    push_likely(line, &fields.likely)
+}
+
 /// Appends a line: its fields in their order with a tab between two, `-` for what is none, and an LF. It has the field of the page only
-/// where pages are made. A tab, an LF and a backslash of a field are written `\t`, `\n` and `\\`.
+/// if pages are made, and those of the likely repair only if repairs are asked for. A tab, an LF and a backslash of a field are written `\t`, `\n` and `\\`.
 ///
 /// # Errors
 ///
@@ -112,7 +135,7 @@ pub fn push_tab_line(line: &mut Vec<u8>, fields: &Fields<'_>) -> Result<(), Allo
     push_escaped(line, fields.name.as_bytes())?;
     push_verdict(line, fields)?;
     push_record(line, fields)?;
-    push_page(line, &fields.page)?;
+    push_options(line, fields)?;
     line.push(b'\n')?;
     Ok(())
 }

@@ -7,19 +7,19 @@ use clap::builder::ValueParser;
 use std::alloc::{AllocError, Global};
 
 /// What `--version` prints behind the program's name.
-pub const VERSION: &str = "1.0.0
+pub const VERSION: &str = "1.1.0
 records: GCG
 word lists: one word a line
 lexicons: GAD1, GAD2";
 
 /// What `-V` prints behind the program's name.
-pub const SHORT_VERSION: &str = "1.0.0";
+pub const SHORT_VERSION: &str = "1.1.0";
 
 /// The name of the program, with which its messages begin.
 pub const PROGRAM_NAME: &str = "referee";
 
 /// The name and the version of the program.
-pub const PROGRAM: &str = "referee 1.0.0";
+pub const PROGRAM: &str = "referee 1.1.0";
 
 /// The name of the option by which the first field of each line of a word list is read.
 pub const FIRST_FIELD: &str = "first-field";
@@ -171,13 +171,14 @@ macro_rules! behind {
 }
 
 /// The commands, in the order in which help shows them.
-const COMMANDS: [CommandRow; 17] = [
+const COMMANDS: [CommandRow; 18] = [
     JUDGE,
     ARCHIVE,
     INDEX,
     AUDIT,
     EXPLAIN,
     REPAIR,
+    COMPARE,
     PAGE,
     ANNOTATE,
     BUILD,
@@ -219,7 +220,7 @@ const JUDGE: CommandRow = CommandRow {
     ],
 };
 
-/// `archive [--first-field] [--skip-others] [--rules FILE] [--names FILE] [--null] [--skip LINES] [--json] [--pages FOLDER] [--progress|--quiet] WORDS LEXICON [GAME...]`.
+/// `archive [--first-field] [--skip-others] [--rules FILE] [--names FILE] [--null] [--skip LINES] [--json] [--pages FOLDER] [--repairs] [--progress|--quiet] WORDS LEXICON [GAME...]`.
 const ARCHIVE: CommandRow = CommandRow {
     name: "archive",
     about: "Judges many games as judge --settle does, one line for each",
@@ -266,6 +267,11 @@ const ARCHIVE: CommandRow = CommandRow {
             Form::Option("FOLDER"),
             "pages",
             "write a page of each game, and their index, to this folder"
+        ),
+        flag!(
+            "repairs",
+            "end each line with the likely repair of an illegal game, and how many numbers are right with it",
+            None
         ),
         flag!(
             "progress",
@@ -398,6 +404,38 @@ const REPAIR: CommandRow = CommandRow {
             against: Some("repaired"),
             ..JSON
         },
+        FIRST_FIELD_OPTION,
+        SKIP_OTHERS_OPTION,
+        RULES,
+    ],
+};
+
+/// `compare [--first-field] [--skip-others] [--rules FILE] [--merged OUT] WORDS LEXICON SHEET1 SHEET2`.
+const COMPARE: CommandRow = CommandRow {
+    name: "compare",
+    about: "Compares two players' sheets of one game, and tells which lines the rules support where they differ",
+    behind: behind!(
+        "referee compare words.txt words.gad anna.gcg ben.gcg",
+        "Exit status:",
+        "0   the sheets agree, their numbers are right, and the game is legal",
+        "1   they differ, a number is wrong, or the game is illegal",
+        "2   unsettled: every event stands with some choice of the lines, but no deal was found",
+        "3   the rules text, the word list, the lexicon or a record is bad"
+    ),
+    arguments: &[
+        WORDS,
+        LEXICON,
+        argument!(
+            Form::Needed,
+            "SHEET1",
+            "the first sheet, a GCG record; - is standard input"
+        ),
+        argument!(Form::Needed, "SHEET2", "the second sheet"),
+        argument!(
+            Form::Option("OUT"),
+            "merged",
+            "write the merged record to this file, where one choice of the lines is ahead of all others; - is standard output"
+        ),
         FIRST_FIELD_OPTION,
         SKIP_OTHERS_OPTION,
         RULES,

@@ -101,6 +101,8 @@ pub struct Archive<'a> {
     pub json: bool,
     /// The folder for a page of each game, where pages are wanted.
     pub pages: Option<&'a str>,
+    /// Whether each line has the likely repair of its game.
+    pub repairs: bool,
     /// Whether to show how many games are done.
     pub progress: Progressing,
 }
@@ -139,6 +141,12 @@ pub enum Request<'a> {
         number: u32,
         out: Option<&'a str>,
         json: bool,
+    },
+    /// To compare the sheet of `files` with a second one, and to write the merged record to the file `out` where there is one.
+    Compare {
+        files: GameFiles<'a>,
+        second: &'a str,
+        out: Option<&'a str>,
     },
     /// To write the page of a game to the file `out`.
     Page {
@@ -234,10 +242,12 @@ fn reads_twice(matches: &ArgMatches<'_>) -> bool {
     };
     // The requests of `serve` stand on standard input.
     let requests: usize = if command == "serve" { 1 } else { 0 };
-    let times = ["WORDS", "GAME", "names", "skip", "LINES"]
-        .iter()
-        .map(|id| times_read(names, id))
-        .fold(requests, |sum, times: usize| sum.saturating_add(times));
+    let times = [
+        "WORDS", "GAME", "SHEET1", "SHEET2", "names", "skip", "LINES",
+    ]
+    .iter()
+    .map(|id| times_read(names, id))
+    .fold(requests, |sum, times: usize| sum.saturating_add(times));
     times > 1
 }
 
@@ -288,6 +298,7 @@ fn archive_of<'a>(
         skip: names.get_str("skip"),
         json: names.get_flag("json"),
         pages: names.get_str("pages"),
+        repairs: names.get_flag("repairs"),
         progress: wanted_progress(names),
     })))
 }
@@ -346,6 +357,11 @@ fn game_request_of<'a>(command: &str, names: &ArgMatches<'a>) -> Option<Request<
             number: names.get_one::<u32>("number").unwrap_or(FEW_REPAIRS),
             out: names.get_str("repaired"),
             json: names.get_flag("json"),
+        }),
+        "compare" => Some(Request::Compare {
+            files: sheet_files(names)?,
+            second: names.get_str("SHEET2")?,
+            out: names.get_str("merged"),
         }),
         "annotate" => Some(Request::Annotate {
             files: game_files(names)?,
@@ -417,6 +433,15 @@ fn pair_files<'a>(names: &ArgMatches<'a>) -> Option<PairFiles<'a>> {
     Some(PairFiles {
         words: words_file(names)?,
         lexicon: names.get_str("LEXICON")?,
+    })
+}
+
+/// The files of the first of two sheets.
+fn sheet_files<'a>(names: &ArgMatches<'a>) -> Option<GameFiles<'a>> {
+    Some(GameFiles {
+        rules: names.get_str("rules"),
+        pair: pair_files(names)?,
+        game: names.get_str("SHEET1")?,
     })
 }
 

@@ -6,7 +6,6 @@ mod callers;
 mod converting;
 mod deals;
 mod devices_over_memory;
-mod explaining;
 mod first_fields_over_memory;
 mod games;
 mod inputs;

@@ -107,6 +107,9 @@ fn answer<R: Runtime + AllocGlobal>(rt: &R, request: Request<'_>, watched: bool)
             out,
             ..
         } => answer_sheet(rt, files, SheetTask::Repair(number as usize, out)),
+        Request::Compare { files, second, out } => {
+            answer_sheet(rt, files, SheetTask::Compare(second, out))
+        }
         Request::Page { files, out } => answer_sheet(rt, files, SheetTask::Page(out)),
         Request::Annotate { files, number, out } => {
             answer_sheet(rt, files, SheetTask::Annotate(number as usize, out))

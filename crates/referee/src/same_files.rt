@@ -14,7 +14,7 @@ pub fn lost_input<R: Runtime>(rt: &R, request: &Request<'_>) -> Option<&'static 
         Request::Convert { lexicon, out, .. } => first_lost(rt, out, &[("LEXICON", *lexicon)]),
         Request::Index { lines, out } => first_lost(rt, out, &[("LINES", source(lines))]),
         Request::Page { files, out } | Request::Annotate { files, out, .. } => {
-            lost_of_game(rt, out, files)
+            lost_of_game(rt, out, "GAME", files)
         }
         Request::Audit {
             files,
@@ -25,18 +25,31 @@ pub fn lost_input<R: Runtime>(rt: &R, request: &Request<'_>) -> Option<&'static 
             files,
             out: Some(out),
             ..
-        } => lost_of_game(rt, out, files),
+        } => lost_of_game(rt, out, "GAME", files),
+        Request::Compare {
+            files,
+            second,
+            out: Some(out),
+        } => {
+            let lost = lost_of_game(rt, out, "SHEET1", files);
+            lost.or(first_lost(rt, out, &[("SHEET2", source(second))]))
+        }
         _ => None,
     }
 }
 
-/// The first file of a game that is the same as an output.
-fn lost_of_game<R: Runtime>(rt: &R, out: &str, files: &GameFiles<'_>) -> Option<&'static str> {
+/// The first file of a game, whose record help calls so, that is the same as an output.
+fn lost_of_game<R: Runtime>(
+    rt: &R,
+    out: &str,
+    record: &'static str,
+    files: &GameFiles<'_>,
+) -> Option<&'static str> {
     let inputs = [
         ("the FILE of --rules", files.rules.unwrap_or("")),
         ("WORDS", source(files.pair.words.name)),
         ("LEXICON", files.pair.lexicon),
-        ("GAME", source(files.game)),
+        (record, source(files.game)),
     ];
     first_lost(rt, out, &inputs)
 }

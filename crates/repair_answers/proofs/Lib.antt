@@ -6,3 +6,4 @@ pub mod LastLines
 pub mod Tries
 pub mod Wanted
 pub mod Answered
+pub mod LikelyOnes

@@ -5,3 +5,4 @@ pub mod Unchanged
 pub mod Lines
 pub mod Choices
 pub mod Answers
+pub mod Likely

@@ -47,7 +47,7 @@ pub struct RepairAnswer {
 }
 
 /// How many numbers and words have to stay wrong with a repair at the most, and one more; none where any number may.
-fn below_of(unchanged: &Option<Remains>) -> Option<usize>
+pub(crate) fn below_of(unchanged: &Option<Remains>) -> Option<usize>
     ensures { result ≡ below_of unchanged.now }
 {
     match unchanged {

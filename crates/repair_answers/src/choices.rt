@@ -4,11 +4,11 @@ ghost use Rattle.repair_answers.specs.Alike.{cost_in};
 ghost use Rattle.repair_answers.specs.Choices.{IsFarAhead, HasRival, IsChosen, IsChoice};
 
 use crate::answers::Faulty;
-use record_repairs::Repair;
+use record_repairs::{Found, Repair};
 use repair_pairs::Pair;
 
 /// What a wrong number costs.
-const NUMBER: u128 = 5;
+pub(crate) const NUMBER: u128 = 5;
 
 /// Whether one repair is to be chosen.
 #[derive(Clone, Copy)]
@@ -26,7 +26,7 @@ pub enum Choice<'a> {
 }
 
 /// What a repair costs.
-fn cost_of(repair: &Repair) -> u128
+pub(crate) fn cost_of(repair: &Repair) -> u128
     ensures { result ≡ cost_in repair.now }
 {
     repair.remains.cost(&repair.listed.change.slip)
@@ -61,15 +61,14 @@ fn chosen<'a>(first: &'a Repair, pairs: &[Pair]) -> Choice<'a>
     }
 }
 
-/// Which of the repairs that were found is to be chosen, if one is.
-pub fn choice_of(faulty: &Faulty) -> Choice<'_>
-    ensures { IsChoice faulty.now.found.told.items faulty.now.found.left.items faulty.now.pairs.told.items result }
+/// Which of some repairs is to be chosen beside some pairs, if one is.
+pub(crate) fn choice_among<'a>(found: &'a Found, pairs: &[Pair]) -> Choice<'a>
+    ensures { IsChoice found.now.told.items found.now.left.items pairs.now result }
 {
-    if !faulty.found.left.is_empty() {
+    if !found.left.is_empty() {
         return Choice::Open;
     }
-    let pairs = faulty.pairs.told.as_slice();
-    match faulty.found.told.as_slice() {
+    match found.told.as_slice() {
         [] => Choice::None,
         [first] => chosen(first, pairs),
         [first, second, ..] => {
@@ -82,4 +81,11 @@ pub fn choice_of(faulty: &Faulty) -> Choice<'_>
             }
         }
     }
+}
+
+/// Which of the repairs that were found is to be chosen, if one is.
+pub fn choice_of(faulty: &Faulty) -> Choice<'_>
+    ensures { IsChoice faulty.now.found.told.items faulty.now.found.left.items faulty.now.pairs.told.items result }
+{
+    choice_among(&faulty.found, faulty.pairs.told.as_slice())
 }

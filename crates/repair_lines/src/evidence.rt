@@ -68,13 +68,16 @@ fn push_unlisted(text: &mut Vec<u8>, words: &[SpelledWord]) -> Result<(), AllocE
     text.extend_from_slice(b"\n")
 }
 
-/// Appends how many of so many numbers are right.
-fn push_right(text: &mut Vec<u8>, right: u128, numbers: u128) -> Result<(), AllocError> {
-    text.extend_from_slice(b"  ")?;
+/// Appends how many of some numbers are right, and how many there are.
+pub(crate) fn push_share(
+    text: &mut Vec<u8>,
+    remains: &Remains,
+    numbers: u128,
+) -> Result<(), AllocError> {
+    let right = numbers.saturating_sub(remains.wrong.len() as u128);
     push_number(text, right)?;
     text.extend_from_slice(b" of ")?;
-    push_number(text, numbers)?;
-    text.extend_from_slice(b" numbers right\n")
+    push_number(text, numbers)
 }
 
 /// Appends how many of so many numbers are right, each that is not, and each word that is not in the list.
@@ -83,8 +86,9 @@ pub(crate) fn push_evidence(
     remains: &Remains,
     numbers: u128,
 ) -> Result<(), AllocError> {
-    let right = numbers.saturating_sub(remains.wrong.len() as u128);
-    push_right(text, right, numbers)?;
+    text.extend_from_slice(b"  ")?;
+    push_share(text, remains, numbers)?;
+    text.extend_from_slice(b" numbers right\n")?;
     for number in remains.wrong.as_slice() {
         push_wrong(text, number)?;
     }

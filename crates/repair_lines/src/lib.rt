@@ -7,6 +7,7 @@
 mod choices;
 mod evidence;
 mod letters;
+mod likely;
 mod lines;
 mod missing;
 mod names;
@@ -14,4 +15,5 @@ mod slips;
 mod words;
 
 pub use choices::push_choice;
+pub use likely::{push_change_of, push_likely, push_numbers};
 pub use lines::{push_change, push_repairs};

@@ -17,6 +17,7 @@ IsSheetTold (task.Explain line) rules list x texts v report = IsCaseTold rules l
 IsSheetTold (task.Page out) rules list x texts v report = IsCaseTold rules list x texts v report
 IsSheetTold (task.Annotate number out) rules list x texts v report = IsCaseTold rules list x texts v report
 IsSheetTold (task.Repair number out) rules list x texts v report = IsCaseTold rules list x texts v report
+IsSheetTold (task.Compare second out) rules list x texts v report = IsCaseTold rules list x texts v report
 
 pub sheet_later : {T : Type 0} (asked : SheetTask) (rules : Rules) (list : List (List ℕ)) (x : Result T Decision) (texts : List (List ℕ)) (v : Verdict) (report : List ℕ)
     → IsSheetTold asked rules list x texts v report → IsLater v
@@ -25,3 +26,4 @@ sheet_later (task.Explain line) rules list x texts v report is = case_later rule
 sheet_later (task.Page out) rules list x texts v report is = case_later rules list x texts v report is
 sheet_later (task.Annotate number out) rules list x texts v report is = case_later rules list x texts v report is
 sheet_later (task.Repair number out) rules list x texts v report is = case_later rules list x texts v report is
+sheet_later (task.Compare second out) rules list x texts v report is = case_later rules list x texts v report is

@@ -1,21 +1,24 @@
 //! `explain`: what is wrong with a record, or how one of its lines is judged, in plain words.
 
 use command_files::{NO_GAME, has_no_event, write};
-use engine::Case;
+use engine::{Case, Entry, Finding};
 use exit_statuses::{Exit, Trouble, exit_of_case};
 use explain_lines::push_explanation;
 use lex_list::WordList;
 use name_texts::Encoding;
 use ref_tiles::Rules;
+use repair_answers::likely_repair;
+use repair_lines::push_likely;
 use std::alloc::{AllocError, Global};
 use std::rt::Runtime;
 
-/// Explains the verdict on a record, or one of its lines, by the rules and the word list: writes it to standard output.
+/// Explains the verdict on a record, or one of its lines, by the rules and the word list: writes it to standard output. After the verdict on an
+/// illegal record comes its likely repair, if there is one.
 pub fn tell_case<'a, R: Runtime + AllocGlobal>(
     rt: &R,
     rules: &Rules,
     list: &WordList,
-    case: &Case,
+    case: &mut Case,
     line: Option<u32>,
 ) -> Result<Exit, Trouble<'a>> {
     if has_no_event(case) {
@@ -29,16 +32,36 @@ pub fn tell_case<'a, R: Runtime + AllocGlobal>(
     Ok(exit_of_case(case, line))
 }
 
-/// What explains a case, or one of its lines. Where the record states its encoding, names in it are UTF-8.
+/// Appends the likely repair of the record of an entry, if the record is illegal and has one.
+fn push_likely_in(
+    alloc: Global,
+    told: &mut Vec<u8>,
+    rules: &Rules,
+    list: &WordList,
+    entry: &mut Entry,
+) -> Result<(), AllocError> {
+    if !matches!(entry.finding, Finding::Illegal { .. }) {
+        return Ok(());
+    }
+    match likely_repair(alloc, rules, list, &mut entry.record)? {
+        Some(repair) => push_likely(told, &entry.record, &repair),
+        None => Ok(()),
+    }
+}
+
+/// What explains a case, or one of its lines. If the record states its encoding, names in it are UTF-8.
 fn text_of(
     alloc: Global,
     rules: &Rules,
     list: &WordList,
-    case: &Case,
+    case: &mut Case,
     line: Option<u32>,
 ) -> Result<Vec<u8>, AllocError> {
     let mut told = Vec::new(alloc);
     push_explanation(alloc, &mut told, rules, list, case, line)?;
+    if let (None, Ok(entry)) = (line, &mut case.read) {
+        push_likely_in(alloc, &mut told, rules, list, entry)?;
+    }
     match Encoding::of(case.text.as_slice()) {
         Encoding::Utf8 => Ok(told),
         Encoding::Latin1 => {

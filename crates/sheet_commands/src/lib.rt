@@ -1,8 +1,9 @@
-//! The commands that are about one sheet: `annotate`, `audit`, `explain`, `page` and `repair`.
+//! The commands that are about one sheet: `annotate`, `audit`, `compare`, `explain`, `page` and `repair`.
 #![tactic(auto)]
 
 mod annotating;
 mod auditing;
+mod comparing;
 mod explaining;
 mod made_texts;
 mod paging;

@@ -9,6 +9,7 @@ ghost use Rattle.sheet_commands.specs.Telling.{IsAuditTold};
 
 use crate::annotating::write_annotated;
 use crate::auditing::tell_audit;
+use crate::comparing::tell_comparison;
 use crate::explaining::tell_case;
 use crate::paging::write_page;
 use crate::repairing::tell_repairs;
@@ -41,13 +42,15 @@ pub enum SheetTask<'a> {
     Annotate(usize, &'a str),
     /// To tell the repairs of its record, in so many lines, and to write the repaired sheet to a file where one is named.
     Repair(usize, Option<&'a str>),
+    /// To compare it with the sheet of this name, and to write the merged record to a file where one is named.
+    Compare(&'a str, Option<&'a str>),
 }
 
 impl<'a> SheetTask<'a> {
     /// The output that is written beside the report, where there is one.
     fn out(self) -> Option<&'a str> {
         match self {
-            SheetTask::Audit(out) | SheetTask::Repair(_, out) => out,
+            SheetTask::Audit(out) | SheetTask::Repair(_, out) | SheetTask::Compare(_, out) => out,
             SheetTask::Explain(_) => None,
             SheetTask::Page(out) | SheetTask::Annotate(_, out) => Some(out),
         }
@@ -84,7 +87,7 @@ fn explain<'a, R: Runtime + AllocGlobal, F: Read + Drop, S: Read + Drop>(
         (IsCaseTold given.now.rules.now (list_in given.now.pair.now)) result }
 {
     match open_case(rt.alloc(), given.rules, given.pair, game) {
-        Ok(case) => Ok(Ok(tell_case(rt, given.rules, given.pair.list(), &case, line))),
+        Ok(mut case) => Ok(Ok(tell_case(rt, given.rules, given.pair.list(), &mut case, line))),
         Err(fault) => Err(fault),
     }
 }
@@ -190,6 +193,24 @@ fn repair<'a, R: Runtime + AllocGlobal, F: Read + Drop, S: Read + Drop>(
     }
 }
 
+/// Compares a sheet with a second one.
+fn compare<'a, R: Runtime + AllocGlobal, F: Read + Drop, S: Read + Drop>(
+    rt: &R,
+    given: &GivenFiles<'_, F, S>,
+    game: &mut SheetFile<S>,
+    second: &'a str,
+    out: Option<&'a str>,
+) -> Result<Told<'a>, RunFault>
+    requires { HasRoom (⟦<SheetFile<S> as Input>⟧.device game.old) }
+    ensures { Gives outcomes (game_source (⟦<SheetFile<S> as Input>⟧.device game.old) (⟦<SheetFile<S> as Input>⟧.device game.new) ∷ [])
+        (IsCaseTold given.now.rules.now (list_in given.now.pair.now)) result }
+{
+    match open_case(rt.alloc(), given.rules, given.pair, game) {
+        Ok(case) => Ok(Ok(tell_comparison(rt, given.rules, given.pair, case, second, out))),
+        Err(fault) => Err(fault),
+    }
+}
+
 /// What is asked of a sheet, by a runtime to which the answer goes.
 #[derive(Clone, Copy)]
 struct SheetQuestion<'r, 'a, R> {
@@ -224,6 +245,7 @@ impl<'a, R: Runtime + AllocGlobal, F: Read + Drop, S: Read + Drop> Question<
             SheetTask::Page(out) => page(self.rt, given, game, out),
             SheetTask::Annotate(number, out) => annotate(self.rt, given, game, number, out),
             SheetTask::Repair(number, out) => repair(self.rt, given, game, number, out),
+            SheetTask::Compare(second, out) => compare(self.rt, given, game, second, out),
         }
     }
 

@@ -121,7 +121,7 @@ fn lines_of_findings(rt: HostRuntime) {
 
 #[test]
 fn lines_that_are_read(rt: HostRuntime) {
-    let rows: [(&str, bool); 10] = [
+    let rows: [(&str, bool); 12] = [
         ("a\tlegal\tcomplete\t-\t-\t0\t-\t-\t-\t-\t0", true),
         ("a\tlegal\tcomplete\t-\t-\t0\tA\t-7\t-\t-\t0\ta.html", true),
         ("", false),
@@ -129,7 +129,15 @@ fn lines_that_are_read(rt: HostRuntime) {
         ("a\tlawful\tcomplete\t-\t-\t0\t-\t-\t-\t-\t0", false),
         ("a\tlegal\tcomplete\tx\t-\t0\t-\t-\t-\t-\t0", false),
         ("a\tlegal\tcomplete\t-\t-\t0\t-\t-\t-\t-\t", false),
-        ("a\tlegal\tcomplete\t-\t-\t0\t-\t-\t-\t-\t0\ta\tb", false),
+        ("a\tlegal\tcomplete\t-\t-\t0\t-\t-\t-\t-\t0\t-\t-", true),
+        (
+            "a\tlegal\tcomplete\t-\t-\t0\t-\t-\t-\t-\t0\ta.html\t-\t-",
+            true,
+        ),
+        (
+            "a\tlegal\tcomplete\t-\t-\t0\t-\t-\t-\t-\t0\ta\tb\tc\td",
+            false,
+        ),
         ("{}", false),
         ("{\"name\":\"a\"", false),
     ];

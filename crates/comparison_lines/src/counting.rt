@@ -1,0 +1,65 @@
+//! Where the event of a pair stands among those of a choice.
+
+use sheet_alignments::{Pair, Side, chosen_side};
+
+/// What is before a pair.
+#[derive(Clone, Copy)]
+pub(crate) struct Before {
+    /// How many events of the choice.
+    pub(crate) place: usize,
+    /// How many items.
+    pub(crate) number: usize,
+}
+
+/// Whether a choice has an event of a pair, if its item has this number.
+fn has_event(pair: &Pair, choice: usize, number: usize) -> bool {
+    match (pair.first, pair.second) {
+        (Some(_), Some(_)) => true,
+        (Some(_), None) => chosen_side(choice, number) == Side::First,
+        (None, Some(_)) => chosen_side(choice, number) == Side::Second,
+        (None, None) => false,
+    }
+}
+
+impl Before {
+    /// Before the first pair.
+    pub(crate) fn first() -> Before {
+        Before {
+            place: 0,
+            number: 0,
+        }
+    }
+
+    /// Behind a pair.
+    pub(crate) fn behind(self, pair: &Pair, choice: usize) -> Before {
+        let taken = has_event(pair, choice, self.number);
+        Before {
+            place: self.place.saturating_add(if taken { 1 } else { 0 }),
+            number: self.number.saturating_add(if pair.agrees { 0 } else { 1 }),
+        }
+    }
+}
+
+/// What is before the pair at an index, in a choice.
+pub(crate) fn before_pair(pairs: &[Pair], index: usize, choice: usize) -> Before {
+    let mut before = Before::first();
+    for at in 0..pairs.len() {
+        if at < index {
+            before = before.behind(&pairs[at], choice);
+        }
+    }
+    before
+}
+
+/// The pair of the event at a place of a choice.
+pub(crate) fn pair_at(pairs: &[Pair], place: usize, choice: usize) -> Option<&Pair> {
+    let mut before = Before::first();
+    for pair in pairs {
+        let behind = before.behind(pair, choice);
+        if before.place == place && behind.place > place {
+            return Some(pair);
+        }
+        before = behind;
+    }
+    None
+}

@@ -1,0 +1,85 @@
+//! Lines as they are written on a sheet.
+
+use gcg_read::{Event, Record, same_seat};
+use gcg_write::event_text;
+use sentence_parts::{Part, say};
+use sheet_alignments::Pair;
+use sheet_comparisons::Sheets;
+use std::alloc::AllocError;
+
+/// The event at a place, where there is a place.
+pub(crate) fn event_at(record: &Record, place: Option<usize>) -> Option<&Event> {
+    match place {
+        Some(place) => record.events.as_slice().get(place),
+        None => None,
+    }
+}
+
+/// Appends the number of a line, where there is a line.
+fn push_number(text: &mut Vec<u8>, event: Option<&Event>) -> Result<(), AllocError> {
+    match event {
+        Some(event) => say(text, &[Part::Say("line "), Part::Line(event.line)]),
+        None => say(text, &[Part::Say("no line")]),
+    }
+}
+
+/// Appends the numbers of the lines of a pair.
+pub(crate) fn push_numbers(
+    text: &mut Vec<u8>,
+    sheets: &Sheets,
+    pair: &Pair,
+) -> Result<(), AllocError> {
+    push_number(text, event_at(&sheets.first, pair.first))?;
+    say(text, &[Part::Say(" | ")])?;
+    push_number(text, event_at(&sheets.second, pair.second))
+}
+
+/// Appends what a line says behind its rack, and its player where that is asked for.
+fn push_line(
+    text: &mut Vec<u8>,
+    record: &Record,
+    place: Option<usize>,
+    named: bool,
+) -> Result<(), AllocError> {
+    let Some(place) = place else {
+        return say(text, &[Part::Say("nothing")]);
+    };
+    if place >= record.events.len() {
+        return Ok(());
+    }
+    if named {
+        let player = record.events.as_slice()[place].player;
+        say(
+            text,
+            &[
+                Part::Raw(record.players.of(player).nick.as_bytes()),
+                Part::Say(": "),
+            ],
+        )?;
+    }
+    event_text(record, place, text)
+}
+
+/// Whether the lines of a pair are of different players.
+fn differ_in_player(sheets: &Sheets, pair: &Pair) -> bool {
+    let first = event_at(&sheets.first, pair.first);
+    let second = event_at(&sheets.second, pair.second);
+    match (first, second) {
+        (Some(event), Some(other)) => !same_seat(event.player, other.player),
+        _ => true,
+    }
+}
+
+/// Appends the lines of a pair.
+pub(crate) fn push_pair(
+    text: &mut Vec<u8>,
+    sheets: &Sheets,
+    pair: &Pair,
+) -> Result<(), AllocError> {
+    let named = differ_in_player(sheets, pair);
+    push_numbers(text, sheets, pair)?;
+    say(text, &[Part::Say(": ")])?;
+    push_line(text, &sheets.first, pair.first, named)?;
+    say(text, &[Part::Say(" | ")])?;
+    push_line(text, &sheets.second, pair.second, named)
+}

@@ -1,0 +1,43 @@
+-- The repair of a record that is likelier than all others by far.
+use Rattle.std.specs.Prelude.{◌≡◌, ◌≤◌, ℕ, ◌+◌, ◌*◌, ⊤, List, [], length, Option, Some, None}
+use Rattle.ref_tiles.specs.declared.rulebook.Rules.{Rules}
+use Rattle.gcg_read.specs.declared.events.Event.{Event}
+use Rattle.record_repairs.specs.Repairs.{AreFirstRepairs}
+use Rattle.record_repairs.specs.declared.listed.Listed.{Listed}
+use Rattle.record_repairs.specs.declared.remains.Remains.{Remains}
+use Rattle.record_repairs.specs.declared.repair.Repair.{Repair}
+use Rattle.repair_pairs.specs.declared.found.Pair.{Pair}
+use Rattle.repair_pairs.specs.declared.found.Pairs.{Pairs}
+use Rattle.repair_pairs.specs.Pairs.{ArePairs}
+use Rattle.repair_answers.specs.Alike.{cost_in}
+use Rattle.repair_answers.specs.Answers.{below_of}
+use Rattle.repair_answers.specs.Choices.{IsFirst, HasRival}
+use Rattle.repair_answers.specs.Unchanged.{IsUnchanged}
+
+-- A repair is ahead of wrong numbers alone by a wrong number at the least: 5 for each number, 3 for each word that is not in the list. Where more than
+-- numbers is wrong, there is nothing to be ahead of.
+abbrev pub IsAheadOfNumbers : Option Remains → Repair → Type 0
+IsAheadOfNumbers None repair = ⊤
+IsAheadOfNumbers (Some remains) repair = cost_in repair + 5 ≤ 5 * length remains.wrong.items + 3 * length remains.unlisted.items
+
+-- The likely one of some repairs: no change is left open, it is ahead of the others, and of the record as it is but for its numbers, and no two changes
+-- cost less.
+abbrev pub IsFarFirst : Option Remains → (told : List Repair) → (left : List Listed) → (pairs : List Pair) → Repair → Type 0
+IsFarFirst remains told left pairs repair = (left ≡ []) × IsFirst told repair × (HasRival repair pairs → ⊥) × IsAheadOfNumbers remains repair
+
+-- that one, or that there is none
+abbrev pub IsLikelyOf : Option Remains → (told : List Repair) → (left : List Listed) → (pairs : List Pair) → Option Repair → Type 0
+IsLikelyOf remains told left pairs (Some repair) = IsFarFirst remains told left pairs repair
+IsLikelyOf remains told left pairs None = (repair : Repair) → IsFarFirst remains told left pairs repair → ⊥
+
+-- The likely repair of a record: the first, if it is ahead of the second and of wrong numbers alone by a wrong number at the least, and if no two changes
+-- that were found cost less.
+pub record IsLikely (rules : Rules) (list : List (List ℕ)) (written : List Event) (likely : Option Repair) : Type 0 where
+  pub remains : Option Remains
+  pub alone : IsUnchanged rules list written remains
+  pub told : List Repair
+  pub left : List Listed
+  pub repairs : AreFirstRepairs rules list written (below_of remains) 2 told left
+  pub two : Pairs
+  pub pairs : ArePairs rules list written told 1 two
+  pub chosen : IsLikelyOf remains told left two.told.items likely

@@ -1,0 +1,73 @@
+//! The repair of a record that is likelier than all others by far.
+ghost use Rattle.std.specs.Prelude.{◌≡◌, ◌↔◌, IsTrue, IfOk, OnOk};
+ghost use Rattle.repair_answers.specs.Likely.{IsAheadOfNumbers, IsLikelyOf, IsLikely};
+
+use crate::answers::below_of;
+use crate::choices::{Choice, NUMBER, choice_among, cost_of};
+use crate::unchanged::unchanged;
+use gcg_read::Record;
+use lex_list::WordList;
+use record_repairs::{Found, Remains, Repair, repairs};
+use ref_tiles::Rules;
+use repair_pairs::{Pair, pairs};
+use std::alloc::{AllocError, Global};
+
+/// What a word costs that is not in the list.
+const WORD: u128 = 3;
+
+/// Whether a repair is ahead of wrong numbers alone by a wrong number at the least, where the numbers alone may be wrong.
+fn is_ahead_of_numbers(remains: &Option<Remains>, repair: &Repair) -> bool
+    ensures { IsTrue result ↔ IsAheadOfNumbers remains.now repair.now }
+{
+    match remains {
+        Some(remains) => {
+            let alone = NUMBER * remains.wrong.len() as u128
+                + WORD * remains.unlisted.len() as u128;
+            alone.saturating_sub(cost_of(repair)) >= NUMBER
+        }
+        None => true,
+    }
+}
+
+/// The first of the repairs that were found, if it is the likely one beside some pairs.
+fn chosen(remains: &Option<Remains>, found: Found, pairs: &[Pair]) -> Option<Repair>
+    ensures { IsLikelyOf remains.now found.told.items found.left.items pairs.now result }
+{
+    match choice_among(&found, pairs) {
+        Choice::Clear(repair) => {
+            if is_ahead_of_numbers(remains, repair) {
+                found.told.into_iter().next()
+            } else {
+                None
+            }
+        }
+        Choice::None | Choice::Open | Choice::Close | Choice::Pair => None,
+    }
+}
+
+/// The likely repair of a record: the first, if it is ahead of the second by a wrong number at the least, and also of the record as it is but for
+/// its numbers, and if no two changes cost less. Afterwards the record is as it was.
+///
+/// It fails only where memory runs out.
+pub fn likely_repair(
+    alloc: Global,
+    rules: &Rules,
+    list: &WordList,
+    game: &mut Record,
+) -> Result<Option<Repair>, AllocError>
+    ensures likely { IfOk result (IsLikely rules.now list.now game.old.events) }
+    ensures same { OnOk result (game.new ≡ game.old) }
+{
+    let remains = unchanged(alloc, rules, list, game)?;
+    let below = below_of(&remains);
+    let found = repairs(alloc, rules, list, &mut game.events, below, 2)?;
+    let two = pairs(
+        alloc,
+        rules,
+        list,
+        &mut game.events,
+        found.told.as_slice(),
+        1,
+    )?;
+    Ok(chosen(&remains, found, two.told.as_slice()))
+}

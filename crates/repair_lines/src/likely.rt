@@ -1,0 +1,48 @@
+//! The repair that is likelier than all others by far.
+
+use crate::evidence::{push_evidence, push_share};
+use crate::lines::push_change;
+use gcg_read::Record;
+use record_repairs::Repair;
+use repair_answers::numbers_with;
+use std::alloc::AllocError;
+
+/// Appends the change of a repair of a record: where it stands in the file, what should be there, and what is.
+///
+/// It fails only where memory runs out.
+pub fn push_change_of(
+    text: &mut Vec<u8>,
+    record: &Record,
+    repair: &Repair,
+) -> Result<(), AllocError> {
+    push_change(
+        text,
+        &record.players,
+        record.events.as_slice(),
+        &repair.listed.change,
+        repair.right.as_slice(),
+    )
+}
+
+/// Appends how many numbers of a record are right with a repair, and how many there are, such as `90 of 90`.
+///
+/// It fails only where memory runs out.
+pub fn push_numbers(
+    text: &mut Vec<u8>,
+    record: &Record,
+    repair: &Repair,
+) -> Result<(), AllocError> {
+    let numbers = numbers_with(&repair.listed.change.slip, record.events.len());
+    push_share(text, &repair.remains, numbers)
+}
+
+/// Appends the likely repair of a record: its change on a line that begins with `Likely: `, and its evidence.
+///
+/// It fails only where memory runs out.
+pub fn push_likely(text: &mut Vec<u8>, record: &Record, repair: &Repair) -> Result<(), AllocError> {
+    text.extend_from_slice(b"Likely: ")?;
+    push_change_of(text, record, repair)?;
+    text.extend_from_slice(b"\n")?;
+    let numbers = numbers_with(&repair.listed.change.slip, record.events.len());
+    push_evidence(text, &repair.remains, numbers)
+}
