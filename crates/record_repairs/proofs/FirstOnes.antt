@@ -292,7 +292,7 @@ first_ones rules list written below most found index told left are so done =
       once = so.once;
       unsettled = so.unsettled;
       others = λ l right makes.
-          let there = are.all l (record { single = makes.single; right = right; correction = makes.correction; fewer = makes.fewer }) in
+          let there = are.all l (record { single = makes.single; right = right; correction = makes.correction; fewer = makes.fewer; game = makes.game }) in
           subst
           (λ (x : Listed). Contains left x ⊎ (IsToldAt told right (rank_at (cost_of rules list x.change written right) x) ⊎ AreAhead most told (rank_at (cost_of rules list x.change written right) x)))
           there.same

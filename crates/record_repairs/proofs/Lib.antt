@@ -16,6 +16,8 @@ pub mod Counted
 pub mod Skipping
 pub mod Corrected
 pub mod RackStops
+pub mod RackFronts
+pub mod Foreseen
 pub mod Sorting
 pub mod Weighing
 pub mod AllOf

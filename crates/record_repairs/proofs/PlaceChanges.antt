@@ -1,5 +1,6 @@
 -- The candidates among the changes at a place, change by change.
 use Rattle.std.proofs.Common.{◌≡◌, ◌⊎◌, inl, inr, ℕ, ◌+◌, ◌<◌, ◌≤◌, Bool, true, false, ◌&&◌, ◌||◌, ◌==◌, nat_lt, List, [], ◌∷◌, ◌++◌, map, length, get_or, slice_get, Option, Some, None, refl, sym, ap, ◌∙◌, subst, arith}
+use Rattle.std.specs.Prelude.{min}
 use Rattle.std.proofs.lemmas.Bool.{cases_lt, eq-eqb, lt-ltb}
 use Rattle.std.proofs.lemmas.List.{append_assoc, append-nil, length-map}
 use Rattle.std.proofs.lemmas.Option.{same_Some, slice_get_read, slice_get_within}
@@ -7,6 +8,7 @@ use Rattle.ref_tiles.specs.declared.rulebook.Rules.{Rules}
 use Rattle.gcg_read.specs.declared.events.Event.{Event}
 use Rattle.game_turns.specs.declared.machine.Machine.{Machine}
 use Rattle.game_turns.specs.Machines.{state_of}
+use Rattle.deal_cuts.specs.Laws.{FrontsFit}
 use Rattle.game_rows.specs.declared.refusals.Stop.{Stop}
 use Rattle.game_rows.specs.declared.walking.Walk.{Walk}
 use Rattle.game_rows.specs.Refusals.{EndsAt}
@@ -18,12 +20,14 @@ use Rattle.change_lists.specs.Laws.{SlipsAreByBoard}
 use Rattle.record_repairs.specs.Candidates.{MayBeTold, AreAllOf, AddsAllOf}
 use Rattle.record_repairs.specs.Repairs.{IsListed}
 use Rattle.record_repairs.specs.Trying.{IsWeight, NoneFewer, StandsBefore}
+use Rattle.record_repairs.specs.RackStops.{IsRackStop}
 use Rattle.record_repairs.specs.declared.listed.Listed.{Listed}
 use Rattle.record_repairs.specs.declared.candidate.Candidate.{Candidate}
 use Rattle.record_repairs.proofs.AllOf.{none_of, one_of, among_others, joined}
 use Rattle.record_repairs.proofs.Changes.{by_correction}
 use Rattle.record_repairs.proofs.SameLists.{map_at}
 use Rattle.record_repairs.proofs.Stops.{none_behind_stop}
+use Rattle.record_repairs.proofs.RackFronts.{none_behind}
 
 -- ---- a change of the list
 
@@ -69,7 +73,7 @@ adds_none rules list written below l found none =
       are = none_of rules list written below (λ m. m ≡ l)
           (λ m same may.
           let here : MayBeTold rules list written below l = subst (MayBeTold rules list written below) same may in
-          none here.right here.correction here.fewer);
+          none here.right here.correction here.fewer here.game);
     }
 
 pub adds_one : (rules : Rules) (list : List (List ℕ)) (written : List Event) (below : Option ℕ) (l : Listed) (cost : ℕ) (old new : List Candidate) → IsListed rules written l
@@ -194,6 +198,25 @@ within_walk rules list written below walk l walked may =
     let many = is.rows.as_many in
     let here = end_stops rules list written walked.right below is.end walk.stopped l is.ends may (cases_lt l.change.place (is.end + 1)) in
     omega (arith, many, here)
+
+-- ---- nor does one behind the place where the racks stop
+
+stop_holds : FrontsFit → (rules : Rules) (list : List (List ℕ)) (written : List Event) (below : Option ℕ) (end : ℕ) (l : Listed) → IsRackStop rules list written end
+    → MayBeTold rules list written below l → (end < l.change.place) ⊎ (l.change.place ≤ end) → l.change.place < end + 1
+stop_holds law rules list written below end l stop may (inl behind) =
+    absurd (none_behind law rules list written end l.change stop.stays stop.none behind may.right may.correction may.game)
+stop_holds law rules list written below end l stop may (inr near) = omega (arith, near)
+
+pub within_stop : FrontsFit → (rules : Rules) (list : List (List ℕ)) (written : List Event) (below : Option ℕ) (end : ℕ) (l : Listed) → IsRackStop rules list written end
+    → MayBeTold rules list written below l → l.change.place < end + 1
+within_stop law rules list written below end l stop may = stop_holds law rules list written below end l stop may (cases_lt end l.change.place)
+
+pub within_both : FrontsFit → (rules : Rules) (list : List (List ℕ)) (written : List Event) (below : Option ℕ) (walk : Walk) (rows end last : ℕ) → rows ≡ length walk.rows.items
+    → IsWalkOf rules list written walk → IsRackStop rules list written end → last ≡ min rows end + 1 → (l : Listed) → MayBeTold rules list written below l → l.change.place < last
+within_both law rules list written below walk rows end last many walked stop is l may =
+    let one = within_walk rules list written below walk l walked may in
+    let other = within_stop law rules list written below end l stop may in
+    omega (arith, many, is, one, other)
 
 -- ---- a walk has no more rows than the record has events
 

@@ -23,7 +23,7 @@ no_step rules events k none =
     let past = past_of events k none in
     slice_get_past (steps_of rules events) k (omega (arith, many, past))
 
-step_by : (rules : Rules) (xs ys : List Event) (k : ℕ) (o : Option Event) → slice_get xs k ≡ o → slice_get ys k ≡ o → tally_at rules ys k ≡ tally_at rules xs k
+pub step_by : (rules : Rules) (xs ys : List Event) (k : ℕ) (o : Option Event) → slice_get xs k ≡ o → slice_get ys k ≡ o → tally_at rules ys k ≡ tally_at rules xs k
     → withdraws (slice_get ys (k + 1)) ≡ withdraws (slice_get xs (k + 1)) → slice_get (steps_of rules ys) k ≡ slice_get (steps_of rules xs) k
 step_by rules xs ys k None of_xs of_ys same next = no_step rules ys k of_ys ∙ sym (no_step rules xs k of_xs)
 step_by rules xs ys k (Some e) of_xs of_ys same next =

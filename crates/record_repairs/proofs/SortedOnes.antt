@@ -1,5 +1,5 @@
 -- All candidates, sorted by what they cost.
-use Rattle.std.proofs.Common.{◌≡◌, ◌⊎◌, inl, inr, ℕ, ◌+◌, ◌<◌, Bool, true, false, ◌&&◌, ◌||◌, ◌==◌, nat_lt, List, length, get_or, Option, refl}
+use Rattle.std.proofs.Common.{◌≡◌, ◌⊎◌, inl, inr, ℕ, ◌<◌, Bool, true, false, ◌&&◌, ◌||◌, ◌==◌, nat_lt, List, get_or, Option, refl}
 use Rattle.std.specs.List.Sorted.{IsNonDecreasingBy, IsPermutation, IsStableByKey}
 use Rattle.std.specs.Ordering.{nat_cmp}
 use Rattle.std.proofs.lemmas.Bool.{eq-eqb, lt-ltb}
@@ -7,12 +7,10 @@ use Rattle.std.proofs.lemmas.List.Elements.{All-weaker}
 use Rattle.std.proofs.lemmas.List.Sorted.{All-permutation, Contains-permutation}
 use Rattle.ref_tiles.specs.declared.rulebook.Rules.{Rules}
 use Rattle.gcg_read.specs.declared.events.Event.{Event}
-use Rattle.game_rows.specs.declared.walking.Walk.{Walk}
-use Rattle.game_rows.specs.Walks.{IsWalkOf}
 use Rattle.record_repairs.specs.Costs.{is_earlier, is_ahead}
-use Rattle.record_repairs.specs.Candidates.{rank_in, IsCandidate, AreAllOf, AreCandidates}
+use Rattle.record_repairs.specs.Candidates.{rank_in, IsCandidate, MayBeTold, AreAllOf, AreCandidates}
+use Rattle.record_repairs.specs.declared.listed.Listed.{Listed}
 use Rattle.record_repairs.specs.declared.candidate.Candidate.{Candidate}
-use Rattle.record_repairs.proofs.PlaceChanges.{within_walk}
 use Rattle.record_repairs.proofs.Sorting.{sorted_pairs}
 
 or_left : (a b : Bool) → a ≡ true → (a || b) ≡ true
@@ -30,17 +28,17 @@ ahead_by a b (inl less) = or_left (nat_lt a.cost b.cost) (a.cost == b.cost && is
 ahead_by a b (inr (same, earlier)) =
     or_right (nat_lt a.cost b.cost) (a.cost == b.cost) (is_earlier (rank_in a) (rank_in b)) (eq-eqb a.cost b.cost same) earlier
 
-pub sorted_ones : (rules : Rules) (list : List (List ℕ)) (written : List Event) (below : Option ℕ) (walk : Walk) (old new : List Candidate) → IsWalkOf rules list written walk
-    → AreAllOf rules list written below (λ l. l.change.place < length walk.rows.items + 1) old → IsPermutation old new → IsNonDecreasingBy (λ (c : Candidate). c.cost) new
+pub sorted_ones : (rules : Rules) (list : List (List ℕ)) (written : List Event) (below : Option ℕ) (last : ℕ) (old new : List Candidate) → ((l : Listed) → MayBeTold rules list written below l → l.change.place < last)
+    → AreAllOf rules list written below (λ l. l.change.place < last) old → IsPermutation old new → IsNonDecreasingBy (λ (c : Candidate). c.cost) new
     → IsStableByKey (λ (c : Candidate). c.cost) nat_cmp old new → AreCandidates rules list written below new
-sorted_ones rules list written below walk old new walked are moved rises stable =
+sorted_ones rules list written below last old new within are moved rises stable =
     record {
-      each = All-weaker (λ (c : Candidate). IsCandidate rules list written below c × (c.listed.change.place < length walk.rows.items + 1)) (IsCandidate rules list written below) (λ c both. both.0) new
-          (All-permutation (λ (c : Candidate). IsCandidate rules list written below c × (c.listed.change.place < length walk.rows.items + 1)) old new moved are.each);
-      ordered = λ i j d less within.
+      each = All-weaker (λ (c : Candidate). IsCandidate rules list written below c × (c.listed.change.place < last)) (IsCandidate rules list written below) (λ c both. both.0) new
+          (All-permutation (λ (c : Candidate). IsCandidate rules list written below c × (c.listed.change.place < last)) old new moved are.each);
+      ordered = λ i j d less inside.
           ahead_by (get_or new i d) (get_or new j d)
-          (sorted_pairs (λ (a b : Candidate). is_earlier (rank_in a) (rank_in b) ≡ true) (λ (c : Candidate). c.cost) old new are.ordered rises stable i j d less within);
+          (sorted_pairs (λ (a b : Candidate). is_earlier (rank_in a) (rank_in b) ≡ true) (λ (c : Candidate). c.cost) old new are.ordered rises stable i j d less inside);
       all = λ l may.
-          let there = are.all l (within_walk rules list written below walk l walked may) may in
+          let there = are.all l (within l may) may in
           record { candidate = there.candidate; among = Contains-permutation old new there.candidate moved there.among; same = there.same };
     }

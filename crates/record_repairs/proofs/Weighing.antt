@@ -10,7 +10,9 @@ use Rattle.event_notes.specs.Unlisted.{letters_in}
 use Rattle.record_changes.specs.declared.slips.Change.{Change}
 use Rattle.record_repairs.specs.Costs.{costs, cost_of}
 use Rattle.record_repairs.specs.Remaining.{AreFewer, Remain, many_left, wrong_with, unlisted_words}
-use Rattle.record_repairs.specs.Trying.{IsWritable}
+use Rattle.record_repairs.specs.Trying.{IsWritable, HaveNone, NoneFewer, NoneTold}
+use Rattle.record_repairs.specs.RackStops.{MakeNoGame}
+use Rattle.record_changes.specs.Applied.{applied}
 use Rattle.record_repairs.specs.declared.remains.Remains.{Remains}
 
 letters_many : (words : List SpelledWord) → length words ≡ length (letters_in words)
@@ -44,6 +46,20 @@ none_fewer rules list change written changed right other below many is sum more 
     let same : other ≡ right = one_correction rules list changed other right of_other.correction is.correction in
     let here : AreFewer below (many_left rules list change written right) = subst (λ (es : List Event). AreFewer below (many_left rules list change written es)) same fewer in
     more (subst (AreFewer below) (sym sum) here)
+
+-- ---- that a change is not told
+
+pub told_by_fewer : (rules : Rules) (list : List (List ℕ)) (written : List Event) (below : Option ℕ) (change : Change) → NoneFewer rules list written below change
+    → NoneTold rules list written below change
+told_by_fewer rules list written below change none = λ right writable fewer game. none right writable fewer
+
+pub told_by_none : (rules : Rules) (list : List (List ℕ)) (written : List Event) (below : Option ℕ) (change : Change) → HaveNone rules list (applied change written)
+    → NoneTold rules list written below change
+told_by_none rules list written below change none = λ right writable fewer game. none right writable
+
+pub told_by_racks : (rules : Rules) (list : List (List ℕ)) (written : List Event) (below : Option ℕ) (change : Change) → MakeNoGame rules list (applied change written)
+    → NoneTold rules list written below change
+told_by_racks rules list written below change none = λ right writable fewer game. none right writable game
 
 pub letters_joined : (words more all : List SpelledWord) → all ≡ words ++ more → letters_in all ≡ letters_in words ++ letters_in more
 letters_joined words more all is =

@@ -2,6 +2,7 @@
 use Rattle.std.specs.Prelude.{◌≡◌, ℕ, ◌<◌, true, List, ◌++◌, All, AllPairs, Contains, Option}
 use Rattle.ref_tiles.specs.declared.rulebook.Rules.{Rules}
 use Rattle.gcg_read.specs.declared.events.Event.{Event}
+use Rattle.engine.specs.Verdicts.{IsGame}
 use Rattle.record_changes.specs.Applied.{applied}
 use Rattle.record_repairs.specs.Costs.{Rank, rank_at, is_earlier, is_ahead}
 use Rattle.record_repairs.specs.Remaining.{AreFewer, many_left}
@@ -18,12 +19,13 @@ pub record IsCandidate (rules : Rules) (list : List (List ℕ)) (written : List 
   pub single : IsListed rules written c.listed
   pub weighed : IsWeighed rules list written below c.listed.change c.cost
 
--- a change of the list with which the record has a correction that leaves few enough numbers and words wrong
+-- a change of the list with which the record has a correction that is a game and leaves few enough numbers and words wrong
 pub record MayBeTold (rules : Rules) (list : List (List ℕ)) (written : List Event) (below : Option ℕ) (listed : Listed) : Type 0 where
   pub single : IsListed rules written listed
   pub right : List Event
   pub correction : IsWritable rules list (applied listed.change written) right
   pub fewer : AreFewer below (many_left rules list listed.change written right)
+  pub game : IsGame rules list right
 
 -- a candidate is there for a change
 pub record IsThere (found : List Candidate) (listed : Listed) : Type 0 where
@@ -31,7 +33,7 @@ pub record IsThere (found : List Candidate) (listed : Listed) : Type 0 where
   pub among : Contains found candidate
   pub same : candidate.listed ≡ listed
 
--- All candidates among the changes of which something holds, in the order of the list.
+-- Candidates among the changes of which something holds, in the order of the list: all that make a game, and maybe others.
 pub record AreAllOf (rules : Rules) (list : List (List ℕ)) (written : List Event) (below : Option ℕ) (Which : Listed → Type 0) (found : List Candidate) : Type 0 where
   pub each : All (λ (c : Candidate). IsCandidate rules list written below c × Which c.listed) found
   pub ordered : AllPairs (λ (a b : Candidate). is_earlier (rank_in a) (rank_in b) ≡ true) found
@@ -55,7 +57,7 @@ AddsCandidates rules list written below place old new = AddsAllOf rules list wri
 abbrev pub AddsListed : Rules → (list : List (List ℕ)) → (written : List Event) → (below : Option ℕ) → Listed → (old new : List Candidate) → Type 0
 AddsListed rules list written below one old new = AddsAllOf rules list written below (λ listed. listed ≡ one) old new
 
--- All candidates, in the order in which they are told.
+-- Candidates, in the order in which they are told: all that make a game, and maybe others.
 pub record AreCandidates (rules : Rules) (list : List (List ℕ)) (written : List Event) (below : Option ℕ) (found : List Candidate) : Type 0 where
   pub each : All (IsCandidate rules list written below) found
   pub ordered : AllPairs (λ (a b : Candidate). is_ahead (rank_in a) (rank_in b) ≡ true) found

@@ -4,6 +4,7 @@ pub mod Remaining
 pub mod Counting
 pub mod Costs
 pub mod Trying
+pub mod RackStops
 pub mod Repairs
 pub mod Candidates
 pub mod Settling

@@ -7,6 +7,7 @@ use Rattle.game_turns.specs.Machines.{rules_of, state_of}
 use Rattle.game_turns.specs.Places.{AreAllowedTo}
 use Rattle.game_turns.specs.Tallies.{tally_at, withdraws}
 use Rattle.game_sheets.specs.Corrections.{IsCorrection, HavePoints, AreRenumbered}
+use Rattle.engine.specs.Verdicts.{IsGame}
 use Rattle.record_changes.specs.declared.slips.Change.{Change}
 use Rattle.record_changes.specs.Applied.{applied}
 use Rattle.record_repairs.specs.Costs.{cost_of}
@@ -35,6 +36,11 @@ abbrev pub NoneFewer : Rules → (list : List (List ℕ)) → (written : List Ev
 NoneFewer rules list written below change =
     (right : List Event) → IsWritable rules list (applied change written) right → AreFewer below (many_left rules list change written right) → ⊥
 
+-- With no correction that a record can write it is a game in which few enough numbers and words stay wrong.
+abbrev pub NoneTold : Rules → (list : List (List ℕ)) → (written : List Event) → (below : Option ℕ) → Change → Type 0
+NoneTold rules list written below change =
+    (right : List Event) → IsWritable rules list (applied change written) right → AreFewer below (many_left rules list change written right) → IsGame rules list right → ⊥
+
 -- the correction that a record can write, or that there is none
 abbrev pub IsCorrectionOf : Rules → (list : List (List ℕ)) → (changed : List Event) → Option (List Event) → Type 0
 IsCorrectionOf rules list changed None = HaveNone rules list changed
@@ -60,7 +66,7 @@ pub record IsWeighed (rules : Rules) (list : List (List ℕ)) (written : List Ev
   pub fewer : AreFewer below (many_left rules list change written right)
   pub costs : number ≡ cost_of rules list change written right
 
--- the same, or that there is no such correction
+-- the same, or that there is no such correction that is a game
 abbrev pub IsWeight : Rules → (list : List (List ℕ)) → (written : List Event) → (below : Option ℕ) → Change → Option ℕ → Type 0
-IsWeight rules list written below change None = NoneFewer rules list written below change
+IsWeight rules list written below change None = NoneTold rules list written below change
 IsWeight rules list written below change (Some number) = IsWeighed rules list written below change number

@@ -1,21 +1,26 @@
 //! The changes of a record with which it has a correction.
-ghost use Rattle.std.specs.Prelude.{◌≡◌, ◌≤◌, map, length, IsTrue, IfOk, OnOk};
+ghost use Rattle.std.specs.Prelude.{◌≡◌, ℕ, ◌+◌, ◌<◌, ◌≤◌, List, Option, map, length, IsTrue, IfOk, OnOk};
 ghost use Rattle.ref_tiles.specs.declared.rulebook.Rules.{Rules};
 ghost use Rattle.change_lists.specs.Changes.{change_at, changes_at};
 ghost use Rattle.game_rows.specs.Walks.{IsWalkOf};
-ghost use Rattle.record_repairs.specs.Candidates.{AreCandidates, AddsCandidates, AddsListed};
+ghost use Rattle.gcg_read.specs.declared.events.Event.{Event};
+ghost use Rattle.record_repairs.specs.Candidates.{AreBefore, AreCandidates, AddsCandidates, AddsListed, MayBeTold};
 ghost use Rattle.record_changes.specs.declared.slips.Change.{Change};
 ghost use Rattle.record_repairs.specs.Repairs.{IsListed};
 ghost use Rattle.record_repairs.specs.Trying.{NoneFewer};
+ghost use Rattle.record_repairs.specs.RackStops.{IsStop};
+ghost use Rattle.record_repairs.specs.declared.listed.Listed.{Listed};
 
 use crate::candidate::Candidate;
 use crate::counting::behind_rows;
 use crate::listed::Listed;
+use crate::rack_stops::{RackStop, rack_stop};
 use crate::rooms::is_full;
 use crate::standing::game_before;
 use crate::sums::behind_sums;
 use crate::trying::weigh;
 use change_lists::{law_of_slips, slips_at};
+use deal_cuts::law_of_fronts;
 use game_rows::Walk;
 use gcg_read::Event;
 use lex_list::WordList;
@@ -32,13 +37,25 @@ fn push_listed(
     walk: &Walk,
     events: &[Event],
     below: Option<usize>,
+    stop: &Option<RackStop>,
     listed: Listed,
 ) -> Result<(), AllocError>
     requires walk { IsWalkOf rules.now list.now events.now walk.now }
+    requires stop { IsStop rules.now list.now events.now stop.now }
     requires single { IsListed rules.now events.now listed }
     ensures { OnOk result (AddsListed rules.now list.now events.now below listed found.old.items found.new.items) }
 {
-    let Some(cost) = weigh(alloc, rules, list, walk, events, below, &listed.change)? else {
+    let Some(cost) = weigh(
+        alloc,
+        rules,
+        list,
+        walk,
+        events,
+        below,
+        stop,
+        &listed.change,
+    )?
+    else {
         return Ok(());
     };
     found.push(Candidate { listed, cost })?;
@@ -54,10 +71,12 @@ fn push_slips(
     walk: &Walk,
     events: &[Event],
     below: Option<usize>,
+    stop: &Option<RackStop>,
     place: usize,
     slips: Vec<Slip>,
 ) -> Result<(), AllocError>
     requires walk { IsWalkOf rules.now list.now events.now walk.now }
+    requires stop { IsStop rules.now list.now events.now stop.now }
     requires within { place ≤ length events.now }
     requires slips { map (change_at place) slips.items ≡ changes_at rules.now events.now place }
     ensures { OnOk result (AddsCandidates rules.now list.now events.now below place found.old.items found.new.items) }
@@ -66,7 +85,7 @@ fn push_slips(
     for slip in slips {
         let change = Change { place, slip };
         let listed = Listed { change, index };
-        push_listed(alloc, found, rules, list, walk, events, below, listed)?;
+        push_listed(alloc, found, rules, list, walk, events, below, stop, listed)?;
         index += 1;
     }
     Ok(())
@@ -101,9 +120,11 @@ fn push_candidates(
     walk: &Walk,
     events: &[Event],
     below: Option<usize>,
+    stop: &Option<RackStop>,
     place: usize,
 ) -> Result<(), AllocError>
     requires walk { IsWalkOf rules.now list.now events.now walk.now }
+    requires stop { IsStop rules.now list.now events.now stop.now }
     requires place { place ≤ length walk.now.rows.items }
     ensures { OnOk result (AddsCandidates rules.now list.now events.now below place found.old.items found.new.items) }
 {
@@ -115,11 +136,55 @@ fn push_candidates(
         unreachable!()
     };
     let slips = slips_at(alloc, rules, game, events, place)?;
-    push_slips(alloc, found, rules, list, walk, events, below, place, slips)
+    push_slips(
+        alloc, found, rules, list, walk, events, below, stop, place, slips,
+    )
+}
+
+/// The changes at the first so many places with which the record has a correction that leaves few enough numbers and words wrong, in the
+/// order of the list. Of those with which it makes no game, some are left out.
+fn candidates_before(
+    alloc: Global,
+    rules: &Rules,
+    list: &WordList,
+    walk: &Walk,
+    events: &[Event],
+    below: Option<usize>,
+    stop: &Option<RackStop>,
+    end: usize,
+) -> Result<Vec<Candidate>, AllocError>
+    requires walk { IsWalkOf rules.now list.now events.now walk.now }
+    requires stop { IsStop rules.now list.now events.now stop.now }
+    requires end { end ≤ length walk.now.rows.items + 1 }
+    ensures { IfOk result (λ found. AreBefore rules.now list.now events.now below end found.items) }
+{
+    let mut found = Vec::new(alloc);
+    for place in 0..end {
+        push_candidates(
+            alloc, &mut found, rules, list, walk, events, below, stop, place,
+        )?;
+    }
+    Ok(found)
+}
+
+/// How many places have a change that makes a game: up to the event at which the walk stops, and up to the one behind those whose racks no
+/// deal yields.
+#[tactic(auto, using(crate::proofs::PlaceChanges::within_walk, crate::proofs::PlaceChanges::within_both))]
+fn many_places(walk: &Walk, stop: &Option<RackStop>) -> usize
+    ensures most { result ≤ length walk.now.rows.items + 1 }
+    ensures all { (rules : Rules) (list : List (List ℕ)) (events : List Event) (below : Option ℕ) (listed : Listed) → IsWalkOf rules list events walk.now
+        → IsStop rules list events stop.now → MayBeTold rules list events below listed → listed.change.place < result }
+{
+    law_of_fronts();
+    let rows = walk.rows.len();
+    match stop {
+        Some(stop) => rows.min(stop.end) + 1,
+        None => rows + 1,
+    }
 }
 
 /// The changes of a record with which it has a correction that leaves few enough numbers and words wrong, those that cost least first,
-/// and of equal costs in the order of the list.
+/// and of equal costs in the order of the list. Of those with which it makes no game, some are left out.
 ///
 /// It fails only where memory runs out.
 pub(crate) fn all_candidates(
@@ -133,10 +198,9 @@ pub(crate) fn all_candidates(
     requires { IsWalkOf rules.now list.now events.now walk.now }
     ensures { IfOk result (λ found. AreCandidates rules.now list.now events.now below found.items) }
 {
-    let mut found = Vec::new(alloc);
-    for place in 0..walk.rows.len() + 1 {
-        push_candidates(alloc, &mut found, rules, list, walk, events, below, place)?;
-    }
+    let stop = rack_stop(alloc, rules, list, events, walk.rows.len())?;
+    let end = many_places(walk, &stop);
+    let mut found = candidates_before(alloc, rules, list, walk, events, below, &stop, end)?;
     found.sort_by_key(|candidate| candidate.cost)?;
     Ok(found)
 }

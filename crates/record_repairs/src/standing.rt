@@ -28,7 +28,7 @@ pub(crate) fn game_before(walk: &Walk, place: usize) -> Option<&Machine>
 
 /// Whether a withdrawal stands at a place.
 #[tactic(auto, using(game_turns::proofs::PlaceLaws::copied_get))]
-fn withdraws_at(events: &[Event], place: usize) -> bool
+pub(crate) fn withdraws_at(events: &[Event], place: usize) -> bool
     ensures { result ≡ withdraws (slice_get events.now place) }
 {
     withdraws(events.get(place))

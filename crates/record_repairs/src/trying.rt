@@ -3,20 +3,22 @@ ghost use Rattle.std.specs.Prelude.{◌↔◌, IsTrue, IsFalse, IfOk};
 ghost use Rattle.game_turns.specs.Machines.{rules_of};
 ghost use Rattle.game_rows.specs.Walks.{IsWalkOf};
 ghost use Rattle.record_repairs.specs.Remaining.{AreFewer};
-ghost use Rattle.record_repairs.specs.Trying.{NoneFrom, NoneFewer, StandsBefore, IsWeight};
+ghost use Rattle.record_repairs.specs.Trying.{NoneFrom, NoneFewer, NoneTold, StandsBefore, IsWeight};
+ghost use Rattle.record_repairs.specs.RackStops.{IsStop};
 
 use crate::correcting::corrected;
 use crate::counting::{behind_event, behind_rows, scores_but};
+use crate::mending::mend;
+use crate::rack_stops::{RackStop, is_stopped};
 use crate::remaining::what_remains;
 use crate::rooms::is_full;
 use crate::standing::{game_before, start_of};
 use crate::sums::{behind_sums, is_missing_at, missing_place};
 use game_rows::Walk;
-use game_sheets::mend;
 use game_turns::{Machine, law_of_tallies};
 use gcg_read::{Event, Events};
 use lex_list::WordList;
-use record_changes::{Change, apply, law_of_changes};
+use record_changes::{Change, Slip, TilesOf, apply, law_of_changes};
 use ref_tiles::Rules;
 use std::alloc::{AllocError, Global};
 
@@ -86,6 +88,50 @@ fn may_help(
     }
 }
 
+/// Whether a slip concerns a stated rack alone. The rules allow the same events with it, so that the racks are looked at first.
+fn is_of_rack(slip: &Slip) -> bool {
+    match slip {
+        Slip::NoRack
+        | Slip::Tile {
+            of: TilesOf::Rack,
+            ..
+        } => true,
+        _ => false,
+    }
+}
+
+/// Whether a change may be told. It is false only where with it the record has no correction that a record can write, or none that is a game,
+/// or too many numbers and words stay wrong.
+///
+/// It fails only where memory runs out.
+#[tactic(auto, using(crate::proofs::Weighing::told_by_fewer, crate::proofs::Weighing::told_by_racks))]
+fn may_be_told(
+    alloc: Global,
+    rules: &Rules,
+    list: &WordList,
+    walk: &Walk,
+    events: &[Event],
+    below: Option<usize>,
+    stop: &Option<RackStop>,
+    change: &Change,
+) -> Result<bool, AllocError>
+    requires walk { IsWalkOf rules.now list.now events.now walk.now }
+    requires stop { IsStop rules.now list.now events.now stop.now }
+    ensures { IfOk result (λ b. IsFalse b → NoneTold rules.now list.now events.now below change.now) }
+{
+    if is_of_rack(&change.slip) {
+        if is_stopped(alloc, rules, list, events, stop, change)? {
+            return Ok(false);
+        }
+        return may_help(alloc, rules, list, walk, events, below, change);
+    }
+    if !may_help(alloc, rules, list, walk, events, below, change)? {
+        return Ok(false);
+    }
+    let stopped = is_stopped(alloc, rules, list, events, stop, change)?;
+    Ok(!stopped)
+}
+
 /// Whether so many are few enough.
 fn are_fewer(below: Option<usize>, many: u128) -> bool
     ensures { IsTrue result ↔ AreFewer below many }
@@ -96,9 +142,11 @@ fn are_fewer(below: Option<usize>, many: u128) -> bool
     }
 }
 
-/// What a change costs, where the record has a correction with it that a record can write, and few enough numbers and words stay wrong.
+/// What a change costs, where the record has a correction with it that a record can write, and few enough numbers and words stay wrong. None
+/// where it has no such correction, or none that is a game.
 ///
 /// It fails only where memory runs out.
+#[tactic(auto, using(crate::proofs::Weighing::told_by_none))]
 pub(crate) fn weigh(
     alloc: Global,
     rules: &Rules,
@@ -106,12 +154,14 @@ pub(crate) fn weigh(
     walk: &Walk,
     events: &[Event],
     below: Option<usize>,
+    stop: &Option<RackStop>,
     change: &Change,
 ) -> Result<Option<u128>, AllocError>
-    requires { IsWalkOf rules.now list.now events.now walk.now }
+    requires walk { IsWalkOf rules.now list.now events.now walk.now }
+    requires stop { IsStop rules.now list.now events.now stop.now }
     ensures { IfOk result (IsWeight rules.now list.now events.now below change.now) }
 {
-    if !may_help(alloc, rules, list, walk, events, below, change)? {
+    if !may_be_told(alloc, rules, list, walk, events, below, stop, change)? {
         return Ok(None);
     }
     let Some(right) = corrected(alloc, rules, list, change, events)? else {

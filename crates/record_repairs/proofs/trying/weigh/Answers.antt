@@ -16,7 +16,7 @@ returns-then-not-are_fewer c =
     let left = c.in_ok-left.left in
     let is = subst (IsCorrectionOf rules list changed) c.in-Some.is c.in_ok-right.ensures in
     let remain = c.in_ok-left.ensures in
-    λ other of_other fewer.
+    λ other of_other fewer game.
     none_fewer rules list change written changed right other c.args.below c.many.result is (many_is rules list change written right left c.many.result remain c.many.ensures)
     (λ enough. let yes_it = c.are_fewer.ensures.1 enough in let not_it = c.if-not-are_fewer.true in cc) of_other fewer
 
