@@ -180,11 +180,14 @@ for number in 500 1000; do
     requests "$number" true > "$work/best-$number"
     requests "$number" false > "$work/plain-$number"
 done
+requests 10000 true > "$work/best-10000"
 requests 10000 false > "$work/plain-10000"
 input=$work/best-500
 measure best-500 0 check - 1 '`serve`, 500 requests to judge the example game' "$program" serve "$@"
 input=$work/best-1000
 measure best-1000 0 check best-500:2 1 '`serve`, 1,000 such requests' "$program" serve "$@"
+input=$work/best-10000
+measure best-10000 0 check best-1000:10 1 '`serve`, 10,000 such requests' "$program" serve "$@"
 batches=3
 input=$work/plain-500
 measure plain-500 0 check - 1 '`serve`, 500 requests to judge it without best plays' "$program" serve "$@"

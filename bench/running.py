@@ -20,11 +20,11 @@ class Ran(NamedTuple):
     memory: float
 
 
-def run(folder, words, errors=True):
+def run(folder, words, errors=True, stdin=None):
     """Runs a program in a folder. What it writes on standard error is kept with the rest, or thrown away."""
     with open(Path(folder, "said"), "wb") as sink:
         begun = time.monotonic()
-        process = subprocess.Popen(words, cwd=folder, stdout=sink, stderr=sink if errors else subprocess.DEVNULL)
+        process = subprocess.Popen(words, cwd=folder, stdin=stdin, stdout=sink, stderr=sink if errors else subprocess.DEVNULL)
         _, status, used = os.wait4(process.pid, 0)
         seconds = time.monotonic() - begun
         process.returncode = os.waitstatus_to_exitcode(status)

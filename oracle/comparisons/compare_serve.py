@@ -1,9 +1,10 @@
 """Compares the answers of `serve` with the second judge and with the commands: compare_serve PROGRAM CASES SEED
 
 Each case is a word list with its lexicon, sometimes with a rules text, and a process of `serve` by these. It is asked of games that nobody dealt, of games
-that were dealt for real with mistakes of a director's day, and of damaged records, by every command; some lines are no requests. Each answer is compared
-with the value of the second judge, and some with what the command of that name writes of the same bytes. Where an input is bad, the process has to say so as
-`check --json` does, and to end.
+that were dealt for real with mistakes of a director's day, and of damaged records, by every command; some lines are no requests. Games are judged as they go
+on, some of them twice, and turns with the same rack on other boards and with another rack on the same board, so that best plays that are known have to be
+those of the board and the rack. Each answer is compared with the value of the second judge, and some with what the command of that name writes of the same
+bytes. If an input is bad, the process has to say so as `check --json` does, and to end.
 """
 import json
 import random
@@ -11,7 +12,8 @@ import subprocess
 
 from answers import lines_of
 from comparing import Differences, compare_cases
-from dealing import likely, line
+from dealing import in_order, likely, line
+from games import Event
 from making import random_rack
 from mistakes import MOST, some_game, some_inputs
 from objects import checked_object
@@ -49,6 +51,13 @@ def some_request(game):
     if do == "word":
         return {"do": do, "words": random.choices(WORDS[:5] if likely(0.7) else WORDS, k=random.randint(1, 4))}, None
     return {"do": do, "game": text}, {"audit": ["audit", "--json"], "tidy": ["tidy"], "page": ["page"]}[do]
+
+
+def passed(events, rack):
+    """The pass of the other player after some events, with a rack."""
+    player = 1 - events[-1].player if events else 0
+    totals = [it.total for it in events if it.player == player]
+    return Event(player, "pass", 0, totals[-1] if totals else 0, "-", rack=rack)
 
 
 class Served(Differences):
@@ -91,7 +100,15 @@ class Served(Differences):
             asked.append((json.dumps(request, ensure_ascii=likely(0.5)).encode(), command))
         asked += [(it, None) for it in random.choices(ODD, k=3)]
         random.shuffle(asked)
-        return asked
+        return asked + [(json.dumps({"id": "on"} | request).encode(), command) for request, command in self.going_on(events)]
+
+    def going_on(self, events):
+        """Requests to judge a game as it goes on, some of them twice, and with a pass at its end that shows one of two racks."""
+        racks = [in_order(random.sample(TILES, 7)) for _ in range(2)]
+        for number in sorted(random.choices(range(len(events) + 1), k=5)):
+            game = events[:number] + ([passed(events[:number], random.choice(racks))] if likely(0.5) else [])
+            settle = likely(0.2)
+            yield {"do": "judge", "game": "".join(map(line, game)), "settle": settle}, ["judge", "--json", *["--settle"] * settle]
 
     def compare(self, words, lexicon, request, told, text, answer):
         """Compares an answer with those of the second judge."""

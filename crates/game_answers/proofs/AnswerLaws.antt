@@ -1,21 +1,22 @@
 -- The answers of the events of a record, place by place.
-use Rattle.std.proofs.Common.{◌≡◌, ◌⊎◌, inl, inr, ℕ, zero, suc, ◌+◌, ◌<◌, ◌≤◌, ℤ, List, [], ◌∷◌, ◌++◌, length, slice_get, get_or, Some, refl, sym, ap, ◌∙◌, subst, arith}
+use Rattle.std.proofs.Common.{◌≡◌, false, ◌⊎◌, inl, inr, ℕ, zero, suc, ◌+◌, ◌<◌, ◌≤◌, ℤ, List, [], ◌∷◌, ◌++◌, length, slice_get, get_or, Some, refl, sym, ap, ◌∙◌, subst, arith}
 use Rattle.std.proofs.lemmas.Option.{same_Some}
 use Rattle.ref_tiles.specs.declared.rulebook.Rules.{Rules}
 use Rattle.gcg_read.specs.declared.events.Event.{Event}
 use Rattle.gcg_read.specs.declared.records.Record.{Record}
 use Rattle.game_turns.specs.declared.machine.Machine.{Machine}
 use Rattle.game_turns.specs.LatestEvents.{latest_tiles, standing_words}
-use Rattle.game_turns.specs.Machines.{state_of}
-use Rattle.game_turns.specs.Tallies.{State, tally_at}
+use Rattle.game_turns.specs.Machines.{rules_of, state_of}
+use Rattle.game_turns.specs.Tallies.{State, tally, tally_at}
 use Rattle.game_notes.specs.declared.following.Follow.{Follow}
-use Rattle.game_report.specs.Beside.{StandAt}
-use Rattle.game_report.proofs.ReportLines.{read_there}
+use Rattle.game_notes.specs.Following.{Follows}
+use Rattle.game_report.proofs.ReportLines.{start_of_game, read_there}
 use Rattle.game_answers.specs.declared.answers.EventAnswer.{EventAnswer}
 use Rattle.event_notes.specs.declared.bests.TurnBest.{TurnBest}
 use Rattle.game_answers.specs.Answers.{tiles_in, IsAnswerAt, AreAnswersTo}
 use Rattle.event_notes.specs.Bests.{IsTurnBest}
 use Rattle.game_answers.specs.Given.{given_at}
+use Rattle.game_answers.specs.Going.{HasTaken}
 use Rattle.game_answers.specs.Letters.{word_of}
 use Rattle.event_notes.specs.Unlisted.{letters_in, unlisted_of}
 
@@ -88,15 +89,26 @@ by_states rules list events place e s t a stands before behind best tiles word u
 pub best_by_own : (own rules : Rules) (list : List (List ℕ)) (st : State) (e : Event) (gave : ℤ) (b : TurnBest) → own ≡ rules → IsTurnBest own list st e gave b → IsTurnBest rules list st e gave b
 best_by_own own rules list st e gave b same is = subst (λ (r : Rules). IsTurnBest r list st e gave b) same is
 
--- The machine and the board before the event, and behind it; `game` is the record as it was lent, and `listed` the list.
-pub answer_is : (rules : Rules) (list listed : List (List ℕ)) (game r : Record) (shown : List Event) (place : ℕ) (e : Event) (before behind : Machine) (beside next : Follow) (gave : ℤ) (b : TurnBest)
-    (a : EventAnswer) → StandAt rules list r.events place before beside → StandAt rules list r.events (place + 1) behind next → game ≡ r → shown ≡ game.events → listed ≡ list
+-- The machine before the event, and behind it; `game` is the record as it was lent, and `listed` the list.
+pub answer_is : (rules : Rules) (list listed : List (List ℕ)) (game r : Record) (shown : List Event) (place : ℕ) (e : Event) (before behind : Machine) (gave : ℤ) (b : TurnBest)
+    (a : EventAnswer) → state_of before ≡ tally_at rules r.events place → state_of behind ≡ tally_at rules r.events (place + 1) → game ≡ r → shown ≡ game.events → listed ≡ list
     → place < length r.events → e ≡ get_or shown place e → gave ≡ given_at shown place e → IsTurnBest rules list (state_of before) e gave b → a.best ≡ b
     → tiles_in a.play ≡ latest_tiles (state_of behind).latest → a.word.items ≡ word_of (state_of behind).board e.kind
     → letters_in a.unlisted.items ≡ unlisted_of listed (standing_words (state_of behind).latest) → IsAnswerAt rules list r.events place a
-answer_is rules list listed game r shown place e before behind beside next gave b a stood stand same shows lists below read gives best kept tiles word unlisted =
+answer_is rules list listed game r shown place e before behind gave b a stood stand same shows lists below read gives best kept tiles word unlisted =
     let all : shown ≡ r.events = shows ∙ ap (λ (g : Record). g.events) same in
     let given : gave ≡ given_at r.events place e = gives ∙ ap (λ (es : List Event). given_at es place e) all in
-    by_states rules list r.events place e (state_of before) (state_of behind) a (read_there shown r.events place e all below read) stood.state stand.state
+    by_states rules list r.events place e (state_of before) (state_of behind) a (read_there shown r.events place e all below read) stood stand
     (subst (λ (x : TurnBest). IsTurnBest rules list (state_of before) e (given_at r.events place e) x) (sym kept) (subst (λ (n : ℤ). IsTurnBest rules list (state_of before) e n b) given best))
     tiles word (unlisted ∙ ap (λ (ws : List (List ℕ)). unlisted_of ws (standing_words (state_of behind).latest)) lists)
+
+-- ---- before the first event
+
+-- a machine by equal rules
+pub none_taken : (rules own : Rules) (events : List Event) (machine : Machine) → own ≡ rules → rules_of machine ≡ own → state_of machine ≡ tally own false [] → HasTaken rules events 0 machine
+none_taken rules own events machine same by start =
+    record { own = by ∙ same; state = start_of_game rules events (state_of machine) (start ∙ ap (λ r. tally r false []) same) }
+
+-- a board by equal rules
+pub follows_too : (rules own : Rules) (list : List (List ℕ)) (follow : Follow) → own ≡ rules → Follows own list follow → Follows rules list follow
+follows_too rules own list follow same follows = subst (λ r. Follows r list follow) same follows

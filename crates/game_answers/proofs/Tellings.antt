@@ -1,5 +1,5 @@
 -- What a report tells, by the value of what it tells.
-use Rattle.std.proofs.Common.{◌≡◌, ℕ, ℤ, Bool, true, false, List, [], ◌∷◌, ◌++◌, ◌&&◌, codes, refl, sym, ap, ◌∙◌, Option, Some, None, if◌then◌else◌}
+use Rattle.std.proofs.Common.{◌≡◌, ℕ, Bool, true, false, List, [], ◌∷◌, ◌++◌, ◌&&◌, codes, refl, sym, ap, ◌∙◌, if◌then◌else◌}
 use Rattle.std.specs.List.{list_all, flat_map}
 use Rattle.std.proofs.lemmas.Bool.{and_parts}
 use Rattle.lex_list.specs.Words.{is_listed}

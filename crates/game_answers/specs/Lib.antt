@@ -10,3 +10,4 @@ pub mod Plays
 pub mod Tops
 pub mod BoardTexts
 pub mod Boards
+pub mod Going

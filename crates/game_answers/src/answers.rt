@@ -2,23 +2,25 @@
 ghost use Rattle.std.specs.Prelude.{◌≡◌, ◌<◌, ◌+◌, length, slice_get, IfOk, OnOk};
 ghost use Rattle.std.specs.Option.{option_copied};
 ghost use Rattle.game_turns.specs.LatestEvents.{latest_tiles, standing_words};
-ghost use Rattle.game_turns.specs.Machines.{state_of};
+ghost use Rattle.game_turns.specs.Machines.{rules_of, state_of};
 ghost use Rattle.game_turns.specs.Passing.{rules_in, record_in};
 ghost use Rattle.lex_check.specs.Pairs.{list_in};
-ghost use Rattle.game_report.specs.Beside.{StandAt, StandsBeside};
+ghost use Rattle.game_notes.specs.Following.{Follows};
+ghost use Rattle.known_bests.specs.Known.{AreKnown};
+ghost use Rattle.game_answers.specs.Going.{HasTaken};
 ghost use Rattle.game_answers.specs.Given.{given_at};
 ghost use Rattle.game_answers.specs.Answers.{tiles_in, IsAnswerAt, AreAnswersTo};
 ghost use Rattle.game_answers.specs.Letters.{word_of};
 ghost use Rattle.event_notes.specs.Bests.{IsTurnBest};
 ghost use Rattle.event_notes.specs.Unlisted.{letters_in, unlisted_of};
 
+use crate::besides::Beside;
 use crate::copies::copied;
 use crate::letters::word_of;
-use event_notes::{SpelledWord, TurnBest, best_of_turn, unlisted_of};
-use game_notes::Follow;
-use game_report::follow_event;
+use event_notes::{SpelledWord, TurnBest, unlisted_of};
 use game_turns::{Machine, Passed, withdraws};
 use gcg_read::Event;
+use known_bests::{KnownBests, find_best_of_turn, known_best_of_turn};
 use lex_check::Checked;
 use lex_list::WordList;
 use ref_play::{Play, Word};
@@ -39,7 +41,7 @@ pub struct EventAnswer {
 
 /// The event behind a place, where there is one.
 #[tactic(auto, using(game_turns::proofs::PlaceLaws::copied_get))]
-fn event_behind(events: &[Event], place: usize) -> Option<&Event>
+pub(crate) fn event_behind(events: &[Event], place: usize) -> Option<&Event>
     requires { place < length events.now }
     ensures { option_copied result ≡ slice_get events.now (place + 1) }
 {
@@ -58,20 +60,54 @@ fn given_at(events: &[Event], place: usize, event: &Event) -> i32
     }
 }
 
-/// What is said of the best play of an event of the record, which gave so many points; `machine` stands before it, and `follow` beside it.
+/// What is said of the best play of an event of the record that gave so many points, by a search; `machine` stands before it. The board beside the
+/// game is brought up to the event.
 #[tactic(auto, using(crate::proofs::AnswerLaws::best_by_own))]
+fn find_best_at(
+    passed: &Passed<'_>,
+    pair: &Checked<'_>,
+    machine: &Machine,
+    beside: &mut Beside,
+    known: &mut KnownBests,
+    place: usize,
+    event: &Event,
+    gave: i32,
+) -> TurnBest
+    requires place { place < length (record_in passed.now).events }
+    requires follows { Follows (rules_in passed.now) (list_in pair.now) beside.old.follow }
+    requires known { AreKnown (rules_in passed.now) (list_in pair.now) known.old }
+    ensures follows { Follows (rules_in passed.now) (list_in pair.now) beside.new.follow }
+    ensures known { AreKnown (rules_in passed.now) (list_in pair.now) known.new }
+    ensures best { IsTurnBest (rules_in passed.now) (list_in pair.now) (state_of machine.now) event.now gave result }
+{
+    let rules = passed.rules();
+    let events = passed.record().events.as_slice();
+    beside.catch_up(rules, pair, events, place);
+    find_best_of_turn(rules, pair, machine, &beside.follow, event, gave, known)
+}
+
+/// What is said of the best play of an event of the record that gave so many points; `machine` stands before it. Only what is not known is looked for.
 fn best_at(
     passed: &Passed<'_>,
     pair: &Checked<'_>,
     machine: &Machine,
-    follow: &Follow,
+    beside: &mut Beside,
+    known: &mut KnownBests,
+    place: usize,
     event: &Event,
     gave: i32,
 ) -> TurnBest
-    requires { StandsBeside (rules_in passed.now) (list_in pair.now) (state_of machine.now) follow.now }
-    ensures { IsTurnBest (rules_in passed.now) (list_in pair.now) (state_of machine.now) event.now gave result }
+    requires place { place < length (record_in passed.now).events }
+    requires follows { Follows (rules_in passed.now) (list_in pair.now) beside.old.follow }
+    requires known { AreKnown (rules_in passed.now) (list_in pair.now) known.old }
+    ensures follows { Follows (rules_in passed.now) (list_in pair.now) beside.new.follow }
+    ensures known { AreKnown (rules_in passed.now) (list_in pair.now) known.new }
+    ensures best { IsTurnBest (rules_in passed.now) (list_in pair.now) (state_of machine.now) event.now gave result }
 {
-    best_of_turn(passed.rules(), pair, machine, follow, event, gave)
+    if let Some(best) = known_best_of_turn(known, machine, event, gave) {
+        return best;
+    }
+    find_best_at(passed, pair, machine, beside, known, place, event, gave)
 }
 
 /// What is answered of an event, by its best play and the machine behind it.
@@ -96,35 +132,66 @@ fn answer_behind(
     })
 }
 
-/// What is answered of the event at a place, which the machine and the board beside it take.
+/// What is answered of the event at a place, which the machine takes.
 #[tactic(auto, using(crate::proofs::AnswerLaws::answer_is))]
 fn answer_at(
     alloc: Global,
     passed: &Passed<'_>,
     pair: &Checked<'_>,
     machine: &mut Machine,
-    follow: &mut Follow,
+    beside: &mut Beside,
+    known: &mut KnownBests,
     place: usize,
 ) -> Result<EventAnswer, AllocError>
     requires place { place < length (record_in passed.now).events }
-    requires stand { StandAt (rules_in passed.now) (list_in pair.now) (record_in passed.now).events place machine.old follow.old }
-    ensures stand { OnOk result (StandAt (rules_in passed.now) (list_in pair.now) (record_in passed.now).events (place + 1) machine.new follow.new) }
+    requires taken { HasTaken (rules_in passed.now) (record_in passed.now).events place machine.old }
+    requires follows { Follows (rules_in passed.now) (list_in pair.now) beside.old.follow }
+    requires known { AreKnown (rules_in passed.now) (list_in pair.now) known.old }
+    ensures taken { OnOk result (HasTaken (rules_in passed.now) (record_in passed.now).events (place + 1) machine.new) }
+    ensures follows { Follows (rules_in passed.now) (list_in pair.now) beside.new.follow }
+    ensures known { AreKnown (rules_in passed.now) (list_in pair.now) known.new }
     ensures answer { IfOk result (IsAnswerAt (rules_in passed.now) (list_in pair.now) (record_in passed.now).events place) }
 {
     let game = passed.record();
     let events = game.events.as_slice();
     let event = &events[place];
     let gave = given_at(events, place, event);
-    let best = best_at(passed, pair, machine, follow, event, gave);
-    follow_event(passed, pair, machine, follow, place);
+    let best = best_at(passed, pair, machine, beside, known, place, event, gave);
+    passed.take_event(machine, place);
     let answer = answer_behind(alloc, pair.list(), machine, event, best)?;
     Ok(answer)
 }
 
-/// What is answered of each event of a record that passed, by its rules and the words of a pair.
+/// What is answered of each event of a record that passed, by its rules and the words of a pair. The best plays that are known are not looked for,
+/// and those that are found are known from then on.
 ///
 /// It fails only where memory runs out.
 #[tactic(auto, using(crate::proofs::AnswerLaws::answers_more))]
+pub fn answers_with(
+    alloc: Global,
+    passed: &Passed<'_>,
+    pair: &Checked<'_>,
+    known: &mut KnownBests,
+) -> Result<Vec<EventAnswer>, AllocError>
+    requires known { AreKnown (rules_in passed.now) (list_in pair.now) known.old }
+    ensures answers { IfOk result (λ answers. AreAnswersTo (rules_in passed.now) (list_in pair.now) (record_in passed.now).events
+        (length (record_in passed.now).events) answers.items) }
+    ensures many { IfOk result (λ answers. length answers.items ≡ length (record_in passed.now).events) }
+    ensures known { AreKnown (rules_in passed.now) (list_in pair.now) known.new }
+{
+    let mut machine = Machine::new(passed.rules());
+    let mut beside = Beside::new(passed.rules(), pair);
+    let mut answers = Vec::new(alloc);
+    for place in 0..passed.record().events.len() {
+        let answer = answer_at(alloc, passed, pair, &mut machine, &mut beside, known, place)?;
+        answers.push(answer)?;
+    }
+    Ok(answers)
+}
+
+/// The same where no best play is known.
+///
+/// It fails only where memory runs out.
 pub fn answers_of(
     alloc: Global,
     passed: &Passed<'_>,
@@ -134,12 +201,6 @@ pub fn answers_of(
         (length (record_in passed.now).events) answers.items) }
     ensures many { IfOk result (λ answers. length answers.items ≡ length (record_in passed.now).events) }
 {
-    let mut machine = Machine::new(passed.rules());
-    let mut follow = Follow::new(passed.rules(), pair);
-    let mut answers = Vec::new(alloc);
-    for place in 0..passed.record().events.len() {
-        let answer = answer_at(alloc, passed, pair, &mut machine, &mut follow, place)?;
-        answers.push(answer)?;
-    }
-    Ok(answers)
+    let mut known = KnownBests::none(alloc);
+    answers_with(alloc, passed, pair, &mut known)
 }

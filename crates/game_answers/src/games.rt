@@ -4,6 +4,7 @@ ghost use Rattle.devices.specs.Devices.{HasRoom};
 ghost use Rattle.gcg_read.specs.Records.{most_bytes};
 ghost use Rattle.lex_check.specs.Pairs.{list_in};
 ghost use Rattle.call_stages.specs.Stages.{IsRead};
+ghost use Rattle.known_bests.specs.Known.{AreKnown};
 ghost use Rattle.game_answers.specs.Games.{IsJudgedGame, IsJudgedGameOf};
 
 use crate::judging::judge_record;
@@ -12,6 +13,7 @@ use call_stages::{Decision, RunFault, Verdict, read_text, record_from};
 use devices::Input;
 use engine::Judging;
 use gcg_read::{Events, MAX_BYTES, Players, Record};
+use known_bests::KnownBests;
 use lex_check::Checked;
 use ref_tiles::Rules;
 use std::alloc::{AllocError, Global};
@@ -36,10 +38,13 @@ fn judged_game(
     pair: &Checked<'_>,
     game: Record,
     question: Judging,
+    known: &mut KnownBests,
 ) -> Result<JudgedGame, AllocError>
-    ensures { IfOk result (IsJudgedGame question rules.now (list_in pair.now) game) }
+    requires { AreKnown rules.now (list_in pair.now) known.old }
+    ensures known { AreKnown rules.now (list_in pair.now) known.new }
+    ensures judged { IfOk result (IsJudgedGame question rules.now (list_in pair.now) game) }
 {
-    let found = judge_record(alloc, rules, pair, &game, question)?;
+    let found = judge_record(alloc, rules, pair, &game, question, known)?;
     Ok(JudgedGame {
         players: game.players,
         events: game.events,
@@ -55,15 +60,43 @@ fn judged_from(
     pair: &Checked<'_>,
     text: &[u8],
     question: Judging,
+    known: &mut KnownBests,
 ) -> Result<Result<JudgedGame, Decision>, AllocError>
-    ensures { IfOk result (IsJudgedGameOf question rules.now (list_in pair.now) text.now) }
+    requires { AreKnown rules.now (list_in pair.now) known.old }
+    ensures known { AreKnown rules.now (list_in pair.now) known.new }
+    ensures judged { IfOk result (IsJudgedGameOf question rules.now (list_in pair.now) text.now) }
 {
     let written = match record_from(alloc, text)? {
         Ok(record) => record,
         Err(decision) => return Ok(Err(decision)),
     };
-    let judged = judged_game(alloc, rules, pair, written, question)?;
+    let judged = judged_game(alloc, rules, pair, written, question, known)?;
     Ok(Ok(judged))
+}
+
+/// Reads the record of a game and judges it, as [`judge_game`] does. The best plays that are known are not looked for, and those that are found are
+/// known from then on; what is found of the game does not depend on them.
+///
+/// The input is read to its end, or to one byte past 1 MiB and no further.
+///
+/// # Errors
+///
+/// `ReadFailed` comes only where the input failed; `NoMemory` where memory was refused.
+pub fn judge_game_with<G: Input>(
+    alloc: Global,
+    rules: &Rules,
+    pair: &Checked<'_>,
+    game: &mut G,
+    question: Judging,
+    known: &mut KnownBests,
+) -> Result<Result<JudgedGame, Decision>, RunFault>
+    requires room { HasRoom (G.device game.old) }
+    requires known { AreKnown rules.now (list_in pair.now) known.old }
+    ensures read { IsRead most_bytes (G.device game.old) (G.device game.new) (IsJudgedGameOf question rules.now (list_in pair.now)) result }
+    ensures known { AreKnown rules.now (list_in pair.now) known.new }
+{
+    let text = read_text(alloc, game, MAX_BYTES)?;
+    Ok(judged_from(alloc, rules, pair, &text, question, known)?)
 }
 
 /// Reads the record of a game and judges it, by the deal of the rule of completion alone or by a search: what
@@ -85,6 +118,6 @@ pub fn judge_game<G: Input>(
     requires { HasRoom (G.device game.old) }
     ensures { IsRead most_bytes (G.device game.old) (G.device game.new) (IsJudgedGameOf question rules.now (list_in pair.now)) result }
 {
-    let text = read_text(alloc, game, MAX_BYTES)?;
-    Ok(judged_from(alloc, rules, pair, &text, question)?)
+    let mut known = KnownBests::none(alloc);
+    judge_game_with(alloc, rules, pair, game, question, &mut known)
 }

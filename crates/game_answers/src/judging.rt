@@ -2,16 +2,18 @@
 ghost use Rattle.std.specs.Prelude.{◌≡◌, IfOk, None};
 ghost use Rattle.game_turns.specs.{Passing.{rules_in, record_in}, Places.{AreAllowed}};
 ghost use Rattle.lex_check.specs.Pairs.{list_in};
+ghost use Rattle.known_bests.specs.Known.{AreKnown};
 ghost use Rattle.game_answers.specs.Bounds.{refused_verdict};
 ghost use Rattle.game_answers.specs.Games.{IsJudged};
 
-use crate::answers::answers_of;
+use crate::answers::answers_with;
 use crate::leaving::{GameAnswers, with_left};
 use crate::verdicts::verdict_on;
 use call_stages::{GameFault, Verdict};
 use engine::{Judging, play_through};
 use game_turns::{Passed, RuleFault};
 use gcg_read::Record;
+use known_bests::KnownBests;
 use lex_check::Checked;
 use ref_tiles::Rules;
 use std::alloc::{AllocError, Global};
@@ -44,12 +46,15 @@ fn judged_passed(
     passed: &Passed<'_>,
     pair: &Checked<'_>,
     question: Judging,
+    known: &mut KnownBests,
 ) -> Result<Judged, AllocError>
-    requires { AreAllowed (rules_in passed.now) (list_in pair.now) (record_in passed.now).events }
-    ensures { IfOk result (λ j. IsJudged question (rules_in passed.now) (list_in pair.now) (record_in passed.now) j.verdict j.answers) }
+    requires allowed { AreAllowed (rules_in passed.now) (list_in pair.now) (record_in passed.now).events }
+    requires known { AreKnown (rules_in passed.now) (list_in pair.now) known.old }
+    ensures known { AreKnown (rules_in passed.now) (list_in pair.now) known.new }
+    ensures judged { IfOk result (λ j. IsJudged question (rules_in passed.now) (list_in pair.now) (record_in passed.now) j.verdict j.answers) }
 {
     let verdict = verdict_on(alloc, passed, pair, question)?;
-    let answers = answers_of(alloc, passed, pair)?;
+    let answers = answers_with(alloc, passed, pair, known)?;
     Ok(Judged {
         verdict,
         answers: Some(with_left(passed.record().events.as_slice(), answers)),
@@ -64,11 +69,14 @@ pub(crate) fn judge_record(
     pair: &Checked<'_>,
     game: &Record,
     question: Judging,
+    known: &mut KnownBests,
 ) -> Result<Judged, AllocError>
-    ensures { IfOk result (λ j. IsJudged question rules.now (list_in pair.now) game.now j.verdict j.answers) }
+    requires { AreKnown rules.now (list_in pair.now) known.old }
+    ensures known { AreKnown rules.now (list_in pair.now) known.new }
+    ensures judged { IfOk result (λ j. IsJudged question rules.now (list_in pair.now) game.now j.verdict j.answers) }
 {
     match play_through(rules, game, pair.list()) {
-        Ok(passed) => judged_passed(alloc, &passed, pair, question),
+        Ok(passed) => judged_passed(alloc, &passed, pair, question, known),
         Err((line, fault)) => Ok(refused(line, fault)),
     }
 }

@@ -6,6 +6,7 @@
 #![tactic(auto)]
 
 mod answers;
+mod besides;
 mod boards;
 mod copies;
 mod counting;
@@ -17,10 +18,10 @@ mod plays;
 mod tops;
 mod verdicts;
 
-pub use answers::{EventAnswer, answers_of};
+pub use answers::{EventAnswer, answers_of, answers_with};
 pub use boards::{RowMarks, ShownBoard, shown_board};
 pub use counting::count_words;
-pub use games::{JudgedGame, judge_game};
+pub use games::{JudgedGame, judge_game, judge_game_with};
 pub use leaving::GameAnswers;
 pub use letters::word_of;
 pub use plays::{ScoredPlay, best_plays};

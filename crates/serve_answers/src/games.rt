@@ -5,6 +5,7 @@ ghost use Rattle.audit_lines.specs.Answers.{IsAuditAnswerOf};
 ghost use Rattle.engine.specs.Explaining.{IsCaseOf};
 ghost use Rattle.game_answers.specs.Boards.{IsBoardOf};
 ghost use Rattle.game_answers.specs.Games.{IsJudgedGameOf};
+ghost use Rattle.known_bests.specs.Known.{AreKnown};
 ghost use Rattle.serve_answers.specs.PlainGames.{IsPlainGameOf};
 ghost use Rattle.serve_answers.specs.Given.{read_of};
 
@@ -12,12 +13,13 @@ use crate::plain_games::judge_plainly;
 use audit_lines::{AuditAnswer, answer_audit};
 use devices::FromRead;
 use engine::{Case, Decision, Judging, RunFault, open_case};
-use game_answers::{JudgedGame, ShownBoard, judge_game, shown_board};
+use game_answers::{JudgedGame, ShownBoard, judge_game_with, shown_board};
+use known_bests::KnownBests;
 use lex_check::Checked;
 use ref_tiles::Rules;
 use std::alloc::Global;
 
-/// The judged game of a record: what `judge --json` finds.
+/// The judged game of a record: what `judge --json` finds, with the best plays that are known.
 #[tactic(auto, using(crate::proofs::Reading::means_read))]
 pub fn judged(
     alloc: Global,
@@ -25,11 +27,14 @@ pub fn judged(
     pair: &Checked<'_>,
     game: &str,
     question: Judging,
+    known: &mut KnownBests,
 ) -> Result<Result<JudgedGame, Decision>, RunFault>
-    ensures { IfOk result (IsJudgedGameOf question rules.now (list_in pair.now) (read_of game.now)) }
+    requires { AreKnown rules.now (list_in pair.now) known.old }
+    ensures known { AreKnown rules.now (list_in pair.now) known.new }
+    ensures judged { IfOk result (IsJudgedGameOf question rules.now (list_in pair.now) (read_of game.now)) }
 {
     let mut input = FromRead::new(game.as_bytes());
-    judge_game(alloc, rules, pair, &mut input, question)
+    judge_game_with(alloc, rules, pair, &mut input, question, known)
 }
 
 /// The same without what is answered of the events.

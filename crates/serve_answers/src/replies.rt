@@ -1,6 +1,7 @@
 //! The reply to a request.
 ghost use Rattle.std.specs.Prelude.{◌≡◌, IfOk};
 ghost use Rattle.lex_check.specs.Pairs.{list_in};
+ghost use Rattle.known_bests.specs.Known.{AreKnown};
 ghost use Rattle.serve_answers.specs.Given.{judging_by, read_of};
 ghost use Rattle.serve_answers.specs.Replies.{IsJudgedWith, IsReplyTo};
 
@@ -11,6 +12,7 @@ use crate::words::{Ruled, rule_on_texts};
 use audit_lines::AuditAnswer;
 use engine::{Case, Decision, Judging, RunFault};
 use game_answers::{FoundPlays, JudgedGame, ShownBoard};
+use known_bests::KnownBests;
 use lex_check::Checked;
 use ref_tiles::Rules;
 use serve_requests::Request;
@@ -56,17 +58,21 @@ fn judged_by(
     game: &str,
     question: Judging,
     best: bool,
+    known: &mut KnownBests,
 ) -> Result<Result<JudgedGame, Decision>, RunFault>
-    ensures { IfOk result (IsJudgedWith best question rules.now (list_in pair.now) (read_of game.now)) }
+    requires { AreKnown rules.now (list_in pair.now) known.old }
+    ensures known { AreKnown rules.now (list_in pair.now) known.new }
+    ensures judged { IfOk result (IsJudgedWith best question rules.now (list_in pair.now) (read_of game.now)) }
 {
     if best {
-        judged(alloc, rules, pair, game, question)
+        judged(alloc, rules, pair, game, question, known)
     } else {
         judged_plainly(alloc, rules, pair, game, question)
     }
 }
 
-/// The reply to a request, by rules and the words of a pair. It depends on these alone: nothing is kept from one request to the next.
+/// The reply to a request, by rules and the words of a pair. It depends only on these. What is kept from one request to the next are best plays that
+/// are proved for their board and their rack, so that they need not be looked for again; the reply does not depend on them.
 ///
 /// # Errors
 ///
@@ -76,13 +82,17 @@ pub fn reply_to(
     rules: &Rules,
     pair: &Checked<'_>,
     request: &Request<'_>,
+    known: &mut KnownBests,
 ) -> Result<Reply, RunFault>
-    ensures { IfOk result (IsReplyTo rules.now (list_in pair.now) request.now) }
+    requires { AreKnown rules.now (list_in pair.now) known.old }
+    ensures known { AreKnown rules.now (list_in pair.now) known.new }
+    ensures reply { IfOk result (IsReplyTo rules.now (list_in pair.now) request.now) }
 {
     match request {
         Request::Judge { game, settle, best } => {
             let question = judging_by(*settle);
-            Ok(Reply::Judged(judged_by(alloc, rules, pair, game, question, *best)?))
+            let found = judged_by(alloc, rules, pair, game, question, *best, known)?;
+            Ok(Reply::Judged(found))
         }
         Request::Explain { game, .. } => Ok(Reply::Explained(case_in(alloc, rules, pair, game)?)),
         Request::Audit { game, .. } => Ok(Reply::Audited(audited(alloc, rules, pair, game)?)),

@@ -1,4 +1,6 @@
 //! The answer to a request: the exit status of the command of its name, and what that command prints of the same bytes.
+ghost use Rattle.lex_check.specs.Pairs.{list_in};
+ghost use Rattle.known_bests.specs.Known.{AreKnown};
 
 use crate::words::{push_no_word, push_ruled};
 use answer_json::push_refusal;
@@ -10,6 +12,7 @@ use exit_statuses::{Exit, exit_of_audit, exit_of_case};
 use game_answers::{FoundPlays, JudgedGame, ShownBoard};
 use game_json::{push_found_plays, push_judged_game};
 use game_page::{Contents, Maker, push_page};
+use known_bests::KnownBests;
 use lex_check::Checked;
 use page_pieces::PageText;
 use ref_tiles::Rules;
@@ -244,7 +247,7 @@ fn tell_reply(
     }
 }
 
-/// The answer to a request.
+/// The answer to a request. The best plays that are known are not looked for.
 ///
 /// # Errors
 ///
@@ -253,8 +256,12 @@ pub fn answer_to(
     alloc: Global,
     judges: &Judges<'_>,
     request: &Request<'_>,
-) -> Result<Response, AllocError> {
-    match reply_to(alloc, judges.rules, judges.pair, request) {
+    known: &mut KnownBests,
+) -> Result<Response, AllocError>
+    requires { AreKnown judges.now.rules.now (list_in judges.now.pair.now) known.old }
+    ensures { AreKnown judges.now.rules.now (list_in judges.now.pair.now) known.new }
+{
+    match reply_to(alloc, judges.rules, judges.pair, request, known) {
         Ok(reply) => tell_reply(alloc, judges, request, reply),
         Err(RunFault::NoMemory | RunFault::ReadFailed | RunFault::WriteFailed) => Err(AllocError),
     }

@@ -1,5 +1,7 @@
 //! `serve`: requests, by rules, a word list and a lexicon that are read once.
 ghost use Rattle.std.specs.Prelude.{[], ⊤};
+ghost use Rattle.lex_check.specs.Pairs.{list_in};
+ghost use Rattle.known_bests.specs.Known.{AreKnown};
 ghost use Rattle.serve_commands.specs.Telling.{AreServed, served_later};
 
 use crate::answering::Judges;
@@ -14,11 +16,15 @@ use devices::FromRead;
 use engine::{Question, RunFault, ask};
 use exit_statuses::{Exit, Trouble};
 use game_page::Maker;
+use known_bests::KnownBests;
 use serve_requests::Refusal;
 use std::alloc::{AllocError, Global};
 use std::io::{BufRead, BufReader, Input, Read};
 use std::rt::Runtime;
 use watching::Reason;
+
+/// How many best plays are kept from one request to the next: those of a hundred games, in a few megabytes.
+const KNOWN_PLACES: usize = 4096;
 
 /// What is asked of the lines of standard input, by a runtime to which their answers go.
 #[derive(Clone, Copy)]
@@ -78,13 +84,35 @@ fn serve_given<R: Runtime + AllocGlobal, F: Read + Drop, S: Read + Drop, B: BufR
     ) else {
         return Err(Trouble::NoMemory);
     };
+    let Ok(mut known) = KnownBests::new(rt.alloc(), KNOWN_PLACES) else {
+        return Err(Trouble::NoMemory);
+    };
     let judges = Judges {
         rules: given.rules,
         pair: given.pair,
         maker: &maker,
     };
     write(rt, ready.as_slice())?;
-    answer_lines(rt, &judges, lines)
+    answer_lines(rt, &judges, lines, &mut known)
+}
+
+/// Makes the line of the answer to what was read next.
+fn make_next(
+    alloc: Global,
+    out: &mut Vec<u8>,
+    judges: &Judges<'_>,
+    next: NextLine,
+    line: &[u8],
+    known: &mut KnownBests,
+) -> Result<(), AllocError>
+    requires { AreKnown judges.now.rules.now (list_in judges.now.pair.now) known.old }
+    ensures { AreKnown judges.now.rules.now (list_in judges.now.pair.now) known.new }
+{
+    match next {
+        NextLine::Line => make_line(alloc, out, judges, line, known),
+        NextLine::TooLong => make_refusal(alloc, out, Refusal::TooLong),
+        NextLine::NoMemory | NextLine::End => Err(AllocError),
+    }
 }
 
 /// Answers one line after the other. Each answer is written before the next line is read.
@@ -92,19 +120,20 @@ fn answer_lines<R: Runtime + AllocGlobal, B: BufRead + Drop>(
     rt: &R,
     judges: &Judges<'_>,
     lines: &mut Lines<B>,
-) -> Result<Exit, Trouble<'static>> {
+    known: &mut KnownBests,
+) -> Result<Exit, Trouble<'static>>
+    requires { AreKnown judges.now.rules.now (list_in judges.now.pair.now) known.old }
+{
     let mut out = Vec::new(rt.alloc());
     for _ in 0..u64::MAX {
-        let made = match lines.next_line() {
+        let next = match lines.next_line() {
             Ok(NextLine::End) => break,
-            Ok(NextLine::Line) => make_line(rt.alloc(), &mut out, judges, lines.line()),
-            Ok(NextLine::TooLong) => make_refusal(rt.alloc(), &mut out, Refusal::TooLong),
-            Ok(NextLine::NoMemory) => Err(AllocError),
+            Ok(next) => next,
             Err(error) => {
                 return Err(Trouble::ReadFailed(shown(STANDARD_INPUT), Reason::of(&error)));
             }
         };
-        match made {
+        match make_next(rt.alloc(), &mut out, judges, next, lines.line(), known) {
             Ok(()) => write(rt, out.as_slice())?,
             Err(AllocError) => write(rt, NO_MEMORY_LINE)?,
         }

@@ -1,10 +1,13 @@
 //! Answers as lines.
+ghost use Rattle.lex_check.specs.Pairs.{list_in};
+ghost use Rattle.known_bests.specs.Known.{AreKnown};
 
 use crate::answering::{Body, Judges, Response, answer_to};
 use answer_json::push_trouble;
 use command_line::SHORT_VERSION;
 use decimal_text::push_number;
 use exit_statuses::Exit;
+use known_bests::KnownBests;
 use serde::Serialize;
 use serde_json::Value;
 use serve_requests::{Refusal, Request, id_in, request_in};
@@ -133,10 +136,14 @@ fn push_answer(
     judges: &Judges<'_>,
     id: &[u8],
     asked: Result<Request<'_>, Refusal<'_>>,
-) -> Result<(), AllocError> {
+    known: &mut KnownBests,
+) -> Result<(), AllocError>
+    requires { AreKnown judges.now.rules.now (list_in judges.now.pair.now) known.old }
+    ensures { AreKnown judges.now.rules.now (list_in judges.now.pair.now) known.new }
+{
     match asked {
         Ok(request) => {
-            let told = answer_to(alloc, judges, &request)?;
+            let told = answer_to(alloc, judges, &request, known)?;
             push_told(alloc, out, id, &told)
         }
         // Without a `do` a line is no request, and what it has as its id is none.
@@ -160,9 +167,13 @@ fn make_answer(
     judges: &Judges<'_>,
     id: &[u8],
     object: &Value,
-) -> Result<(), AllocError> {
+    known: &mut KnownBests,
+) -> Result<(), AllocError>
+    requires { AreKnown judges.now.rules.now (list_in judges.now.pair.now) known.old }
+    ensures { AreKnown judges.now.rules.now (list_in judges.now.pair.now) known.new }
+{
     let asked = request_in(alloc, object);
-    if push_answer(alloc, out, judges, id, asked).is_ok() {
+    if push_answer(alloc, out, judges, id, asked, known).is_ok() {
         return Ok(());
     }
     out.clear();
@@ -175,13 +186,17 @@ fn make_line_of(
     out: &mut Vec<u8>,
     judges: &Judges<'_>,
     object: &Value,
-) -> Result<(), AllocError> {
+    known: &mut KnownBests,
+) -> Result<(), AllocError>
+    requires { AreKnown judges.now.rules.now (list_in judges.now.pair.now) known.old }
+    ensures { AreKnown judges.now.rules.now (list_in judges.now.pair.now) known.new }
+{
     match id_in(object) {
         Ok(Some(id)) => {
             let id = id.to_vec(alloc)?;
-            make_answer(alloc, out, judges, id.as_slice(), object)
+            make_answer(alloc, out, judges, id.as_slice(), object, known)
         }
-        Ok(None) => make_answer(alloc, out, judges, NO_ID, object),
+        Ok(None) => make_answer(alloc, out, judges, NO_ID, object, known),
         Err(refusal) => push_refused(alloc, out, NO_ID, refusal),
     }
 }
@@ -210,10 +225,14 @@ pub fn make_line(
     out: &mut Vec<u8>,
     judges: &Judges<'_>,
     line: &[u8],
-) -> Result<(), AllocError> {
+    known: &mut KnownBests,
+) -> Result<(), AllocError>
+    requires { AreKnown judges.now.rules.now (list_in judges.now.pair.now) known.old }
+    ensures { AreKnown judges.now.rules.now (list_in judges.now.pair.now) known.new }
+{
     out.clear();
     match Value::from_slice(alloc, line) {
-        Ok(object) => make_line_of(alloc, out, judges, &object),
+        Ok(object) => make_line_of(alloc, out, judges, &object, known),
         Err(error) if error.is_memory() => Err(AllocError),
         Err(_) => push_refused(alloc, out, NO_ID, Refusal::NoJson),
     }

@@ -10,6 +10,6 @@ returns-clause-answer c =
     let passed = c.args.passed.now in
     let answer = c.in_ok-answer.ensures in
     answer_is (rules_in passed) (list_in c.args.pair.now) c.list.result.now c.record-game.result.now (record_in passed) c.as_slice-events.result.now c.args.place c.index-events-place.result
-    c.args.machine.now c.follow_event.new.machine c.args.follow.now c.follow_event.new.follow _ c.best_at-best.result c.in_ok-answer.answer c.requires.stand
-    c.follow_event.ensures c.record-game.ensures.record c.as_slice-events.ensures c.list.ensures.list c.requires.place c.index-events-place.is (to_z-of_z {w = w32} (search (rules, ints)) ∙ c.given_at-gave.ensures)
-    c.best_at-best.ensures answer.best answer.tiles answer.word answer.unlisted
+    c.args.machine.now c.take_event.new.machine _ c.best_at-best.result c.in_ok-answer.answer c.requires.taken.state
+    c.take_event.ensures.state c.record-game.ensures.record c.as_slice-events.ensures c.list.ensures.list c.requires.place c.index-events-place.is (to_z-of_z {w = w32} (search (rules, ints)) ∙ c.given_at-gave.ensures)
+    c.best_at-best.ensures.best answer.best answer.tiles answer.word answer.unlisted

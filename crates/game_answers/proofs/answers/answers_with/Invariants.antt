@@ -1,14 +1,18 @@
 use Rattle.std.proofs.Common.{◌≡◌, length}
 use Rattle.game_turns.specs.Passing.{rules_in, record_in}
 use Rattle.lex_check.specs.Pairs.{list_in}
-use Rattle.game_report.specs.Beside.{StandAt}
+use Rattle.game_notes.specs.Following.{Follows}
+use Rattle.known_bests.specs.Known.{AreKnown}
 use Rattle.game_answers.specs.Answers.{AreAnswersTo}
-use Rattle.game_answers.proofs.answers.answers_of.Given as goal
+use Rattle.game_answers.specs.Going.{HasTaken}
+use Rattle.game_answers.proofs.answers.answers_with.Given as goal
 
 abbrev pub invariant-loop-place : goal.invariant-loop-place
 invariant-loop-place l =
     record {
-      stand : StandAt (rules_in l.passed) (list_in l.pair) (record_in l.passed).events l.place l.machine l.follow;
+      taken : HasTaken (rules_in l.passed) (record_in l.passed).events l.place l.machine;
+      follows : Follows (rules_in l.passed) (list_in l.pair) l.beside.follow;
+      known : AreKnown (rules_in l.passed) (list_in l.pair) l.known;
       answers : AreAnswersTo (rules_in l.passed) (list_in l.pair) (record_in l.passed).events l.place l.answers.items;
       many : length l.answers.items ≡ l.place;
     }

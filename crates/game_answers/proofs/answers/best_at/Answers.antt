@@ -1,0 +1,12 @@
+use Rattle.std.proofs.lemmas.Int.{ints}
+use Rattle.std.proofs.Common.{ℤ, rules, w32, to_z-of_z, subst}
+use Rattle.game_turns.specs.Machines.{state_of}
+use Rattle.game_turns.specs.Passing.{rules_in}
+use Rattle.lex_check.specs.Pairs.{list_in}
+use Rattle.event_notes.specs.Bests.{IsTurnBest}
+use Rattle.game_answers.proofs.answers.best_at.Goals as goal
+
+pub returns-in-Some-clause-best : goal.returns-in-Some-clause-best
+returns-in-Some-clause-best c =
+    subst (λ (g : ℤ). IsTurnBest (rules_in c.args.passed.now) (list_in c.args.pair.now) (state_of c.args.machine.now) c.args.event.now g c.in-Some.best) (to_z-of_z {w = w32} (search (rules, ints)))
+    (c.in-Some.ensures (rules_in c.args.passed.now) (list_in c.args.pair.now) c.requires.known)

@@ -1,0 +1,41 @@
+-- What a table keeps.
+use Rattle.std.proofs.Common.{◌≡◌, ℕ, pos, ◌<◌, Bool, true, List, [], ◌∷◌, length, slice_index_or, All, Option, Some, None, IfSome, refl, sym, ap, ◌∙◌, subst}
+use Rattle.std.proofs.lemmas.Bool.{and_parts}
+use Rattle.ref_tiles.specs.declared.tiles.Tile.{Tile}
+use Rattle.ref_tiles.specs.declared.rulebook.Rules.{Rules}
+use Rattle.event_notes.specs.Bests.{IsBestBy}
+use Rattle.known_bests.specs.declared.known.KnownBest.{KnownBest}
+use Rattle.known_bests.specs.declared.known.KnownBests.{KnownBests}
+use Rattle.known_bests.specs.Known.{IsKnown, AreKnown}
+use lib.Pointwise.{pointwise}
+
+-- nothing is known of an empty place
+empty_known : (rules : Rules) (list : List (List ℕ)) (place : Option KnownBest) → place ≡ None → IfSome place (IsKnown rules list)
+empty_known rules list None is = tt
+empty_known rules list (Some kept) is = cc
+
+pub nothing_known : (rules : Rules) (list : List (List ℕ)) (known : KnownBests) → All (λ (place : Option KnownBest). place ≡ None) known.places.items → AreKnown rules list known
+nothing_known rules list known empty =
+    record { each = λ k d below. empty_known rules list (slice_index_or known.places.items k d) (empty k d below) }
+
+-- racks of which the numbers are the same
+pub same_numbers : (same : ℕ → ℕ → Bool) → ((a b : ℕ) → same a b ≡ true → a ≡ b) → (xs ys : List ℕ) → pointwise same xs ys ≡ true → xs ≡ ys
+same_numbers same tells [] [] is = refl
+same_numbers same tells [] (y ∷ ys) is = cc
+same_numbers same tells (x ∷ xs) [] is = cc
+same_numbers same tells (x ∷ xs) (y ∷ ys) is =
+    let parts = and_parts (same x y) (pointwise same xs ys) is in
+    ap (λ z. z ∷ xs) (tells x y parts.0) ∙ ap (λ zs. y ∷ zs) (same_numbers same tells xs ys parts.1)
+
+-- what is kept at a place is of its board and its rack
+kept_there : (rules : Rules) (list : List (List ℕ)) (kept : KnownBest) (board : List (Option Tile)) (rack : List ℕ) → IsKnown rules list kept → kept.board ≡ board → kept.rack ≡ rack
+    → IsBestBy rules list board rack (pos 0) kept.best
+kept_there rules list kept board rack is boards racks =
+    subst (λ (b : List (Option Tile)). IsBestBy rules list b rack (pos 0) kept.best) boards
+    (subst (λ (r : List ℕ). IsBestBy rules list kept.board r (pos 0) kept.best) racks is)
+
+pub is_found : (rules : Rules) (list : List (List ℕ)) (known : KnownBests) (k : ℕ) (place : Option KnownBest) (kept : KnownBest) (board : List (Option Tile)) (rack : List ℕ)
+    → AreKnown rules list known → k < length known.places.items → place ≡ slice_index_or known.places.items k place → place ≡ Some kept → kept.board ≡ board → kept.rack ≡ rack
+    → IsBestBy rules list board rack (pos 0) kept.best
+is_found rules list known k place kept board rack are below read is boards racks =
+    kept_there rules list kept board rack (subst (λ o. IfSome o (IsKnown rules list)) (sym read ∙ is) (are.each k place below)) boards racks

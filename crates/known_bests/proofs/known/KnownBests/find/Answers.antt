@@ -1,0 +1,10 @@
+use Rattle.std.proofs.Common.{rules, sym, ◌∙◌}
+use Rattle.std.proofs.lemmas.Bool.{eqb-true}
+use Rattle.event_notes.proofs.SameBoards.{same_tile, same_board}
+use Rattle.known_bests.proofs.TableLaws.{same_numbers, is_found}
+use Rattle.known_bests.proofs.known.KnownBests.find.Goals as goal
+
+pub returns-then-eq-2 : goal.returns-then-eq-2
+returns-then-eq-2 c = λ by list are.
+    is_found by list c.args.self.now c.in_ok-place.place c.index.result.now c.in_ok-kept.kept.now c.args.board.now c.args.rack.now are (search rules) c.index.ensures
+    (sym c.in_ok-kept.ensures.value) (same_board _ same_tile _ _ (sym c.eq.ensures ∙ c.if-eq.true)) (same_numbers _ eqb-true _ _ (sym c.eq-then-eq.ensures ∙ c.if-eq-2.true))
