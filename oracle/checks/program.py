@@ -1391,6 +1391,15 @@ def compared(run):
     run.row([*told, "line", "others"], 1, both)
     Path(run.folder, "out").write_bytes(b"as it was")
     run.row([*told, "--merged", "out", "line", "others"], 1, both + "not written: another choice of the lines would stand as well\n", wrote=b"as it was")
+    for name, place in (("left", "8C"), ("above", "7E"), ("aside", "7F")):
+        Path(run.folder, name).write_text(WORD.replace("8E", place))
+    refused = "{0}\nnone of 2 choices of the lines is known to be a game\nfirst goes furthest: line 1 | line 1 is refused: MissesCentre\n"
+    mended = refused.format("line 1 | line 1: 8D WORD +16 16 | 8C WORD +16 16") + "first is a game with one more change: line 1: WORD at 8E, not at 8D\nlegal unfinished\n"
+    run.row([*told, "--merged", "out", "other", "left"], 1, mended, wrote=merged.encode())
+    rival = "another change would make a game as well\n"
+    either = refused.format("line 1 | line 1: 7E WORD +16 16 | 7F WORD +16 16") + f"first is a game with one more change: line 1: WORD at 8E, not at 7E\n{rival}legal unfinished\n"
+    Path(run.folder, "out").write_bytes(b"as it was")
+    run.row([*told, "--merged", "out", "above", "aside"], 1, f"{either}not written: {rival}", wrote=b"as it was")
     for words, out in [(["digit", "word.gad", "line", "line"], "bad word list line 2: BadLetter\n"), (["at", "extra.gad", "line", "line"], "bad lexicon: Extra A\n")]:
         run.row(["compare", *words], 3, out)
     for sheets in (["third", "line"], ["line", "third"]):

@@ -2,7 +2,9 @@
 
 use crate::counting::before_pair;
 use crate::differences::{push_difference, push_scores, push_stop};
+use crate::repaired::push_repaired;
 use engine::{Finding, finding_line};
+use repaired_choices::RepairedChoices;
 use sentence_parts::{Part, say};
 use sheet_alignments::{MOST_ITEMS, Side, chosen_side, many_choices, many_items};
 use sheet_comparisons::{Best, Comparison, Sheets, Stop};
@@ -88,6 +90,20 @@ fn push_taken(text: &mut Vec<u8>, choice: usize, items: usize) -> Result<(), All
     Ok(())
 }
 
+/// Appends which lines a choice takes, where there is a choice.
+pub(crate) fn push_name(
+    text: &mut Vec<u8>,
+    sheets: &Sheets,
+    choice: usize,
+) -> Result<(), AllocError> {
+    let items = many_items(sheets.pairs.as_slice());
+    if items == 0 {
+        say(text, &[Part::Say("the record of both sheets")])
+    } else {
+        push_taken(text, choice, items)
+    }
+}
+
 /// Appends where the choice that goes furthest stops.
 fn push_furthest(
     alloc: Global,
@@ -95,14 +111,8 @@ fn push_furthest(
     sheets: &Sheets,
     stop: &Stop,
 ) -> Result<(), AllocError> {
-    let items = many_items(sheets.pairs.as_slice());
-    say(text, &[Part::Say("furthest goes ")])?;
-    if items == 0 {
-        say(text, &[Part::Say("the record of both sheets")])?;
-    } else {
-        push_taken(text, stop.choice, items)?;
-    }
-    say(text, &[Part::Say(": ")])?;
+    push_name(text, sheets, stop.choice)?;
+    say(text, &[Part::Say(" goes furthest: ")])?;
     push_stop(alloc, text, sheets, stop.choice, &stop.stopped)?;
     say(text, &[Part::Say("\n")])
 }
@@ -140,7 +150,8 @@ fn push_verdict(alloc: Global, text: &mut Vec<u8>, best: &Best) -> Result<(), Al
     text.extend_from_slice(line.as_slice())
 }
 
-/// Appends the comparison of two sheets: each difference with its lines and what the rules say of them, and the verdict on the merged record.
+/// Appends the comparison of two sheets: each difference with its lines and what the rules say of them, and the verdict on the merged record. Where no choice of
+/// the lines makes a game, the verdict is that on the record of a choice with one more change, if there is one.
 ///
 /// It fails only where memory runs out.
 pub fn push_comparison(
@@ -148,6 +159,7 @@ pub fn push_comparison(
     text: &mut Vec<u8>,
     sheets: &Sheets,
     comparison: &Comparison,
+    repaired: &RepairedChoices,
 ) -> Result<(), AllocError> {
     for index in 0..sheets.pairs.len() {
         push_pair_at(alloc, text, sheets, index, comparison)?;
@@ -160,7 +172,8 @@ pub fn push_comparison(
         }
         None => {
             push_left(text, comparison)?;
-            push_none(alloc, text, sheets, comparison)
+            push_none(alloc, text, sheets, comparison)?;
+            push_repaired(alloc, text, sheets, repaired)
         }
     }
 }

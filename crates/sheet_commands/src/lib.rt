@@ -3,6 +3,7 @@
 
 mod annotating;
 mod auditing;
+mod compared;
 mod comparing;
 mod explaining;
 mod made_texts;

@@ -1,0 +1,26 @@
+//! The events of a choice.
+ghost use Rattle.std.specs.Prelude.{◌≡◌, IfOk};
+ghost use Rattle.sheet_alignments.specs.declared.merging.NumbersOf.TheVariants.{Taken};
+ghost use Rattle.sheet_comparisons.specs.Choices.{choice_events};
+
+use gcg_read::Events;
+use sheet_alignments::{NumbersOf, merge};
+use sheet_comparisons::Sheets;
+use std::alloc::{AllocError, Global};
+
+/// The events of a choice, with the numbers of the lines that are taken.
+///
+/// It fails only where memory runs out.
+pub(crate) fn events_of(alloc: Global, sheets: &Sheets, choice: usize) -> Result<Events, AllocError>
+    ensures { IfOk result (λ events. events ≡ choice_events sheets.now Taken choice) }
+{
+    merge(
+        alloc,
+        sheets.owner,
+        NumbersOf::Taken,
+        choice,
+        sheets.first.events.as_slice(),
+        sheets.second.events.as_slice(),
+        sheets.pairs.as_slice(),
+    )
+}
