@@ -109,9 +109,9 @@ class Referee:
         """Judges a game, with a search for a deal where `settle` says so. Without `best` no best plays are looked for."""
         return self.ask("judge", game=text_of(game), settle=settle, best=best)
 
-    def explain(self, game, line=None):
-        """Explains the verdict on a game, or one of its lines."""
-        return self.ask("explain", game=text_of(game), line=line)
+    def explain(self, game, line=None, *, likely=True):
+        """Explains the verdict on a game, or one of its lines. Without `likely` no likely repair of an illegal record is looked for."""
+        return self.ask("explain", game=text_of(game), line=line, likely=likely)
 
     def audit(self, game, *, corrected=False):
         """Audits a sheet. Where `corrected` is asked for and the corrected record stands, that is the `text` of the answer."""
@@ -133,9 +133,9 @@ class Referee:
         """The normal form of a record."""
         return self.ask("tidy", game=text_of(game)).text
 
-    def page(self, game):
-        """The page of a game, as HTML."""
-        return self.ask("page", game=text_of(game)).text
+    def page(self, game, *, likely=True):
+        """The page of a game, as HTML. Without `likely` it does not show the likely repair of an illegal record."""
+        return self.ask("page", game=text_of(game), likely=likely).text
 
     def ask(self, do, **members):
         """The answer to a request with these members; one that is None is left out."""

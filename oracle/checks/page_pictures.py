@@ -101,7 +101,7 @@ def document(program, folder, camera):
         (folder / name).write_bytes(game)
     for name in ("words.txt", "words.gad"):
         shutil.copy(ROOT / "examples" / name, folder)
-    subprocess.run([program, "archive", "--pages", ".", "words.txt", "words.gad", *rounds], cwd=folder, capture_output=True, check=False)
+    subprocess.run([program, "archive", "--repairs", "--pages", ".", "words.txt", "words.gad", *rounds], cwd=folder, capture_output=True, check=False)
     pictures = [("round1/ann-bob", (1120, 730), "page-game", "#l13"), ("round1/ann-bob-by-hand", (360, 730), "page-fault", ""), ("index", (760, 330), "page-index", "")]
     for page, size, to, place in pictures:
         camera.open(page, size, place=place)

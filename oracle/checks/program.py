@@ -1501,6 +1501,7 @@ def paged(run):
         run.row(["page", "word", "word.gad", game, "out"], status, f"{verdict}\n")
         banner = web.read(out.read_bytes()).first("section", "verdict")
         run.expect(f"the banner of {game}", banner.first("h2").text() == verdict and banner.attributes["class"] == f"verdict {verdict.split()[0]}")
+        run.expect(f"no likely repair on the page of {game}", not banner.all("p", "likely"))
     rows = {
         "line": ["1", "A", "8E WORD", "+16", "16", "AADEORW", "best", ""],
         "line-18": ["1", "A", "8E WORD fault", "+18", "18", "AADEORW", "best", "", "score 16 total 16"],
@@ -1511,6 +1512,13 @@ def paged(run):
         row = web.read(out.read_bytes()).first("table", "sheet").first("tbody").first("tr")
         found = [it.text().strip() for it in row.children()[:-1]]
         run.expect(f"the row of {game}", found == cells)
+    Path(run.folder, "nine").write_text(WORD.replace("8E", "9E"))
+    run.row(["page", "word", "word.gad", "nine", "out"], 1, "illegal line 1: MissesCentre\n")
+    page = web.read(out.read_bytes())
+    likely = page.first("section", "verdict").first("p", "likely").text()
+    run.expect("the likely repair on a page", likely == "Likely: line 1: WORD at 8E, not at 9E\n  2 of 2 numbers right")
+    heads = [it.text() for it in page.first("section", "end").all("h2")]
+    run.expect("the boards of a page", heads == ["The board at line 1", "The board with the likely repair"])
     unread_pages(run, out)
 
 
@@ -1826,7 +1834,7 @@ WHOLE = [{"name": "Legal"}, {"name": "Unlisted", "plays": []}, {"name": "RacksHi
 def explained_in_json(run, told):
     """`explain --json`: facts, words and the board as values."""
     said = told(["explain", "--json", "word", "word.gad", "line-18"])
-    keys = ["verdict", "line", "fault", "ending", "explained", "text", "facts", "play", "board", "unknown_since"]
+    keys = ["verdict", "line", "fault", "ending", "explained", "text", "facts", "play", "board", "unknown_since", "likely"]
     run.expect("the keys of an explanation", list(said) == keys)
     run.expect("what is explained", [said["line"], said["explained"], said["text"]] == [1, 1, ">A: DORWAAE 8E WORD +18 18"])
     run.expect("a wrong score as a fact", said["facts"] == [{"name": "PlayScore", "right": 16, "written": 18}])
@@ -1845,6 +1853,11 @@ def explained_in_json(run, told):
     run.expect("tiles that are short as a fact", said["facts"] == [short] and said["play"] is None)
     said = told(["explain", "--json", "word", "word.gad", "line"])
     run.expect("a legal record as a whole", [said["verdict"], said["explained"], said["facts"], said["board"]] == ["legal", None, WHOLE, None])
+    run.expect("no likely repair of a legal record", said["likely"] is None)
+    Path(run.folder, "nine").write_text(WORD.replace("8E", "9E"))
+    said = told(["explain", "--json", "word", "word.gad", "nine"])["likely"]
+    run.expect("a likely repair", [said[key] for key in ("at", "line", "slip", "lines", "others")] == ["on", 1, "one square off", [">A: AADEORW 8E WORD +16 16"], []])
+    run.expect("no likely repair of a line", told(["explain", "--json", "word", "word.gad", "nine", "1"])["likely"] is None)
     run.row(["explain", "--json", "word", "word.gad", "line", "9"], 3, refusal("bad line"))
     run.row(["explain", "--json", "word", "word.gad", "nothing"], 3, refusal("no game"), error="")
     run.row(["explain", "--json", "word", "word.gad", "third"], 3, refusal("bad record", 3, {"name": "ThirdPlayer"}))

@@ -2,16 +2,21 @@
 
 The worked records are those of `repair_rows`: the first repair has to be the known one, with its cost, its line and what stands there then. Then as
 many games that were dealt for real have one slip of the pen, and the second judge lists the repairs: those that are told have to be the same, with the
-same costs, as far as both tell them. A record is passed over if the rule of completion, which is all that the second judge has, leaves open whether
-a deal fits with some change. Each third game has two slips, and the pairs of changes are compared.
+same costs, as far as both tell them. Each third game has two slips, and the pairs of changes are compared. Of as many short games with few tiles
+all that is told has to be the same, in the same order. A record is passed over if the rule of completion, which is all that the second judge has, leaves
+open whether a deal fits with some change.
 """
 import json
 import random
 import re
+from collections import Counter
+from dataclasses import replace
 
+import web
 from comparing import Differences, compared
 from compare_changes import all_changes, line_of
 from deals import events_of
+from game_pages import board_read, pictured
 from lexicons import build
 from pairs import pairs
 from repair_rows import LINES, NONE, ROWS, TWO, puts
@@ -52,7 +57,7 @@ def rows(differences):
     for rules, words, record, cost, line, there in ROWS:
         status, answer = told_by(differences, rules, set(words.split()), record)
         told = first(answer)
-        behind = told and answer["repairs"][0]["at"] == "behind"
+        behind = told and answer["repairs"][0]["at"] == "after"
         good = told and (told[0], told[1] + behind, told[2]) == (cost, line, there) and status == 1
         differences.expect(good, record, f"told {status} {told} for {(cost, line, there)}")
         texts(differences, rules, set(words.split()), record, "worked")
@@ -137,6 +142,36 @@ def likely(differences, events, listed, text, found, two):
     wanted = likely_text(repair, events, names) if repair else ""
     differences.seen["likely repairs"] += bool(told)
     differences.expect(told == wanted, text, f"explained {told}", f"second judge {wanted}")
+    likely_object(differences, text, told)
+    likely_page(differences, text, told, repair if repair and is_of_play(repair.change, events) else None)
+
+
+def likely_object(differences, text, told):
+    """Compares the likely repair in the object of `explain`: the first one of `repair`, if the explanation has one."""
+    found = json.loads(differences.run("explain", "--json", "words", "lexicon", "game").stdout)["likely"]
+    first = json.loads(differences.run("repair", "--json", "words", "lexicon", "game").stdout)["repairs"][:1]
+    differences.expect(found == (first[0] if told else None), text, f"explained {found}", f"repairs {first}")
+
+
+def is_of_play(change, events):
+    """Whether a change is one of the position or the text of a play."""
+    if change.replaced != 1 or len(change.there) != 1 or change.there[0].kind != "play":
+        return False
+    return any(getattr(change.there[0], part) != getattr(events[change.place], part) for part in ("at", "direction", "word"))
+
+
+def likely_page(differences, text, told, of_play):
+    """Compares the likely repair on the page: the words of the explanation, and the board with the play, if the repair is `of_play`."""
+    differences.run("page", "words", "lexicon", "game", "out")
+    page = web.read((differences.folder / "out").read_bytes())
+    words = [it.text() for it in page.first("section", "verdict").all("p", "likely")]
+    differences.expect(words == ([told.rstrip("\n")] if told else []), text, f"page {words}", f"explained {told}")
+    heads = [it.text() for it in page.first("section", "end").all("h2")]
+    boards = [board_read(it) for it in page.first("section", "end").all("table", "board")]
+    wanted = [pictured(of_play.right(), of_play.change.place, ENGLISH)[0]] if told and of_play else []
+    differences.seen["boards of likely repairs"] += bool(wanted)
+    good = boards[1:] == wanted and heads[1:] == ["The board with the likely repair"] * len(wanted)
+    differences.expect(good, text, f"boards {heads} {boards[1:]}", f"second judge {wanted}")
 
 
 def pair_texts(differences, text, name, found, events, nicks):
@@ -194,6 +229,20 @@ def case(differences, number):
         differences.expect(few[0] == few[1], name, text, f"program {few[0][:5]}", f"second judge {few[1][:5]}")
 
 
+def small(differences):
+    """A short game with few tiles and one slip: the same repairs in the same order, in all that is told of them."""
+    rules = replace(ENGLISH, tiles=Counter(random.sample(list(ENGLISH.tiles.elements()), random.randint(24, 34))))
+    name = random.choice(list(SLIPS))
+    _, events, listed = some_sheet(SLIPS[name], random.randint(3, 7), random.choice(STYLES), rules)
+    text = "".join(map(line_of, events))
+    status, answer = told_by(differences, rules, listed, text)
+    found = repairs(events, listed, rules)
+    differences.seen[f"small: status {status}"] += 1
+    if status == 1 and all(it.dealt for it in found):
+        differences.seen["small: all compared"] += 1
+        texts(differences, rules, listed, text, name)
+
+
 def two_slips(differences):
     """A record with two slips: the program has to tell the same pairs as the second judge, with the same costs, as far as both tell them."""
     sheet, listed = with_two_slips(TURNS, random.choice(STYLES))[1:]
@@ -216,9 +265,11 @@ def main():
         rows(differences)
         for number in range(cases):
             case(differences, number) if number % 3 else two_slips(differences)
+        for _ in range(cases):
+            small(differences)
 
     differences, cases = compared(Differences, compare)
-    differences.end(cases + len(ROWS) + len(NONE) + len(TWO) + len(LINES), "records")
+    differences.end(2 * cases + len(ROWS) + len(NONE) + len(TWO) + len(LINES), "records")
 
 
 if __name__ == "__main__":

@@ -13,6 +13,7 @@ import subprocess
 from answers import lines_of
 from comparing import Differences, compare_cases
 from dealing import in_order, likely, line
+from explained_objects import without_likely
 from games import Event
 from making import random_rack
 from mistakes import MOST, some_game, some_inputs
@@ -41,8 +42,9 @@ def some_request(game):
     if do == "judge":
         settle, best = likely(0.5), likely(0.7)
         return {"do": do, "game": text, "settle": settle, "best": best}, ["judge", "--json", *["--settle"] * settle] if best else None
-    if do == "explain":
-        return {"do": do, "game": text, "line": at}, ["explain", "--json", *([] if at is None else [str(at)])]
+    if do in ("explain", "page"):
+        told, found = {"do": do, "game": text, "likely": likely(0.3)}, {"explain": ["explain", "--json", *([] if at is None else [str(at)])], "page": ["page"]}[do]
+        return told | ({"line": at} if do == "explain" else {}), found if told["likely"] or (do == "explain" and at is not None) else None
     if do == "board":
         return {"do": do, "game": text, "line": at}, ["board", "--json", *before]
     if do == "top":
@@ -50,7 +52,7 @@ def some_request(game):
         return {"do": do, "game": text, "line": at, "rack": rack, "number": number}, ["top", "--json", *before, *([] if number is None else ["--number", str(number)]), *([] if rack is None else [rack])]
     if do == "word":
         return {"do": do, "words": random.choices(WORDS[:5] if likely(0.7) else WORDS, k=random.randint(1, 4))}, None
-    return {"do": do, "game": text}, {"audit": ["audit", "--json"], "tidy": ["tidy"], "page": ["page"]}[do]
+    return {"do": do, "game": text}, {"audit": ["audit", "--json"], "tidy": ["tidy"]}[do]
 
 
 def passed(events, rack):
@@ -117,6 +119,8 @@ class Served(Differences):
         if is_request:
             self.seen[json.loads(request)["do"]] += 1
         said = {key: value for key, value in told.items() if key != "error"}
+        if is_request and json.loads(request).get("likely", True) and isinstance(said.get("answer"), dict):
+            said["answer"] = without_likely(said["answer"], json.loads(request).get("line"))
         if wanted[0].get("text", "") is None:
             self.expect(said.get("text", "").startswith("<!DOCTYPE html>"), answer)
             said["text"] = None

@@ -28,7 +28,7 @@ def some_request():
     asked = {"id": random.choice([1, "a", 2**64 - 1, -(2**63), 1e300, None]), "do": do, "game": random.choice(GAMES)}
     if do == "word":
         asked = {"do": do, "words": random.choice([["AT"], ["at", "QI"], ["A"]])}
-    for key in random.sample(["line", "rack", "number", "settle", "best", "corrected", "words", "id", "do", "game", "other"], random.choice([0, 0, 0, 1, 2])):
+    for key in random.sample(["line", "rack", "number", "settle", "best", "corrected", "likely", "words", "id", "do", "game", "other"], random.choice([0, 0, 0, 1, 2])):
         asked[key] = random.choice(VALUES)
     return json.dumps(asked, ensure_ascii=random.random() < 0.5).encode()
 

@@ -1,11 +1,11 @@
 """How often the repairs of a sheet have the true record, for sheets with one slip of the pen: repair_figures PROGRAM RECORDS SEED
 
-Each sheet is a game that was dealt and played for real, with one slip of a known kind and the numbers of the true game, as a scorer writes them.
-A third of the sheets state both players' racks, a third one player's, and a third none. With `none` for PROGRAM the second judge finds the repairs.
+Each sheet is a game that was dealt and played for real to its end, with one slip of a known kind and the numbers of the true game, as a scorer writes
+them. A third of the sheets state both players' racks, a third one player's, and a third none. With `none` for PROGRAM the second judge finds the repairs.
 For each kind the table says how many sheets are faulty, and for how many of these the true record is among the repairs, is the first of them, and
-is on the first line or one of the first three. The last row is of sheets with two slips of any of these kinds. Pairs of changes that are told count
-as repairs. Then come the lines in the mean, and the seconds of processor time for a record in the mean, at 95 of 100, and at
-most; of the program that is its whole process, with the reading of its files.
+is on the first line or one of the first three. The last rows are of sheets that stop in the middle of the game, with one slip of any kind, and of
+sheets of whole games with two. Pairs of changes that are told count as repairs. Then come the lines in the mean, and the seconds of processor time
+for a record in the mean, at 95 of 100, and at most; of the program that is its whole process, with the reading of its files.
 """
 import json
 import random
@@ -30,7 +30,7 @@ from repairs import Front, lines, repairs
 from rules import ENGLISH, KINDS, RACK, SIDE
 
 choose = random.choice
-TURNS, MORE_TURNS = 24, 60
+TURNS, MOST_TURNS = 24, 200
 STYLES = ("whole", "one", "none")
 TURN = ("play", "pass", "exchange", "unknown")
 COUNTED = ("faulty", "among", "first", "first line", "three lines")
@@ -221,7 +221,7 @@ SLIPS = {
     "a withdrawal that is missing": missing("withdraw"),
     "a bonus that is missing": missing("challenge"),
 }
-# Slips of a last rack, in longer games.
+# Slips of a last rack, which whole games alone have.
 END_SLIPS = {
     "a tile of a last rack misread": of_kind("rack", lambda it: with_tiles(it, other_tile(it.tiles))),
     "a tile of a last rack that is missing": of_kind("rack", lambda it: with_tiles(it, one_less(it.tiles))),
@@ -244,18 +244,22 @@ def dotted(event, board):
     return replace(event, word="".join("." if it in board else symbol for it, symbol in zip(squares, event.word)))
 
 
-def some_game(turns, stated):
-    """The events of a game that was dealt for real, and its list, in which all words are but those that were taken back."""
-    dealer = Dealer(ENGLISH, turns, ("known", "unknown"), stated, known=1)
-    events, _, listed = dealer.game()
+def some_game(turns, stated, rules=ENGLISH):
+    """The events of a game that was dealt for real, and its list, in which all words are but those that were taken back. It has so many turns, or is
+    played to its end if no number is given."""
+    while True:
+        dealer = Dealer(rules, turns or MOST_TURNS, ("known", "unknown"), stated, known=1)
+        events, _, listed = dealer.game()
+        if turns or events[-1].kind == "rack":
+            break
     events = [dotted(event, board) for event, board in zip(events, dealer.boards)]
     return events, {word for word in listed - dealer.phonies if 2 <= len(word) <= SIDE}
 
 
-def some_sheet(slip, turns, stated):
+def some_sheet(slip, turns, stated, rules=ENGLISH):
     """The true events, those of a sheet with a slip, and the list."""
     while True:
-        events, listed = some_game(turns, stated)
+        events, listed = some_game(turns, stated, rules)
         made = slip(events) if len(events) > 3 else None
         if made and made[0] != made[1]:
             return *made, listed
@@ -294,7 +298,7 @@ def with_lines(own, change, there):
     """Numbered lines with a change that puts some lines there. A line that is missing has no number."""
     at = [number for number, _ in own].index(change["line"])
     if change["at"] != "on":
-        at += change["at"] == "behind"
+        at += change["at"] == "after"
         return [*own[:at], *((None, named(line)) for line in there), *own[at:]]
     many = len(change["replaces"])
     numbers = [number for number, _ in own[at : at + many]]
@@ -364,6 +368,15 @@ def row(name, seen):
     return f"| {name} | {' | '.join(figures)} |"
 
 
+def of_sheets(program, folder, seed, records, some):
+    """What was counted of so many sheets that `some` makes, the styles of stated racks in turn."""
+    random.seed(seed)
+    seen = defaultdict(list)
+    for number in range(records):
+        tried(program, folder, some(STYLES[number % len(STYLES)]), seen)
+    return seen
+
+
 def main():
     program, records, seed = sys.argv[1], int(sys.argv[2]), int(sys.argv[3])
     program = program if program == "none" else str(Path(program).resolve())
@@ -371,19 +384,15 @@ def main():
     print(f"| slip | {' | '.join(COUNTED)} | lines | seconds | at 95 | at most |\n|---{'|---' * len(COUNTED)}|---|---|---|---|")
     whole = defaultdict(list)
     with tempfile.TemporaryDirectory() as folder:
-        for name, slip, turns in [*((*it, TURNS) for it in SLIPS.items()), *((*it, MORE_TURNS) for it in END_SLIPS.items())]:
-            random.seed(f"{seed} {name}")
-            seen = defaultdict(list)
-            for number in range(records):
-                tried(program, Path(folder), some_sheet(slip, turns, STYLES[(seed + number) % len(STYLES)]), seen)
+        for name, slip in (SLIPS | END_SLIPS).items():
+            seen = of_sheets(program, Path(folder), f"{seed} {name}", records, lambda stated: some_sheet(slip, None, stated))
             for it, figures in seen.items():
                 whole[it] += figures
             print(row(name, seen), flush=True)
         print(row("all", whole))
-        random.seed(f"{seed} two slips")
-        seen = defaultdict(list)
-        for number in range(records):
-            tried(program, Path(folder), with_two_slips(TURNS, STYLES[(seed + number) % len(STYLES)]), seen)
+        seen = of_sheets(program, Path(folder), f"{seed} unfinished", 4 * records, lambda stated: some_sheet(SLIPS[choose(list(SLIPS))], TURNS, stated))
+        print(row("any of these, in a game that stops in the middle", seen), flush=True)
+        seen = of_sheets(program, Path(folder), f"{seed} two slips", 4 * records, lambda stated: with_two_slips(None, stated))
         print(row("two slips of any kinds", seen))
 
 

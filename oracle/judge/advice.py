@@ -72,4 +72,4 @@ def advice(command, output, name, game):
         return b""
     if command == "top" and not game:
         return b""
-    return no_game(name, game) if command in ("judge", "top", "tidy", "board", "audit", "explain", "page", "annotate") else b""
+    return no_game(name, game) if command in ("judge", "top", "tidy", "board", "audit", "explain", "repair", "compare", "page", "annotate") else b""

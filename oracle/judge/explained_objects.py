@@ -307,10 +307,11 @@ def whole_facts(verdict, events, lines, listed, rules):
 
 
 def explained_keys(verdict, game, events, lines, listed, rules, asked, dealt=False):
-    """The keys of an explanation after those of the verdict; none where no event is on the line that was asked for, or after it."""
+    """The keys of an explanation after those of the verdict; none where no event is on the line that was asked for, or after it. What repair is likely
+    is not looked for: `without_likely` takes it off an object."""
     illegal = re.match("illegal line ([0-9]+):", verdict)
     wanted = asked if asked is not None else int(illegal[1]) if illegal else None
-    nothing = {"play": None, "board": None, "unknown_since": None}
+    nothing = {"play": None, "board": None, "unknown_since": None, "likely": None}
     if wanted is None:
         return {"explained": None, "text": None, "facts": whole_facts(verdict, events, lines, listed, rules)} | nothing
     at = next((k for k, line in enumerate(lines) if line >= wanted), None)
@@ -322,3 +323,9 @@ def explained_keys(verdict, game, events, lines, listed, rules, asked, dealt=Fal
     if end < at:
         return keys | nothing | {"unknown_since": lines[end]}
     return keys | nothing | {"play": play_object(board, events[at], listed, rules), "board": board_object(board, events[at], rules)}
+
+
+def without_likely(told, asked):
+    """An object of `explain` without its likely repair, where it may have one: without a line that was asked for, and of an illegal record."""
+    may_have = told.get("verdict") == "illegal" and asked is None and isinstance(told.get("likely"), dict)
+    return told | {"likely": None} if may_have else told

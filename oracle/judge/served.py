@@ -9,13 +9,13 @@ from records import tidy
 LONGEST = 4 << 20
 KEYS = {
     "judge": {"game", "settle", "best"},
-    "explain": {"game", "line"},
+    "explain": {"game", "line", "likely"},
     "audit": {"game", "corrected"},
     "board": {"game", "line"},
     "top": {"game", "line", "rack", "number"},
     "word": {"words"},
     "tidy": {"game"},
-    "page": {"game"},
+    "page": {"game", "likely"},
 }
 STATUSES = {"ok": 0, "legal": 0, "acceptable": 0, "illegal": 1, "not acceptable": 1, "unsettled": 2}
 
@@ -96,7 +96,7 @@ def check_members(id, do, said):
     """That each member is what it has to be."""
     numbers = {"line": (0, 2**32 - 1), "number": (1, 100)}
     good = all(isinstance(said[key], str) for key in ("game", "rack") if key in said)
-    good &= all(isinstance(said[key], bool) for key in ("settle", "best", "corrected") if key in said)
+    good &= all(isinstance(said[key], bool) for key in ("settle", "best", "corrected", "likely") if key in said)
     good &= all(isinstance(said[key], int) and is_number(said[key]) and least <= said[key] <= most for key, (least, most) in numbers.items() if key in said)
     if do == "word":
         good &= isinstance(said.get("words"), list) and bool(said["words"]) and all(isinstance(it, str) for it in said["words"])

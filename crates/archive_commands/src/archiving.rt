@@ -4,7 +4,7 @@ ghost use Rattle.devices.specs.Devices.{HasRoom};
 ghost use Rattle.archive_commands.specs.Telling.{AreGamesTold, games_later};
 
 use crate::done::Done;
-use crate::likely::likely_of;
+use crate::likely::{likely_fields, likely_if};
 use crate::names::{Given, Listed, Names};
 use crate::pages::Pages;
 use crate::progress::Progress;
@@ -23,6 +23,7 @@ use game_page::Maker;
 use lex_check::Checked;
 use lex_list::WordList;
 use name_texts::Encoding;
+use record_repairs::Repair;
 use ref_tiles::Rules;
 use std::alloc::{AllocError, Global};
 use std::io::{self, BufReader, Read};
@@ -341,7 +342,7 @@ fn found<'n, R: Runtime + AllocGlobal, F: Read + Drop>(
         return Fields::unread(name, Unread::NoMemory);
     };
     let encoding = Encoding::of(text);
-    match fields_of(
+    match fields_with(
         rt.alloc(),
         rules,
         pair.list(),
@@ -356,7 +357,7 @@ fn found<'n, R: Runtime + AllocGlobal, F: Read + Drop>(
 }
 
 /// What the line of a game says, with its likely repair where repairs are asked for.
-pub fn fields_of<'n>(
+fn fields_with<'n>(
     alloc: Global,
     rules: &Rules,
     list: &WordList,
@@ -365,9 +366,22 @@ pub fn fields_of<'n>(
     entry: &mut Entry,
     encoding: Encoding,
 ) -> Result<Fields<'n>, AllocError> {
+    let likely = likely_if(alloc, rules, list, repairs, entry)?;
+    fields_of(alloc, repairs, name, entry, likely.as_ref(), encoding)
+}
+
+/// What the line of a game says, with the likely repair that was found where repairs are asked for.
+pub fn fields_of<'n>(
+    alloc: Global,
+    repairs: bool,
+    name: &'n str,
+    entry: &Entry,
+    likely: Option<&Repair>,
+    encoding: Encoding,
+) -> Result<Fields<'n>, AllocError> {
     let mut fields = Fields::of_entry(alloc, name, entry, encoding)?;
     if repairs {
-        fields.likely = Some(likely_of(alloc, rules, list, entry, encoding)?);
+        fields.likely = Some(likely_fields(alloc, &entry.record, likely, encoding)?);
     }
     Ok(fields)
 }

@@ -1,18 +1,33 @@
-//! The likely repair of a game of an archive.
+//! The likely repair of a game of an archive, as its line says it.
 
 use archive_lines::LikelyFields;
-use engine::{Entry, Finding};
+use engine::Entry;
 use gcg_read::Record;
 use lex_list::WordList;
 use name_texts::Encoding;
 use record_repairs::Repair;
 use ref_tiles::Rules;
-use repair_answers::likely_repair;
+use repair_answers::likely_in;
 use repair_lines::{push_change_of, push_numbers};
 use std::alloc::{AllocError, Global};
 
-/// What a line says of a repair of a record whose names are text by this encoding.
-fn fields_of(
+/// The likely repair of a game, if the line has one.
+pub fn likely_if(
+    alloc: Global,
+    rules: &Rules,
+    list: &WordList,
+    repairs: bool,
+    entry: &mut Entry,
+) -> Result<Option<Repair>, AllocError> {
+    if repairs {
+        likely_in(alloc, rules, list, entry)
+    } else {
+        Ok(None)
+    }
+}
+
+/// What a line says of a repair of a record. Names in it are text by the encoding of the record.
+fn said_of(
     alloc: Global,
     record: &Record,
     repair: &Repair,
@@ -28,19 +43,15 @@ fn fields_of(
     })
 }
 
-/// What the line of a game says of its likely repair, if the game is illegal. Names in it are text by the encoding of the record.
-pub fn likely_of(
+/// What the line of a game says of its likely repair, where there is one.
+pub fn likely_fields(
     alloc: Global,
-    rules: &Rules,
-    list: &WordList,
-    entry: &mut Entry,
+    record: &Record,
+    likely: Option<&Repair>,
     encoding: Encoding,
 ) -> Result<LikelyFields, AllocError> {
-    if !matches!(entry.finding, Finding::Illegal { .. }) {
-        return Ok(LikelyFields::NONE);
-    }
-    match likely_repair(alloc, rules, list, &mut entry.record)? {
-        Some(repair) => fields_of(alloc, &entry.record, &repair, encoding),
+    match likely {
+        Some(repair) => said_of(alloc, record, repair, encoding),
         None => Ok(LikelyFields::NONE),
     }
 }

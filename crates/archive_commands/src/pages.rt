@@ -1,6 +1,7 @@
 //! The pages of an archive: one for each game, and their index.
 
 use crate::archiving::{fields_of, unread_by};
+use crate::likely::likely_if;
 use archive_lines::{Fields, PageField, Unread};
 use command_files::{has_page, unopened, write_whole_file};
 use devices::FromRead;
@@ -12,6 +13,7 @@ use lex_list::WordList;
 use name_texts::Encoding;
 use page_names::push_page_name;
 use page_pieces::PageText;
+use record_repairs::Repair;
 use ref_tiles::Rules;
 use std::alloc::{AllocError, Global};
 use std::fs;
@@ -67,11 +69,13 @@ impl<'a> Pages<'a> {
             Ok(case) => case,
             Err(fault) => return Fields::unread(name, unread_by(rt, name, fault)),
         };
-        let Ok(mut fields) = fields_in(rt.alloc(), rules, pair.list(), repairs, name, &mut case)
-        else {
+        let Ok(likely) = likely_by(rt.alloc(), rules, pair.list(), repairs, &mut case) else {
             return Fields::unread(name, Unread::NoMemory);
         };
-        fields.page = match self.write_page(rt, rules, pair, name, &case) {
+        let Ok(mut fields) = fields_in(rt.alloc(), repairs, name, &case, likely.as_ref()) else {
+            return Fields::unread(name, Unread::NoMemory);
+        };
+        fields.page = match self.write_page(rt, rules, pair, name, &case, likely.as_ref()) {
             Ok(page) => Some(page),
             Err(_) => Some(PageField::NoMemory),
         };
@@ -86,6 +90,7 @@ impl<'a> Pages<'a> {
         pair: &Checked<'_>,
         name: &str,
         case: &Case,
+        likely: Option<&Repair>,
     ) -> Result<PageField, AllocError> {
         if !has_page(case) {
             return Ok(PageField::Missing);
@@ -97,6 +102,7 @@ impl<'a> Pages<'a> {
             rules,
             pair,
             case,
+            likely,
             up: Some(folders_of(file.as_str())),
             maker: &self.maker,
         };
@@ -137,18 +143,31 @@ impl<'a> Pages<'a> {
     }
 }
 
-/// What the line of a case says of its game, with its likely repair where repairs are asked for.
-fn fields_in<'n>(
+/// The likely repair of the game of a case, where repairs are asked for.
+fn likely_by(
     alloc: Global,
     rules: &Rules,
     list: &WordList,
     repairs: bool,
-    name: &'n str,
     case: &mut Case,
+) -> Result<Option<Repair>, AllocError> {
+    match &mut case.read {
+        Ok(entry) => likely_if(alloc, rules, list, repairs, entry),
+        Err(_) => Ok(None),
+    }
+}
+
+/// What the line of a case says of its game, with the likely repair that was found where repairs are asked for.
+fn fields_in<'n>(
+    alloc: Global,
+    repairs: bool,
+    name: &'n str,
+    case: &Case,
+    likely: Option<&Repair>,
 ) -> Result<Fields<'n>, AllocError> {
     let encoding = Encoding::of(case.text.as_slice());
-    match &mut case.read {
-        Ok(entry) => fields_of(alloc, rules, list, repairs, name, entry, encoding),
+    match &case.read {
+        Ok(entry) => fields_of(alloc, repairs, name, entry, likely, encoding),
         Err(fault) => Ok(Fields::bad_record(name, fault)),
     }
 }

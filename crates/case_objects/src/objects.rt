@@ -6,8 +6,11 @@ use engine::{Case, Entry, Finding, case_verdict};
 use explanation_json::{push_explained, push_no_game};
 use explanations::Explanation;
 use game_facts::line_of;
+use gcg_read::Record;
 use lex_list::WordList;
+use record_repairs::Repair;
 use ref_tiles::Rules;
+use repair_json::{RepairObject, single_object};
 use std::alloc::{AllocError, Global};
 
 /// The line that is explained, as it stands in the file.
@@ -31,6 +34,7 @@ fn push_entry(
     list: &WordList,
     case: &Case,
     entry: &Entry,
+    likely: Option<&Repair>,
     line: Option<u32>,
 ) -> Result<(), AllocError> {
     if entry.finding == Finding::NoGame {
@@ -38,10 +42,30 @@ fn push_entry(
     }
     let told = explain(alloc, rules, list, entry, line)?;
     let written = written_of(case.text.as_slice(), &told);
-    push_explained(alloc, text, &case_verdict(case), written, told.as_ref())
+    let likely = likely_object(alloc, &entry.record, likely)?;
+    push_explained(
+        alloc,
+        text,
+        &case_verdict(case),
+        written,
+        told.as_ref(),
+        likely,
+    )
 }
 
-/// The object of what explains a case, or one of its lines.
+/// The object of the likely repair of a record, if there is one.
+fn likely_object(
+    alloc: Global,
+    record: &Record,
+    likely: Option<&Repair>,
+) -> Result<Option<RepairObject>, AllocError> {
+    match likely {
+        Some(repair) => Ok(Some(single_object(alloc, record, repair)?)),
+        None => Ok(None),
+    }
+}
+
+/// The object of what explains a case, or one of its lines, with the likely repair of its record, if that is given.
 ///
 /// # Errors
 ///
@@ -51,11 +75,12 @@ pub fn case_text(
     rules: &Rules,
     list: &WordList,
     case: &Case,
+    likely: Option<&Repair>,
     line: Option<u32>,
 ) -> Result<Vec<u8>, AllocError> {
     let mut text = Vec::new(alloc);
     match &case.read {
-        Ok(entry) => push_entry(alloc, &mut text, rules, list, case, entry, line)?,
+        Ok(entry) => push_entry(alloc, &mut text, rules, list, case, entry, likely, line)?,
         Err(fault) => push_bad_record(alloc, &mut text, *fault)?,
     }
     Ok(text)

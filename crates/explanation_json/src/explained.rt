@@ -10,6 +10,7 @@ use explanations::{Explanation, Picture, Shown};
 use game_board::tile_mark;
 use ref_board::{Dir, SIDE, Square};
 use ref_tiles::Premium;
+use repair_json::RepairObject;
 use serde::Serialize;
 use std::alloc::{AllocError, Global};
 
@@ -64,6 +65,7 @@ struct ExplanationObject {
     play: Option<PlayObject>,
     board: Option<BoardObject>,
     unknown_since: Option<u32>,
+    likely: Option<RepairObject>,
 }
 
 /// That a record has no event.
@@ -243,14 +245,15 @@ fn line_text(alloc: Global, written: Option<&[u8]>) -> Result<Option<String>, Al
     }
 }
 
-/// Appends an explanation: the verdict on the record, the line that is explained as it stands in the file, the facts, the words of its play
-/// and the board before it.
+/// Appends an explanation: the verdict on the record, the line that is explained as it stands in the file, the facts, the words of its play,
+/// the board before it, and the likely repair of the record.
 fn push_told(
     alloc: Global,
     text: &mut Vec<u8>,
     verdict: &Verdict,
     written: Option<&[u8]>,
     told: &Explanation<'_>,
+    likely: Option<RepairObject>,
 ) -> Result<(), AllocError> {
     let fields = verdict_fields(alloc, verdict)?;
     let picture = picture_objects(alloc, &told.picture)?;
@@ -265,22 +268,24 @@ fn push_told(
         play: picture.play,
         board: picture.board,
         unknown_since: picture.unknown_since,
+        likely,
     };
     push_object(alloc, text, &object)
 }
 
-/// Appends what explains a record or one of its lines, by the verdict on the record and the line as it stands in the file; or that no event is
-/// on the line or behind it.
+/// Appends what explains a record or one of its lines, by the verdict on the record and the line as it stands in the file, with the likely repair
+/// of the record, if there is one; or that no event is on the line or after it.
 pub fn push_explained(
     alloc: Global,
     text: &mut Vec<u8>,
     verdict: &Verdict,
     written: Option<&[u8]>,
     told: Option<&Explanation<'_>>,
+    likely: Option<RepairObject>,
 ) -> Result<(), AllocError> {
     match told {
         None => push_verdict(alloc, text, &Verdict::BadLine),
-        Some(told) => push_told(alloc, text, verdict, written, told),
+        Some(told) => push_told(alloc, text, verdict, written, told, likely),
     }
 }
 

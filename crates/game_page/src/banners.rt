@@ -1,6 +1,7 @@
 //! The top of a page: names, result, the record's own words, and the verdict.
 
 use crate::heads::{is_named, name_of};
+use crate::likely::push_likely_words;
 use crate::lines::Line;
 use crate::panels::plus;
 use crate::plays::push_event;
@@ -228,12 +229,13 @@ fn push_why(page: &mut PageText, shown: &Shown<'_>) -> Result<(), AllocError> {
     ])
 }
 
-/// Appends the verdict, the event that it is about, and what explains it.
+/// Appends the verdict, the event that it is about, what explains it, and the likely repair.
 fn push_verdict(page: &mut PageText, shown: &Shown<'_>) -> Result<(), AllocError> {
     push_line(page, shown)?;
     push_faulty(page, shown)?;
     push_why(page, shown)?;
     push_fault_sum(page, shown)?;
+    push_likely_words(page, shown)?;
     page.push(&[Piece::Markup("</section>\n")])
 }
 

@@ -12,6 +12,7 @@ mod faults;
 mod feet;
 mod heads;
 mod indexes;
+mod likely;
 mod lines;
 mod pages;
 mod panels;
@@ -23,5 +24,6 @@ mod sums;
 
 pub use feet::Maker;
 pub use indexes::{Index, IndexPlayer, IndexRow};
+pub use likely::Likely;
 pub use pages::{Contents, push_page, shown_of};
 pub use showing::Shown;

@@ -10,6 +10,7 @@ use crate::banners::push_banner;
 use crate::boards::push_board;
 use crate::feet::{Maker, push_foot};
 use crate::heads::push_head;
+use crate::likely::{likely_of, push_likely_board};
 use crate::panels::{push_bag, push_first};
 use crate::rows::push_rows;
 use crate::showing::{Shown, faulty_line};
@@ -22,6 +23,7 @@ use gcg_read::Event;
 use lex_check::Checked;
 use name_texts::Encoding;
 use page_pieces::{PageText, Piece};
+use record_repairs::Repair;
 use record_words::words_of;
 use ref_tiles::Rules;
 use score_sheets::score_sheet;
@@ -46,6 +48,7 @@ fn push_end(page: &mut PageText, shown: &Shown<'_>) -> Result<(), AllocError> {
     push_board(page, shown.rules, &shown.sheet.shown)?;
     push_first(page, shown)?;
     push_last_bag(page, shown)?;
+    push_likely_board(page, shown)?;
     page.push(&[Piece::Markup(KEY)])
 }
 
@@ -69,6 +72,8 @@ pub struct Contents<'a> {
     pub pair: &'a Checked<'a>,
     /// The bytes of the record, and what is found of it.
     pub case: &'a Case,
+    /// The likely repair of the record, where there is one that the page is to show.
+    pub likely: Option<&'a Repair>,
     /// How many folders above the page its index is, where it has one.
     pub up: Option<usize>,
     /// What the page is made by.
@@ -125,6 +130,7 @@ fn shown_by<'a>(
         verdict: case_line(alloc, case)?,
         reason,
         explanation: explain(alloc, rules, pair.list(), entry, None)?,
+        likely: likely_of(alloc, &entry.record, contents.likely)?,
         up: contents.up,
         maker: contents.maker,
     })

@@ -1,6 +1,7 @@
 //! What a page shows, as plain data.
 
 use crate::feet::Maker;
+use crate::likely::Likely;
 use crate::lines::Line;
 use engine::Finding;
 use explanations::Explanation;
@@ -31,6 +32,8 @@ pub struct Shown<'a> {
     pub reason: Vec<u8>,
     /// What explains it, with the words of the play.
     pub explanation: Option<Explanation<'a>>,
+    /// The likely repair of the record, where there is one.
+    pub likely: Option<Likely>,
     /// How many folders above the page its index is, where it has one.
     pub up: Option<usize>,
     /// What the page is made by.

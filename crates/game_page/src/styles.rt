@@ -13,7 +13,7 @@ p{margin:.2rem 0}\n\
 a{color:var(--link)}\n\
 .up{font-size:.9rem}.result{color:var(--faint)}.own{font-size:.9rem}\n\
 .verdict{border-left:.4rem solid;background:var(--card);padding:.5rem .8rem;margin:.6rem 0 1rem;border-radius:.3rem;box-shadow:0 0 0 1px var(--line)}\n\
-.verdict h2{margin:0}.why{white-space:pre-line}.legal{border-color:var(--good)}.illegal{border-color:var(--bad)}.unsettled{border-color:var(--open)}\n\
+.verdict h2{margin:0}.why{white-space:pre-line}.likely{margin-top:.5rem}.legal{border-color:var(--good)}.illegal{border-color:var(--bad)}.unsettled{border-color:var(--open)}\n\
 .sum{margin:.3rem 0 0;padding-left:1.2rem;font-size:.9rem}\n\
 .board{--c:min(2.15rem,calc((100vw - 2.9rem)/15.7));border-collapse:separate;border-spacing:1px;background:var(--field);border-radius:.3rem;padding:2px;font-size:max(calc(var(--c)*.33),.5rem);line-height:1;table-layout:fixed;overflow-wrap:normal}\n\
 .board td,.board th{width:var(--c);height:var(--c);padding:0;text-align:center;vertical-align:middle;white-space:nowrap}\n\

@@ -13,18 +13,35 @@ use engine::{Case, RunFault, open_case};
 use exit_statuses::{Exit, Trouble, exit_of_case};
 use lex_list::WordList;
 use ref_tiles::Rules;
+use repair_answers::likely_in_case;
+use std::alloc::{AllocError, Global};
 use std::io::Read;
 use std::rt::Runtime;
+
+/// The object of what explains a case, or one of its lines. What explains an illegal record has its likely repair.
+fn object_of(
+    alloc: Global,
+    rules: &Rules,
+    list: &WordList,
+    case: &mut Case,
+    line: Option<u32>,
+) -> Result<Vec<u8>, AllocError> {
+    let likely = match line {
+        Some(_) => None,
+        None => likely_in_case(alloc, rules, list, case)?,
+    };
+    case_text(alloc, rules, list, case, likely.as_ref(), line)
+}
 
 /// Tells what explains a case, or one of its lines.
 fn tell_explained<R: Runtime + AllocGlobal>(
     rt: &R,
     rules: &Rules,
     list: &WordList,
-    case: &Case,
+    case: &mut Case,
     line: Option<u32>,
 ) -> Result<Exit, Trouble<'static>> {
-    let Ok(text) = case_text(rt.alloc(), rules, list, case, line) else {
+    let Ok(text) = object_of(rt.alloc(), rules, list, case, line) else {
         return Err(Trouble::NoMemory);
     };
     write(rt, text.as_slice())?;
@@ -43,7 +60,9 @@ pub fn explain_in_json<R: Runtime + AllocGlobal, F: Read + Drop, S: Read + Drop>
         (IsCaseTold given.now.rules.now (list_in given.now.pair.now)) result }
 {
     match open_case(rt.alloc(), given.rules, given.pair, game) {
-        Ok(case) => Ok(Ok(tell_explained(rt, given.rules, given.pair.list(), &case, line))),
+        Ok(mut case) => {
+            Ok(Ok(tell_explained(rt, given.rules, given.pair.list(), &mut case, line)))
+        }
         Err(fault) => Err(fault),
     }
 }

@@ -1,7 +1,11 @@
 -- The repair of a record that is likelier than all others by far.
-use Rattle.std.specs.Prelude.{◌≡◌, ◌≤◌, ℕ, ◌+◌, ◌*◌, ⊤, List, [], length, Option, Some, None}
+use Rattle.std.specs.Prelude.{◌≡◌, ◌≤◌, ℕ, ◌+◌, ◌*◌, ⊤, List, [], length, Option, Some, None, Result, Ok, Err}
 use Rattle.ref_tiles.specs.declared.rulebook.Rules.{Rules}
 use Rattle.gcg_read.specs.declared.events.Event.{Event}
+use Rattle.gcg_read.specs.declared.faults.ReadFault.{ReadFault}
+use Rattle.engine.specs.declared.entries.Entry.{Entry}
+use Rattle.engine.specs.declared.findings.Finding.{Finding}
+use Rattle.engine.specs.declared.findings.Finding.TheVariants as finding
 use Rattle.record_repairs.specs.Repairs.{AreFirstRepairs}
 use Rattle.record_repairs.specs.declared.listed.Listed.{Listed}
 use Rattle.record_repairs.specs.declared.remains.Remains.{Remains}
@@ -41,3 +45,13 @@ pub record IsLikely (rules : Rules) (list : List (List ℕ)) (written : List Eve
   pub two : Pairs
   pub pairs : ArePairs rules list written told 1 two
   pub chosen : IsLikelyOf remains told left two.told.items likely
+
+-- The likely repair of a record of which this is found: of an illegal one alone.
+abbrev pub IsLikelyFor : Rules → (list : List (List ℕ)) → Finding → (written : List Event) → Option Repair → Type 0
+IsLikelyFor rules list (finding.Illegal line fault) written likely = IsLikely rules list written likely
+IsLikelyFor rules list other written likely = likely ≡ None
+
+-- the same of the case of a text
+abbrev pub IsLikelyOfCase : Rules → (list : List (List ℕ)) → Result Entry ReadFault → Option Repair → Type 0
+IsLikelyOfCase rules list (Ok entry) likely = IsLikelyFor rules list entry.finding entry.record.events likely
+IsLikelyOfCase rules list (Err fault) likely = likely ≡ None

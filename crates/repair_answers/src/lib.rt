@@ -16,5 +16,5 @@ mod unchanged;
 pub use answers::{Faulty, RepairAnswer, answer_repairs};
 pub use choices::{Choice, choice_of};
 pub use evidence::{Told, numbers_with, numbers_with_both};
-pub use likely::likely_repair;
+pub use likely::{likely_in, likely_in_case, likely_repair};
 pub use spots::{Spot, second_spot, spot_of};

@@ -1,10 +1,11 @@
 //! The repair of a record that is likelier than all others by far.
 ghost use Rattle.std.specs.Prelude.{◌≡◌, ◌↔◌, IsTrue, IfOk, OnOk};
-ghost use Rattle.repair_answers.specs.Likely.{IsAheadOfNumbers, IsLikelyOf, IsLikely};
+ghost use Rattle.repair_answers.specs.Likely.{IsAheadOfNumbers, IsLikelyOf, IsLikely, IsLikelyFor, IsLikelyOfCase};
 
 use crate::answers::below_of;
 use crate::choices::{Choice, NUMBER, choice_among, cost_of};
 use crate::unchanged::unchanged;
+use engine::{Case, Entry, Finding};
 use gcg_read::Record;
 use lex_list::WordList;
 use record_repairs::{Found, Remains, Repair, repairs};
@@ -70,4 +71,40 @@ pub fn likely_repair(
         1,
     )?;
     Ok(chosen(&remains, found, two.told.as_slice()))
+}
+
+/// The likely repair of a record that was judged, if it is illegal. Afterwards the entry is as it was.
+///
+/// It fails only where memory runs out.
+pub fn likely_in(
+    alloc: Global,
+    rules: &Rules,
+    list: &WordList,
+    entry: &mut Entry,
+) -> Result<Option<Repair>, AllocError>
+    ensures likely { IfOk result (IsLikelyFor rules.now list.now entry.old.finding entry.old.record.events) }
+    ensures same { OnOk result (entry.new ≡ entry.old) }
+{
+    match entry.finding {
+        Finding::Illegal { .. } => likely_repair(alloc, rules, list, &mut entry.record),
+        _ => Ok(None),
+    }
+}
+
+/// The likely repair of the record of a case, if it is illegal. Afterwards the case is as it was.
+///
+/// It fails only where memory runs out.
+pub fn likely_in_case(
+    alloc: Global,
+    rules: &Rules,
+    list: &WordList,
+    case: &mut Case,
+) -> Result<Option<Repair>, AllocError>
+    ensures likely { IfOk result (IsLikelyOfCase rules.now list.now case.old.read) }
+    ensures same { OnOk result (case.new ≡ case.old) }
+{
+    match &mut case.read {
+        Ok(entry) => likely_in(alloc, rules, list, entry),
+        Err(_) => Ok(None),
+    }
 }

@@ -13,7 +13,7 @@ use std::alloc::{AllocError, Global};
 
 /// A repair: where it stands, the lines of the sheet that it replaces, what stands in their place, and the evidence.
 #[derive(Drop, Serialize)]
-pub(crate) struct RepairObject {
+pub struct RepairObject {
     at: &'static str,
     line: u32,
     slip: &'static str,
@@ -25,12 +25,12 @@ pub(crate) struct RepairObject {
     evidence: EvidenceObject,
 }
 
-/// Whether a change is on a line, before it or behind it.
+/// Whether a change is on a line, before it or after it.
 pub(crate) fn at_name(spot: Spot) -> &'static str {
     match spot {
         Spot::On(_) => "on",
         Spot::Before(_) => "before",
-        Spot::Behind(_) => "behind",
+        Spot::Behind(_) => "after",
     }
 }
 
@@ -141,4 +141,19 @@ pub(crate) fn repair_object(
         cost: repair.remains.cost(&change.slip),
         evidence: evidence_object(alloc, &repair.remains, numbers)?,
     })
+}
+
+/// A repair of a record, told alone.
+///
+/// It fails only where memory runs out.
+pub fn single_object(
+    alloc: Global,
+    record: &Record,
+    repair: &Repair,
+) -> Result<RepairObject, AllocError> {
+    let told = Told {
+        first: 0,
+        others: Vec::new(alloc),
+    };
+    repair_object(alloc, record, &[], repair, &told)
 }

@@ -11,3 +11,4 @@ mod pairs;
 mod slip_names;
 
 pub use answers::{push_no_game, push_repair_answer};
+pub use changes::{RepairObject, single_object};

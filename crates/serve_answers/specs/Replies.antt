@@ -1,15 +1,20 @@
 -- What is answered of a request, by rules and the words of a list.
-use Rattle.std.specs.Prelude.{ℕ, Bool, true, false, List, Result}
+use Rattle.std.specs.Prelude.{◌≡◌, ◌&&◌, is_none, ℕ, Bool, true, false, List, Option, None, Result}
 use Rattle.std.specs.Option.{option_copied}
 use Rattle.ref_tiles.specs.declared.rulebook.Rules.{Rules}
+use Rattle.gcg_read.specs.declared.faults.ReadFault.{ReadFault}
 use Rattle.audit_lines.specs.Answers.{IsAuditAnswerOf}
 use Rattle.call_stages.specs.declared.decisions.Decision.{Decision}
+use Rattle.engine.specs.declared.entries.Entry.{Entry}
 use Rattle.engine.specs.declared.judging.Judging.{Judging}
 use Rattle.engine.specs.Explaining.{IsCaseOf}
 use Rattle.engine.specs.TopBefore.{given_rack}
 use Rattle.game_answers.specs.Boards.{IsBoardOf}
 use Rattle.game_answers.specs.declared.games.JudgedGame.{JudgedGame}
 use Rattle.game_answers.specs.Games.{IsJudgedGameOf}
+use Rattle.record_repairs.specs.declared.repair.Repair.{Repair}
+use Rattle.repair_answers.specs.Likely.{IsLikelyOfCase}
+use Rattle.serve_answers.specs.declared.told_cases.ToldCase.{ToldCase}
 use Rattle.serve_answers.specs.PlainGames.{IsPlainGameOf}
 use Rattle.serve_requests.specs.declared.requests.Request.{Request}
 use Rattle.serve_requests.specs.declared.requests.Request.TheVariants as request
@@ -25,16 +30,25 @@ abbrev pub IsJudgedWith : (best : Bool) → (question : Judging) → Rules → (
 IsJudgedWith true question rules list text x = IsJudgedGameOf question rules list text x
 IsJudgedWith false question rules list text x = IsPlainGameOf question rules list text x
 
+-- the likely repair of the case of a text, where it is asked for
+abbrev pub IsLikelyAsked : (asked : Bool) → Rules → (list : List (List ℕ)) → Result Entry ReadFault → Option Repair → Type 0
+IsLikelyAsked true rules list read likely = IsLikelyOfCase rules list read likely
+IsLikelyAsked false rules list read likely = likely ≡ None
+
+-- the case of a text, with its likely repair where it is asked for
+abbrev pub IsToldCaseOf : (asked : Bool) → Rules → (list : List (List ℕ)) → (text : List ℕ) → ToldCase → Type 0
+IsToldCaseOf asked rules list text told = IsCaseOf rules list text told.case × IsLikelyAsked asked rules list told.case.read told.likely
+
 -- A reply to a request is what the command of its name finds of the bytes that are read of its record, and nothing else: the contracts of the
 -- commands have the same definitions.
 abbrev pub IsReplyTo : Rules → (list : List (List ℕ)) → Request → Reply → Type 0
 IsReplyTo rules list (request.Judge game settle best) (reply.Judged x) = IsJudgedWith best (judging_by settle) rules list (read_of game.now) x
-IsReplyTo rules list (request.Explain game line) (reply.Explained case) = IsCaseOf rules list (read_of game.now) case
+IsReplyTo rules list (request.Explain game line likely) (reply.Explained told) = IsToldCaseOf (likely && is_none line) rules list (read_of game.now) told
 IsReplyTo rules list (request.Audit game corrected) (reply.Audited x) = IsAuditAnswerOf rules list (read_of game.now) x
 IsReplyTo rules list (request.Board game line) (reply.Boarded x) = IsBoardOf rules line (read_of game.now) x
 IsReplyTo rules list (request.Top game line rack number) (reply.Found x) =
     ArePlaysBy (number_asked number) line rules list (given_rack (option_copied rack)) (read_of game.now) x
 IsReplyTo rules list (request.Word words) (reply.Ruled x) = IsRuledOn list words.items x
 IsReplyTo rules list (request.Tidy game) (reply.Tidied d) = IsTidiedOf (read_of game.now) d
-IsReplyTo rules list (request.Page game) (reply.Paged case) = IsCaseOf rules list (read_of game.now) case
+IsReplyTo rules list (request.Page game likely) (reply.Paged told) = IsToldCaseOf likely rules list (read_of game.now) told
 IsReplyTo rules list asked told = ⊥

@@ -9,8 +9,10 @@ mod plain_games;
 mod plays;
 mod replies;
 mod tidying;
+mod told_cases;
 mod verdicts;
 mod words;
 
 pub use replies::{Reply, reply_to};
+pub use told_cases::ToldCase;
 pub use words::Ruled;

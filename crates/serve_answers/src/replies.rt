@@ -5,12 +5,13 @@ ghost use Rattle.known_bests.specs.Known.{AreKnown};
 ghost use Rattle.serve_answers.specs.Given.{judging_by, read_of};
 ghost use Rattle.serve_answers.specs.Replies.{IsJudgedWith, IsReplyTo};
 
-use crate::games::{audited, board_in, case_in, judged, judged_plainly};
+use crate::games::{audited, board_in, judged, judged_plainly};
 use crate::plays::plays_in;
 use crate::tidying::tidied;
+use crate::told_cases::{ToldCase, told_case};
 use crate::words::{Ruled, rule_on_texts};
 use audit_lines::AuditAnswer;
-use engine::{Case, Decision, Judging, RunFault};
+use engine::{Decision, Judging, RunFault};
 use game_answers::{FoundPlays, JudgedGame, ShownBoard};
 use known_bests::KnownBests;
 use lex_check::Checked;
@@ -24,7 +25,7 @@ pub enum Reply {
     /// To one that asks to judge a game: the judged game.
     Judged(Result<JudgedGame, Decision>),
     /// To one that asks for an explanation: the case that is explained.
-    Explained(Case),
+    Explained(ToldCase),
     /// To one that asks to audit a sheet: the audit.
     Audited(Result<AuditAnswer, Decision>),
     /// To one that asks for a board: the board, where there is an event on the line or after it.
@@ -36,7 +37,7 @@ pub enum Reply {
     /// To one that asks for the normal form of a record: that it is done, with the normal form.
     Tidied(Decision),
     /// To one that asks for a page: the case whose page it is.
-    Paged(Case),
+    Paged(ToldCase),
 }
 
 /// How a game is judged, with a search for a deal or without.
@@ -94,7 +95,10 @@ pub fn reply_to(
             let found = judged_by(alloc, rules, pair, game, question, *best, known)?;
             Ok(Reply::Judged(found))
         }
-        Request::Explain { game, .. } => Ok(Reply::Explained(case_in(alloc, rules, pair, game)?)),
+        Request::Explain { game, line, likely } => {
+            let asked = *likely && line.is_none();
+            Ok(Reply::Explained(told_case(alloc, rules, pair, game, asked)?))
+        }
         Request::Audit { game, .. } => Ok(Reply::Audited(audited(alloc, rules, pair, game)?)),
         Request::Board { game, line } => Ok(Reply::Boarded(board_in(alloc, rules, game, *line)?)),
         Request::Top {
@@ -109,6 +113,8 @@ pub fn reply_to(
             words.as_slice(),
         )?)),
         Request::Tidy { game } => Ok(Reply::Tidied(tidied(alloc, game)?)),
-        Request::Page { game } => Ok(Reply::Paged(case_in(alloc, rules, pair, game)?)),
+        Request::Page { game, likely } => {
+            Ok(Reply::Paged(told_case(alloc, rules, pair, game, *likely)?))
+        }
     }
 }

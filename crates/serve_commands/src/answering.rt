@@ -7,7 +7,7 @@ use answer_json::push_refusal;
 use audit_lines::{AuditAnswer, corrected_text, is_corrected};
 use case_objects::case_text;
 use command_files::has_page;
-use engine::{Case, Decision, RunFault, Verdict};
+use engine::{Decision, RunFault, Verdict};
 use exit_statuses::{Exit, exit_of_audit, exit_of_case};
 use game_answers::{FoundPlays, JudgedGame, ShownBoard};
 use game_json::{push_found_plays, push_judged_game};
@@ -16,7 +16,7 @@ use known_bests::KnownBests;
 use lex_check::Checked;
 use page_pieces::PageText;
 use ref_tiles::Rules;
-use serve_answers::{Reply, Ruled, reply_to};
+use serve_answers::{Reply, Ruled, ToldCase, reply_to};
 use serve_requests::Request;
 use sheet_json::{push_audit_answer, push_shown_board};
 use std::alloc::{AllocError, Global};
@@ -96,11 +96,19 @@ fn tell_judged(
 fn tell_explained(
     alloc: Global,
     judges: &Judges<'_>,
-    case: &Case,
+    told: &ToldCase,
     line: Option<u32>,
 ) -> Result<Response, AllocError> {
-    let text = case_text(alloc, judges.rules, judges.pair.list(), case, line)?;
-    Ok(Response::object(exit_of_case(case, line), text))
+    let list = judges.pair.list();
+    let text = case_text(
+        alloc,
+        judges.rules,
+        list,
+        &told.case,
+        told.likely.as_ref(),
+        line,
+    )?;
+    Ok(Response::object(exit_of_case(&told.case, line), text))
 }
 
 /// An audit.
@@ -195,21 +203,22 @@ fn tell_tidied(alloc: Global, decision: Decision) -> Result<Response, AllocError
 }
 
 /// The page of a case; where there is none, what `explain` says of the case.
-fn tell_page(alloc: Global, judges: &Judges<'_>, case: &Case) -> Result<Response, AllocError> {
-    if !has_page(case) {
-        return tell_explained(alloc, judges, case, None);
+fn tell_page(alloc: Global, judges: &Judges<'_>, told: &ToldCase) -> Result<Response, AllocError> {
+    if !has_page(&told.case) {
+        return tell_explained(alloc, judges, told, None);
     }
     let contents = Contents {
         rules: judges.rules,
         pair: judges.pair,
-        case,
+        case: &told.case,
+        likely: told.likely.as_ref(),
         maker: judges.maker,
         up: None,
     };
     let mut page = PageText::new(alloc);
     push_page(alloc, &mut page, &contents)?;
     let text = Vec::from_slice(alloc, page.as_slice())?;
-    Ok(Response::text(exit_of_case(case, None), text))
+    Ok(Response::text(exit_of_case(&told.case, None), text))
 }
 
 /// The line that a request for an explanation names.
@@ -237,13 +246,13 @@ fn tell_reply(
 ) -> Result<Response, AllocError> {
     match reply {
         Reply::Judged(found) => tell_judged(alloc, &found),
-        Reply::Explained(case) => tell_explained(alloc, judges, &case, line_of(request)),
+        Reply::Explained(told) => tell_explained(alloc, judges, &told, line_of(request)),
         Reply::Audited(found) => tell_audited(alloc, &found, asks_corrected(request)),
         Reply::Boarded(found) => tell_board(alloc, &found),
         Reply::Found(found) => tell_plays(alloc, &found),
         Reply::Ruled(ruled) => tell_ruled(alloc, &ruled),
         Reply::Tidied(decision) => tell_tidied(alloc, decision),
-        Reply::Paged(case) => tell_page(alloc, judges, &case),
+        Reply::Paged(told) => tell_page(alloc, judges, &told),
     }
 }
 

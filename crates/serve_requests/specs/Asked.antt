@@ -44,14 +44,14 @@ texts_data texts = array (items_of (map text_data texts))
 -- What an object says for a command, by the values of its keys.
 abbrev pub Says : Command → Data → Request → Type 0
 Says command.Judge d (request.Judge game settle best) = IsGame d game.now × IsFlag (codes "settle") false d settle × IsFlag (codes "best") true d best
-Says command.Explain d (request.Explain game line) = IsGame d game.now × (line_said d ≡ Some line)
+Says command.Explain d (request.Explain game line likely) = IsGame d game.now × (line_said d ≡ Some line) × IsFlag (codes "likely") true d likely
 Says command.Audit d (request.Audit game corrected) = IsGame d game.now × IsFlag (codes "corrected") false d corrected
 Says command.Board d (request.Board game line) = IsGame d game.now × (line_said d ≡ Some line)
 Says command.Top d (request.Top game line rack plays) =
     IsGame d game.now × (line_said d ≡ Some line) × (text_said (codes "rack") d ≡ Some (option_copied rack)) × (number_said 1 100 (codes "number") d ≡ Some plays)
 Says command.Word d (request.Word words) = value_at (codes "words") d ≡ Some (texts_data words.items)
 Says command.Tidy d (request.Tidy game) = IsGame d game.now
-Says command.Page d (request.Page game) = IsGame d game.now
+Says command.Page d (request.Page game likely) = IsGame d game.now × IsFlag (codes "likely") true d likely
 Says asked d r = ⊥
 
 -- An object asks for this: it names a command, and this is what it says for it.

@@ -63,6 +63,7 @@ impl Command {
             "game" => self != Command::Word,
             "settle" | "best" => self == Command::Judge,
             "corrected" => self == Command::Audit,
+            "likely" => matches!(self, Command::Explain | Command::Page),
             "line" => matches!(self, Command::Explain | Command::Board | Command::Top),
             "rack" | "number" => self == Command::Top,
             "words" => self == Command::Word,

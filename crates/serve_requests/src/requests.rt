@@ -22,10 +22,11 @@ pub enum Request<'a> {
         settle: bool,
         best: bool,
     },
-    /// To explain the verdict on a game, or the event on a line where one is named.
+    /// To explain the verdict on a game, or the event on a line where one is named; where `likely` does not say so, no likely repair is looked for.
     Explain {
         game: &'a str,
         line: Option<u32>,
+        likely: bool,
     },
     /// To audit the sheet of a game, and to write the corrected record where `corrected` says so and it stands.
     Audit {
@@ -52,9 +53,10 @@ pub enum Request<'a> {
     Tidy {
         game: &'a str,
     },
-    /// To write the page of a game.
+    /// To write the page of a game; where `likely` does not say so, without its likely repair.
     Page {
         game: &'a str,
+        likely: bool,
     },
 }
 
@@ -93,6 +95,7 @@ fn explain_in<'a>(object: &'a Value) -> Result<Request<'a>, Refusal<'a>>
     Ok(Request::Explain {
         game: game_in(object, Command::Explain)?,
         line: line_in(object)?,
+        likely: flag_in(object, "likely", true)?,
     })
 }
 
@@ -157,8 +160,10 @@ fn tidy_in<'a>(object: &'a Value) -> Result<Request<'a>, Refusal<'a>>
 fn page_in<'a>(object: &'a Value) -> Result<Request<'a>, Refusal<'a>>
     ensures { IfOk result (Says command.Page (view object.now)) }
 {
-    let game = game_in(object, Command::Page)?;
-    Ok(Request::Page { game })
+    Ok(Request::Page {
+        game: game_in(object, Command::Page)?,
+        likely: flag_in(object, "likely", true)?,
+    })
 }
 
 /// What an object that names a command asks for.

@@ -1,13 +1,13 @@
 //! `explain`: what is wrong with a record, or how one of its lines is judged, in plain words.
 
 use command_files::{NO_GAME, has_no_event, write};
-use engine::{Case, Entry, Finding};
+use engine::{Case, Entry};
 use exit_statuses::{Exit, Trouble, exit_of_case};
 use explain_lines::push_explanation;
 use lex_list::WordList;
 use name_texts::Encoding;
 use ref_tiles::Rules;
-use repair_answers::likely_repair;
+use repair_answers::likely_in;
 use repair_lines::push_likely;
 use std::alloc::{AllocError, Global};
 use std::rt::Runtime;
@@ -40,10 +40,7 @@ fn push_likely_in(
     list: &WordList,
     entry: &mut Entry,
 ) -> Result<(), AllocError> {
-    if !matches!(entry.finding, Finding::Illegal { .. }) {
-        return Ok(());
-    }
-    match likely_repair(alloc, rules, list, &mut entry.record)? {
+    match likely_in(alloc, rules, list, entry)? {
         Some(repair) => push_likely(told, &entry.record, &repair),
         None => Ok(()),
     }

@@ -24,6 +24,7 @@ use devices::{FromRead, Input};
 use engine::{Case, Question, RunFault, Verdict, ask, audit_sheet, open_case};
 use exit_statuses::{Exit, Trouble};
 use game_page::{Contents, Maker};
+use repair_answers::likely_in_case;
 use std::alloc::{AllocError, Global};
 use std::io::Read;
 use std::rt::Runtime;
@@ -105,20 +106,24 @@ fn maker_of<F: Read + Drop, S: Read + Drop>(
     })
 }
 
-/// Writes the page of a case.
+/// Writes the page of a case, with its likely repair.
 fn tell_page<'a, R: Runtime + AllocGlobal, F: Read + Drop, S: Read + Drop>(
     rt: &R,
     given: &GivenFiles<'_, F, S>,
-    case: &Case,
+    case: &mut Case,
     out: &'a str,
 ) -> Result<Exit, Trouble<'a>> {
     let Ok(maker) = maker_of(given) else {
+        return Err(Trouble::NoMemory);
+    };
+    let Ok(likely) = likely_in_case(rt.alloc(), given.rules, given.pair.list(), case) else {
         return Err(Trouble::NoMemory);
     };
     let contents = Contents {
         rules: given.rules,
         pair: given.pair,
         case,
+        likely: likely.as_ref(),
         up: None,
         maker: &maker,
     };
@@ -137,7 +142,7 @@ fn page<'a, R: Runtime + AllocGlobal, F: Read + Drop, S: Read + Drop>(
         (IsCaseTold given.now.rules.now (list_in given.now.pair.now)) result }
 {
     match open_case(rt.alloc(), given.rules, given.pair, game) {
-        Ok(case) => Ok(Ok(tell_page(rt, given, &case, out))),
+        Ok(mut case) => Ok(Ok(tell_page(rt, given, &mut case, out))),
         Err(fault) => Err(fault),
     }
 }

@@ -1,0 +1,57 @@
+//! The case of a record with its likely repair.
+ghost use Rattle.std.specs.Prelude.{◌≡◌, IfOk};
+ghost use Rattle.lex_check.specs.Pairs.{list_in};
+ghost use Rattle.serve_answers.specs.Given.{read_of};
+ghost use Rattle.serve_answers.specs.Replies.{IsLikelyAsked, IsToldCaseOf};
+
+use crate::games::case_in;
+use engine::{Case, RunFault};
+use lex_check::Checked;
+use lex_list::WordList;
+use record_repairs::Repair;
+use ref_tiles::Rules;
+use repair_answers::likely_in_case;
+use std::alloc::{AllocError, Global};
+
+/// The case of a record: what `explain` and `page` tell of.
+#[derive(Drop)]
+pub struct ToldCase {
+    /// The case.
+    pub case: Case,
+    /// The likely repair of its record, if it is asked for and there is one.
+    pub likely: Option<Repair>,
+}
+
+/// The case with its likely repair, if that is asked for.
+fn told_of(
+    alloc: Global,
+    rules: &Rules,
+    list: &WordList,
+    case: Case,
+    asked: bool,
+) -> Result<ToldCase, AllocError>
+    ensures case { IfOk result (λ told. told.case ≡ case) }
+    ensures likely { IfOk result (λ told. IsLikelyAsked asked rules.now list.now case.read told.likely) }
+{
+    let mut case = case;
+    let likely = if asked {
+        likely_in_case(alloc, rules, list, &mut case)?
+    } else {
+        None
+    };
+    Ok(ToldCase { case, likely })
+}
+
+/// The case of a record, with its likely repair if that is asked for.
+pub fn told_case(
+    alloc: Global,
+    rules: &Rules,
+    pair: &Checked<'_>,
+    game: &str,
+    asked: bool,
+) -> Result<ToldCase, RunFault>
+    ensures { IfOk result (IsToldCaseOf asked rules.now (list_in pair.now) (read_of game.now)) }
+{
+    let case = case_in(alloc, rules, pair, game)?;
+    Ok(told_of(alloc, rules, pair.list(), case, asked)?)
+}
