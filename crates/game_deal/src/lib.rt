@@ -21,5 +21,6 @@ pub use faults::{DealFault, exceeded_bound};
 pub use fitting::fits;
 pub use laws::{law_of_bounds, law_of_runs, law_of_tiles};
 pub use needs::Needs;
+pub use recording::next_step;
 pub use settling::{Settled, settle};
 pub use steps::all_steps;

@@ -139,7 +139,8 @@ fn act_of(machine: &Machine, event: &Event, withdrawn: bool) -> Act
     }
 }
 
-/// The step of an event, over the machine that took those before it.
+/// The step of an event, over the machine that took those before it: what the event is to the racks, and the tiles of the board and the
+/// sizes of racks and bag before it. `withdrawn` tells whether the next event takes this one back. The text of a play names a placement.
 #[tactic(auto, unfolding(crate::specs::Recorded::step_in))]
 pub fn next_step(machine: &Machine, event: &Event, withdrawn: bool) -> Step
     requires { IsNamed (state_of machine.now).board event.now.kind }
