@@ -78,19 +78,21 @@ head -c $((1048576 - $(wc -c < "$work/long"))) /dev/zero | tr '\0' y >> "$work/l
 measure cat 0 - - 50 '`cat` of a record of 1 MiB' cat "$work/long"
 measure start 0 cat - 50 '`tidy` of an empty record: the start of the program' "$program" tidy "$work/empty"
 measure tidy 0 cat - 50 '`tidy` of the record of 1 MiB, which has 1,000 events' "$program" tidy "$work/long"
-# A command, with the status that it has to have, and a record of 500 and of 1,000 events, with a word about them.
+# A command, with the status that it has to have, the number of runs, and a record of 500 and of 1,000 events, with a word about them.
 both() {
-    command=$1 ends=$2 which=$3 kind=$4
-    shift 4
-    measure "$command-500" "$ends" cat - 20 "\`$command\` of 500 events$kind" \
+    command=$1 ends=$2 runs=$3 which=$4 kind=$5
+    shift 5
+    measure "$command-500" "$ends" cat - "$runs" "\`$command\` of 500 events$kind" \
         "$program" "$command" "$work/empty" "$work/none" "$work/$which-500" "$@"
-    measure "$command-1000" "$ends" cat "$command-500:2" 20 "\`$command\` of 1,000 events$kind" \
+    measure "$command-1000" "$ends" cat "$command-500:2" "$runs" "\`$command\` of 1,000 events$kind" \
         "$program" "$command" "$work/empty" "$work/none" "$work/$which-1000" "$@"
 }
-both judge 0 right ''
-both explain 1 wrong ', the last total wrong'
-both audit 1 wrong ', the last total wrong'
-both page 0 right '' "$work/page.html"
+both judge 0 20 right ''
+both audit 1 20 wrong ', the last total wrong'
+both page 0 20 right '' "$work/page.html"
+batches=3
+both explain 1 1 wrong ', the last total wrong'
+batches=5
 measure numbers - cat - 20 '`judge` of 1,000 exchanges that state the number of tiles, with full racks' \
     "$program" judge "$work/empty" "$work/none" "$work/numbers"
 measure tiles - cat - 20 '`judge` of 1,000 exchanges that state the tiles, with full racks' \
@@ -114,6 +116,10 @@ measure settled 0 cat - 20 '`judge --settle` of that game, which it calls legal'
     "$program" judge --settle "$work/games/words" "$work/games/lexicon" "$unsettled"
 measure crowded 0 cat - 5 '`judge --settle` of 1,000 events with a set of 200 tiles, nine in ten of them exchanges' \
     "$program" judge --settle --rules "$work/games/crowded.rules" "$work/games/crowded.words" "$work/games/crowded" "$work/games/crowded.gcg"
+sed 's/ D12 CRT / D13 CRT /' "$work/games/crowded.gcg" > "$work/games/crowded.slip"
+batches=1
+measure repair-crowded 1 cat - 1 '`repair` of that record with its last play one square off' \
+    "$program" repair --rules "$work/games/crowded.rules" "$work/games/crowded.words" "$work/games/crowded" "$work/games/crowded.slip"
 
 # ---- Word lists: an empty file is not a lexicon, so nothing but the list counts.
 

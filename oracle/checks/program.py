@@ -1354,15 +1354,19 @@ def repairs_listed(run):
     run.row(["repair", "--number", "1", "--repaired", "out", *twice], 1, found + "  not in the list: DT\n", wrote=(WORD + at).encode())
     Path(run.folder, "all").write_text("AT\nDT\nEAT\nOE\nRA\nWORD\n")
     run.row(["build", "all", "all.gad"], 0)
+    eat = ">A: E 9F E.. +5 21\n"
+    Path(run.folder, "passes").write_text(f"{WORD}{at}>A: - +0 16\n{eat}")
+    passes = "illegal line 4: NotYourTurn\nline 3: it should not be there\n  6 of 6 numbers right\n"
+    run.row(["repair", "--number", "1", "all", "all.gad", "passes"], 1, passes)
     wrong = ">A: AADEORW E8 WORD +16 16\n>B: AT 9H AT +9 9\n"
     Path(run.folder, "two").write_text(wrong)
-    Path(run.folder, "three").write_text(wrong + ">A: E 9F E.. +5 21\n")
-    none = "illegal line 1: MissesCentre\nnone of 503 single changes makes it a game\n"
+    Path(run.folder, "three").write_text(wrong + eat)
+    none = "illegal line 1: MissesCentre\nnone of 511 single changes makes it a game\n"
     pair = "with two changes:\nline 1: WORD at 8E, not at E8; and line 2: AT at 9G, not at 9H\n  6 of 6 numbers right\n"
     run.row(["repair", "--number", "1", "all", "all.gad", "three"], 1, none + pair)
     run.row(["repair", "--number", "1", "--repaired", "out", "all", "all.gad", "three"], 1, none + pair + "not written: no single change repairs it\n")
-    found = "illegal line 1: MissesCentre\nline 1: WORD at 8E, not at E8\n  3 of 4 numbers right\n  line 2: score 9, should be 6\n  not in the list: DA\n"
-    pair = "with two changes:\nline 1: WORD at 8E, not at E8; and line 1: WORD at 8F, not at 8E\n  4 of 4 numbers right\n"
+    found = "illegal line 1: MissesCentre\nline 1: WORD at 8F, not at E8\n  4 of 4 numbers right\n"
+    pair = "with two changes:\nline 1: WORD at 8E, not at E8; and line 2: AT at 9G, not at 9H\n  4 of 4 numbers right\n"
     likelier = "not written: two changes are likelier than the first repair\n"
     run.row(["repair", "--number", "1", "--repaired", "out", "all", "all.gad", "two"], 1, found + pair + likelier)
     run.row([*told, "nowhere"], 4, error="referee: cannot open nowhere: no such file")
@@ -1857,6 +1861,9 @@ def explained_in_json(run, told):
     Path(run.folder, "nine").write_text(WORD.replace("8E", "9E"))
     said = told(["explain", "--json", "word", "word.gad", "nine"])["likely"]
     run.expect("a likely repair", [said[key] for key in ("at", "line", "slip", "lines", "others")] == ["on", 1, "one square off", [">A: AADEORW 8E WORD +16 16"], []])
+    Path(run.folder, "passing").write_text(f"{WORD}>A: - +0 16\n")
+    said = told(["repair", "--json", "word", "word.gad", "passing"])["repairs"][0]
+    run.expect("a pass too many", [said[key] for key in ("at", "line", "slip", "lines", "weight", "cost")] == ["on", 2, "pass too many", [], 2, 2])
     run.expect("no likely repair of a line", told(["explain", "--json", "word", "word.gad", "nine", "1"])["likely"] is None)
     run.row(["explain", "--json", "word", "word.gad", "line", "9"], 3, refusal("bad line"))
     run.row(["explain", "--json", "word", "word.gad", "nothing"], 3, refusal("no game"), error="")

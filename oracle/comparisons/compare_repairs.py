@@ -14,7 +14,7 @@ from dataclasses import replace
 
 import web
 from comparing import Differences, compared
-from compare_changes import all_changes, line_of
+from compare_changes import line_of
 from deals import events_of
 from game_pages import board_read, pictured
 from lexicons import build
@@ -115,10 +115,9 @@ def texts(differences, rules, listed, text, name):
     if not all(it.dealt for it in repairs(events, listed, rules)):
         return
     nicks = nicks_in(text)
-    tried = len(all_changes(rules, events, listed))
     done = differences.run("repair", "--rules", "rules", "words", "lexicon", "game")
     told = done.stdout.decode().split("\n", 1)[1].split(TWO_CHANGES)[0]
-    wanted = repair_text(events, listed, rules, nicks, tried=tried)
+    wanted = repair_text(events, listed, rules, nicks)
     told = "".join(line + "\n" for line in told.split("\n")[:-1] if not line.endswith("but no deal was found"))
     differences.expect(told == wanted, name, text, told, "second judge", wanted)
 
@@ -154,9 +153,11 @@ def likely_object(differences, text, told):
 
 
 def is_of_play(change, events):
-    """Whether a change is one of the position or the text of a play."""
-    if change.replaced != 1 or len(change.there) != 1 or change.there[0].kind != "play":
+    """Whether a change is one of the position or the text of a play, or a play that is missing."""
+    if change.replaced > 1 or len(change.there) != 1 or change.there[0].kind != "play":
         return False
+    if not change.replaced:
+        return True
     return any(getattr(change.there[0], part) != getattr(events[change.place], part) for part in ("at", "direction", "word"))
 
 

@@ -130,11 +130,16 @@ def copied_wrongly(events):
     return true, made[1]
 
 
+def is_taken_back(events, place):
+    """Whether the next event takes an event back."""
+    return place + 1 < len(events) and events[place + 1].kind == "withdraw"
+
+
 def missing(kind):
-    """A line that is missing. What rack it stated cannot be known."""
+    """A line that is missing. What rack it stated cannot be known, nor what a play was that was taken back: that one is not left out."""
 
     def slip(events):
-        places = [k for k, event in enumerate(events) if event.kind == kind]
+        places = [k for k, event in enumerate(events) if event.kind == kind and not is_taken_back(events, k)]
         if not places:
             return None
         place = choose(places)
@@ -163,6 +168,16 @@ def pass_too_many(events):
     place = random.randrange(1, len(events))
     event = events[place]
     return events, [*events[:place], Event(event.player, "pass", 0, event.total - event.score, "-"), *events[place:]]
+
+
+def replayed(events):
+    """A play in whose place the square, the direction and the whole text of another play of the game are written. It is none that was taken back."""
+    plays = [k for k, event in enumerate(events) if event.kind == "play" and not is_taken_back(events, k)]
+    if len(plays) < 2:
+        return None
+    place, other = random.sample(plays, 2)
+    wrong = replace(events[place], at=events[other].at, direction=events[other].direction, word=events[other].word)
+    return events, [*events[:place], wrong, *events[place + 1 :]]
 
 
 def is_letter(symbol):
@@ -221,15 +236,16 @@ SLIPS = {
     "a withdrawal that is missing": missing("withdraw"),
     "a bonus that is missing": missing("challenge"),
 }
-# Slips of a last rack, which whole games alone have.
+# Slips of a last rack, which whole games alone have, and those of whole plays: the tiles of such a play can be known if a last rack is written.
 END_SLIPS = {
     "a tile of a last rack misread": of_kind("rack", lambda it: with_tiles(it, other_tile(it.tiles))),
     "a tile of a last rack that is missing": of_kind("rack", lambda it: with_tiles(it, one_less(it.tiles))),
     "a tile of a last rack too many": of_kind("rack", lambda it: with_tiles(it, one_more(it.tiles))),
     "a last rack that is another one": of_kind("rack", lambda it: with_tiles(it, some_rack(len(it.tiles)))),
     "a last rack that is missing": missing("rack"),
+    "a play that is missing": missing("play"),
+    "a play whose whole text is another": replayed,
 }
-# Once the plays of a rack are among the changes, there are two more: a play that is missing, and one whose whole text is another.
 
 
 # ---- sheets
@@ -284,8 +300,8 @@ def record_of(events, listed):
 
 def of_judge(sheet, listed):
     """The repairs of a sheet by the second judge."""
-    one = [(line[0].cost, [it.record() for it in line]) for line in lines(repairs(sheet, listed), sheet)]
-    two = [(line[0].cost, [it.then.record() for it in line]) for line in pair_lines(pairs(sheet, listed)[0])]
+    one = [(line[0].cost, [it.happened() for it in line]) for line in lines(repairs(sheet, listed), sheet)]
+    two = [(line[0].cost, [it.then.happened() for it in line]) for line in pair_lines(pairs(sheet, listed)[0])]
     return sorted([*one, *two], key=lambda line: line[0])
 
 

@@ -19,6 +19,8 @@ SMALL = replace(ENGLISH, tiles=Counter("AADEEINORRSTTW"))
 WORDS = "WORD AT RA DT EAT OE"
 WORD, AT, EAT = ">A: AADEORW 8E WORD +16 16\n", ">B: AT 9G AT +9 9\n", ">A: E 9F E.. +5 21\n"
 RETAINS, REST = ">A: AEINRST 8D RETAINS +66 66\n", ">A: (ADEORTW) +22 88\n"
+THREE_PLAYS = replace(ENGLISH, tiles=Counter("AAADEEINORRSTTTW"))
+DOWN, SAT_OUT = ">B: ADEORTW D6 WO.D +8 8\n", ">A: AT J8 .AT +5 71\n>A: (AERT) +8 79\n"
 
 # Records with one slip: the rules, the words, the record, and of the first repair the cost, the line and what it puts there.
 ROWS = [
@@ -34,10 +36,15 @@ ROWS = [
     (ENGLISH, "AT", WORD + ">A: - -16 0\n>B: AT 8G AT +4 4\n", 2, 2, ">A: -- -16 0\n"),
     (ENGLISH, WORDS, WORD + AT + ">B: (challenge) +40 14\n", 2, 3, ">B: (challenge) +5 14\n"),
     (ENGLISH, WORDS, WORD + AT + ">A: E 9F E.. +5 26\n", 3, 2, ">A: (challenge) +5 21\n"),
-    (ENGLISH, WORDS, ">A: AABCDDT -AAX +0 0\n", 3, 1, ">A: AABCDDT -AAB +0 0\n"),
+    (ENGLISH, WORDS, WORD + AT + ">A: - +0 16\n" + EAT, 2, 3, ""),
+    (ENGLISH, WORDS, ">A: AABCDDT -AAX +0 0\n", 2, 1, ">A: AABCDDT -AA +0 0\n"),
+    (ENGLISH, WORDS, ">A: AABCDDT -X +0 0\n", 3, 1, ">A: AABCDDT -A +0 0\n"),
     (ENGLISH, "RETAINS", ">A: AEINRSS 8D RETAINS +66 66\n", 3, 1, RETAINS),
     (SMALL, "RETAINS", RETAINS + ">A: (ADEORTT) +22 88\n", 2, 2, REST),
     (SMALL, "RETAINS", RETAINS + ">A: (EEEEEEE) +22 88\n", 3, 2, REST),
+    (THREE_PLAYS, "RETAINS WORD SAT", RETAINS + SAT_OUT, 4, 2, ">B: D6 WO.D +8 8\n"),
+    (THREE_PLAYS, "RETAINS WORD SAT", RETAINS + ">B: ADEORTW 1A TEA +8 8\n" + SAT_OUT, 6, 2, DOWN),
+    (ENGLISH, WORDS, WORD + ">B: AT 1A TEA +9 9\n" + EAT, 6, 2, AT),
 ]
 
 # Records without a single repair: two legal ones, and one with two slips.
@@ -58,7 +65,8 @@ TWO = [
 
 # Repairs that are on one line: the rules, the words, the record, how many repairs the first line has.
 LINES = [
-    (ENGLISH, WORDS, ">A: AABCDDT -AAX +0 0\n", 4),
+    (ENGLISH, WORDS, ">A: AABCDDT -AAX +0 0\n", 1),
+    (ENGLISH, WORDS, ">A: AABCDDT -X +0 0\n", 5),
     (SMALL, "RETAINS", RETAINS + ">A: (ADEORTT) +22 88\n", 1),
 ]
 

@@ -7,6 +7,7 @@ from rules import KINDS, RACK, SIDE
 
 LETTERS = "ABCDEFGHIJKLMNOPQRSTUVWXYZ"
 WORDS, STEPS = 8, 20
+MISSING_PLAY, ANOTHER_PLAY = 4, 6
 
 
 def positions(event):
@@ -122,9 +123,9 @@ def kinds(game, events, place):
         )
         yield from ((2, replace(event, score=score)) for score in amounts if score != event.score)
     else:
-        weight = 3 if event.kind == "exchange" else 2
-        yield from ((weight, with_tiles(event, tiles)) for tiles in other_tiles(event.tiles))
-        yield from ((4, with_tiles(event, tiles)) for tiles in (*fewer_tiles(event.tiles), *more_tiles(event.tiles)))
+        other, number = (3, 2) if event.kind == "exchange" else (2, 4)
+        yield from ((other, with_tiles(event, tiles)) for tiles in other_tiles(event.tiles))
+        yield from ((number, with_tiles(event, tiles)) for tiles in (*fewer_tiles(event.tiles), *more_tiles(event.tiles)))
         if event.kind == "rack":
             tiles = rest(game, events[:place] + events[place + 1 :])
             if tiles and tiles != ordered(event.tiles):
@@ -144,7 +145,7 @@ def lines(events, place):
     yield 1, 2, [replace(event, player=1 - event.player)]
     before = events[place - 1] if place else None
     again = before and (before.player, before.score, before.total) == (event.player, event.score, event.total)
-    yield 1, 1 if again else 7, []
+    yield 1, 1 if again else 2 if event.kind == "pass" else 7, []
     for many, weight in ((2, 2), (3, 3)):
         if place + many <= len(events):
             yield many, weight, events[place : place + many][::-1]
@@ -172,6 +173,16 @@ def missing(game, events, place):
         tiles = rest(game, events)
         if tiles:
             yield 2, line(game.out, "rack", tiles=tiles, size=len(tiles))
+
+
+def missing_play(player, at, direction, word):
+    """A play that is missing before a place: how many events are others, the weight, and what stands there."""
+    return 0, MISSING_PLAY, [Event(player, "play", 0, 0, "", at=at, direction=direction, word=word)]
+
+
+def another_play(event, at, direction, word):
+    """Another play in the place of one: the same of it."""
+    return 1, ANOTHER_PLAY, [replace(event, at=at, direction=direction, word=word)]
 
 
 def changes_at(game, events, place):

@@ -8,17 +8,10 @@ from itertools import islice
 from math import inf
 
 from boards import Refused
-from repairs import UNLISTED_WORD, WRONG_NUMBER, Change, Front, Hands, Repair, repairs, repairs_below, wrong_numbers
+from repairs import UNLISTED_WORD, WRONG_NUMBER, AnyHands, Change, Front, Repair, remembered, repairs, repairs_below, wrong_numbers
 from rules import ENGLISH
 
 HEADS = 3
-
-
-class AnyHands(Hands):
-    """Racks of which nothing is refused."""
-
-    def judge(self, place, tiles):
-        pass
 
 
 @dataclass
@@ -96,6 +89,7 @@ def is_of_sheet(head, then):
     return changed[place].score == right[place].score and changed[place].total == had + changed[place].score
 
 
+@remembered
 def pairs(events, listed, rules=ENGLISH):
     """The pairs that repair a record, each resulting record once, those that cost least first. They are looked for if no single repair costs so little
     as a wrong number, and each costs less than any. Also whether of each second change it is known whether a deal fits."""

@@ -2,7 +2,7 @@
 from collections import Counter
 
 from changes import ordered
-from repairs import NOTHING, WRONG_NUMBER, Front, lines, repairs
+from repairs import NOTHING, WRONG_NUMBER, Front, lines, many_tried, repairs
 from rules import ENGLISH
 
 LINES = 10
@@ -39,6 +39,7 @@ def what_is_missing(event, nicks):
     """A line that is missing, in words."""
     nick = nicks[event.player]
     said = {
+        "play": " plays ",
         "pass": " passes",
         "unknown": f" exchanges {things(event.size, 'tile')}",
         "time": f" gets a penalty for time, {event.score}",
@@ -46,7 +47,7 @@ def what_is_missing(event, nicks):
         "challenge": f" gets {event.score} points for a failed challenge",
         "rack": f" gets the points of the last rack {tiles_in(event.tiles)}",
     }
-    return nick + said[event.kind]
+    return nick + said[event.kind] + (what_happened(event) if event.kind == "play" else "")
 
 
 def what_is_other(written, right, nicks):
@@ -55,6 +56,8 @@ def what_is_other(written, right, nicks):
         return f"{nicks[right.player]}'s line, not {nicks[written.player]}'s"
     if ordered(written.rack) != ordered(right.rack):
         return f"the rack is {ordered(right.rack) or 'another one'}, not {ordered(written.rack) or 'another one'}"
+    if written.kind == "play" and written.word != right.word and (written.at, written.direction) != (right.at, right.direction):
+        return f"{what_happened(right)}, not {what_happened(written)}"
     if written.kind == "play" and written.word != right.word:
         return f"{what_happened(right)}, not {written.word}"
     if written.kind == "play":
@@ -178,8 +181,8 @@ def likely_text(repair, events, nicks="AB"):
     return f"Likely: {what_changes(repair.change, repair.right(), own, nicks)}\n{evidence(repair, own)}"
 
 
-def repair_text(events, listed, rules=ENGLISH, nicks="AB", number=LINES, tried=None):
-    """All lines behind the verdict line of an illegal record, but for those about two changes. `tried` is how many changes there are."""
+def repair_text(events, listed, rules=ENGLISH, nicks="AB", number=LINES):
+    """All lines behind the verdict line of an illegal record, but for those about two changes."""
     found, text, own = repairs(events, listed, rules), "", numbered(events)
     front = Front(rules, events, listed)
     nothing = front.with_change(NOTHING)
@@ -192,5 +195,6 @@ def repair_text(events, listed, rules=ENGLISH, nicks="AB", number=LINES, tried=N
         more = f" (or with {', '.join(others)})" if others else ""
         text += what_changes(line[0].change, line[0].right(), own, nicks) + more + "\n" + evidence(line[0], own)
     if not told:
+        tried = many_tried(events, listed, rules)
         text += f"none of {tried} single changes {'leaves fewer errors' if alone else 'makes it a game'}\n"
     return text

@@ -5,13 +5,15 @@ A change is a repair if the rules allow every event of the changed record once i
 from collections import Counter
 from copy import copy
 from dataclasses import dataclass, field, replace
+from functools import wraps
 from math import inf
 
 from audits import mended
 from boards import Refused, check
-from changes import changes_at, ordered
+from changes import ANOTHER_PLAY, changes_at, ordered
 from deals import Place, course, judged_rack, kinds_of, settle
 from games import Event, Game, step
+from play_changes import Finder
 from rules import ENGLISH
 
 WRONG_NUMBER, UNLISTED_WORD = 5, 3
@@ -74,8 +76,12 @@ class Repair:
         """The words that stand unlisted."""
         return [word for it in self.taken for word in it.unlisted]
 
-    def record(self):
+    def happened(self):
         return tuple(it.what_happened() for it in self.taken)
+
+    def record(self):
+        """What happened, and where the text of each play begins: a play of one tile that is written in the other direction is another record."""
+        return self.happened(), tuple((it.at, it.direction) for it in self.right())
 
 
 # ---- a record with right numbers
@@ -112,6 +118,13 @@ class Hands:
         if place.renews(player):
             self.laid[player] = self.laid[player] + self.gone[player] - self.thrown[player]
             self.gone[player], self.thrown[player], self.had[player] = Counter(), Counter(), Counter()
+
+
+class AnyHands(Hands):
+    """Racks of which nothing is refused."""
+
+    def judge(self, place, tiles):
+        pass
 
 
 @dataclass
@@ -189,10 +202,12 @@ class Front:
         except Refused:
             pass
 
-    def changes(self):
-        """The changes up to the front, in the order of the list. Those that need all plays of a rack will follow the others of their place."""
+    def changes(self, finder=None):
+        """The changes up to the front, in the order of the list. Those of plays that a finder finds follow the others of their place."""
         for place, state in enumerate(self.states):
             for replaced, weight, there in changes_at(state.game, self.events, place):
+                yield Change(place, replaced, weight, there)
+            for replaced, weight, there in finder.changes_at(state.game, place) if finder else ():
                 yield Change(place, replaced, weight, there)
 
     def with_change(self, change):
@@ -222,19 +237,55 @@ def ranked(candidates):
             yield repair
 
 
+def remembered(find):
+    """Remembers what was found of the last record, since several texts are made of it."""
+    last = []
+
+    @wraps(find)
+    def found(events, listed, rules=ENGLISH):
+        asked = repr(events), frozenset(listed), repr(rules)
+        if not last or last[0] != asked:
+            last[:] = asked, find(events, listed, rules)
+        return last[1]
+
+    return found
+
+
+@remembered
 def repairs(events, listed, rules=ENGLISH):
     """The repairs of a record, in the order of the rank. If only its numbers are wrong, a change has to leave fewer wrong numbers and unlisted
-    words; if nothing is wrong, there is none."""
-    front, most = Front(rules, events, listed), inf
+    words; if nothing is wrong, there is none. If none by the list of changes costs so little as a wrong number, plays are looked for too, but not if a
+    single number or word is wrong."""
+    front = Front(rules, events, listed)
+    most = most_left(front)
+    found = repairs_below(front, most)
+    return found if most <= 1 or has_likely(found) else repairs_below(front, most, Finder(events, listed, rules))
+
+
+def most_left(front):
+    """How many numbers and words are wrong if the numbers alone are: fewer have to stay so with a repair."""
     nothing = front.with_change(NOTHING)
     if nothing and front.dealt(nothing):
-        most = nothing.wrong + nothing.unlisted if nothing.wrong else 0
-    return repairs_below(front, most)
+        return nothing.wrong + nothing.unlisted if nothing.wrong else 0
+    return inf
 
 
-def repairs_below(front, most):
+def has_likely(found):
+    """Whether the first of some repairs costs no more than a wrong number."""
+    return next((it.cost for it in found if it.dealt), inf) <= WRONG_NUMBER
+
+
+@remembered
+def many_tried(events, listed, rules=ENGLISH):
+    """How many changes of a record without a likely repair are tried: those at each place up to the first event that the rules refuse with any
+    numbers."""
+    finder = Finder(events, listed, rules) if most_left(Front(rules, events, listed)) > 1 else None
+    return sum(1 for _ in Front(rules, events, listed, AnyHands).changes(finder))
+
+
+def repairs_below(front, most, finder=None):
     """The changes of a record that repair it and leave fewer numbers and words wrong than so many."""
-    tried = map(front.with_change, front.changes() if most else [])
+    tried = map(front.with_change, front.changes(finder) if most else [])
     found = map(front.dealt, ranked(it for it in tried if it and it.wrong + it.unlisted < most))
     return [it for it in found if it]
 
@@ -259,10 +310,13 @@ def other_tile(wrong, right):
 
 
 def shape(change, events):
-    """What the repairs of one line have in common: all but a letter of a play, a tile that should be there, and how many tiles are exchanged."""
+    """What the repairs of one line have in common: all but a letter of a play, a tile that should be there, and how many tiles are exchanged. A play that
+    is missing and one that is another one altogether are like no other."""
     if not change.replaced or len(change.there) != 1:
-        return [(it.player, it.kind, it.score) for it in change.there]
+        return [(it.player, it.kind, it.score, it.at, it.direction, it.word) for it in change.there]
     wrong, right = events[change.place], change.there[0]
+    if change.weight == ANOTHER_PLAY:
+        return right.at, right.direction, right.word
     tiles = [(len(other), other_tile(one, other)) for one, other in ((wrong.rack, right.rack), (wrong.tiles, right.tiles))]
     return right.player, right.kind, right.score, right.at, right.direction, blotted(wrong.word, right.word), tiles
 

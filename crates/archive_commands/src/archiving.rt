@@ -21,7 +21,6 @@ use engine::{Entry, Question, RulesSource, RunFault, archive_entry, ask};
 use exit_statuses::{Exit, Trouble, exit_of_line};
 use game_page::Maker;
 use lex_check::Checked;
-use lex_list::WordList;
 use name_texts::Encoding;
 use record_repairs::Repair;
 use ref_tiles::Rules;
@@ -342,15 +341,7 @@ fn found<'n, R: Runtime + AllocGlobal, F: Read + Drop>(
         return Fields::unread(name, Unread::NoMemory);
     };
     let encoding = Encoding::of(text);
-    match fields_with(
-        rt.alloc(),
-        rules,
-        pair.list(),
-        repairs,
-        name,
-        &mut entry,
-        encoding,
-    ) {
+    match fields_with(rt.alloc(), rules, pair, repairs, name, &mut entry, encoding) {
         Ok(fields) => fields,
         Err(_) => Fields::unread(name, Unread::NoMemory),
     }
@@ -360,13 +351,13 @@ fn found<'n, R: Runtime + AllocGlobal, F: Read + Drop>(
 fn fields_with<'n>(
     alloc: Global,
     rules: &Rules,
-    list: &WordList,
+    pair: &Checked<'_>,
     repairs: bool,
     name: &'n str,
     entry: &mut Entry,
     encoding: Encoding,
 ) -> Result<Fields<'n>, AllocError> {
-    let likely = likely_if(alloc, rules, list, repairs, entry)?;
+    let likely = likely_if(alloc, rules, pair, repairs, entry)?;
     fields_of(alloc, repairs, name, entry, likely.as_ref(), encoding)
 }
 

@@ -3,7 +3,7 @@
 use archive_lines::LikelyFields;
 use engine::Entry;
 use gcg_read::Record;
-use lex_list::WordList;
+use lex_check::Checked;
 use name_texts::Encoding;
 use record_repairs::Repair;
 use ref_tiles::Rules;
@@ -15,12 +15,12 @@ use std::alloc::{AllocError, Global};
 pub fn likely_if(
     alloc: Global,
     rules: &Rules,
-    list: &WordList,
+    pair: &Checked<'_>,
     repairs: bool,
     entry: &mut Entry,
 ) -> Result<Option<Repair>, AllocError> {
     if repairs {
-        likely_in(alloc, rules, list, entry)
+        likely_in(alloc, rules, pair, entry)
     } else {
         Ok(None)
     }

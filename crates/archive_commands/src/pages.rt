@@ -9,7 +9,6 @@ use engine::{Case, open_case};
 use exit_statuses::Trouble;
 use game_page::{Contents, Index, IndexPlayer, IndexRow, Maker, push_page};
 use lex_check::Checked;
-use lex_list::WordList;
 use name_texts::Encoding;
 use page_names::push_page_name;
 use page_pieces::PageText;
@@ -69,7 +68,7 @@ impl<'a> Pages<'a> {
             Ok(case) => case,
             Err(fault) => return Fields::unread(name, unread_by(rt, name, fault)),
         };
-        let Ok(likely) = likely_by(rt.alloc(), rules, pair.list(), repairs, &mut case) else {
+        let Ok(likely) = likely_by(rt.alloc(), rules, pair, repairs, &mut case) else {
             return Fields::unread(name, Unread::NoMemory);
         };
         let Ok(mut fields) = fields_in(rt.alloc(), repairs, name, &case, likely.as_ref()) else {
@@ -147,12 +146,12 @@ impl<'a> Pages<'a> {
 fn likely_by(
     alloc: Global,
     rules: &Rules,
-    list: &WordList,
+    pair: &Checked<'_>,
     repairs: bool,
     case: &mut Case,
 ) -> Result<Option<Repair>, AllocError> {
     match &mut case.read {
-        Ok(entry) => likely_if(alloc, rules, list, repairs, entry),
+        Ok(entry) => likely_if(alloc, rules, pair, repairs, entry),
         Err(_) => Ok(None),
     }
 }

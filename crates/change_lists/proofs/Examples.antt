@@ -1,6 +1,6 @@
 -- Lists of slips as the definitions give them, computed. Squares are numbered row by row from 1A, which is 0: 8E is 109, and 8H, of which
 -- row and column are one number, is 112.
-use Rattle.std.proofs.Common.{◌≡◌, ℕ, ℤ, pos, negsuc, true, false, List, [], ◌∷◌, length, None, refl}
+use Rattle.std.proofs.Common.{◌≡◌, ℕ, ℤ, pos, negsuc, true, false, List, [], ◌∷◌, length, Some, None, refl}
 use Rattle.std.specs.Prelude.{codes}
 use Rattle.std.specs.List.{filter_map}
 use Rattle.first_faults.proofs.Rows.{Agree}
@@ -29,7 +29,7 @@ use Rattle.change_lists.specs.Spellings.{symbol_slips, twisted_pair, other_symbo
 use Rattle.change_lists.specs.Tiles.{other_tiles, extra_tiles, missing_tiles, tile_slips}
 use Rattle.change_lists.specs.Amounts.{other_bonuses, other_penalties, other_numbers, exchanges}
 use Rattle.change_lists.specs.Laying.{laid_over}
-use Rattle.change_lists.specs.Lines.{swapped_lines, event_slips}
+use Rattle.change_lists.specs.Lines.{extra_line, swapped_lines, event_slips}
 use Rattle.change_lists.specs.MissingLines.{missing_exchanges, missing_penalties, missing_slips}
 use Rattle.change_lists.specs.Rests.{rest_tiles}
 use Rattle.change_lists.specs.Changes.{slips_by, changes}
@@ -95,6 +95,16 @@ laid : Agree (
     ∷ [])
 unfolding laid_over letter_at
 laid = refl
+
+-- a line that should not be there: a pass that repeats the line before it is named so, and only another pass is told from other lines
+too_many : Agree (
+    (extra_line pass None, slip.ExtraPass ∷ [])
+    ∷ (extra_line pass (Some (record pass { total = pos 5 })), slip.ExtraPass ∷ [])
+    ∷ (extra_line pass (Some pass), slip.Repeated ∷ [])
+    ∷ (extra_line (record pass { kind = kind.ExchangeUnknown 3 }) None, slip.Extra ∷ [])
+    ∷ (extra_line (record pass { kind = kind.ExchangeUnknown 3 }) (Some pass), slip.Repeated ∷ [])
+    ∷ [])
+too_many = refl
 
 -- a record of one pass: 8 other codes, 2 of any line, and 56 lines that may be missing before it and behind it
 of_a_pass : length (changes english (pass ∷ [])) ≡ 122

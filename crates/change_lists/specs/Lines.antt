@@ -77,8 +77,13 @@ abbrev pub repeats : Event → Option Event → Bool
 repeats e None = false
 repeats e (Some before) = same_seat e.player before.player && int_eq e.score before.score && int_eq e.total before.total
 
+-- a line that should not be there: a pass is told from the others
+abbrev pub extra_slip : EventKind → Slip
+extra_slip kind.Pass = slip.ExtraPass
+extra_slip other = slip.Extra
+
 abbrev pub extra_line : Event → (before : Option Event) → List Slip
-extra_line e before = if repeats e before then slip.Repeated ∷ [] else slip.Extra ∷ []
+extra_line e before = if repeats e before then slip.Repeated ∷ [] else extra_slip e.kind ∷ []
 
 -- A line may be in the place of the next one, and in that of the one after that.
 unfoldable pub swapped_lines : (events : List Event) → (place : ℕ) → List Slip

@@ -15,3 +15,4 @@ mod tiles;
 
 pub use laws::{law_of_layings, law_of_slips};
 pub use listing::slips_at;
+pub use rests::{is_rack, rest_tiles};

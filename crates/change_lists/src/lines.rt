@@ -3,7 +3,7 @@ ghost use Rattle.std.specs.Prelude.{◌≡◌, ◌+◌, ◌++◌, ◌<◌, lengt
 ghost use Rattle.std.specs.Option.{option_copied};
 ghost use Rattle.game_turns.specs.Machines.{state_of};
 ghost use Rattle.change_lists.specs.Rests.{rest_tiles, rest_for};
-ghost use Rattle.change_lists.specs.Lines.{play_slips, pass_slips, unknown_slips, kind_slips, board_slips, states_rack, slips_of_rack, rack_slips, event_before, repeats, extra_line, swapped_lines, line_slips, event_slips};
+ghost use Rattle.change_lists.specs.Lines.{play_slips, pass_slips, unknown_slips, kind_slips, board_slips, states_rack, slips_of_rack, rack_slips, event_before, repeats, extra_slip, extra_line, swapped_lines, line_slips, event_slips};
 
 use crate::adding::add;
 use crate::amounts::{push_bonuses, push_exchanges, push_numbers, push_penalties};
@@ -160,6 +160,16 @@ fn repeats(event: &Event, before: Option<&Event>) -> bool
     }
 }
 
+/// What is wrong with a line that should not be there and does not repeat the one before it.
+fn extra_slip(kind: &EventKind) -> Slip
+    ensures { result ≡ extra_slip kind.now }
+{
+    match kind {
+        EventKind::Pass => Slip::ExtraPass,
+        _ => Slip::Extra,
+    }
+}
+
 /// Adds that the line should not be there.
 fn push_extra(
     slips: &mut Vec<Slip>,
@@ -171,7 +181,7 @@ fn push_extra(
     if repeats(event, before) {
         add(slips, Slip::Repeated)
     } else {
-        add(slips, Slip::Extra)
+        add(slips, extra_slip(&event.kind))
     }
 }
 

@@ -69,7 +69,7 @@ fn off_racks(counts: &Counts, events: &[Event]) -> Counts
 
 /// The tiles that are on no line: those of the game without those on the board and those of the last racks before and behind.
 #[tactic(auto, using(crate::proofs::RestLaws::off_both_racks), unfolding(crate::specs::Rests::rest_tiles))]
-pub(crate) fn rest_tiles(rules: &Rules, board: &Board, before: &[Event], behind: &[Event]) -> Counts
+pub fn rest_tiles(rules: &Rules, board: &Board, before: &[Event], behind: &[Event]) -> Counts
     ensures { result ≡ rest_tiles rules.now board.now before.now behind.now }
 {
     let off = off_board(&rules.counts, board.cells());
@@ -78,7 +78,7 @@ pub(crate) fn rest_tiles(rules: &Rules, board: &Board, before: &[Event], behind:
 }
 
 /// Whether so many tiles can be a rack.
-fn is_rack(tiles: &Counts) -> bool
+pub fn is_rack(tiles: &Counts) -> bool
     ensures { result ≡ is_rack tiles.now }
 {
     let many = tiles.total();

@@ -7,17 +7,18 @@ use Rattle.game_rows.specs.declared.walking.Walk.{Walk}
 use Rattle.game_rows.specs.Walks.{IsWalk, IsWalkOf}
 use Rattle.engine.specs.declared.entries.Entry.{Entry}
 use Rattle.engine.specs.Explaining.{IsWalkFor}
+use Rattle.record_repairs.specs.declared.repair.Repair.{Repair}
 use Rattle.game_page.specs.declared.showing.Shown.{Shown}
 use Rattle.game_page.specs.Pages.{ShowsEntry, IsShownOf}
 
 -- where it is what the walk over the record gives, whatever the right numbers are, it is what the case has
-pub shown_for : (rules : Rules) (list : List (List ℕ)) (own text : List ℕ) (read : Result Entry ReadFault) (walked : Option Walk) (entry : Entry) (walk : Walk) (shown : Shown)
+pub shown_for : (rules : Rules) (list : List (List ℕ)) (own text : List ℕ) (read : Result Entry ReadFault) (likely : Option Repair) (walked : Option Walk) (entry : Entry) (walk : Walk) (shown : Shown)
     → read ≡ Ok entry → walked ≡ Some walk → own ≡ text → IsWalkFor rules list read walked
-    → ((right : List Event) → IsWalk rules list entry.record.events right walk → ShowsEntry rules list own read entry shown)
-    → IsShownOf rules list text read (Some shown)
-shown_for rules list own text read walked entry walk shown is_read is_walked same goes shows =
+    → ((right : List Event) → IsWalk rules list entry.record.events right walk → ShowsEntry rules list own read likely entry shown)
+    → IsShownOf rules list text read likely (Some shown)
+shown_for rules list own text read likely walked entry walk shown is_read is_walked same goes shows =
     let of_entry : IsWalkFor rules list (Ok entry) walked = subst (λ (r : Result Entry ReadFault). IsWalkFor rules list r walked) is_read goes in
     let over : IsWalkOf rules list entry.record.events walk = subst (λ (w : Option Walk). IsWalkFor rules list (Ok entry) w) is_walked of_entry in
-    let told = subst (λ (r : Result Entry ReadFault). ShowsEntry rules list own r entry shown) is_read (shows over.right over.is) in
-    let of_text = subst (λ (t : List ℕ). ShowsEntry rules list t (Ok entry) entry shown) same told in
-    subst (λ (r : Result Entry ReadFault). IsShownOf rules list text r (Some shown)) (sym is_read) of_text
+    let told = subst (λ (r : Result Entry ReadFault). ShowsEntry rules list own r likely entry shown) is_read (shows over.right over.is) in
+    let of_text = subst (λ (t : List ℕ). ShowsEntry rules list t (Ok entry) likely entry shown) same told in
+    subst (λ (r : Result Entry ReadFault). IsShownOf rules list text r likely (Some shown)) (sym is_read) of_text

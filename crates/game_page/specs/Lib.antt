@@ -1,1 +1,2 @@
+pub mod Likely
 pub mod Pages

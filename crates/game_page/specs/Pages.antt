@@ -12,7 +12,9 @@ use Rattle.case_openings.specs.Openings.{place_of_fault}
 use Rattle.case_explanations.specs.Explaining.{IsExplanation}
 use Rattle.record_words.specs.Words.{AreWordsOf}
 use Rattle.score_sheets.specs.Sheets.{IsScoreSheet}
+use Rattle.record_repairs.specs.declared.repair.Repair.{Repair}
 use Rattle.game_page.specs.declared.showing.Shown.{Shown}
+use Rattle.game_page.specs.Likely.{IsLikelyShown}
 
 -- a place, where it is that of one of so many events
 abbrev pub place_within : (many : ℕ) → Option ℕ → Option ℕ
@@ -29,8 +31,9 @@ place_in_view events None = length events
 place_in_view events (Some place) = place
 
 -- What a page shows of the entry of a text: its finding, the line of its verdict and what explains it, the words of the text beside the
--- events, and the score sheet of the record, beside the events with their right numbers, with the board at the faulty event or at the end.
-pub record ShowsEntry (rules : Rules) (list : List (List ℕ)) (text : List ℕ) (read : Result Entry ReadFault) (entry : Entry) (shown : Shown) : Type 0 where
+-- events, and the score sheet of the record, beside the events with their right numbers, with the board at the faulty event or at the end;
+-- and of the likely repair, where one is given, the board with the play as it should be.
+pub record ShowsEntry (rules : Rules) (list : List (List ℕ)) (text : List ℕ) (read : Result Entry ReadFault) (likely : Option Repair) (entry : Entry) (shown : Shown) : Type 0 where
   pub finding : shown.finding ≡ entry.finding
   pub faulty : shown.faulty ≡ faulty_place entry.record.events entry.finding
   pub verdict : shown.verdict.items ≡ case_line read
@@ -40,10 +43,11 @@ pub record ShowsEntry (rules : Rules) (list : List (List ℕ)) (text : List ℕ)
   pub walk : Walk
   pub walked : IsWalk rules list entry.record.events right walk
   pub sheet : IsScoreSheet rules list entry.record right (place_in_view entry.record.events shown.faulty) shown.sheet
+  pub repaired : IsLikelyShown likely shown.likely
 
 -- the same of what was read from a text; nothing where that is no record
-abbrev pub IsShownOf : Rules → (list : List (List ℕ)) → (text : List ℕ) → Result Entry ReadFault → Option Shown → Type 0
-IsShownOf rules list text (Ok entry) (Some shown) = ShowsEntry rules list text (Ok entry) entry shown
-IsShownOf rules list text (Ok entry) None = ⊥
-IsShownOf rules list text (Err fault) (Some shown) = ⊥
-IsShownOf rules list text (Err fault) None = ⊤
+abbrev pub IsShownOf : Rules → (list : List (List ℕ)) → (text : List ℕ) → Result Entry ReadFault → (likely : Option Repair) → Option Shown → Type 0
+IsShownOf rules list text (Ok entry) likely (Some shown) = ShowsEntry rules list text (Ok entry) likely entry shown
+IsShownOf rules list text (Ok entry) likely None = ⊥
+IsShownOf rules list text (Err fault) likely (Some shown) = ⊥
+IsShownOf rules list text (Err fault) likely None = ⊤

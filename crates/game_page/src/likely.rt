@@ -1,12 +1,12 @@
 //! The likely repair of a faulty record, as its page shows it.
-ghost use Rattle.std.specs.Prelude.{◌≤◌, length, IfOk, IfSome};
-ghost use Rattle.score_sheets.specs.Boards.{IsShownAt};
+ghost use Rattle.std.specs.{Prelude.{◌≡◌, IfOk}, Option.{option_copied}};
+ghost use Rattle.game_page.specs.Likely.{is_missing_play, is_of_play, IsBoardOf, IsLikelyShown};
 
 use crate::boards::push_board;
 use crate::showing::Shown;
 use gcg_read::Record;
 use page_pieces::{PageText, Piece};
-use record_changes::Slip;
+use record_changes::{MissingLine, Slip};
 use record_repairs::Repair;
 use repair_lines::push_likely;
 use score_sheets::{Picture, shown_at};
@@ -21,14 +21,30 @@ pub struct Likely {
     pub board: Option<Picture>,
 }
 
-/// Whether a slip is one of a play: of its position or of its text.
-fn is_of_play(slip: &Slip) -> bool {
-    matches!(slip, Slip::Position(_) | Slip::Spelling(_))
+/// Whether a missing line is a play.
+fn is_missing_play(line: &MissingLine) -> bool
+    ensures { result ≡ is_missing_play line.now }
+{
+    match line {
+        MissingLine::Play { .. } => true,
+        _ => false,
+    }
+}
+
+/// Whether a slip is one of a play: of its position, of its text or of the whole play; or whether a play is missing.
+fn is_of_play(slip: &Slip) -> bool
+    ensures { result ≡ is_of_play slip.now }
+{
+    match slip {
+        Slip::Position(_) | Slip::Spelling(_) | Slip::Replayed(_) => true,
+        Slip::Missing(line) => is_missing_play(line),
+        _ => false,
+    }
 }
 
 /// The board with the play of a repair, if it is one of a play.
 fn board_of(repair: &Repair) -> Option<Picture>
-    ensures { IfSome result (IsShownAt repair.now.right repair.now.listed.change.place) }
+    ensures { IsBoardOf repair.now result }
 {
     let events = repair.right.as_slice();
     let place = repair.listed.change.place;
@@ -41,7 +57,7 @@ fn board_of(repair: &Repair) -> Option<Picture>
 
 /// A repair of a record, as its page shows it.
 fn likely_by(alloc: Global, record: &Record, repair: &Repair) -> Result<Likely, AllocError>
-    ensures { IfOk result (λ likely. IfSome likely.board (IsShownAt repair.now.right repair.now.listed.change.place)) }
+    ensures { IfOk result (λ likely. IsBoardOf repair.now likely.board) }
 {
     let mut words = Vec::new(alloc);
     push_likely(&mut words, record, repair)?;
@@ -56,7 +72,9 @@ pub(crate) fn likely_of(
     alloc: Global,
     record: &Record,
     repair: Option<&Repair>,
-) -> Result<Option<Likely>, AllocError> {
+) -> Result<Option<Likely>, AllocError>
+    ensures { IfOk result (IsLikelyShown (option_copied repair.entry)) }
+{
     match repair {
         Some(repair) => Ok(Some(likely_by(alloc, record, repair)?)),
         None => Ok(None),

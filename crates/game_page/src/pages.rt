@@ -1,5 +1,5 @@
 //! The page of a game.
-ghost use Rattle.std.specs.Prelude.{◌≡◌, ◌<◌, ◌≤◌, ℕ, List, length, IfOk, IfSome};
+ghost use Rattle.std.specs.{Prelude.{◌≡◌, ◌<◌, ◌≤◌, ℕ, List, length, IfOk, IfSome}, Option.{option_copied}};
 ghost use Rattle.gcg_read.specs.declared.events.Event.{Event};
 ghost use Rattle.lex_check.specs.Pairs.{list_in};
 ghost use Rattle.game_rows.specs.Walks.{IsWalk};
@@ -112,7 +112,7 @@ fn shown_by<'a>(
 ) -> Result<Shown<'a>, AllocError>
     ensures { IfOk result (λ shown. (right : List Event)
         → IsWalk contents.now.rules.now (list_in contents.now.pair.now) entry.now.record.events right walk.now
-        → ShowsEntry contents.now.rules.now (list_in contents.now.pair.now) contents.now.case.now.text.items contents.now.case.now.read entry.now shown) }
+        → ShowsEntry contents.now.rules.now (list_in contents.now.pair.now) contents.now.case.now.text.items contents.now.case.now.read (option_copied contents.now.likely) entry.now shown) }
 {
     let (rules, pair, case) = (contents.rules, contents.pair, contents.case);
     let mut reason = Vec::new(alloc);
@@ -142,7 +142,7 @@ fn shown_by<'a>(
 pub fn shown_of<'a>(alloc: Global, contents: &Contents<'a>) -> Result<Option<Shown<'a>>, AllocError>
     ensures { IfOk result (λ shown. (text : List ℕ)
         → IsCaseOf contents.now.rules.now (list_in contents.now.pair.now) text contents.now.case.now
-        → IsShownOf contents.now.rules.now (list_in contents.now.pair.now) text contents.now.case.now.read shown) }
+        → IsShownOf contents.now.rules.now (list_in contents.now.pair.now) text contents.now.case.now.read (option_copied contents.now.likely) shown) }
 {
     let case = contents.case;
     let Ok(entry) = &case.read else {

@@ -11,7 +11,7 @@ use command_files::{GivenFiles, SheetFile, Told, write};
 use devices::Input;
 use engine::{Case, RunFault, open_case};
 use exit_statuses::{Exit, Trouble, exit_of_case};
-use lex_list::WordList;
+use lex_check::Checked;
 use ref_tiles::Rules;
 use repair_answers::likely_in_case;
 use std::alloc::{AllocError, Global};
@@ -22,26 +22,26 @@ use std::rt::Runtime;
 fn object_of(
     alloc: Global,
     rules: &Rules,
-    list: &WordList,
+    pair: &Checked<'_>,
     case: &mut Case,
     line: Option<u32>,
 ) -> Result<Vec<u8>, AllocError> {
     let likely = match line {
         Some(_) => None,
-        None => likely_in_case(alloc, rules, list, case)?,
+        None => likely_in_case(alloc, rules, pair, case)?,
     };
-    case_text(alloc, rules, list, case, likely.as_ref(), line)
+    case_text(alloc, rules, pair.list(), case, likely.as_ref(), line)
 }
 
 /// Tells what explains a case, or one of its lines.
 fn tell_explained<R: Runtime + AllocGlobal>(
     rt: &R,
     rules: &Rules,
-    list: &WordList,
+    pair: &Checked<'_>,
     case: &mut Case,
     line: Option<u32>,
 ) -> Result<Exit, Trouble<'static>> {
-    let Ok(text) = object_of(rt.alloc(), rules, list, case, line) else {
+    let Ok(text) = object_of(rt.alloc(), rules, pair, case, line) else {
         return Err(Trouble::NoMemory);
     };
     write(rt, text.as_slice())?;
@@ -60,9 +60,7 @@ pub fn explain_in_json<R: Runtime + AllocGlobal, F: Read + Drop, S: Read + Drop>
         (IsCaseTold given.now.rules.now (list_in given.now.pair.now)) result }
 {
     match open_case(rt.alloc(), given.rules, given.pair, game) {
-        Ok(mut case) => {
-            Ok(Ok(tell_explained(rt, given.rules, given.pair.list(), &mut case, line)))
-        }
+        Ok(mut case) => { Ok(Ok(tell_explained(rt, given.rules, given.pair, &mut case, line))) }
         Err(fault) => Err(fault),
     }
 }

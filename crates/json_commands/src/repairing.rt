@@ -12,7 +12,7 @@ use command_files::{GivenFiles, SheetFile, Told, has_no_event, write};
 use devices::Input;
 use engine::{Case, RunFault, open_case};
 use exit_statuses::{Exit, Trouble, exit_of_case};
-use lex_list::WordList;
+use lex_check::Checked;
 use ref_tiles::Rules;
 use repair_answers::answer_repairs;
 use repair_json::{push_no_game, push_repair_answer};
@@ -24,13 +24,13 @@ use std::rt::Runtime;
 fn case_text(
     alloc: Global,
     rules: &Rules,
-    list: &WordList,
+    pair: &Checked<'_>,
     case: &mut Case,
     number: usize,
 ) -> Result<Vec<u8>, AllocError>
-    requires { HasItsWalk rules.now list.now case.old }
+    requires { HasItsWalk rules.now (list_in pair.now) case.old }
 {
-    let answer = answer_repairs(alloc, rules, list, case, number)?;
+    let answer = answer_repairs(alloc, rules, pair, case, number)?;
     let mut text = Vec::new(alloc);
     if has_no_event(case) {
         push_no_game(alloc, &mut text)?;
@@ -47,13 +47,13 @@ fn case_text(
 fn tell_repairs<R: Runtime + AllocGlobal>(
     rt: &R,
     rules: &Rules,
-    list: &WordList,
+    pair: &Checked<'_>,
     case: &mut Case,
     number: usize,
 ) -> Result<Exit, Trouble<'static>>
-    requires { HasItsWalk rules.now list.now case.old }
+    requires { HasItsWalk rules.now (list_in pair.now) case.old }
 {
-    let Ok(text) = case_text(rt.alloc(), rules, list, case, number) else {
+    let Ok(text) = case_text(rt.alloc(), rules, pair, case, number) else {
         return Err(Trouble::NoMemory);
     };
     write(rt, text.as_slice())?;
@@ -72,7 +72,7 @@ pub fn repair_in_json<R: Runtime + AllocGlobal, F: Read + Drop, S: Read + Drop>(
         (IsCaseTold given.now.rules.now (list_in given.now.pair.now)) result }
 {
     match open_case(rt.alloc(), given.rules, given.pair, game) {
-        Ok(mut case) => Ok(Ok(tell_repairs(rt, given.rules, given.pair.list(), &mut case, number))),
+        Ok(mut case) => Ok(Ok(tell_repairs(rt, given.rules, given.pair, &mut case, number))),
         Err(fault) => Err(fault),
     }
 }

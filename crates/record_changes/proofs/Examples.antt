@@ -80,14 +80,28 @@ respelled : Agree (
 unfolding spliced letter_at
 respelled = refl
 
+-- A8 AB in the place of each line: one that is no play stays
+abbrev ab_play : EventKind
+ab_play = kind.Play 105 Down (word (codes "AB"))
+
+replayed : Agree (
+    (with 0 (slip.Replayed (record { at = 105; dir = Down; word = word (codes "AB") })), record word_play { kind = ab_play } ∷ at_play ∷ pass ∷ [])
+    ∷ (with 1 (slip.Replayed (record { at = 105; dir = Down; word = word (codes "AB") })), word_play ∷ record at_play { kind = ab_play } ∷ pass ∷ [])
+    ∷ (with 2 (slip.Replayed (record { at = 105; dir = Down; word = word (codes "AB") })), game)
+    ∷ [])
+unfolding spliced letter_at
+replayed = refl
+
 -- a line that is another one, that should not be there, that is missing, or that stands in the place of another
 other_lines : Agree (
     (with 2 slip.OtherPlayer, word_play ∷ at_play ∷ record pass { player = Second } ∷ [])
     ∷ (with 2 (slip.Code (code.Exchange 3)), word_play ∷ at_play ∷ record pass { kind = kind.ExchangeUnknown 3 } ∷ [])
     ∷ (with 1 slip.Extra, word_play ∷ pass ∷ [])
+    ∷ (with 2 slip.ExtraPass, word_play ∷ at_play ∷ [])
     ∷ (with 0 slip.Swapped, at_play ∷ word_play ∷ pass ∷ [])
     ∷ (with 0 slip.SwappedOver, pass ∷ at_play ∷ word_play ∷ [])
     ∷ (with 1 slip.SwappedOver, game)
+    ∷ (with 2 (slip.Missing (line.Play First (record { at = 105; dir = Down; word = word (codes "AB") }))), word_play ∷ at_play ∷ event_on 0 First ab_play (pos 0) (pos 0) ∷ pass ∷ [])
     ∷ (with 1 (slip.Missing (line.Withdrawal First)), word_play ∷ event_on 0 First kind.Withdraw (pos 0) (pos 0) ∷ at_play ∷ pass ∷ [])
     ∷ (with 3 (slip.Missing (line.Time Second (negsuc 9) false)), word_play ∷ at_play ∷ pass ∷ event_on 0 Second kind.Time (negsuc 9) (pos 0) ∷ [])
     ∷ [])
@@ -98,9 +112,15 @@ other_lines = refl
 weights : Agree (
     (weight_of slip.Repeated, 1)
     ∷ (weight_of (slip.Position (position.Further 0)), 3)
+    ∷ (weight_of (slip.Tile tiles_of.Exchange (tile.Other kind_of_tile.Blank kind_of_tile.Blank)), 3)
+    ∷ (weight_of (slip.Tile tiles_of.Exchange (tile.Extra kind_of_tile.Blank)), 2)
+    ∷ (weight_of (slip.Tile tiles_of.Exchange (tile.Missing kind_of_tile.Blank)), 2)
     ∷ (weight_of (slip.Tile tiles_of.LastRack (tile.Extra kind_of_tile.Blank)), 4)
     ∷ (weight_of (slip.Missing (line.Time First (negsuc 9) true)), 6)
     ∷ (weight_of (slip.Missing (line.Challenge First (pos 10) true)), 5)
+    ∷ (weight_of (slip.Missing (line.Play First (record { at = 105; dir = Down; word = word (codes "AB") }))), 4)
+    ∷ (weight_of (slip.Replayed (record { at = 105; dir = Down; word = word (codes "AB") })), 6)
+    ∷ (weight_of slip.ExtraPass, 2)
     ∷ (weight_of slip.Extra, 7)
     ∷ [])
 weights = refl

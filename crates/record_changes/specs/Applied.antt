@@ -24,6 +24,7 @@ use Rattle.record_changes.specs.declared.slips.TileSlip.{TileSlip}
 use Rattle.record_changes.specs.declared.slips.TileSlip.TheVariants as tile
 use Rattle.record_changes.specs.declared.slips.CodeSlip.{CodeSlip}
 use Rattle.record_changes.specs.declared.slips.CodeSlip.TheVariants as code
+use Rattle.record_changes.specs.declared.slips.RightPlay.{RightPlay}
 use Rattle.record_changes.specs.declared.slips.MissingLine.{MissingLine}
 use Rattle.record_changes.specs.declared.slips.MissingLine.TheVariants as line
 use Rattle.record_changes.specs.Splices.{spliced}
@@ -105,6 +106,11 @@ abbrev pub right_spelling : SpellingSlip → EventKind → EventKind
 right_spelling s (kind.Play at d word) = kind.Play at d (right_word s word)
 right_spelling s other = other
 
+-- a play that is another one altogether
+abbrev pub right_play : RightPlay → EventKind → EventKind
+right_play right (kind.Play at d word) = kind.Play right.at right.dir right.word
+right_play right other = other
+
 -- the right tiles of an exchange or of a last rack
 abbrev pub right_lot : TilesOf → TileSlip → EventKind → EventKind
 right_lot tiles_of.Exchange s (kind.Exchange counts) = kind.Exchange (right_tiles s counts)
@@ -115,6 +121,7 @@ right_lot of s other = other
 abbrev pub right_kind : Slip → EventKind → EventKind
 right_kind (slip.Position s) what = right_position s what
 right_kind (slip.Spelling s) what = right_spelling s what
+right_kind (slip.Replayed right) what = right_play right what
 right_kind (slip.Tile of s) what = right_lot of s what
 right_kind (slip.Number n) what = kind.ExchangeUnknown n
 right_kind (slip.Code s) what = code_kind s
@@ -152,6 +159,7 @@ right_event s e =
 -- ---- a line that is missing
 
 abbrev pub missing_player : MissingLine → Seat
+missing_player (line.Play player play) = player
 missing_player (line.Pass player) = player
 missing_player (line.Exchange player n) = player
 missing_player (line.Time player score early) = player
@@ -160,6 +168,7 @@ missing_player (line.Challenge player score several) = player
 missing_player (line.Rest player counts) = player
 
 abbrev pub missing_kind : MissingLine → EventKind
+missing_kind (line.Play player play) = kind.Play play.at play.dir play.word
 missing_kind (line.Pass player) = kind.Pass
 missing_kind (line.Exchange player n) = kind.ExchangeUnknown n
 missing_kind (line.Time player score early) = kind.Time
@@ -189,6 +198,7 @@ wrong_events other = 1
 -- what should stand there in the place of these events
 abbrev pub right_events : Slip → List Event → List Event
 right_events slip.Repeated there = []
+right_events slip.ExtraPass there = []
 right_events slip.Extra there = []
 right_events slip.Swapped there = reverse there
 right_events slip.SwappedOver there = reverse there

@@ -36,10 +36,11 @@ other_weight tiles_of.Rack = 3
 other_weight tiles_of.Exchange = 3
 other_weight tiles_of.LastRack = 2
 
--- a tile too many or too few weighs less on a stated rack, of which any part may be written
+-- a tile too many or too few weighs less on a stated rack, of which any part may be written, and still less in an exchange, of which
+-- nothing is seen on the board
 abbrev pub number_weight : TilesOf → ℕ
 number_weight tiles_of.Rack = 3
-number_weight tiles_of.Exchange = 4
+number_weight tiles_of.Exchange = 2
 number_weight tiles_of.LastRack = 4
 
 abbrev pub tile_weight : TilesOf → TileSlip → ℕ
@@ -58,6 +59,7 @@ several_weight true = 5
 several_weight false = 3
 
 abbrev pub missing_weight : MissingLine → ℕ
+missing_weight (line.Play player play) = 4
 missing_weight (line.Pass player) = 2
 missing_weight (line.Exchange player n) = 2
 missing_weight (line.Time player score early) = early_weight early
@@ -68,6 +70,7 @@ missing_weight (line.Rest player counts) = 2
 abbrev pub weight_of : Slip → ℕ
 weight_of (slip.Position s) = position_weight s
 weight_of (slip.Spelling s) = spelling_weight s
+weight_of (slip.Replayed play) = 6
 weight_of (slip.Tile of s) = tile_weight of s
 weight_of slip.NoRack = 5
 weight_of (slip.Number n) = 4
@@ -76,6 +79,7 @@ weight_of (slip.Rest counts) = 3
 weight_of (slip.Amount right) = 2
 weight_of slip.OtherPlayer = 2
 weight_of slip.Repeated = 1
+weight_of slip.ExtraPass = 2
 weight_of slip.Extra = 7
 weight_of slip.Swapped = 2
 weight_of slip.SwappedOver = 3

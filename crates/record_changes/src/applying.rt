@@ -2,7 +2,7 @@
 ghost use Rattle.std.specs.Prelude.{◌≡◌, ◌+◌, ◌≤◌, ◌++◌, ◌∷◌, [], pos, map, reverse, take, drop, length, IfOk};
 ghost use Rattle.record_changes.specs.Applied.{right_event, missing_player, missing_kind, missing_score, missing_event, wrong_events, right_events, applied};
 
-use crate::copying::{copy_event, push_copies};
+use crate::copying::{copy_event, play_kind, push_copies};
 use crate::righting::right_event;
 use crate::slips::{Change, MissingLine, Slip};
 use gcg_read::{Event, EventKind, Events, Points, Seat};
@@ -13,6 +13,7 @@ fn missing_player(line: &MissingLine) -> Seat
     ensures { result ≡ missing_player line.now }
 {
     match line {
+        MissingLine::Play { player, .. } => *player,
         MissingLine::Pass(player) => *player,
         MissingLine::Exchange { player, .. } => *player,
         MissingLine::Time { player, .. } => *player,
@@ -27,6 +28,7 @@ fn missing_kind(line: &MissingLine) -> EventKind
     ensures { result ≡ missing_kind line.now }
 {
     match line {
+        MissingLine::Play { play, .. } => play_kind(play),
         MissingLine::Pass(_) => EventKind::Pass,
         MissingLine::Exchange { number, .. } => EventKind::ExchangeUnknown(*number),
         MissingLine::Time { .. } => EventKind::Time,
@@ -119,7 +121,7 @@ pub fn right_events(alloc: Global, slip: &Slip, there: &[Event]) -> Result<Event
     ensures { IfOk result (λ events. events ≡ right_events slip.now there.now) }
 {
     match slip {
-        Slip::Repeated | Slip::Extra => Ok(Events::new(alloc)),
+        Slip::Repeated | Slip::ExtraPass | Slip::Extra => Ok(Events::new(alloc)),
         Slip::Swapped | Slip::SwappedOver => reversed(alloc, there),
         Slip::Missing(line) => only(alloc, missing_event(line)),
         _ => each_right(alloc, slip, there),

@@ -1,6 +1,8 @@
 //! Copies of events and of their parts.
 ghost use Rattle.std.specs.Prelude.{◌≡◌, ◌++◌, OnOk};
+ghost use Rattle.gcg_read.specs.declared.events.EventKind.TheVariants as kind_of;
 
+use crate::slips::RightPlay;
 use gcg_read::{Event, EventKind, Events, Text};
 use std::alloc::AllocError;
 
@@ -9,6 +11,17 @@ pub(crate) fn copy_text(text: &Text) -> Text
     ensures { result ≡ text.now }
 {
     Text::new(text.as_slice()).unwrap()
+}
+
+/// That a play is made.
+pub(crate) fn play_kind(play: &RightPlay) -> EventKind
+    ensures { result ≡ kind_of.Play play.now.at play.now.dir play.now.word }
+{
+    EventKind::Play {
+        at: play.at,
+        dir: play.dir,
+        word: copy_text(&play.word),
+    }
 }
 
 /// The same of what happened.

@@ -6,6 +6,7 @@ mod copying;
 mod counting;
 mod laws;
 mod righting;
+mod slip_copies;
 mod slips;
 mod splices;
 mod weights;
@@ -13,7 +14,8 @@ mod weights;
 pub use applying::{apply, right_events, wrong_events};
 pub use counting::{one_less, one_more};
 pub use laws::law_of_changes;
+pub use slip_copies::copy_slip;
 pub use slips::{
-    Change, CodeSlip, MissingLine, PositionSlip, Slip, SpellingSlip, TileSlip, TilesOf,
+    Change, CodeSlip, MissingLine, PositionSlip, RightPlay, Slip, SpellingSlip, TileSlip, TilesOf,
 };
 pub use weights::weight_of;

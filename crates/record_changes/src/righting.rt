@@ -2,11 +2,11 @@
 ghost use Rattle.std.specs.Prelude.{◌≡◌};
 ghost use Rattle.std.specs.Option.{option_map};
 ghost use Rattle.ref_board.specs.Cells.{mirrored};
-ghost use Rattle.record_changes.specs.Applied.{right_square, right_dir, right_tiles, code_kind, right_position, right_spelling, right_lot, right_kind, right_rack, right_player, right_amount, right_event};
+ghost use Rattle.record_changes.specs.Applied.{right_square, right_dir, right_tiles, code_kind, right_position, right_spelling, right_play, right_lot, right_kind, right_rack, right_player, right_amount, right_event};
 
-use crate::copying::{copy_kind, copy_text};
+use crate::copying::{copy_kind, copy_text, play_kind};
 use crate::counting::{one_less, one_more};
-use crate::slips::{CodeSlip, PositionSlip, Slip, SpellingSlip, TileSlip, TilesOf};
+use crate::slips::{CodeSlip, PositionSlip, RightPlay, Slip, SpellingSlip, TileSlip, TilesOf};
 use crate::splices::right_word;
 use gcg_read::{Event, EventKind, Points, Seat};
 use ref_board::{Dir, Square};
@@ -91,6 +91,16 @@ fn right_spelling(slip: &SpellingSlip, kind: &EventKind) -> EventKind
     }
 }
 
+/// Another play in the place of one.
+fn right_play(right: &RightPlay, kind: &EventKind) -> EventKind
+    ensures { result ≡ right_play right.now kind.now }
+{
+    match kind {
+        EventKind::Play { .. } => play_kind(right),
+        _ => copy_kind(kind),
+    }
+}
+
 /// An exchange or a last rack with the right tiles.
 fn right_lot(of: TilesOf, slip: &TileSlip, kind: &EventKind) -> EventKind
     ensures { result ≡ right_lot of slip.now kind.now }
@@ -113,6 +123,7 @@ fn right_kind(slip: &Slip, kind: &EventKind) -> EventKind
     match slip {
         Slip::Position(slip) => right_position(slip, kind),
         Slip::Spelling(slip) => right_spelling(slip, kind),
+        Slip::Replayed(right) => right_play(right, kind),
         Slip::Tile { of, slip } => right_lot(*of, slip, kind),
         Slip::Number(number) => EventKind::ExchangeUnknown(*number),
         Slip::Code(slip) => code_kind(slip),

@@ -1,7 +1,7 @@
 //! What may be wrong with one line of a record.
 
 use gcg_read::{Points, Seat, Text};
-use ref_board::Square;
+use ref_board::{Dir, Square};
 use ref_tiles::{Counts, Kind, Letter, Symbol};
 
 /// What is wrong with the position of a play.
@@ -116,9 +116,27 @@ pub enum CodeSlip {
     Withdrawal,
 }
 
+/// A play as it should be.
+#[derive(Drop)]
+pub struct RightPlay {
+    /// The square on which it begins.
+    pub at: Square,
+    /// Its direction.
+    pub dir: Dir,
+    /// Its whole text.
+    pub word: Text,
+}
+
 /// A line that is missing.
 #[derive(Drop)]
 pub enum MissingLine {
+    /// A player makes a play.
+    Play {
+        /// The player.
+        player: Seat,
+        /// The play.
+        play: RightPlay,
+    },
     /// A player passes.
     Pass(Seat),
     /// A player exchanges so many tiles.
@@ -164,6 +182,8 @@ pub enum Slip {
     Position(PositionSlip),
     /// A play has another text.
     Spelling(SpellingSlip),
+    /// A play is another one altogether: this one.
+    Replayed(RightPlay),
     /// Tiles are others.
     Tile {
         /// Which tiles.
@@ -185,6 +205,8 @@ pub enum Slip {
     OtherPlayer,
     /// The line should not be there, and it repeats the line before it.
     Repeated,
+    /// The line is a pass that should not be there.
+    ExtraPass,
     /// The line should not be there.
     Extra,
     /// The line and the next one stand in each other's place.

@@ -44,7 +44,8 @@ fn number_weight(of: TilesOf) -> usize
 {
     match of {
         TilesOf::Rack => 3,
-        TilesOf::Exchange | TilesOf::LastRack => 4,
+        TilesOf::Exchange => 2,
+        TilesOf::LastRack => 4,
     }
 }
 
@@ -73,6 +74,7 @@ fn missing_weight(line: &MissingLine) -> usize
     ensures { result ≡ missing_weight line.now }
 {
     match line {
+        MissingLine::Play { .. } => 4,
         MissingLine::Pass(_) => 2,
         MissingLine::Exchange { .. } => 2,
         MissingLine::Time { early, .. } => early_weight(*early),
@@ -89,6 +91,7 @@ pub fn weight_of(slip: &Slip) -> usize
     match slip {
         Slip::Position(slip) => position_weight(slip),
         Slip::Spelling(slip) => spelling_weight(slip),
+        Slip::Replayed(_) => 6,
         Slip::Tile { of, slip } => tile_weight(*of, slip),
         Slip::NoRack => 5,
         Slip::Number(_) => 4,
@@ -97,6 +100,7 @@ pub fn weight_of(slip: &Slip) -> usize
         Slip::Amount(_) => 2,
         Slip::OtherPlayer => 2,
         Slip::Repeated => 1,
+        Slip::ExtraPass => 2,
         Slip::Extra => 7,
         Slip::Swapped => 2,
         Slip::SwappedOver => 3,

@@ -69,6 +69,7 @@ by_slip : (what : Slip) (place : ℕ) (changed right : List Event) → AreRenumb
 by_slip (slip.Missing line) place changed right are = missing_by changed right place (slice_get changed place) refl are
 by_slip (slip.Position s) place changed right are = are
 by_slip (slip.Spelling s) place changed right are = are
+by_slip (slip.Replayed play) place changed right are = are
 by_slip (slip.Tile of s) place changed right are = are
 by_slip slip.NoRack place changed right are = are
 by_slip (slip.Number n) place changed right are = are
@@ -77,6 +78,7 @@ by_slip (slip.Rest counts) place changed right are = are
 by_slip (slip.Amount score) place changed right are = are
 by_slip slip.OtherPlayer place changed right are = are
 by_slip slip.Repeated place changed right are = are
+by_slip slip.ExtraPass place changed right are = are
 by_slip slip.Extra place changed right are = are
 by_slip slip.Swapped place changed right are = are
 by_slip slip.SwappedOver place changed right are = are

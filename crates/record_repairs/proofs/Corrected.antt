@@ -1,11 +1,10 @@
 -- The correction of a record, event by event.
-use Rattle.std.proofs.Common.{◌≡◌, ℕ, Bool, List, length, sym, ap, ◌∙◌, subst, arith}
+use Rattle.std.proofs.Common.{◌≡◌, ℕ, List, length, sym, ◌∙◌, subst, arith}
 use Rattle.ref_tiles.specs.declared.rulebook.Rules.{Rules}
 use Rattle.gcg_read.specs.declared.events.Event.{Event}
 use Rattle.game_turns.specs.declared.machine.Machine.{Machine}
 use Rattle.game_turns.specs.Machines.{rules_of, state_of}
-use Rattle.game_turns.specs.Places.{is_finished}
-use Rattle.game_turns.specs.Tallies.{State, tally_at}
+use Rattle.game_turns.specs.Tallies.{tally_at}
 use Rattle.game_sheets.specs.Corrections.{IsCorrection}
 use Rattle.game_sheets.proofs.Fronts.{all_themselves}
 use Rattle.game_sheets.proofs.Sheets.{whole}
@@ -27,12 +26,3 @@ pub went_through : (rules : Rules) (list : List (List ℕ)) (old now : List Even
     → IsCorrection rules list old now
 went_through rules list old now place machine at end =
     subst (IsCorrection rules list old) (same_front rules list old now place machine at) (whole rules list old at.front place at.up end)
-
--- at the end the machine tells whether the game is complete
-pub finished_then : (rules : Rules) (list : List (List ℕ)) (old now : List Event) (place : ℕ) (machine : Machine) (complete : Bool) → GoesTo rules list old now 0 place machine
-    → place ≡ length old → complete ≡ (state_of machine).complete → complete ≡ is_finished rules now
-finished_then rules list old now place machine complete at end is =
-    let last : place ≡ length now = end ∙ sym at.long in
-    is ∙ ap (λ (s : State). s.complete) at.state
-    ∙ ap (λ (events : List Event). (tally_at rules events place).complete) (same_front rules list old now place machine at)
-    ∙ ap (λ (n : ℕ). (tally_at rules now n).complete) last

@@ -191,6 +191,7 @@ pub missing_at : (what : Slip) (place k : ℕ) → place_by what place ≡ Some 
 missing_at (slip.Missing line) place k is = let same = same_Some place k is in omega (arith, same)
 missing_at (slip.Position s) place k is = cc
 missing_at (slip.Spelling s) place k is = cc
+missing_at (slip.Replayed play) place k is = cc
 missing_at (slip.Tile of s) place k is = cc
 missing_at slip.NoRack place k is = cc
 missing_at (slip.Number n) place k is = cc
@@ -199,6 +200,7 @@ missing_at (slip.Rest counts) place k is = cc
 missing_at (slip.Amount score) place k is = cc
 missing_at slip.OtherPlayer place k is = cc
 missing_at slip.Repeated place k is = cc
+missing_at slip.ExtraPass place k is = cc
 missing_at slip.Extra place k is = cc
 missing_at slip.Swapped place k is = cc
 missing_at slip.SwappedOver place k is = cc

@@ -1,6 +1,6 @@
 -- The first repairs among candidates, one candidate after another.
 use Rattle.std.proofs.Common.{◌≡◌, ◌⊎◌, inl, inr, ℕ, zero, suc, ◌+◌, ◌<◌, ◌≤◌, true, List, [], ◌∷◌, ◌++◌, length, get_or, slice_get, Option, Some, refl, sym, ap, ◌∙◌, subst, arith}
-use Rattle.std.specs.Prelude.{All, AllPairs, Contains}
+use Rattle.std.specs.Prelude.{All, AllPairs, Contains, Result, Ok, Err, IfOk}
 use Rattle.std.proofs.lemmas.Bool.{cases_lt}
 use Rattle.std.proofs.lemmas.List.{length_push}
 use Rattle.std.proofs.lemmas.List.Elements.{All-push, Contains-append_left, Contains-push}
@@ -11,6 +11,7 @@ use Rattle.gcg_read.specs.declared.events.Event.{Event}
 use Rattle.game_sheets.proofs.Fronts.{one_correction}
 use Rattle.engine.specs.Verdicts.{IsGame, IsUnsettled}
 use Rattle.record_changes.specs.Applied.{applied}
+use Rattle.record_changes.specs.declared.slips.Change.{Change}
 use Rattle.record_repairs.specs.Costs.{Rank, costs, rank_at, rank_of, is_ahead, cost_of}
 use Rattle.record_repairs.specs.Candidates.{rank_in, IsCandidate, AreCandidates}
 use Rattle.record_repairs.specs.Remaining.{AreFewer, Remain, many_left}
@@ -26,19 +27,19 @@ use Rattle.record_repairs.proofs.Ranks.{not_both, not_itself}
 use Rattle.record_repairs.proofs.Weighing.{cost_is}
 
 -- what is told and left of the candidates before an index
-pub record AreSoFar (rules : Rules) (list : List (List ℕ)) (written : List Event) (below : Option ℕ) (most : ℕ) (found : List Candidate) (index : ℕ) (told : List Repair) (left : List Listed)
+pub record AreSoFar (rules : Rules) (list : List (List ℕ)) (written : List Event) (plays : List Change) (below : Option ℕ) (most : ℕ) (found : List Candidate) (index : ℕ) (told : List Repair) (left : List Listed)
     : Type 0 where
-  pub repairs : All (IsRepair rules list written below) told
+  pub repairs : All (IsRepair rules list written plays below) told
   pub few : length told ≤ most
   pub ordered : AllPairs (λ (a b : Repair). is_ahead (rank_of a) (rank_of b) ≡ true) told
   pub once : AllPairs (λ (a b : Repair). SameRecord a.right b.right → ⊥) told
-  pub unsettled : All (IsLeftOpen rules list written) left
+  pub unsettled : All (IsLeftOpen rules list written plays) left
   pub ahead : All (λ (r : Repair). (k : ℕ) (c : Candidate) → index ≤ k → slice_get found k ≡ Some c → is_ahead (rank_of r) (rank_in c) ≡ true) told
   pub others : (k : ℕ) (c : Candidate) (right : List Event) → k < index → slice_get found k ≡ Some c → IsWritable rules list (applied c.listed.change written) right
       → IsGame rules list right → Contains left c.listed ⊎ IsToldAt told right (rank_in c)
 
-pub none_so_far : (rules : Rules) (list : List (List ℕ)) (written : List Event) (below : Option ℕ) (most : ℕ) (found : List Candidate) → AreSoFar rules list written below most found 0 [] []
-none_so_far rules list written below most found =
+pub none_so_far : (rules : Rules) (list : List (List ℕ)) (written : List Event) (plays : List Change) (below : Option ℕ) (most : ℕ) (found : List Candidate) → AreSoFar rules list written plays below most found 0 [] []
+none_so_far rules list written plays below most found =
     record {
       repairs = λ k d within. absurd (omega (arith, within));
       few = omega arith;
@@ -81,11 +82,11 @@ rank_told rules list written c right r has by remain =
     ap (λ (l : Listed). rank_at (costs m n l.change.slip) l) by
     ∙ ap (λ (k : ℕ). rank_at k c.listed) (cost_is rules list c.listed.change written right r.remains (costs m n c.listed.change.slip) remain refl ∙ sym has.costs)
 
-repair_told : (rules : Rules) (list : List (List ℕ)) (written : List Event) (below : Option ℕ) (l : Listed) (right : List Event) (r : Repair) → MakesGame rules list written below l right
-    → r.listed ≡ l → r.right ≡ right → Remain rules list l.change written right r.remains → IsRepair rules list written below r
-repair_told rules list written below l right r made by makes remain =
+repair_told : (rules : Rules) (list : List (List ℕ)) (written : List Event) (plays : List Change) (below : Option ℕ) (l : Listed) (right : List Event) (r : Repair) → MakesGame rules list written plays below l right
+    → r.listed ≡ l → r.right ≡ right → Remain rules list l.change written right r.remains → IsRepair rules list written plays below r
+repair_told rules list written plays below l right r made by makes remain =
     record {
-      makes = subst (λ (x : Listed). MakesGame rules list written below x r.right) (sym by) (subst (λ (es : List Event). MakesGame rules list written below l es) (sym makes) made);
+      makes = subst (λ (x : Listed). MakesGame rules list written plays below x r.right) (sym by) (subst (λ (es : List Event). MakesGame rules list written plays below l es) (sym makes) made);
       remain = subst (λ (x : Listed). Remain rules list x.change written r.right r.remains) (sym by) (subst (λ (es : List Event). Remain rules list l.change written es r.remains) (sym makes) remain);
     }
 
@@ -123,15 +124,15 @@ before_or : {X Y : Type 0} (index k : ℕ) → (k < index → X ⊎ Y) → (k < 
 before_or index k old (inl less) = inl (old less)
 before_or index k old (inr behind) = inr behind
 
-pub told_more : (rules : Rules) (list : List (List ℕ)) (written : List Event) (below : Option ℕ) (most : ℕ) (found : List Candidate) (index : ℕ) (c : Candidate) (right : List Event)
-    (told : List Repair) (left : List Listed) (r : Repair) → AreCandidates rules list written below found → AreSoFar rules list written below most found index told left
-    → slice_get found index ≡ Some c → length told < most → HasRight rules list written c right → MakesGame rules list written below c.listed right → r.listed ≡ c.listed → r.right ≡ right
-    → Remain rules list c.listed.change written right r.remains → (IsAmong told right → ⊥) → AreSoFar rules list written below most found (index + 1) (told ++ r ∷ []) left
-told_more rules list written below most found index c right told left r are so at room has made by makes remain fresh =
+pub told_more : (rules : Rules) (list : List (List ℕ)) (written : List Event) (plays : List Change) (below : Option ℕ) (most : ℕ) (found : List Candidate) (index : ℕ) (c : Candidate) (right : List Event)
+    (told : List Repair) (left : List Listed) (r : Repair) → AreCandidates rules list written plays below found → AreSoFar rules list written plays below most found index told left
+    → slice_get found index ≡ Some c → length told < most → HasRight rules list written c right → MakesGame rules list written plays below c.listed right → r.listed ≡ c.listed → r.right ≡ right
+    → Remain rules list c.listed.change written right r.remains → (IsAmong told right → ⊥) → AreSoFar rules list written plays below most found (index + 1) (told ++ r ∷ []) left
+told_more rules list written plays below most found index c right told left r are so at room has made by makes remain fresh =
     let rank : rank_of r ≡ rank_in c = rank_told rules list written c right r has by remain in
     let long = length_push told r in
     record {
-      repairs = All-push (IsRepair rules list written below) told r so.repairs (repair_told rules list written below c.listed right r made by makes remain);
+      repairs = All-push (IsRepair rules list written plays below) told r so.repairs (repair_told rules list written plays below c.listed right r made by makes remain);
       few = omega (arith, long, room);
       ordered = all_pairs_push (λ (a b : Repair). is_ahead (rank_of a) (rank_of b) ≡ true) told r so.ordered
           (λ k d within. ap (is_ahead (rank_of (get_or told k d))) rank ∙ so.ahead k d within index c (omega arith) at);
@@ -158,17 +159,17 @@ others_open found index c told left at k d other below of_d (inr behind) =
     let same : d ≡ c = same_Some d c (sym of_d ∙ ap (slice_get found) here ∙ at) in
     inl (subst (λ (x : Candidate). Contains (left ++ c.listed ∷ []) x.listed) (sym same) (Contains-push left c.listed))
 
-pub open_more : (rules : Rules) (list : List (List ℕ)) (written : List Event) (below : Option ℕ) (most : ℕ) (found : List Candidate) (index : ℕ) (c : Candidate) (right : List Event)
-    (told : List Repair) (left : List Listed) → AreCandidates rules list written below found → AreSoFar rules list written below most found index told left → slice_get found index ≡ Some c
-    → HasRight rules list written c right → IsUnsettled rules list right → AreSoFar rules list written below most found (index + 1) told (left ++ c.listed ∷ [])
-open_more rules list written below most found index c right told left are so at has unsettled =
+pub open_more : (rules : Rules) (list : List (List ℕ)) (written : List Event) (plays : List Change) (below : Option ℕ) (most : ℕ) (found : List Candidate) (index : ℕ) (c : Candidate) (right : List Event)
+    (told : List Repair) (left : List Listed) → AreCandidates rules list written plays below found → AreSoFar rules list written plays below most found index told left → slice_get found index ≡ Some c
+    → HasRight rules list written c right → IsUnsettled rules list right → AreSoFar rules list written plays below most found (index + 1) told (left ++ c.listed ∷ [])
+open_more rules list written plays below most found index c right told left are so at has unsettled =
     record {
       repairs = so.repairs;
       few = so.few;
       ordered = so.ordered;
       once = so.once;
-      unsettled = All-push (IsLeftOpen rules list written) left c.listed so.unsettled
-          (record { single = (candidate_at (IsCandidate rules list written below) found index c are.each at).single; right = right; correction = has.is; open_deal = unsettled });
+      unsettled = All-push (IsLeftOpen rules list written plays) left c.listed so.unsettled
+          (record { single = (candidate_at (IsCandidate rules list written plays below) found index c are.each at).single; right = right; correction = has.is; open_deal = unsettled });
       ahead = λ k d within j e behind of_e. so.ahead k d within j e (omega (arith, behind)) of_e;
       others = λ k d other before of_d is game. others_open found index c told left at k d other before of_d (before_or index k (λ less. so.others k d other less of_d is game) (cases_lt k index));
     }
@@ -199,10 +200,10 @@ others_none rules list written found index c right told left has at ahead (inr n
     let equal : d ≡ c = same_Some d c (sym of_d ∙ ap (slice_get found) here ∙ at) in
     absurd (none (subst (IsGame rules list) (sym (same_right rules list written c d right other has equal is)) game))
 
-pub none_more : (rules : Rules) (list : List (List ℕ)) (written : List Event) (below : Option ℕ) (most : ℕ) (found : List Candidate) (index : ℕ) (c : Candidate) (right : List Event)
-    (told : List Repair) (left : List Listed) → AreSoFar rules list written below most found index told left → slice_get found index ≡ Some c → HasRight rules list written c right
-    → IsAmong told right ⊎ (IsGame rules list right → ⊥) → AreSoFar rules list written below most found (index + 1) told left
-none_more rules list written below most found index c right told left so at has why =
+pub none_more : (rules : Rules) (list : List (List ℕ)) (written : List Event) (plays : List Change) (below : Option ℕ) (most : ℕ) (found : List Candidate) (index : ℕ) (c : Candidate) (right : List Event)
+    (told : List Repair) (left : List Listed) → AreSoFar rules list written plays below most found index told left → slice_get found index ≡ Some c → HasRight rules list written c right
+    → IsAmong told right ⊎ (IsGame rules list right → ⊥) → AreSoFar rules list written plays below most found (index + 1) told left
+none_more rules list written plays below most found index c right told left so at has why =
     record {
       repairs = so.repairs;
       few = so.few;
@@ -217,35 +218,35 @@ none_more rules list written below most found index c right told left so at has 
 
 -- ---- one candidate more
 
-put : (rules : Rules) (list : List (List ℕ)) (written : List Event) (below : Option ℕ) (most : ℕ) (found : List Candidate) (index : ℕ) (told more : List Repair) (left open_ones : List Listed)
-    → more ≡ told → open_ones ≡ left → AreSoFar rules list written below most found index told left → AreSoFar rules list written below most found index more open_ones
-put rules list written below most found index told more left open_ones same_told same_left so =
-    subst (λ (xs : List Repair). AreSoFar rules list written below most found index xs open_ones) (sym same_told)
-    (subst (λ (xs : List Listed). AreSoFar rules list written below most found index told xs) (sym same_left) so)
+put : (rules : Rules) (list : List (List ℕ)) (written : List Event) (plays : List Change) (below : Option ℕ) (most : ℕ) (found : List Candidate) (index : ℕ) (told more : List Repair) (left open_ones : List Listed)
+    → more ≡ told → open_ones ≡ left → AreSoFar rules list written plays below most found index told left → AreSoFar rules list written plays below most found index more open_ones
+put rules list written plays below most found index told more left open_ones same_told same_left so =
+    subst (λ (xs : List Repair). AreSoFar rules list written plays below most found index xs open_ones) (sym same_told)
+    (subst (λ (xs : List Listed). AreSoFar rules list written plays below most found index told xs) (sym same_left) so)
 
-tried_by : (rules : Rules) (list : List (List ℕ)) (written : List Event) (below : Option ℕ) (most : ℕ) (found : List Candidate) (index : ℕ) (c : Candidate) (right : List Event) (old new : Found)
-    → AreCandidates rules list written below found → AreSoFar rules list written below most found index old.told.items old.left.items → slice_get found index ≡ Some c
+tried_by : (rules : Rules) (list : List (List ℕ)) (written : List Event) (plays : List Change) (below : Option ℕ) (most : ℕ) (found : List Candidate) (index : ℕ) (c : Candidate) (right : List Event) (old new : Found)
+    → AreCandidates rules list written plays below found → AreSoFar rules list written plays below most found index old.told.items old.left.items → slice_get found index ≡ Some c
     → length old.told.items < most → HasRight rules list written c right → AreFewer below (many_left rules list c.listed.change written right)
-    → IsTriedWith rules list written c.listed right old new → AreSoFar rules list written below most found (index + 1) new.told.items new.left.items
-tried_by rules list written below most found index c right old new are so at room has fewer (inl adds) =
-    let single = (candidate_at (IsCandidate rules list written below) found index c are.each at).single in
-    put rules list written below most found (index + 1) (old.told.items ++ adds.repair ∷ []) new.told.items old.left.items new.left.items adds.added adds.same_left
-    (told_more rules list written below most found index c right old.told.items old.left.items adds.repair are so at room has
+    → IsTriedWith rules list written c.listed right old new → AreSoFar rules list written plays below most found (index + 1) new.told.items new.left.items
+tried_by rules list written plays below most found index c right old new are so at room has fewer (inl adds) =
+    let single = (candidate_at (IsCandidate rules list written plays below) found index c are.each at).single in
+    put rules list written plays below most found (index + 1) (old.told.items ++ adds.repair ∷ []) new.told.items old.left.items new.left.items adds.added adds.same_left
+    (told_more rules list written plays below most found index c right old.told.items old.left.items adds.repair are so at room has
     (record { single = single; correction = has.is; game = adds.game; fewer = fewer }) adds.by adds.makes adds.remain adds.fresh)
-tried_by rules list written below most found index c right old new are so at room has fewer (inr (inl adds)) =
-    put rules list written below most found (index + 1) old.told.items new.told.items (old.left.items ++ c.listed ∷ []) new.left.items adds.same_told adds.added
-    (open_more rules list written below most found index c right old.told.items old.left.items are so at has adds.unsettled)
-tried_by rules list written below most found index c right old new are so at room has fewer (inr (inr adds)) =
-    put rules list written below most found (index + 1) old.told.items new.told.items old.left.items new.left.items adds.same_told adds.same_left
-    (none_more rules list written below most found index c right old.told.items old.left.items so at has adds.why)
+tried_by rules list written plays below most found index c right old new are so at room has fewer (inr (inl adds)) =
+    put rules list written plays below most found (index + 1) old.told.items new.told.items (old.left.items ++ c.listed ∷ []) new.left.items adds.same_told adds.added
+    (open_more rules list written plays below most found index c right old.told.items old.left.items are so at has adds.unsettled)
+tried_by rules list written plays below most found index c right old new are so at room has fewer (inr (inr adds)) =
+    put rules list written plays below most found (index + 1) old.told.items new.told.items old.left.items new.left.items adds.same_told adds.same_left
+    (none_more rules list written plays below most found index c right old.told.items old.left.items so at has adds.why)
 
-pub next_tried : (rules : Rules) (list : List (List ℕ)) (written : List Event) (below : Option ℕ) (most : ℕ) (found : List Candidate) (index : ℕ) (c : Candidate) (old new : Found)
-    → AreCandidates rules list written below found → AreSoFar rules list written below most found index old.told.items old.left.items → index < length found → c ≡ get_or found index c
-    → length old.told.items < most → IsTried rules list written c old new → AreSoFar rules list written below most found (index + 1) new.told.items new.left.items
-next_tried rules list written below most found index c old new are so within is room tried =
+pub next_tried : (rules : Rules) (list : List (List ℕ)) (written : List Event) (plays : List Change) (below : Option ℕ) (most : ℕ) (found : List Candidate) (index : ℕ) (c : Candidate) (old new : Found)
+    → AreCandidates rules list written plays below found → AreSoFar rules list written plays below most found index old.told.items old.left.items → index < length found → c ≡ get_or found index c
+    → length old.told.items < most → IsTried rules list written c old new → AreSoFar rules list written plays below most found (index + 1) new.told.items new.left.items
+next_tried rules list written plays below most found index c old new are so within is room tried =
     let at : slice_get found index ≡ Some c = slice_get_read found (length found) index c refl within is in
-    let w = (candidate_at (IsCandidate rules list written below) found index c are.each at).weighed in
-    tried_by rules list written below most found index c w.right old new are so at room (record { is = w.is; costs = w.costs }) w.fewer (tried w.right w.is)
+    let w = (candidate_at (IsCandidate rules list written plays below) found index c are.each at).weighed in
+    tried_by rules list written plays below most found index c w.right old new are so at room (record { is = w.is; costs = w.costs }) w.fewer (tried w.right w.is)
 
 -- ---- the end
 
@@ -254,37 +255,37 @@ each_ahead : (most : ℕ) (found : List Candidate) (index : ℕ) (told : List Re
     → AreAhead most told (rank_in c)
 each_ahead most found index told k c many ahead behind at = record { many = many; each = λ j d within. ahead j d within k c behind at }
 
-others_at : (rules : Rules) (list : List (List ℕ)) (written : List Event) (below : Option ℕ) (most : ℕ) (found : List Candidate) (index : ℕ) (told : List Repair) (left : List Listed) (k : ℕ)
-    (c : Candidate) (right : List Event) → AreSoFar rules list written below most found index told left → slice_get found k ≡ Some c
+others_at : (rules : Rules) (list : List (List ℕ)) (written : List Event) (plays : List Change) (below : Option ℕ) (most : ℕ) (found : List Candidate) (index : ℕ) (told : List Repair) (left : List Listed) (k : ℕ)
+    (c : Candidate) (right : List Event) → AreSoFar rules list written plays below most found index told left → slice_get found k ≡ Some c
     → IsWritable rules list (applied c.listed.change written) right → IsGame rules list right → (length found ≤ index) ⊎ (length told ≡ most) → (k < index) ⊎ (index ≤ k)
     → Contains left c.listed ⊎ (IsToldAt told right (rank_in c) ⊎ AreAhead most told (rank_in c))
-others_at rules list written below most found index told left k c right so at is game done (inl before) = lift (so.others k c right before at is game)
+others_at rules list written plays below most found index told left k c right so at is game done (inl before) = lift (so.others k c right before at is game)
   where
     lift : Contains left c.listed ⊎ IsToldAt told right (rank_in c) → Contains left c.listed ⊎ (IsToldAt told right (rank_in c) ⊎ AreAhead most told (rank_in c))
     lift (inl open_one) = inl open_one
     lift (inr one) = inr (inl one)
-others_at rules list written below most found index told left k c right so at is game (inl all) (inr behind) =
+others_at rules list written plays below most found index told left k c right so at is game (inl all) (inr behind) =
     let within = slice_get_within found k c at in
     absurd (omega (arith, all, behind, within))
-others_at rules list written below most found index told left k c right so at is game (inr many) (inr behind) = inr (inr (each_ahead most found index told k c many so.ahead behind at))
+others_at rules list written plays below most found index told left k c right so at is game (inr many) (inr behind) = inr (inr (each_ahead most found index told k c many so.ahead behind at))
 
-others_of : (rules : Rules) (list : List (List ℕ)) (written : List Event) (below : Option ℕ) (most : ℕ) (found : List Candidate) (index : ℕ) (told : List Repair) (left : List Listed)
-    → AreCandidates rules list written below found → AreSoFar rules list written below most found index told left → (length found ≤ index) ⊎ (length told ≡ most) → (c : Candidate) (right : List Event)
+others_of : (rules : Rules) (list : List (List ℕ)) (written : List Event) (plays : List Change) (below : Option ℕ) (most : ℕ) (found : List Candidate) (index : ℕ) (told : List Repair) (left : List Listed)
+    → AreCandidates rules list written plays below found → AreSoFar rules list written plays below most found index told left → (length found ≤ index) ⊎ (length told ≡ most) → (c : Candidate) (right : List Event)
     → Contains found c → IsWritable rules list (applied c.listed.change written) right → IsGame rules list right
     → Contains left c.listed ⊎ (IsToldAt told right (rank_at (cost_of rules list c.listed.change written right) c.listed)
     ⊎ AreAhead most told (rank_at (cost_of rules list c.listed.change written right) c.listed))
-others_of rules list written below most found index told left are so done c right (k, within, at) is game =
+others_of rules list written plays below most found index told left are so done c right (k, within, at) is game =
     let here : slice_get found k ≡ Some c = slice_get_read found (length found) k c refl within (sym at) in
-    let w = (candidate_at (IsCandidate rules list written below) found k c are.each here).weighed in
+    let w = (candidate_at (IsCandidate rules list written plays below) found k c are.each here).weighed in
     let same : w.right ≡ right = one_correction rules list (applied c.listed.change written) w.right right w.is.correction is.correction in
     let cost : c.cost ≡ cost_of rules list c.listed.change written right = w.costs ∙ ap (cost_of rules list c.listed.change written) same in
     subst (λ (n : ℕ). Contains left c.listed ⊎ (IsToldAt told right (rank_at n c.listed) ⊎ AreAhead most told (rank_at n c.listed))) cost
-    (others_at rules list written below most found index told left k c right so here is game done (cases_lt k index))
+    (others_at rules list written plays below most found index told left k c right so here is game done (cases_lt k index))
 
-pub first_ones : (rules : Rules) (list : List (List ℕ)) (written : List Event) (below : Option ℕ) (most : ℕ) (found : List Candidate) (index : ℕ) (told : List Repair) (left : List Listed)
-    → AreCandidates rules list written below found → AreSoFar rules list written below most found index told left → (length found ≤ index) ⊎ (length told ≡ most)
-    → AreFirstRepairs rules list written below most told left
-first_ones rules list written below most found index told left are so done =
+pub first_ones : (rules : Rules) (list : List (List ℕ)) (written : List Event) (plays : List Change) (below : Option ℕ) (most : ℕ) (found : List Candidate) (index : ℕ) (told : List Repair) (left : List Listed)
+    → AreCandidates rules list written plays below found → AreSoFar rules list written plays below most found index told left → (length found ≤ index) ⊎ (length told ≡ most)
+    → AreFirstRepairs rules list written plays below most told left
+first_ones rules list written plays below most found index told left are so done =
     record {
       repairs = so.repairs;
       few = so.few;
@@ -296,6 +297,14 @@ first_ones rules list written below most found index told left are so done =
           subst
           (λ (x : Listed). Contains left x ⊎ (IsToldAt told right (rank_at (cost_of rules list x.change written right) x) ⊎ AreAhead most told (rank_at (cost_of rules list x.change written right) x)))
           there.same
-          (others_of rules list written below most found index told left are so done there.candidate right there.among
+          (others_of rules list written plays below most found index told left are so done there.candidate right there.among
           (subst (λ (x : Listed). IsWritable rules list (applied x.change written) right) (sym there.same) makes.correction) makes.game);
     }
+
+-- what is told of candidates with all plays with which they are candidates is told of them with these
+pub told_with : {E : Type 0} (rules : Rules) (list : List (List ℕ)) (written : List Event) (plays : List Change) (below : Option ℕ) (most : ℕ) (found : List Candidate) (r : Result Found E)
+    → AreCandidates rules list written plays below found
+    → IfOk r (λ f. (others : List Change) → AreCandidates rules list written others below found → AreFirstRepairs rules list written others below most f.told.items f.left.items)
+    → IfOk r (λ f. AreFirstRepairs rules list written plays below most f.told.items f.left.items)
+told_with rules list written plays below most found (Ok f) are first = first plays are
+told_with rules list written plays below most found (Err e) are first = tt

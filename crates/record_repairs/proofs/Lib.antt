@@ -16,7 +16,8 @@ pub mod Counted
 pub mod Skipping
 pub mod Corrected
 pub mod RackStops
-pub mod RackFronts
+pub mod FirstSteps
+pub mod RackSlips
 pub mod Foreseen
 pub mod Sorting
 pub mod Weighing
@@ -24,6 +25,7 @@ pub mod AllOf
 pub mod SameLists
 pub mod Audits
 pub mod PlaceChanges
+pub mod WithPlays
 pub mod Ranks
 pub mod Itself
 pub mod FirstOnes

@@ -1,5 +1,5 @@
 -- A list of one repair.
-use Rattle.std.proofs.Common.{◌≡◌, ℕ, zero, suc, List, [], ◌∷◌, refl, sym, subst, arith}
+use Rattle.std.proofs.Common.{zero, suc, List, [], ◌∷◌, refl, sym, subst, arith}
 use Rattle.gcg_read.specs.declared.events.Event.{Event}
 use Rattle.record_repairs.specs.Repairs.{SameRecord, IsAmong}
 use Rattle.record_repairs.specs.declared.repair.Repair.{Repair}

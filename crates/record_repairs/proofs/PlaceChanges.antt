@@ -1,6 +1,6 @@
 -- The candidates among the changes at a place, change by change.
 use Rattle.std.proofs.Common.{◌≡◌, ◌⊎◌, inl, inr, ℕ, ◌+◌, ◌<◌, ◌≤◌, Bool, true, false, ◌&&◌, ◌||◌, ◌==◌, nat_lt, List, [], ◌∷◌, ◌++◌, map, length, get_or, slice_get, Option, Some, None, refl, sym, ap, ◌∙◌, subst, arith}
-use Rattle.std.specs.Prelude.{min}
+use Rattle.std.specs.Prelude.{min, Result, Ok, Err, OnOk}
 use Rattle.std.proofs.lemmas.Bool.{cases_lt, eq-eqb, lt-ltb}
 use Rattle.std.proofs.lemmas.List.{append_assoc, append-nil, length-map}
 use Rattle.std.proofs.lemmas.Option.{same_Some, slice_get_read, slice_get_within}
@@ -8,16 +8,20 @@ use Rattle.ref_tiles.specs.declared.rulebook.Rules.{Rules}
 use Rattle.gcg_read.specs.declared.events.Event.{Event}
 use Rattle.game_turns.specs.declared.machine.Machine.{Machine}
 use Rattle.game_turns.specs.Machines.{state_of}
-use Rattle.deal_cuts.specs.Laws.{FrontsFit}
+use Rattle.game_turns.specs.Tallies.{withdraws}
+use Rattle.deal_steps.specs.declared.steps.Step.{Step}
 use Rattle.game_rows.specs.declared.refusals.Stop.{Stop}
 use Rattle.game_rows.specs.declared.walking.Walk.{Walk}
 use Rattle.game_rows.specs.Refusals.{EndsAt}
 use Rattle.game_rows.specs.Walks.{IsWalkOf}
 use Rattle.record_changes.specs.declared.slips.Change.{Change}
+use Rattle.record_changes.specs.Applied.{applied}
+use Rattle.record_changes.proofs.Fronts.{front_stays}
 use Rattle.record_changes.specs.declared.slips.Slip.{Slip}
 use Rattle.change_lists.specs.Changes.{slips_by, change_at, changes_at}
 use Rattle.change_lists.specs.Laws.{SlipsAreByBoard}
 use Rattle.record_repairs.specs.Candidates.{MayBeTold, AreAllOf, AddsAllOf}
+use Rattle.record_repairs.specs.Listing.{changes_with}
 use Rattle.record_repairs.specs.Repairs.{IsListed}
 use Rattle.record_repairs.specs.Trying.{IsWeight, NoneFewer, StandsBefore}
 use Rattle.record_repairs.specs.RackStops.{IsRackStop}
@@ -27,7 +31,7 @@ use Rattle.record_repairs.proofs.AllOf.{none_of, one_of, among_others, joined}
 use Rattle.record_repairs.proofs.Changes.{by_correction}
 use Rattle.record_repairs.proofs.SameLists.{map_at}
 use Rattle.record_repairs.proofs.Stops.{none_behind_stop}
-use Rattle.record_repairs.proofs.RackFronts.{none_behind}
+use Rattle.record_repairs.proofs.FirstSteps.{steps_before}
 
 -- ---- a change of the list
 
@@ -43,16 +47,16 @@ pub listed_here : SlipsAreByBoard → (rules : Rules) (list : List (List ℕ)) (
 listed_here law rules list written place machine slips at is =
     ap (map (change_at place)) is ∙ by_correction law rules written at.front place (state_of machine) at.renumbered at.state
 
-pub is_listed : (rules : Rules) (written : List Event) (place i : ℕ) (slips : List Slip) (what : Slip) → map (change_at place) slips ≡ changes_at rules written place → place ≤ length written
-    → i < length slips → what ≡ get_or slips i what → IsListed rules written (record { change = record { place = place; slip = what }; index = i })
-is_listed rules written place i slips what are inside within is =
+pub is_listed : (rules : Rules) (written : List Event) (plays : List Change) (place i : ℕ) (slips : List Slip) (what : Slip) → map (change_at place) slips ≡ changes_with rules written plays place → place ≤ length written
+    → i < length slips → what ≡ get_or slips i what → IsListed rules written plays (record { change = record { place = place; slip = what }; index = i })
+is_listed rules written plays place i slips what are inside within is =
     record { within = inside; there = ap (λ (cs : List Change). slice_get cs i) (sym are) ∙ at_index slips slips place i what within is }
 
 -- a change is one by its place and its number
-same_listed : (rules : Rules) (written : List Event) (l m : Listed) → IsListed rules written l → IsListed rules written m → l.change.place ≡ m.change.place → l.index ≡ m.index → l ≡ m
-same_listed rules written l m of_l of_m same_place same_index =
-    let there : slice_get (changes_at rules written m.change.place) m.index ≡ Some l.change =
-    ap (λ p. slice_get (changes_at rules written p) m.index) (sym same_place) ∙ ap (slice_get (changes_at rules written l.change.place)) (sym same_index) ∙ of_l.there in
+same_listed : (rules : Rules) (written : List Event) (plays : List Change) (l m : Listed) → IsListed rules written plays l → IsListed rules written plays m → l.change.place ≡ m.change.place → l.index ≡ m.index → l ≡ m
+same_listed rules written plays l m of_l of_m same_place same_index =
+    let there : slice_get (changes_with rules written plays m.change.place) m.index ≡ Some l.change =
+    ap (λ p. slice_get (changes_with rules written plays p) m.index) (sym same_place) ∙ ap (slice_get (changes_with rules written plays l.change.place)) (sym same_index) ∙ of_l.there in
     let same : l.change ≡ m.change = same_Some l.change m.change (sym there ∙ of_m.there) in
     two l m same same_index
   where
@@ -64,32 +68,32 @@ same_listed rules written l m of_l of_m same_place same_index =
 
 -- ---- one candidate more, or none
 
-pub adds_none : (rules : Rules) (list : List (List ℕ)) (written : List Event) (below : Option ℕ) (l : Listed) (found : List Candidate) → IsWeight rules list written below l.change None
-    → AddsAllOf rules list written below (λ m. m ≡ l) found found
-adds_none rules list written below l found none =
+pub adds_none : (rules : Rules) (list : List (List ℕ)) (written : List Event) (plays : List Change) (below : Option ℕ) (l : Listed) (found : List Candidate) → IsWeight rules list written below l.change None
+    → AddsAllOf rules list written plays below (λ m. m ≡ l) found found
+adds_none rules list written plays below l found none =
     record {
       more = [];
       added = sym (append-nil found);
-      are = none_of rules list written below (λ m. m ≡ l)
+      are = none_of rules list written plays below (λ m. m ≡ l)
           (λ m same may.
-          let here : MayBeTold rules list written below l = subst (MayBeTold rules list written below) same may in
+          let here : MayBeTold rules list written plays below l = subst (MayBeTold rules list written plays below) same may in
           none here.right here.correction here.fewer here.game);
     }
 
-pub adds_one : (rules : Rules) (list : List (List ℕ)) (written : List Event) (below : Option ℕ) (l : Listed) (cost : ℕ) (old new : List Candidate) → IsListed rules written l
-    → IsWeight rules list written below l.change (Some cost) → new ≡ old ++ record { listed = l; cost = cost } ∷ [] → AddsAllOf rules list written below (λ m. m ≡ l) old new
-adds_one rules list written below l cost old new listed weighed is =
+pub adds_one : (rules : Rules) (list : List (List ℕ)) (written : List Event) (plays : List Change) (below : Option ℕ) (l : Listed) (cost : ℕ) (old new : List Candidate) → IsListed rules written plays l
+    → IsWeight rules list written below l.change (Some cost) → new ≡ old ++ record { listed = l; cost = cost } ∷ [] → AddsAllOf rules list written plays below (λ m. m ≡ l) old new
+adds_one rules list written plays below l cost old new listed weighed is =
     let c : Candidate = record { listed = l; cost = cost } in
-    record { more = c ∷ []; added = is; are = one_of rules list written below c (record { single = listed; weighed = weighed }) }
+    record { more = c ∷ []; added = is; are = one_of rules list written plays below c (record { single = listed; weighed = weighed }) }
 
 -- no change at a place leaves few enough numbers and words wrong
-pub adds_none_at : (rules : Rules) (list : List (List ℕ)) (written : List Event) (below : Option ℕ) (place : ℕ) (found : List Candidate)
-    → ((change : Change) → change.place ≡ place → NoneFewer rules list written below change) → AddsAllOf rules list written below (λ l. l.change.place ≡ place) found found
-adds_none_at rules list written below place found none =
+pub adds_none_at : (rules : Rules) (list : List (List ℕ)) (written : List Event) (plays : List Change) (below : Option ℕ) (place : ℕ) (found : List Candidate)
+    → ((change : Change) → change.place ≡ place → NoneFewer rules list written below change) → AddsAllOf rules list written plays below (λ l. l.change.place ≡ place) found found
+adds_none_at rules list written plays below place found none =
     record {
       more = [];
       added = sym (append-nil found);
-      are = none_of rules list written below (λ l. l.change.place ≡ place) (λ l at may. none l.change at may.right may.correction may.fewer);
+      are = none_of rules list written plays below (λ l. l.change.place ≡ place) (λ l at may. none l.change at may.right may.correction may.fewer);
     }
 
 -- ---- the changes at a place up to an index
@@ -97,10 +101,10 @@ adds_none_at rules list written below place found none =
 abbrev pub IsUpTo : (place index : ℕ) → Listed → Type 0
 IsUpTo place index l = (l.change.place ≡ place) × (l.index < index)
 
-pub at_none : (rules : Rules) (list : List (List ℕ)) (written : List Event) (below : Option ℕ) (place : ℕ) (found : List Candidate)
-    → AddsAllOf rules list written below (IsUpTo place 0) found found
-at_none rules list written below place found =
-    record { more = []; added = sym (append-nil found); are = none_of rules list written below (IsUpTo place 0) (λ l of_l may. let less = of_l.1 in absurd (omega (arith, less))) }
+pub at_none : (rules : Rules) (list : List (List ℕ)) (written : List Event) (plays : List Change) (below : Option ℕ) (place : ℕ) (found : List Candidate)
+    → AddsAllOf rules list written plays below (IsUpTo place 0) found found
+at_none rules list written plays below place found =
+    record { more = []; added = sym (append-nil found); are = none_of rules list written plays below (IsUpTo place 0) (λ l of_l may. let less = of_l.1 in absurd (omega (arith, less))) }
 
 earlier_index : (p q i j : ℕ) → p ≡ q → i < j → (nat_lt p q || p == q && nat_lt i j) ≡ true
 earlier_index p q i j same less = both (nat_lt p q) (p == q) (nat_lt i j) (eq-eqb p q same) (lt-ltb i j less)
@@ -118,104 +122,115 @@ earlier_place p q i j less = front (nat_lt p q) (p == q && nat_lt i j) (lt-ltb p
     front true b is = refl
     front false b is = cc
 
-split_index : (rules : Rules) (list : List (List ℕ)) (written : List Event) (below : Option ℕ) (place index : ℕ) (l m : Listed) → IsListed rules written m → m.change.place ≡ place → m.index ≡ index
-    → IsUpTo place (index + 1) l → MayBeTold rules list written below l → (l.index < index) ⊎ (index ≤ l.index) → IsUpTo place index l ⊎ (l ≡ m)
-split_index rules list written below place index l m listed at here of_l may (inl less) = inl (of_l.0, less)
-split_index rules list written below place index l m listed at here of_l may (inr not_less) =
+split_index : (rules : Rules) (list : List (List ℕ)) (written : List Event) (plays : List Change) (below : Option ℕ) (place index : ℕ) (l m : Listed) → IsListed rules written plays m → m.change.place ≡ place → m.index ≡ index
+    → IsUpTo place (index + 1) l → MayBeTold rules list written plays below l → (l.index < index) ⊎ (index ≤ l.index) → IsUpTo place index l ⊎ (l ≡ m)
+split_index rules list written plays below place index l m listed at here of_l may (inl less) = inl (of_l.0, less)
+split_index rules list written plays below place index l m listed at here of_l may (inr not_less) =
     let under = of_l.1 in
-    inr (same_listed rules written l m may.single listed (of_l.0 ∙ sym at) (omega (arith, under, not_less, here)))
+    inr (same_listed rules written plays l m may.single listed (of_l.0 ∙ sym at) (omega (arith, under, not_less, here)))
 
-pub up_more : (rules : Rules) (list : List (List ℕ)) (written : List Event) (below : Option ℕ) (place index : ℕ) (m : Listed) (start old new : List Candidate) → IsListed rules written m
-    → m.change.place ≡ place → m.index ≡ index → AddsAllOf rules list written below (IsUpTo place index) start old → AddsAllOf rules list written below (λ l. l ≡ m) old new
-    → AddsAllOf rules list written below (IsUpTo place (index + 1)) start new
-up_more rules list written below place index m start old new listed at here before one =
+pub up_more : (rules : Rules) (list : List (List ℕ)) (written : List Event) (plays : List Change) (below : Option ℕ) (place index : ℕ) (m : Listed) (start old new : List Candidate) → IsListed rules written plays m
+    → m.change.place ≡ place → m.index ≡ index → AddsAllOf rules list written plays below (IsUpTo place index) start old → AddsAllOf rules list written plays below (λ l. l ≡ m) old new
+    → AddsAllOf rules list written plays below (IsUpTo place (index + 1)) start new
+up_more rules list written plays below place index m start old new listed at here before one =
     record {
       more = before.more ++ one.more;
       added = one.added ∙ ap (λ (xs : List Candidate). xs ++ one.more) before.added ∙ append_assoc start before.more one.more;
-      are = joined rules list written below (IsUpTo place index) (λ l. l ≡ m) (IsUpTo place (index + 1)) before.more one.more before.are one.are
+      are = joined rules list written plays below (IsUpTo place index) (λ l. l ≡ m) (IsUpTo place (index + 1)) before.more one.more before.are one.are
           (λ l of_l. let under = of_l.1 in (of_l.0, omega (arith, under)))
           (λ l same. (ap (λ (n : Listed). n.change.place) same ∙ at, let is = ap (λ (n : Listed). n.index) same in omega (arith, is, here)))
-          (λ l of_l may. split_index rules list written below place index l m listed at here of_l may (cases_lt l.index index))
+          (λ l of_l may. split_index rules list written plays below place index l m listed at here of_l may (cases_lt l.index index))
           (λ a b of_a of_b.
           let under = of_a.1 in
           let is = ap (λ (n : Listed). n.index) of_b in
           earlier_index a.listed.change.place b.listed.change.place a.listed.index b.listed.index (of_a.0 ∙ sym at ∙ sym (ap (λ (n : Listed). n.change.place) of_b)) (omega (arith, under, is, here)));
     }
 
-index_within : (rules : Rules) (list : List (List ℕ)) (written : List Event) (below : Option ℕ) (place : ℕ) (slips : List Slip) (l : Listed) → map (change_at place) slips ≡ changes_at rules written place
-    → l.change.place ≡ place → MayBeTold rules list written below l → l.index < length slips
-index_within rules list written below place slips l are at may =
+index_within : (rules : Rules) (list : List (List ℕ)) (written : List Event) (plays : List Change) (below : Option ℕ) (place : ℕ) (slips : List Slip) (l : Listed) → map (change_at place) slips ≡ changes_with rules written plays place
+    → l.change.place ≡ place → MayBeTold rules list written plays below l → l.index < length slips
+index_within rules list written plays below place slips l are at may =
     let there : slice_get (map (change_at place) slips) l.index ≡ Some l.change =
-    ap (λ (cs : List Change). slice_get cs l.index) are ∙ ap (λ p. slice_get (changes_at rules written p) l.index) (sym at) ∙ may.single.there in
+    ap (λ (cs : List Change). slice_get cs l.index) are ∙ ap (λ p. slice_get (changes_with rules written plays p) l.index) (sym at) ∙ may.single.there in
     subst (λ n. l.index < n) (length-map slips (change_at place)) (slice_get_within (map (change_at place) slips) l.index l.change there)
 
-pub up_all : (rules : Rules) (list : List (List ℕ)) (written : List Event) (below : Option ℕ) (place index : ℕ) (slips : List Slip) (old new : List Candidate)
-    → map (change_at place) slips ≡ changes_at rules written place → index ≡ length slips → AddsAllOf rules list written below (IsUpTo place index) old new
-    → AddsAllOf rules list written below (λ l. l.change.place ≡ place) old new
-up_all rules list written below place index slips old new are many adds =
+pub up_all : (rules : Rules) (list : List (List ℕ)) (written : List Event) (plays : List Change) (below : Option ℕ) (place index : ℕ) (slips : List Slip) (old new : List Candidate)
+    → map (change_at place) slips ≡ changes_with rules written plays place → index ≡ length slips → AddsAllOf rules list written plays below (IsUpTo place index) old new
+    → AddsAllOf rules list written plays below (λ l. l.change.place ≡ place) old new
+up_all rules list written plays below place index slips old new are many adds =
     record {
       more = adds.more;
       added = adds.added;
-      are = among_others rules list written below (IsUpTo place index) (λ l. l.change.place ≡ place) adds.more adds.are (λ l of_l. of_l.0)
-          (λ l at may. (at, subst (λ n. l.index < n) (sym many) (index_within rules list written below place slips l are at may)));
+      are = among_others rules list written plays below (IsUpTo place index) (λ l. l.change.place ≡ place) adds.more adds.are (λ l of_l. of_l.0)
+          (λ l at may. (at, subst (λ n. l.index < n) (sym many) (index_within rules list written plays below place slips l are at may)));
     }
+
+-- what is added for all plays with which the slips are those at the place is added for these
+pub added_with : {A E : Type 0} (rules : Rules) (list : List (List ℕ)) (written : List Event) (plays : List Change) (below : Option ℕ) (place : ℕ) (slips : List Slip) (old new : List Candidate)
+    (r : Result A E) → map (change_at place) slips ≡ changes_with rules written plays place
+    → OnOk r ((others : List Change) → map (change_at place) slips ≡ changes_with rules written others place → AddsAllOf rules list written others below (λ l. l.change.place ≡ place) old new)
+    → OnOk r (AddsAllOf rules list written plays below (λ l. l.change.place ≡ place) old new)
+added_with rules list written plays below place slips old new (Ok a) are adds = adds plays are
+added_with rules list written plays below place slips old new (Err e) are adds = tt
 
 -- ---- place after place
 
-pub before_first : (rules : Rules) (list : List (List ℕ)) (written : List Event) (below : Option ℕ) → AreAllOf rules list written below (λ l. l.change.place < 0) []
-before_first rules list written below = none_of rules list written below (λ l. l.change.place < 0) (λ l of_l may. absurd (omega (arith, of_l)))
+pub before_first : (rules : Rules) (list : List (List ℕ)) (written : List Event) (plays : List Change) (below : Option ℕ) → AreAllOf rules list written plays below (λ l. l.change.place < 0) []
+before_first rules list written plays below = none_of rules list written plays below (λ l. l.change.place < 0) (λ l of_l may. absurd (omega (arith, of_l)))
 
 split_place : (place : ℕ) (l : Listed) → l.change.place < place + 1 → (l.change.place < place) ⊎ (place ≤ l.change.place) → (l.change.place < place) ⊎ (l.change.place ≡ place)
 split_place place l under (inl less) = inl less
 split_place place l under (inr not_less) = inr (omega (arith, under, not_less))
 
-pub before_more : (rules : Rules) (list : List (List ℕ)) (written : List Event) (below : Option ℕ) (place : ℕ) (old new : List Candidate)
-    → AreAllOf rules list written below (λ l. l.change.place < place) old → AddsAllOf rules list written below (λ l. l.change.place ≡ place) old new
-    → AreAllOf rules list written below (λ l. l.change.place < place + 1) new
-before_more rules list written below place old new before adds =
-    subst (AreAllOf rules list written below (λ l. l.change.place < place + 1)) (sym adds.added)
-    (joined rules list written below (λ l. l.change.place < place) (λ l. l.change.place ≡ place) (λ l. l.change.place < place + 1) old adds.more before adds.are
+pub before_more : (rules : Rules) (list : List (List ℕ)) (written : List Event) (plays : List Change) (below : Option ℕ) (place : ℕ) (old new : List Candidate)
+    → AreAllOf rules list written plays below (λ l. l.change.place < place) old → AddsAllOf rules list written plays below (λ l. l.change.place ≡ place) old new
+    → AreAllOf rules list written plays below (λ l. l.change.place < place + 1) new
+before_more rules list written plays below place old new before adds =
+    subst (AreAllOf rules list written plays below (λ l. l.change.place < place + 1)) (sym adds.added)
+    (joined rules list written plays below (λ l. l.change.place < place) (λ l. l.change.place ≡ place) (λ l. l.change.place < place + 1) old adds.more before adds.are
     (λ l of_l. omega (arith, of_l)) (λ l at. omega (arith, at)) (λ l of_l may. split_place place l of_l (cases_lt l.change.place place))
     (λ a b of_a of_b. earlier_place a.listed.change.place b.listed.change.place a.listed.index b.listed.index (omega (arith, of_a, of_b))))
 
 -- ---- behind the end of the walk no change helps
 
-end_stops : (rules : Rules) (list : List (List ℕ)) (written right : List Event) (below : Option ℕ) (end : ℕ) (stopped : Option Stop) (l : Listed) → EndsAt rules list written right end stopped
-    → MayBeTold rules list written below l → (l.change.place < end + 1) ⊎ (end + 1 ≤ l.change.place) → l.change.place < end + 1
-end_stops rules list written right below end stopped l ends may (inl less) = less
-end_stops rules list written right below end None l ends may (inr past) =
+end_stops : (rules : Rules) (list : List (List ℕ)) (written right : List Event) (plays : List Change) (below : Option ℕ) (end : ℕ) (stopped : Option Stop) (l : Listed) → EndsAt rules list written right end stopped
+    → MayBeTold rules list written plays below l → (l.change.place < end + 1) ⊎ (end + 1 ≤ l.change.place) → l.change.place < end + 1
+end_stops rules list written right plays below end stopped l ends may (inl less) = less
+end_stops rules list written right plays below end None l ends may (inr past) =
     let inside = may.single.within in
     let all = ends.0 in
     absurd (omega (arith, inside, all, past))
-end_stops rules list written right below end (Some stop) l ends may (inr past) =
+end_stops rules list written right plays below end (Some stop) l ends may (inr past) =
     let there = ends.there in
     absurd (none_behind_stop rules list written right stop.refusal.line stop.refusal.why ends.stops l.change (omega (arith, there, past)) may.right may.correction)
 
-pub within_walk : (rules : Rules) (list : List (List ℕ)) (written : List Event) (below : Option ℕ) (walk : Walk) (l : Listed) → IsWalkOf rules list written walk
-    → MayBeTold rules list written below l → l.change.place < length walk.rows.items + 1
-within_walk rules list written below walk l walked may =
+pub within_walk : (rules : Rules) (list : List (List ℕ)) (written : List Event) (plays : List Change) (below : Option ℕ) (walk : Walk) (l : Listed) → IsWalkOf rules list written walk
+    → MayBeTold rules list written plays below l → l.change.place < length walk.rows.items + 1
+within_walk rules list written plays below walk l walked may =
     let is = walked.is in
     let many = is.rows.as_many in
-    let here = end_stops rules list written walked.right below is.end walk.stopped l is.ends may (cases_lt l.change.place (is.end + 1)) in
+    let here = end_stops rules list written walked.right plays below is.end walk.stopped l is.ends may (cases_lt l.change.place (is.end + 1)) in
     omega (arith, many, here)
 
 -- ---- nor does one behind the place where the racks stop
 
-stop_holds : FrontsFit → (rules : Rules) (list : List (List ℕ)) (written : List Event) (below : Option ℕ) (end : ℕ) (l : Listed) → IsRackStop rules list written end
-    → MayBeTold rules list written below l → (end < l.change.place) ⊎ (l.change.place ≤ end) → l.change.place < end + 1
-stop_holds law rules list written below end l stop may (inl behind) =
-    absurd (none_behind law rules list written end l.change stop.stays stop.none behind may.right may.correction may.game)
-stop_holds law rules list written below end l stop may (inr near) = omega (arith, near)
+stop_holds : (rules : Rules) (list : List (List ℕ)) (written : List Event) (plays : List Change) (below : Option ℕ) (end : ℕ) (steps : List Step) (l : Listed) → IsRackStop rules list written end steps
+    → MayBeTold rules list written plays below l → (end < l.change.place) ⊎ (l.change.place ≤ end) → l.change.place < end + 1
+stop_holds rules list written plays below end steps l stop may (inl behind) =
+    absurd (stop.none list (applied l.change written)
+    (steps_before rules list written (applied l.change written) l.change.place end steps stop.first
+    (record { before = omega (arith, behind); same = inr (ap withdraws (front_stays l.change written end behind)) }) (λ j less. front_stays l.change written j less))
+    may.right may.correction may.game)
+stop_holds rules list written plays below end steps l stop may (inr near) = omega (arith, near)
 
-pub within_stop : FrontsFit → (rules : Rules) (list : List (List ℕ)) (written : List Event) (below : Option ℕ) (end : ℕ) (l : Listed) → IsRackStop rules list written end
-    → MayBeTold rules list written below l → l.change.place < end + 1
-within_stop law rules list written below end l stop may = stop_holds law rules list written below end l stop may (cases_lt end l.change.place)
+pub within_stop : (rules : Rules) (list : List (List ℕ)) (written : List Event) (plays : List Change) (below : Option ℕ) (end : ℕ) (steps : List Step) (l : Listed) → IsRackStop rules list written end steps
+    → MayBeTold rules list written plays below l → l.change.place < end + 1
+within_stop rules list written plays below end steps l stop may = stop_holds rules list written plays below end steps l stop may (cases_lt end l.change.place)
 
-pub within_both : FrontsFit → (rules : Rules) (list : List (List ℕ)) (written : List Event) (below : Option ℕ) (walk : Walk) (rows end last : ℕ) → rows ≡ length walk.rows.items
-    → IsWalkOf rules list written walk → IsRackStop rules list written end → last ≡ min rows end + 1 → (l : Listed) → MayBeTold rules list written below l → l.change.place < last
-within_both law rules list written below walk rows end last many walked stop is l may =
-    let one = within_walk rules list written below walk l walked may in
-    let other = within_stop law rules list written below end l stop may in
+pub within_both : (rules : Rules) (list : List (List ℕ)) (written : List Event) (plays : List Change) (below : Option ℕ) (walk : Walk) (rows end last : ℕ) (steps : List Step) → rows ≡ length walk.rows.items
+    → IsWalkOf rules list written walk → IsRackStop rules list written end steps → last ≡ min rows end + 1 → (l : Listed) → MayBeTold rules list written plays below l → l.change.place < last
+within_both rules list written plays below walk rows end last steps many walked stop is l may =
+    let one = within_walk rules list written plays below walk l walked may in
+    let other = within_stop rules list written plays below end steps l stop may in
     omega (arith, many, is, one, other)
 
 -- ---- a walk has no more rows than the record has events

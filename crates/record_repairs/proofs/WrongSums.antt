@@ -175,6 +175,7 @@ sheet_but : (what : Slip) (place : ℕ) (changed right : List Event) → IsSheet
 sheet_but (slip.Missing line) place changed right = missing_but changed right place (slice_get changed place) refl
 sheet_but (slip.Position s) place changed right = itself_but changed None
 sheet_but (slip.Spelling s) place changed right = itself_but changed None
+sheet_but (slip.Replayed play) place changed right = itself_but changed None
 sheet_but (slip.Tile of s) place changed right = itself_but changed None
 sheet_but slip.NoRack place changed right = itself_but changed None
 sheet_but (slip.Number n) place changed right = itself_but changed None
@@ -183,6 +184,7 @@ sheet_but (slip.Rest counts) place changed right = itself_but changed None
 sheet_but (slip.Amount score) place changed right = itself_but changed None
 sheet_but slip.OtherPlayer place changed right = itself_but changed None
 sheet_but slip.Repeated place changed right = itself_but changed None
+sheet_but slip.ExtraPass place changed right = itself_but changed None
 sheet_but slip.Extra place changed right = itself_but changed None
 sheet_but slip.Swapped place changed right = itself_but changed None
 sheet_but slip.SwappedOver place changed right = itself_but changed None

@@ -4,6 +4,7 @@ use Rattle.ref_tiles.specs.declared.rulebook.Rules.{Rules}
 use Rattle.gcg_read.specs.declared.events.Event.{Event}
 use Rattle.engine.specs.Verdicts.{IsGame}
 use Rattle.record_changes.specs.Applied.{applied}
+use Rattle.record_changes.specs.declared.slips.Change.{Change}
 use Rattle.record_repairs.specs.Costs.{Rank, rank_at, is_earlier, is_ahead}
 use Rattle.record_repairs.specs.Remaining.{AreFewer, many_left}
 use Rattle.record_repairs.specs.Repairs.{IsListed}
@@ -15,13 +16,13 @@ abbrev pub rank_in : Candidate → Rank
 rank_in c = rank_at c.cost c.listed
 
 -- a change of the list, with what it costs
-pub record IsCandidate (rules : Rules) (list : List (List ℕ)) (written : List Event) (below : Option ℕ) (c : Candidate) : Type 0 where
-  pub single : IsListed rules written c.listed
+pub record IsCandidate (rules : Rules) (list : List (List ℕ)) (written : List Event) (plays : List Change) (below : Option ℕ) (c : Candidate) : Type 0 where
+  pub single : IsListed rules written plays c.listed
   pub weighed : IsWeighed rules list written below c.listed.change c.cost
 
 -- a change of the list with which the record has a correction that is a game and leaves few enough numbers and words wrong
-pub record MayBeTold (rules : Rules) (list : List (List ℕ)) (written : List Event) (below : Option ℕ) (listed : Listed) : Type 0 where
-  pub single : IsListed rules written listed
+pub record MayBeTold (rules : Rules) (list : List (List ℕ)) (written : List Event) (plays : List Change) (below : Option ℕ) (listed : Listed) : Type 0 where
+  pub single : IsListed rules written plays listed
   pub right : List Event
   pub correction : IsWritable rules list (applied listed.change written) right
   pub fewer : AreFewer below (many_left rules list listed.change written right)
@@ -34,31 +35,31 @@ pub record IsThere (found : List Candidate) (listed : Listed) : Type 0 where
   pub same : candidate.listed ≡ listed
 
 -- Candidates among the changes of which something holds, in the order of the list: all that make a game, and maybe others.
-pub record AreAllOf (rules : Rules) (list : List (List ℕ)) (written : List Event) (below : Option ℕ) (Which : Listed → Type 0) (found : List Candidate) : Type 0 where
-  pub each : All (λ (c : Candidate). IsCandidate rules list written below c × Which c.listed) found
+pub record AreAllOf (rules : Rules) (list : List (List ℕ)) (written : List Event) (plays : List Change) (below : Option ℕ) (Which : Listed → Type 0) (found : List Candidate) : Type 0 where
+  pub each : All (λ (c : Candidate). IsCandidate rules list written plays below c × Which c.listed) found
   pub ordered : AllPairs (λ (a b : Candidate). is_earlier (rank_in a) (rank_in b) ≡ true) found
-  pub all : (listed : Listed) → Which listed → MayBeTold rules list written below listed → IsThere found listed
+  pub all : (listed : Listed) → Which listed → MayBeTold rules list written plays below listed → IsThere found listed
 
 -- the candidates at the places before one
-abbrev pub AreBefore : Rules → (list : List (List ℕ)) → (written : List Event) → (below : Option ℕ) → (end : ℕ) → List Candidate → Type 0
-AreBefore rules list written below end found = AreAllOf rules list written below (λ listed. listed.change.place < end) found
+abbrev pub AreBefore : Rules → (list : List (List ℕ)) → (written : List Event) → (plays : List Change) → (below : Option ℕ) → (end : ℕ) → List Candidate → Type 0
+AreBefore rules list written plays below end found = AreAllOf rules list written plays below (λ listed. listed.change.place < end) found
 
 -- the candidates among some changes come behind those that were found
-pub record AddsAllOf (rules : Rules) (list : List (List ℕ)) (written : List Event) (below : Option ℕ) (Which : Listed → Type 0) (old new : List Candidate) : Type 0 where
+pub record AddsAllOf (rules : Rules) (list : List (List ℕ)) (written : List Event) (plays : List Change) (below : Option ℕ) (Which : Listed → Type 0) (old new : List Candidate) : Type 0 where
   pub more : List Candidate
   pub added : new ≡ old ++ more
-  pub are : AreAllOf rules list written below Which more
+  pub are : AreAllOf rules list written plays below Which more
 
 -- those at a place
-abbrev pub AddsCandidates : Rules → (list : List (List ℕ)) → (written : List Event) → (below : Option ℕ) → (place : ℕ) → (old new : List Candidate) → Type 0
-AddsCandidates rules list written below place old new = AddsAllOf rules list written below (λ listed. listed.change.place ≡ place) old new
+abbrev pub AddsCandidates : Rules → (list : List (List ℕ)) → (written : List Event) → (plays : List Change) → (below : Option ℕ) → (place : ℕ) → (old new : List Candidate) → Type 0
+AddsCandidates rules list written plays below place old new = AddsAllOf rules list written plays below (λ listed. listed.change.place ≡ place) old new
 
 -- that with a single change, or none
-abbrev pub AddsListed : Rules → (list : List (List ℕ)) → (written : List Event) → (below : Option ℕ) → Listed → (old new : List Candidate) → Type 0
-AddsListed rules list written below one old new = AddsAllOf rules list written below (λ listed. listed ≡ one) old new
+abbrev pub AddsListed : Rules → (list : List (List ℕ)) → (written : List Event) → (plays : List Change) → (below : Option ℕ) → Listed → (old new : List Candidate) → Type 0
+AddsListed rules list written plays below one old new = AddsAllOf rules list written plays below (λ listed. listed ≡ one) old new
 
 -- Candidates, in the order in which they are told: all that make a game, and maybe others.
-pub record AreCandidates (rules : Rules) (list : List (List ℕ)) (written : List Event) (below : Option ℕ) (found : List Candidate) : Type 0 where
-  pub each : All (IsCandidate rules list written below) found
+pub record AreCandidates (rules : Rules) (list : List (List ℕ)) (written : List Event) (plays : List Change) (below : Option ℕ) (found : List Candidate) : Type 0 where
+  pub each : All (IsCandidate rules list written plays below) found
   pub ordered : AllPairs (λ (a b : Candidate). is_ahead (rank_in a) (rank_in b) ≡ true) found
-  pub all : (listed : Listed) → MayBeTold rules list written below listed → IsThere found listed
+  pub all : (listed : Listed) → MayBeTold rules list written plays below listed → IsThere found listed

@@ -4,7 +4,9 @@ pub mod Remaining
 pub mod Counting
 pub mod Costs
 pub mod Trying
+pub mod FirstSteps
 pub mod RackStops
+pub mod Listing
 pub mod Repairs
 pub mod Candidates
 pub mod Settling

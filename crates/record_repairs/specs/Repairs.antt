@@ -10,29 +10,31 @@ use Rattle.gcg_read.specs.declared.events.EventKind.{EventKind}
 use Rattle.gcg_read.specs.declared.events.EventKind.TheVariants as kind
 use Rattle.engine.specs.Verdicts.{IsGame, IsUnsettled}
 use Rattle.record_changes.specs.Applied.{applied}
-use Rattle.change_lists.specs.Changes.{changes_at}
+use Rattle.record_changes.specs.declared.slips.Change.{Change}
+use Rattle.record_repairs.specs.Listing.{changes_with}
 use Rattle.record_repairs.specs.Costs.{Rank, rank_at, rank_of, is_ahead, cost_of}
 use Rattle.record_repairs.specs.Remaining.{AreFewer, Remain, many_left}
 use Rattle.record_repairs.specs.Trying.{IsWritable}
 use Rattle.record_repairs.specs.declared.listed.Listed.{Listed}
 use Rattle.record_repairs.specs.declared.repair.Repair.{Repair}
 
--- one of the single changes of a record: it has this number among those at its place, which is that of an event or behind the last
-pub record IsListed (rules : Rules) (written : List Event) (listed : Listed) : Type 0 where
+-- one of the single changes of a record, or of the plays that were added: it has this number among those at its place, which is that of
+-- an event or behind the last
+pub record IsListed (rules : Rules) (written : List Event) (plays : List Change) (listed : Listed) : Type 0 where
   pub within : listed.change.place ≤ length written
-  pub there : slice_get (changes_at rules written listed.change.place) listed.index ≡ Some listed.change
+  pub there : slice_get (changes_with rules written plays listed.change.place) listed.index ≡ Some listed.change
 
 -- A repair is a single change of a record after which its correction is a game: the rules allow each event with its right numbers, and
 -- some deal yields every rack. Where the record itself is a game once its numbers are corrected, fewer numbers and words stay wrong.
-pub record MakesGame (rules : Rules) (list : List (List ℕ)) (written : List Event) (below : Option ℕ) (listed : Listed) (right : List Event) : Type 0 where
-  pub single : IsListed rules written listed
+pub record MakesGame (rules : Rules) (list : List (List ℕ)) (written : List Event) (plays : List Change) (below : Option ℕ) (listed : Listed) (right : List Event) : Type 0 where
+  pub single : IsListed rules written plays listed
   pub correction : IsWritable rules list (applied listed.change written) right
   pub game : IsGame rules list right
   pub fewer : AreFewer below (many_left rules list listed.change written right)
 
 -- a repair, with the record that it makes and what stays wrong
-pub record IsRepair (rules : Rules) (list : List (List ℕ)) (written : List Event) (below : Option ℕ) (r : Repair) : Type 0 where
-  pub makes : MakesGame rules list written below r.listed r.right
+pub record IsRepair (rules : Rules) (list : List (List ℕ)) (written : List Event) (plays : List Change) (below : Option ℕ) (r : Repair) : Type 0 where
+  pub makes : MakesGame rules list written plays below r.listed r.right
   pub remain : Remain rules list r.listed.change written r.right r.remains
 
 -- The same symbol at the same square, or a dot in one of the texts. A dot stands for the tile that lies on its square; in a game a letter on
@@ -74,8 +76,8 @@ IsAmong told right = Any (λ (r : Repair). SameRecord r.right right) told
 
 -- A change of which it is not known whether it is a repair: with it the record has a correction, but neither a deal was found that
 -- yields every rack, nor a proof that there is none.
-pub record IsLeftOpen (rules : Rules) (list : List (List ℕ)) (written : List Event) (listed : Listed) : Type 0 where
-  pub single : IsListed rules written listed
+pub record IsLeftOpen (rules : Rules) (list : List (List ℕ)) (written : List Event) (plays : List Change) (listed : Listed) : Type 0 where
+  pub single : IsListed rules written plays listed
   pub right : List Event
   pub correction : IsWritable rules list (applied listed.change written) right
   pub open_deal : IsUnsettled rules list right
@@ -94,12 +96,12 @@ pub record AreAhead (most : ℕ) (told : List Repair) (by : Rank) : Type 0 where
 
 -- The first so many repairs of a record, in their order. Each record that they make is made once, by the change that costs least, and
 -- of these by the first. A repair is left out only for such a one, where so many others are ahead, or where its deal is left open.
-pub record AreFirstRepairs (rules : Rules) (list : List (List ℕ)) (written : List Event) (below : Option ℕ) (most : ℕ) (told : List Repair) (left : List Listed) : Type 0 where
-  pub repairs : All (IsRepair rules list written below) told
+pub record AreFirstRepairs (rules : Rules) (list : List (List ℕ)) (written : List Event) (plays : List Change) (below : Option ℕ) (most : ℕ) (told : List Repair) (left : List Listed) : Type 0 where
+  pub repairs : All (IsRepair rules list written plays below) told
   pub few : length told ≤ most
   pub ordered : AllPairs (λ (a b : Repair). is_ahead (rank_of a) (rank_of b) ≡ true) told
   pub once : AllPairs (λ (a b : Repair). SameRecord a.right b.right → ⊥) told
-  pub unsettled : All (IsLeftOpen rules list written) left
-  pub others : (listed : Listed) (right : List Event) → MakesGame rules list written below listed right
+  pub unsettled : All (IsLeftOpen rules list written plays) left
+  pub others : (listed : Listed) (right : List Event) → MakesGame rules list written plays below listed right
       → Contains left listed ⊎ IsToldAt told right (rank_at (cost_of rules list listed.change written right) listed)
       ⊎ AreAhead most told (rank_at (cost_of rules list listed.change written right) listed)

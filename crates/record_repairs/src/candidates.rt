@@ -1,11 +1,12 @@
 //! The changes of a record with which it has a correction.
 ghost use Rattle.std.specs.Prelude.{◌≡◌, ℕ, ◌+◌, ◌<◌, ◌≤◌, List, Option, map, length, IsTrue, IfOk, OnOk};
 ghost use Rattle.ref_tiles.specs.declared.rulebook.Rules.{Rules};
-ghost use Rattle.change_lists.specs.Changes.{change_at, changes_at};
+ghost use Rattle.change_lists.specs.Changes.{change_at};
 ghost use Rattle.game_rows.specs.Walks.{IsWalkOf};
 ghost use Rattle.gcg_read.specs.declared.events.Event.{Event};
 ghost use Rattle.record_repairs.specs.Candidates.{AreBefore, AreCandidates, AddsCandidates, AddsListed, MayBeTold};
 ghost use Rattle.record_changes.specs.declared.slips.Change.{Change};
+ghost use Rattle.record_repairs.specs.Listing.{changes_with};
 ghost use Rattle.record_repairs.specs.Repairs.{IsListed};
 ghost use Rattle.record_repairs.specs.Trying.{NoneFewer};
 ghost use Rattle.record_repairs.specs.RackStops.{IsStop};
@@ -19,8 +20,8 @@ use crate::rooms::is_full;
 use crate::standing::game_before;
 use crate::sums::behind_sums;
 use crate::trying::weigh;
-use change_lists::{law_of_slips, slips_at};
-use deal_cuts::law_of_fronts;
+use crate::with_plays::slips_with;
+use change_lists::law_of_slips;
 use game_rows::Walk;
 use gcg_read::Event;
 use lex_list::WordList;
@@ -42,8 +43,8 @@ fn push_listed(
 ) -> Result<(), AllocError>
     requires walk { IsWalkOf rules.now list.now events.now walk.now }
     requires stop { IsStop rules.now list.now events.now stop.now }
-    requires single { IsListed rules.now events.now listed }
-    ensures { OnOk result (AddsListed rules.now list.now events.now below listed found.old.items found.new.items) }
+    ensures { OnOk result ((plays : List Change) → IsListed rules.now events.now plays listed
+        → AddsListed rules.now list.now events.now plays below listed found.old.items found.new.items) }
 {
     let Some(cost) = weigh(
         alloc,
@@ -62,7 +63,7 @@ fn push_listed(
     Ok(())
 }
 
-/// Adds the changes at a place with which the record has a correction, by all slips that there may be, in the order of the list.
+/// Adds the changes at a place with which the record has a correction, by all slips that there may be, in their order.
 fn push_slips(
     alloc: Global,
     found: &mut Vec<Candidate>,
@@ -78,8 +79,8 @@ fn push_slips(
     requires walk { IsWalkOf rules.now list.now events.now walk.now }
     requires stop { IsStop rules.now list.now events.now stop.now }
     requires within { place ≤ length events.now }
-    requires slips { map (change_at place) slips.items ≡ changes_at rules.now events.now place }
-    ensures { OnOk result (AddsCandidates rules.now list.now events.now below place found.old.items found.new.items) }
+    ensures { OnOk result ((plays : List Change) → map (change_at place) slips.items ≡ changes_with rules.now events.now plays place
+        → AddsCandidates rules.now list.now events.now plays below place found.old.items found.new.items) }
 {
     let mut index = 0;
     for slip in slips {
@@ -111,7 +112,7 @@ fn is_past_room(
     is_full(behind_rows(room, list, walk.rows.as_slice(), before))
 }
 
-/// Adds the changes at a place with which the record has a correction, in the order of the list.
+/// Adds the changes at a place with which the record has a correction, in the order of the list, and then the plays that were added there.
 fn push_candidates(
     alloc: Global,
     found: &mut Vec<Candidate>,
@@ -119,6 +120,7 @@ fn push_candidates(
     list: &WordList,
     walk: &Walk,
     events: &[Event],
+    plays: &[Change],
     below: Option<usize>,
     stop: &Option<RackStop>,
     place: usize,
@@ -126,7 +128,7 @@ fn push_candidates(
     requires walk { IsWalkOf rules.now list.now events.now walk.now }
     requires stop { IsStop rules.now list.now events.now stop.now }
     requires place { place ≤ length walk.now.rows.items }
-    ensures { OnOk result (AddsCandidates rules.now list.now events.now below place found.old.items found.new.items) }
+    ensures { OnOk result (AddsCandidates rules.now list.now events.now plays.now below place found.old.items found.new.items) }
 {
     if is_past_room(list, walk, events, below, place) {
         return Ok(());
@@ -135,7 +137,7 @@ fn push_candidates(
     let Some(game) = game_before(walk, place) else {
         unreachable!()
     };
-    let slips = slips_at(alloc, rules, game, events, place)?;
+    let slips = slips_with(alloc, rules, game, events, plays, place)?;
     push_slips(
         alloc, found, rules, list, walk, events, below, stop, place, slips,
     )
@@ -149,6 +151,7 @@ fn candidates_before(
     list: &WordList,
     walk: &Walk,
     events: &[Event],
+    plays: &[Change],
     below: Option<usize>,
     stop: &Option<RackStop>,
     end: usize,
@@ -156,12 +159,12 @@ fn candidates_before(
     requires walk { IsWalkOf rules.now list.now events.now walk.now }
     requires stop { IsStop rules.now list.now events.now stop.now }
     requires end { end ≤ length walk.now.rows.items + 1 }
-    ensures { IfOk result (λ found. AreBefore rules.now list.now events.now below end found.items) }
+    ensures { IfOk result (λ found. AreBefore rules.now list.now events.now plays.now below end found.items) }
 {
     let mut found = Vec::new(alloc);
     for place in 0..end {
         push_candidates(
-            alloc, &mut found, rules, list, walk, events, below, stop, place,
+            alloc, &mut found, rules, list, walk, events, plays, below, stop, place,
         )?;
     }
     Ok(found)
@@ -172,10 +175,10 @@ fn candidates_before(
 #[tactic(auto, using(crate::proofs::PlaceChanges::within_walk, crate::proofs::PlaceChanges::within_both))]
 fn many_places(walk: &Walk, stop: &Option<RackStop>) -> usize
     ensures most { result ≤ length walk.now.rows.items + 1 }
-    ensures all { (rules : Rules) (list : List (List ℕ)) (events : List Event) (below : Option ℕ) (listed : Listed) → IsWalkOf rules list events walk.now
-        → IsStop rules list events stop.now → MayBeTold rules list events below listed → listed.change.place < result }
+    ensures all { (rules : Rules) (list : List (List ℕ)) (events : List Event) (plays : List Change) (below : Option ℕ) (listed : Listed)
+        → IsWalkOf rules list events walk.now
+        → IsStop rules list events stop.now → MayBeTold rules list events plays below listed → listed.change.place < result }
 {
-    law_of_fronts();
     let rows = walk.rows.len();
     match stop {
         Some(stop) => rows.min(stop.end) + 1,
@@ -193,14 +196,15 @@ pub(crate) fn all_candidates(
     list: &WordList,
     walk: &Walk,
     events: &[Event],
+    plays: &[Change],
     below: Option<usize>,
 ) -> Result<Vec<Candidate>, AllocError>
     requires { IsWalkOf rules.now list.now events.now walk.now }
-    ensures { IfOk result (λ found. AreCandidates rules.now list.now events.now below found.items) }
+    ensures { IfOk result (λ found. AreCandidates rules.now list.now events.now plays.now below found.items) }
 {
-    let stop = rack_stop(alloc, rules, list, events, walk.rows.len())?;
+    let stop = rack_stop(alloc, rules, walk, events)?;
     let end = many_places(walk, &stop);
-    let mut found = candidates_before(alloc, rules, list, walk, events, below, &stop, end)?;
+    let mut found = candidates_before(alloc, rules, list, walk, events, plays, below, &stop, end)?;
     found.sort_by_key(|candidate| candidate.cost)?;
     Ok(found)
 }

@@ -1,6 +1,5 @@
 //! The correction of a record with a change.
-ghost use Rattle.std.specs.Prelude.{◌≡◌, None, IfSome, IfOk};
-ghost use Rattle.game_turns.specs.Places.{is_finished};
+ghost use Rattle.std.specs.Prelude.{IsTrue, IsFalse, IfOk};
 ghost use Rattle.game_sheets.specs.Corrections.{IsCorrection};
 ghost use Rattle.record_changes.specs.Applied.{applied};
 ghost use Rattle.record_repairs.specs.Trying.{HaveNone, IsCorrectionOf};
@@ -14,21 +13,19 @@ use record_changes::{Change, apply};
 use ref_tiles::Rules;
 use std::alloc::{AllocError, Global};
 
-/// Gives each event of a record its right numbers, and tells whether the game is complete then. None where an event is refused whatever its
-/// numbers are.
-pub(crate) fn correct(rules: &Rules, list: &WordList, events: &mut Events) -> Option<bool>
-    ensures right { IfSome result (λ complete. IsCorrection rules.now list.now events.old events.new) }
-    ensures complete { IfSome result (λ complete. complete ≡ is_finished rules.now events.new) }
-    ensures none { result ≡ None → HaveNone rules.now list.now events.old }
+/// Gives each event of a record its right numbers. It is false where an event is refused whatever its numbers are.
+fn correct(rules: &Rules, list: &WordList, events: &mut Events) -> bool
+    ensures right { IsTrue result → IsCorrection rules.now list.now events.old events.new }
+    ensures none { IsFalse result → HaveNone rules.now list.now events.old }
 {
     law_of_tallies();
     let mut machine = Machine::new(rules);
     for place in 0..events.len() {
         if mend(&mut machine, events, place, list).is_err() {
-            return None;
+            return false;
         }
     }
-    Some(machine.finished())
+    true
 }
 
 /// The events of a record with a change and with their right numbers, where there are such numbers that a record can write.
@@ -44,9 +41,9 @@ pub(crate) fn corrected(
     ensures { IfOk result (IsCorrectionOf rules.now list.now (applied change.now events.now)) }
 {
     let mut right = apply(alloc, change, events)?;
-    let Some(_complete) = correct(rules, list, &mut right) else {
+    if !correct(rules, list, &mut right) {
         return Ok(None);
-    };
+    }
     law_of_points(right.as_slice());
     Ok(Some(right))
 }

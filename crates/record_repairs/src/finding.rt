@@ -1,5 +1,6 @@
 //! The repairs of a record.
-ghost use Rattle.std.specs.Prelude.{◌≡◌, IfOk, OnOk};
+ghost use Rattle.std.specs.Prelude.{◌≡◌, List, IfOk, OnOk};
+ghost use Rattle.record_changes.specs.declared.slips.Change.{Change};
 ghost use Rattle.record_repairs.specs.Candidates.{AreCandidates};
 ghost use Rattle.record_repairs.specs.Repairs.{AreFirstRepairs};
 
@@ -9,6 +10,7 @@ use crate::found::Found;
 use game_rows::walk_as_written;
 use gcg_read::{Event, Events};
 use lex_list::WordList;
+use record_changes::Change;
 use ref_tiles::Rules;
 use std::alloc::{AllocError, Global};
 
@@ -22,8 +24,8 @@ fn first_repairs(
     found: Vec<Candidate>,
     most: usize,
 ) -> Result<Found, AllocError>
-    requires { AreCandidates rules.now list.now events.now below found.items }
-    ensures { IfOk result (λ r. AreFirstRepairs rules.now list.now events.now below most r.told.items r.left.items) }
+    ensures { IfOk result (λ r. (plays : List Change) → AreCandidates rules.now list.now events.now plays below found.items
+        → AreFirstRepairs rules.now list.now events.now plays below most r.told.items r.left.items) }
 {
     let mut first = Found {
         told: Vec::new(alloc),
@@ -39,7 +41,8 @@ fn first_repairs(
 }
 
 /// The first so many repairs of a record, the likeliest first: single changes after which it is a legal game once its numbers are
-/// corrected. Where `below` is given, fewer numbers and words stay wrong with each. Behind it the events are as they are written.
+/// corrected. `plays` are more changes, those of plays that a generator found: they come after those of the list at each place. Where
+/// `below` is given, fewer numbers and words stay wrong with each. Behind it the events are as they are written.
 ///
 /// It fails only where memory runs out.
 pub fn repairs(
@@ -47,13 +50,14 @@ pub fn repairs(
     rules: &Rules,
     list: &WordList,
     events: &mut Events,
+    plays: &[Change],
     below: Option<usize>,
     most: usize,
 ) -> Result<Found, AllocError>
-    ensures told { IfOk result (λ r. AreFirstRepairs rules.now list.now events.old below most r.told.items r.left.items) }
+    ensures told { IfOk result (λ r. AreFirstRepairs rules.now list.now events.old plays.now below most r.told.items r.left.items) }
     ensures same { OnOk result (events.new ≡ events.old) }
 {
     let walk = walk_as_written(alloc, rules, list, events)?;
-    let found = all_candidates(alloc, rules, list, &walk, events.as_slice(), below)?;
+    let found = all_candidates(alloc, rules, list, &walk, events.as_slice(), plays, below)?;
     first_repairs(alloc, rules, list, events.as_slice(), below, found, most)
 }

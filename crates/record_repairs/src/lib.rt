@@ -1,6 +1,6 @@
 //! Repairs of a faulty record: the single changes after which it is a legal game once its numbers are corrected, the likeliest first.
 //!
-//! [`repairs`] tries each change of the list of a record. What a sheet says of its scores and totals is a checksum: the fewer of its
+//! [`repairs`] tries each change of the list of a record, and each play that is added to it. What a sheet says of its scores and totals is a checksum: the fewer of its
 //! numbers are wrong with a change, the likelier it is.
 #![tactic(auto)]
 
@@ -11,12 +11,14 @@ mod correcting;
 mod counting;
 mod finding;
 mod first_changes;
+mod first_steps;
 mod found;
 mod had;
 mod laws;
 mod listed;
 mod mending;
 mod outcome;
+mod rack_slips;
 mod rack_stops;
 mod remaining;
 mod remains;
@@ -27,6 +29,7 @@ mod sheets;
 mod standing;
 mod sums;
 mod trying;
+mod with_plays;
 mod writable;
 
 pub use finding::repairs;

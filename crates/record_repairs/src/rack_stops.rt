@@ -1,21 +1,18 @@
 //! Where the racks of a record stop: no deal yields those of its first events.
-ghost use Rattle.std.specs.Prelude.{◌≡◌, ◌≤◌, take, length, IsTrue, IfOk};
-ghost use Rattle.game_turns.specs.Passing.{rules_in, record_in, list_in};
-ghost use Rattle.game_turns.specs.Places.{AreAllowed, is_finished};
-ghost use Rattle.engine.specs.Verdicts.{IsGame};
-ghost use Rattle.record_changes.specs.Applied.{applied};
-ghost use Rattle.record_repairs.specs.RackStops.{MakeNoGame, IsRackStop, IsStop};
+ghost use Rattle.std.specs.Prelude.{◌≡◌, ℕ, List, take, length, IsTrue, IfSome, IfOk};
+ghost use Rattle.ref_tiles.specs.declared.rulebook.Rules.{Rules};
+ghost use Rattle.game_rows.specs.Walks.{IsWalkOf};
+ghost use Rattle.record_repairs.specs.FirstSteps.{AreFirstSteps};
+ghost use Rattle.record_repairs.specs.RackStops.{NoneWith, IsStop, steps_in};
 
-use crate::correcting::correct;
-use crate::standing::withdraws_at;
+use crate::first_steps::FirstSteps;
+use crate::standing::game_before;
 use deal_cuts::{Cut, law_of_fronts, rules_out};
 use deal_search::{Settling, settle};
 use deal_steps::{Step, first_bound};
-use game_deal::{all_steps, law_of_bounds};
-use game_turns::Passed;
-use gcg_read::{Event, Events, Players, Record};
-use lex_list::WordList;
-use record_changes::{Change, Slip, apply, wrong_events};
+use game_deal::law_of_bounds;
+use game_rows::Walk;
+use gcg_read::Event;
 use ref_tiles::Rules;
 use std::alloc::{AllocError, Global};
 
@@ -26,73 +23,39 @@ pub(crate) struct RackStop {
     pub(crate) end: usize,
     /// What proves it, where these racks exceed no bound.
     pub(crate) cut: Option<Cut>,
+    /// The steps of the first events of the record.
+    pub(crate) steps: Vec<Step>,
 }
 
-/// Whether the racks of a record that passed exceed a bound, or a cut proves that no deal yields them.
-#[tactic(auto, using(crate::proofs::RackFronts::none_bounded, crate::proofs::RackFronts::none_cut))]
-fn has_no_deal(alloc: Global, passed: &Passed<'_>, cut: &Option<Cut>) -> Result<bool, AllocError>
-    ensures { IfOk result (λ b. IsTrue b → IsGame (rules_in passed.now) (list_in passed.now) (record_in passed.now).events → ⊥) }
+/// Whether steps exceed a bound, or a cut proves that no racks fit them.
+pub(crate) fn have_no_deal(rules: &Rules, steps: &[Step], cut: &Option<Cut>) -> bool
+    ensures { IsTrue result → NoneWith rules.now steps.now }
 {
     law_of_bounds();
-    let steps = all_steps(alloc, passed)?;
-    if first_bound(passed.rules(), steps.as_slice()).is_some() {
-        return Ok(true);
+    law_of_fronts();
+    if first_bound(rules, steps).is_some() {
+        return true;
     }
     match cut {
-        Some(cut) => Ok(rules_out(passed.rules(), steps.as_slice(), cut)),
-        None => Ok(false),
+        Some(cut) => rules_out(rules, steps, cut),
+        None => false,
     }
 }
 
-/// The same of events that the rules allow.
-fn are_undealt(
-    alloc: Global,
-    rules: &Rules,
-    list: &WordList,
-    events: Events,
-    complete: bool,
-    cut: &Option<Cut>,
-) -> Result<bool, AllocError>
-    requires allowed { AreAllowed rules.now list.now events }
-    requires finished { complete ≡ is_finished rules.now events }
-    ensures { IfOk result (λ b. IsTrue b → IsGame rules.now list.now events → ⊥) }
+/// The steps of the events that have a row.
+fn walked_steps(alloc: Global, walk: &Walk, events: &[Event]) -> Result<Vec<Step>, AllocError>
+    ensures { IfOk result (λ steps. (rules : Rules) (list : List (List ℕ)) → IsWalkOf rules list events.now walk.now
+        → AreFirstSteps rules list events.now steps.items) }
 {
-    let players = Players::unnamed(alloc);
-    let game = Record { players, events };
-    let passed = Passed::of_allowed(rules, &game, list, complete);
-    has_no_deal(alloc, &passed, cut)
-}
-
-/// Whether some events make no game, as far as the bounds and a cut tell.
-fn make_no_game(
-    alloc: Global,
-    rules: &Rules,
-    list: &WordList,
-    events: Events,
-    cut: &Option<Cut>,
-) -> Result<bool, AllocError>
-    ensures { IfOk result (λ b. IsTrue b → MakeNoGame rules.now list.now events) }
-{
-    let mut right = events;
-    match correct(rules, list, &mut right) {
-        Some(complete) => {
-            let undealt = are_undealt(alloc, rules, list, right, complete, cut)?;
-            Ok(undealt)
-        }
-        None => Ok(true),
+    let many = walk.rows.len();
+    let mut first = FirstSteps::new(alloc, many);
+    for place in 0..many {
+        let Some(game) = game_before(walk, place) else {
+            unreachable!()
+        };
+        first.note(game, events, place)?;
     }
-}
-
-/// The same events: a change behind them leaves them as they are.
-fn copied(alloc: Global, events: &[Event]) -> Result<Events, AllocError>
-    ensures { IfOk result (λ same. same ≡ events.now) }
-{
-    let change = Change {
-        place: events.len(),
-        slip: Slip::Extra,
-    };
-    let same = apply(alloc, &change, events)?;
-    Ok(same)
+    Ok(first.steps)
 }
 
 /// The first steps that exceed a bound, by their number.
@@ -105,115 +68,76 @@ fn bound_end(rules: &Rules, steps: &[Step]) -> Option<usize> {
     None
 }
 
-/// Where no deal yields the racks of these steps, for all that is known.
-fn stop_in(alloc: Global, rules: &Rules, steps: &[Step]) -> Result<Option<RackStop>, AllocError> {
-    if let Some(end) = bound_end(rules, steps) {
-        return Ok(Some(RackStop { end, cut: None }));
+/// Where the racks of these steps stop, for all that is known. Nothing is claimed of it but that it keeps the steps: `rack_stop` checks it.
+fn likely_stop(
+    alloc: Global,
+    rules: &Rules,
+    steps: Vec<Step>,
+) -> Result<Option<RackStop>, AllocError>
+    ensures { IfOk result (λ found. IfSome found (λ stop. stop.steps.items ≡ steps.items)) }
+{
+    if let Some(end) = bound_end(rules, steps.as_slice()) {
+        let cut = None;
+        return Ok(Some(RackStop { end, cut, steps }));
     }
-    match settle(alloc, rules, steps)? {
+    match settle(alloc, rules, steps.as_slice())? {
         Settling::NoDeal { cut, .. } => Ok(Some(RackStop {
             end: cut.places.len(),
             cut: Some(cut),
+            steps,
         })),
         Settling::Dealt(_) | Settling::Unknown => Ok(None),
     }
 }
 
-/// Where the racks of some events stop, for all that is known. Nothing is claimed of it: `rack_stop` checks it.
-fn likely_stop(
-    alloc: Global,
-    rules: &Rules,
-    list: &WordList,
-    events: &[Event],
-) -> Result<Option<RackStop>, AllocError> {
-    let mut right = copied(alloc, events)?;
-    let Some(complete) = correct(rules, list, &mut right) else {
-        return Ok(None);
-    };
-    let players = Players::unnamed(alloc);
-    let game = Record {
-        players,
-        events: right,
-    };
-    let passed = Passed::of_allowed(rules, &game, list, complete);
-    let steps = all_steps(alloc, &passed)?;
-    stop_in(alloc, rules, steps.as_slice())
-}
-
-/// Where a withdrawal stands behind the first so many events, it is one of them.
-fn end_behind(events: &[Event], end: usize) -> usize {
-    if withdraws_at(events, end) {
-        end.saturating_add(1)
-    } else {
-        end
-    }
-}
-
-/// Where the racks of a record stop, up to one of its events.
+/// Where the racks of a record stop, up to where its walk ends.
 ///
 /// It fails only where memory runs out.
 pub(crate) fn rack_stop(
     alloc: Global,
     rules: &Rules,
-    list: &WordList,
+    walk: &Walk,
     events: &[Event],
-    last: usize,
 ) -> Result<Option<RackStop>, AllocError>
-    requires { last ≤ length events.now }
-    ensures { IfOk result (IsStop rules.now list.now events.now) }
+    ensures { IfOk result (λ found. (list : List (List ℕ)) → IsWalkOf rules.now list events.now walk.now → IsStop rules.now list events.now found) }
 {
-    let Some(stop) = likely_stop(alloc, rules, list, &events[..last])? else {
+    let steps = walked_steps(alloc, walk, events)?;
+    let Some(stop) = likely_stop(alloc, rules, steps)? else {
         return Ok(None);
     };
-    let end = end_behind(events, stop.end);
-    if end > events.len() || withdraws_at(events, end) {
+    if stop.end > stop.steps.len() {
         return Ok(None);
     }
-    let front = copied(alloc, &events[..end])?;
-    let stopped = make_no_game(alloc, rules, list, front, &stop.cut)?;
-    if !stopped {
+    if !have_no_deal(rules, &stop.steps[..stop.end], &stop.cut) {
         return Ok(None);
     }
-    Ok(Some(RackStop { end, cut: stop.cut }))
+    Ok(Some(stop))
 }
 
-/// Whether the first events of a record make no game with a change either, as many as without it.
-fn stays_stopped(
+/// The first steps of a record that are kept with its stop, so many, to go on from there with a change. Behind its stop no more than one
+/// is asked for, that of a line that may be missing before it.
+pub(crate) fn first_steps(
     alloc: Global,
-    rules: &Rules,
-    list: &WordList,
-    events: &[Event],
-    stop: &RackStop,
-    change: &Change,
-) -> Result<bool, AllocError>
-    requires { IsRackStop rules.now list.now events.now stop.now.end }
-    ensures { IfOk result (λ b. IsTrue b → MakeNoGame rules.now list.now (applied change.now events.now)) }
-{
-    law_of_fronts();
-    if change.place > stop.end || wrong_events(&change.slip) > stop.end - change.place {
-        return Ok(false);
-    }
-    let front = apply(alloc, change, &events[..stop.end])?;
-    let stopped = make_no_game(alloc, rules, list, front, &stop.cut)?;
-    Ok(stopped)
-}
-
-/// Whether a record makes no game with a change, as far as its racks tell up to where they stop without it.
-///
-/// It fails only where memory runs out.
-pub(crate) fn is_stopped(
-    alloc: Global,
-    rules: &Rules,
-    list: &WordList,
-    events: &[Event],
     stop: &Option<RackStop>,
-    change: &Change,
-) -> Result<bool, AllocError>
-    requires { IsStop rules.now list.now events.now stop.now }
-    ensures { IfOk result (λ b. IsTrue b → MakeNoGame rules.now list.now (applied change.now events.now)) }
+    many: usize,
+) -> Result<FirstSteps, AllocError>
+    ensures { IfOk result (λ first. first.steps.items ≡ take many (steps_in stop.now)) }
 {
     match stop {
-        Some(stop) => stays_stopped(alloc, rules, list, events, stop, change),
-        None => Ok(false),
+        Some(stop) => {
+            let most = stop.end.saturating_add(1);
+            FirstSteps::of(alloc, stop.steps.as_slice(), many, most)
+        }
+        None => Ok(FirstSteps::new(alloc, 0)),
+    }
+}
+
+/// Whether no events that begin with these steps make a game, as far as the bounds and what proves the stop of the record tell.
+pub(crate) fn are_stopped(rules: &Rules, stop: &Option<RackStop>, steps: &[Step]) -> bool
+    ensures { IsTrue result → NoneWith rules.now steps.now }
+{
+    match stop {
+        Some(stop) => have_no_deal(rules, steps, &stop.cut),
+        None => false,
     }
 }

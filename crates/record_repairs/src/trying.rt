@@ -1,15 +1,18 @@
 //! Trying one change of a record.
-ghost use Rattle.std.specs.Prelude.{◌↔◌, IsTrue, IsFalse, IfOk};
+ghost use Rattle.std.specs.Prelude.{◌↔◌, IsTrue, IsFalse, IfOk, OnOk};
 ghost use Rattle.game_turns.specs.Machines.{rules_of};
 ghost use Rattle.game_rows.specs.Walks.{IsWalkOf};
 ghost use Rattle.record_repairs.specs.Remaining.{AreFewer};
-ghost use Rattle.record_repairs.specs.Trying.{NoneFrom, NoneFewer, NoneTold, StandsBefore, IsWeight};
+ghost use Rattle.record_repairs.specs.Trying.{NoneFrom, NoneTold, StandsBefore, IsWeight};
+ghost use Rattle.record_repairs.specs.FirstSteps.{AreFirstSteps};
 ghost use Rattle.record_repairs.specs.RackStops.{IsStop};
 
 use crate::correcting::corrected;
 use crate::counting::{behind_event, behind_rows, scores_but};
+use crate::first_steps::FirstSteps;
 use crate::mending::mend;
-use crate::rack_stops::{RackStop, is_stopped};
+use crate::rack_slips::stops_with_rack;
+use crate::rack_stops::{RackStop, are_stopped, first_steps};
 use crate::remaining::what_remains;
 use crate::rooms::is_full;
 use crate::standing::{game_before, start_of};
@@ -18,12 +21,15 @@ use game_rows::Walk;
 use game_turns::{Machine, law_of_tallies};
 use gcg_read::{Event, Events};
 use lex_list::WordList;
-use record_changes::{Change, Slip, TilesOf, apply, law_of_changes};
+use record_changes::{Change, apply, law_of_changes};
 use ref_tiles::Rules;
 use std::alloc::{AllocError, Global};
 
-/// Goes on from a place with a machine that stands before it, and gives each event its right numbers. It is false where an event is
-/// refused whatever its numbers are, and where more scores and words are wrong from there on than there is room for.
+/// Goes on from a place with a machine that stands before it, gives each event its right numbers, and adds the steps that come next. It
+/// is false where an event is refused whatever its numbers are, and where more scores and words are wrong from there on than there is
+/// room for.
+///
+/// It fails only where memory runs out.
 fn goes_on(
     game: &Machine,
     events: &mut Events,
@@ -31,80 +37,39 @@ fn goes_on(
     list: &WordList,
     missing: Option<usize>,
     room: Option<usize>,
-) -> bool
-    requires { StandsBefore (rules_of game.now) list.now events.old start game.now }
-    ensures { IsFalse result → NoneFrom (rules_of game.now) list.now events.old start missing room }
+    first: &mut FirstSteps,
+) -> Result<bool, AllocError>
+    requires game { StandsBefore (rules_of game.now) list.now events.old start game.now }
+    requires first { AreFirstSteps (rules_of game.now) list.now events.old first.old.steps.items }
+    ensures none { IfOk result (λ b. IsFalse b → NoneFrom (rules_of game.now) list.now events.old start missing room) }
+    ensures first { OnOk result (AreFirstSteps (rules_of game.now) list.now events.old first.new.steps.items) }
 {
     law_of_tallies();
     if start > events.len() {
-        return true;
+        return Ok(true);
     }
     let mut machine = game.copy();
     let mut room = room;
     for place in start..events.len() {
         if is_full(room) {
-            return false;
+            return Ok(false);
         }
+        first.note(&machine, events.as_slice(), place)?;
         let written = events.as_slice()[place].score;
         if mend(&mut machine, events, place, list).is_err() {
-            return false;
+            return Ok(false);
         }
         let right = events.as_slice()[place].score;
         let scores = scores_but(is_missing_at(missing, place), written, right);
         room = behind_event(room, list, &machine, scores);
     }
-    !is_full(room)
-}
-
-/// Whether a change may help. It is false only where the record has no correction with it that a record can write, or too many numbers and
-/// words stay wrong.
-///
-/// It fails only where memory runs out.
-fn may_help(
-    alloc: Global,
-    rules: &Rules,
-    list: &WordList,
-    walk: &Walk,
-    events: &[Event],
-    below: Option<usize>,
-    change: &Change,
-) -> Result<bool, AllocError>
-    requires { IsWalkOf rules.now list.now events.now walk.now }
-    ensures { IfOk result (λ b. IsFalse b → NoneFewer rules.now list.now events.now below change.now) }
-{
-    law_of_changes();
-    let mut changed = apply(alloc, change, events)?;
-    let missing = missing_place(change);
-    let room = behind_sums(below, changed.as_slice(), missing);
-    let start = start_of(events, changed.as_slice(), change.place);
-    let rows = walk.rows.as_slice();
-    if start > events.len() || start > changed.len() || start > rows.len() {
-        return Ok(true);
-    }
-    let room = behind_rows(room, list, rows, start);
-    match game_before(walk, start) {
-        Some(game) => Ok(goes_on(game, &mut changed, start, list, missing, room)),
-        None => Ok(true),
-    }
-}
-
-/// Whether a slip concerns a stated rack alone. The rules allow the same events with it, so that the racks are looked at first.
-fn is_of_rack(slip: &Slip) -> bool {
-    match slip {
-        Slip::NoRack
-        | Slip::Tile {
-            of: TilesOf::Rack,
-            ..
-        } => true,
-        _ => false,
-    }
+    Ok(!is_full(room))
 }
 
 /// Whether a change may be told. It is false only where with it the record has no correction that a record can write, or none that is a game,
 /// or too many numbers and words stay wrong.
 ///
 /// It fails only where memory runs out.
-#[tactic(auto, using(crate::proofs::Weighing::told_by_fewer, crate::proofs::Weighing::told_by_racks))]
 fn may_be_told(
     alloc: Global,
     rules: &Rules,
@@ -119,17 +84,24 @@ fn may_be_told(
     requires stop { IsStop rules.now list.now events.now stop.now }
     ensures { IfOk result (λ b. IsFalse b → NoneTold rules.now list.now events.now below change.now) }
 {
-    if is_of_rack(&change.slip) {
-        if is_stopped(alloc, rules, list, events, stop, change)? {
-            return Ok(false);
-        }
-        return may_help(alloc, rules, list, walk, events, below, change);
+    law_of_changes();
+    let mut changed = apply(alloc, change, events)?;
+    let missing = missing_place(change);
+    let room = behind_sums(below, changed.as_slice(), missing);
+    let start = start_of(events, changed.as_slice(), change.place);
+    let rows = walk.rows.as_slice();
+    if start > events.len() || start > changed.len() || start > rows.len() {
+        return Ok(true);
     }
-    if !may_help(alloc, rules, list, walk, events, below, change)? {
+    let room = behind_rows(room, list, rows, start);
+    let Some(game) = game_before(walk, start) else {
+        return Ok(true);
+    };
+    let mut first = first_steps(alloc, stop, start)?;
+    if !goes_on(game, &mut changed, start, list, missing, room, &mut first)? {
         return Ok(false);
     }
-    let stopped = is_stopped(alloc, rules, list, events, stop, change)?;
-    Ok(!stopped)
+    Ok(!are_stopped(rules, stop, first.steps.as_slice()))
 }
 
 /// Whether so many are few enough.
@@ -161,6 +133,9 @@ pub(crate) fn weigh(
     requires stop { IsStop rules.now list.now events.now stop.now }
     ensures { IfOk result (IsWeight rules.now list.now events.now below change.now) }
 {
+    if stops_with_rack(alloc, rules, walk, events, stop, change)? {
+        return Ok(None);
+    }
     if !may_be_told(alloc, rules, list, walk, events, below, stop, change)? {
         return Ok(None);
     }

@@ -2,6 +2,10 @@
 use Rattle.std.proofs.Common.{◌≡◌, ◌∙◌, ℕ, List, Option, subst}
 use Rattle.ref_tiles.specs.declared.rulebook.Rules.{Rules}
 use Rattle.gcg_read.specs.declared.events.Event.{Event}
+use Rattle.game_rows.specs.declared.walking.Walk.{Walk}
+use Rattle.game_rows.specs.Walks.{IsWalkOf}
+use Rattle.play_changes.specs.PlayChanges.{ArePlayChanges}
+use Rattle.record_changes.specs.declared.slips.Change.{Change}
 use Rattle.record_repairs.specs.Repairs.{AreFirstRepairs}
 use Rattle.record_repairs.specs.declared.found.Found.{Found}
 use Rattle.record_repairs.specs.declared.remains.Remains.{Remains}
@@ -13,20 +17,26 @@ use Rattle.repair_answers.specs.Answers.{below_of}
 use Rattle.repair_answers.specs.Likely.{IsLikelyOf, IsLikely}
 use Rattle.repair_answers.specs.Unchanged.{IsUnchanged}
 
-pub likely_of : (rules : Rules) (list : List (List ℕ)) (written now then : List Event) (remains : Option Remains) (below : Option ℕ) (found : Found) (singles : List Repair) (two : Pairs)
-    (pairs : List Pair) (likely : Option Repair) → now ≡ written → then ≡ now → IsUnchanged rules list written remains → below ≡ below_of remains
-    → AreFirstRepairs rules list now below 2 found.told.items found.left.items → singles ≡ found.told.items → ArePairs rules list then singles 1 two → pairs ≡ two.told.items
-    → IsLikelyOf remains found.told.items found.left.items pairs likely → IsLikely rules list written likely
-likely_of rules list written now then remains below found singles two pairs likely same same_too alone by repairs are_singles are_pairs are_told chosen =
+pub likely_of : (rules : Rules) (list words : List (List ℕ)) (written now walked then : List Event) (remains : Option Remains) (below : Option ℕ) (walk : Walk) (plays : List Change) (found : Found)
+    (singles : List Repair) (two : Pairs) (pairs : List Pair) (likely : Option Repair) → words ≡ list → now ≡ written → walked ≡ now → then ≡ walked → IsUnchanged rules words written remains
+    → below ≡ below_of remains → IsWalkOf rules words now walk → ArePlayChanges walked walk plays → AreFirstRepairs rules list walked plays below 2 found.told.items found.left.items
+    → singles ≡ found.told.items → ArePairs rules words then singles 1 two → pairs ≡ two.told.items → IsLikelyOf remains found.told.items found.left.items pairs likely → IsLikely rules list written likely
+likely_of rules list words written now walked then remains below walk plays found singles two pairs likely is_list same still same_too alone by of_walk are_plays repairs are_singles are_pairs are_told chosen =
+    let here : walked ≡ written = still ∙ same in
     record {
       remains = remains;
-      alone = alone;
+      alone = subst (λ (ws : List (List ℕ)). IsUnchanged rules ws written remains) is_list alone;
+      walk = walk;
+      walked = subst (λ (ws : List (List ℕ)). IsWalkOf rules ws written walk) is_list (subst (λ (es : List Event). IsWalkOf rules words es walk) same of_walk);
+      plays = plays;
+      are_plays = subst (λ (es : List Event). ArePlayChanges es walk plays) here are_plays;
       told = found.told.items;
       left = found.left.items;
-      repairs = subst (λ (b : Option ℕ). AreFirstRepairs rules list written b 2 found.told.items found.left.items) by
-          (subst (λ (es : List Event). AreFirstRepairs rules list es below 2 found.told.items found.left.items) same repairs);
+      repairs = subst (λ (b : Option ℕ). AreFirstRepairs rules list written plays b 2 found.told.items found.left.items) by
+          (subst (λ (es : List Event). AreFirstRepairs rules list es plays below 2 found.told.items found.left.items) here repairs);
       two = two;
-      pairs = subst (λ (es : List Event). ArePairs rules list es found.told.items 1 two) (same_too ∙ same)
-          (subst (λ (ss : List Repair). ArePairs rules list then ss 1 two) are_singles are_pairs);
+      pairs = subst (λ (ws : List (List ℕ)). ArePairs rules ws written found.told.items 1 two) is_list
+          (subst (λ (es : List Event). ArePairs rules words es found.told.items 1 two) (same_too ∙ here)
+          (subst (λ (ss : List Repair). ArePairs rules words then ss 1 two) are_singles are_pairs));
       chosen = subst (λ (ps : List Pair). IsLikelyOf remains found.told.items found.left.items ps likely) are_told chosen;
     }

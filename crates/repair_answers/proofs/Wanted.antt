@@ -1,9 +1,11 @@
 -- Repairs of which more are asked for than a list can hold.
-use Rattle.std.proofs.Common.{◌≡◌, ◌⊎◌, inl, inr, ℕ, ◌-◌, ◌*◌, ◌<◌, ◌≤◌, ◌^◌, List, length, Option, ap, ◌∙◌, subst, arith}
+use Rattle.std.proofs.Common.{◌≡◌, ◌⊎◌, inl, inr, ℕ, ◌+◌, ◌-◌, ◌*◌, ◌<◌, ◌≤◌, ◌^◌, List, length, Option, ap, ◌∙◌, subst, arith}
 use Rattle.std.specs.Prelude.{min, Contains}
 use Rattle.ref_tiles.specs.declared.rulebook.Rules.{Rules}
 use Rattle.gcg_read.specs.declared.events.Event.{Event}
 use Rattle.game_rows.specs.declared.walking.Walk.{Walk}
+use Rattle.play_changes.specs.PlayChanges.{ArePlayChanges}
+use Rattle.record_changes.specs.declared.slips.Change.{Change}
 use Rattle.record_repairs.specs.Costs.{Rank}
 use Rattle.record_repairs.specs.Repairs.{AreFirstRepairs, AreAhead, IsToldAt}
 use Rattle.record_repairs.specs.declared.listed.Listed.{Listed}
@@ -12,7 +14,7 @@ use Rattle.repair_pairs.specs.Pairs.{ArePairs}
 use Rattle.repair_pairs.specs.declared.found.Pairs.{Pairs}
 use Rattle.repair_answers.specs.Answers.{below_of, RepairsIn}
 use Rattle.repair_answers.specs.Lines.{AreLines}
-use Rattle.repair_answers.specs.Tried.{tried_changes}
+use Rattle.repair_answers.specs.Tried.{tried_changes, many_tried}
 use Rattle.repair_answers.specs.Unchanged.{IsUnchanged}
 use Rattle.repair_answers.specs.declared.answers.Faulty.{Faulty}
 
@@ -31,9 +33,9 @@ one_wanted most wanted told left listed right by is short (inl among) = inl amon
 one_wanted most wanted told left listed right by is short (inr (inl at)) = inr (inl at)
 one_wanted most wanted told left listed right by is short (inr (inr ahead)) = inr (inr (ahead_wanted most wanted told by is short ahead))
 
-pub all_wanted : (rules : Rules) (list : List (List ℕ)) (written : List Event) (below : Option ℕ) (most wanted : ℕ) (told : List Repair) (left : List Listed)
-    → wanted ≡ min (most * 27) (2 ^ 64 - 1) → length told < 2 ^ 63 → AreFirstRepairs rules list written below wanted told left → AreFirstRepairs rules list written below (27 * most) told left
-all_wanted rules list written below most wanted told left is short first =
+pub all_wanted : (rules : Rules) (list : List (List ℕ)) (written : List Event) (plays : List Change) (below : Option ℕ) (most wanted : ℕ) (told : List Repair) (left : List Listed)
+    → wanted ≡ min (most * 27) (2 ^ 64 - 1) → length told < 2 ^ 63 → AreFirstRepairs rules list written plays below wanted told left → AreFirstRepairs rules list written plays below (27 * most) told left
+all_wanted rules list written plays below most wanted told left is short first =
     record {
       repairs = first.repairs;
       few = few_wanted (length told) most wanted is first.few;
@@ -49,25 +51,27 @@ pairs_wanted rules list written singles most wanted pairs is are =
     record { each = are.each; few = few_wanted (length pairs.told.items) most wanted is are.few; ordered = are.ordered; once = are.once }
 
 -- what is found of an illegal record
-pub found_of : (rules : Rules) (list : List (List ℕ)) (written between between_too seen : List Event) (walk : Walk) (most wanted : ℕ) (below : Option ℕ) (shown singles : List Repair) (f : Faulty)
-    → between ≡ written → IsUnchanged rules list written f.unchanged → below ≡ below_of f.unchanged → wanted ≡ min (most * 27) (2 ^ 64 - 1)
-    → AreFirstRepairs rules list between below wanted f.found.told.items f.found.left.items → shown ≡ f.found.told.items → AreLines shown most f.lines.items
-    → between_too ≡ written → singles ≡ f.found.told.items → ArePairs rules list between_too singles wanted f.pairs
-    → seen ≡ written → f.tried ≡ length (tried_changes rules seen walk) → RepairsIn rules list written walk most f
-found_of rules list written between between_too seen walk most wanted below shown singles f same alone limit is first told lines still of pairs kept tried =
+pub found_of : (rules : Rules) (list words : List (List ℕ)) (written between between_too seen : List Event) (walk : Walk) (most wanted : ℕ) (below : Option ℕ) (shown singles : List Repair) (f : Faulty)
+    → words ≡ list → between ≡ written → IsUnchanged rules words written f.unchanged → below ≡ below_of f.unchanged → wanted ≡ min (most * 27) (2 ^ 64 - 1) → ArePlayChanges between walk f.plays.items
+    → AreFirstRepairs rules list between f.plays.items below wanted f.found.told.items f.found.left.items → shown ≡ f.found.told.items → AreLines shown most f.lines.items
+    → between_too ≡ written → singles ≡ f.found.told.items → ArePairs rules words between_too singles wanted f.pairs
+    → seen ≡ written → f.tried ≡ length (tried_changes rules seen walk) + length f.plays.items → RepairsIn rules list written walk most f
+found_of rules list words written between between_too seen walk most wanted below shown singles f by same alone limit is plays first told lines still of pairs kept tried =
     let ok = f.found.told.ok in
     let small = f.found.told.small in
-    let here : AreFirstRepairs rules list written (below_of f.unchanged) wanted f.found.told.items f.found.left.items =
-    subst (λ (es : List Event). AreFirstRepairs rules list es (below_of f.unchanged) wanted f.found.told.items f.found.left.items) same
-    (subst (λ (o : Option ℕ). AreFirstRepairs rules list between o wanted f.found.told.items f.found.left.items) limit first) in
+    let here : AreFirstRepairs rules list written f.plays.items (below_of f.unchanged) wanted f.found.told.items f.found.left.items =
+    subst (λ (es : List Event). AreFirstRepairs rules list es f.plays.items (below_of f.unchanged) wanted f.found.told.items f.found.left.items) same
+    (subst (λ (o : Option ℕ). AreFirstRepairs rules list between f.plays.items o wanted f.found.told.items f.found.left.items) limit first) in
     let short : length f.found.told.items < 2 ^ 63 = omega arith in
     let both : ArePairs rules list written f.found.told.items wanted f.pairs =
-    subst (λ (es : List Event). ArePairs rules list es f.found.told.items wanted f.pairs) still
-    (subst (λ (rs : List Repair). ArePairs rules list between_too rs wanted f.pairs) of pairs) in
+    subst (λ (ws : List (List ℕ)). ArePairs rules ws written f.found.told.items wanted f.pairs) by
+    (subst (λ (es : List Event). ArePairs rules words es f.found.told.items wanted f.pairs) still
+    (subst (λ (rs : List Repair). ArePairs rules words between_too rs wanted f.pairs) of pairs)) in
     record {
-      alone = alone;
-      repairs = all_wanted rules list written (below_of f.unchanged) most wanted f.found.told.items f.found.left.items is short here;
+      alone = subst (λ (ws : List (List ℕ)). IsUnchanged rules ws written f.unchanged) by alone;
+      plays = subst (λ (es : List Event). ArePlayChanges es walk f.plays.items) same plays;
+      repairs = all_wanted rules list written f.plays.items (below_of f.unchanged) most wanted f.found.told.items f.found.left.items is short here;
       lines = subst (λ (rs : List Repair). AreLines rs most f.lines.items) told lines;
       pairs = pairs_wanted rules list written f.found.told.items most wanted f.pairs is both;
-      tried = tried ∙ ap (λ (es : List Event). length (tried_changes rules es walk)) kept;
+      tried = tried ∙ ap (λ (es : List Event). many_tried rules es walk f.plays.items) kept;
     }

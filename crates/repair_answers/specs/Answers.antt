@@ -10,11 +10,12 @@ use Rattle.engine.specs.declared.explains.Case.{Case}
 use Rattle.engine.specs.declared.findings.Finding.{Finding}
 use Rattle.engine.specs.declared.findings.Finding.TheVariants as finding
 use Rattle.engine.specs.Explaining.{case_verdict, IsCaseOf}
+use Rattle.play_changes.specs.PlayChanges.{ArePlayChanges}
 use Rattle.record_repairs.specs.Repairs.{AreFirstRepairs}
 use Rattle.record_repairs.specs.declared.remains.Remains.{Remains}
 use Rattle.repair_pairs.specs.Pairs.{ArePairs}
 use Rattle.repair_answers.specs.Lines.{AreLines}
-use Rattle.repair_answers.specs.Tried.{tried_changes}
+use Rattle.repair_answers.specs.Tried.{many_tried}
 use Rattle.repair_answers.specs.Unchanged.{IsUnchanged}
 use Rattle.repair_answers.specs.declared.answers.Faulty.{Faulty}
 use Rattle.repair_answers.specs.declared.answers.RepairAnswer.{RepairAnswer}
@@ -27,14 +28,15 @@ HasItsWalk rules list case = (text : List ℕ) × IsCaseOf rules list text case
 abbrev pub below_of : Option Remains → Option ℕ
 below_of remains = option_map (λ (r : Remains). length r.wrong.items + length r.unlisted.items) remains
 
--- What repairs an illegal record: what is wrong where its numbers alone are, its first repairs, as many as may be on so many lines, the lines, pairs of
--- changes that cost less than each of these repairs, and how many changes were tried.
+-- What repairs an illegal record: what is wrong where its numbers alone are, changes of plays that a search found, which are tried too, its first repairs,
+-- as many as may be on so many lines, the lines, pairs of changes that cost less than each of these repairs, and how many changes were tried.
 pub record RepairsIn (rules : Rules) (list : List (List ℕ)) (written : List Event) (walk : Walk) (most : ℕ) (f : Faulty) : Type 0 where
   pub alone : IsUnchanged rules list written f.unchanged
-  pub repairs : AreFirstRepairs rules list written (below_of f.unchanged) (27 * most) f.found.told.items f.found.left.items
+  pub plays : ArePlayChanges written walk f.plays.items
+  pub repairs : AreFirstRepairs rules list written f.plays.items (below_of f.unchanged) (27 * most) f.found.told.items f.found.left.items
   pub lines : AreLines f.found.told.items most f.lines.items
   pub pairs : ArePairs rules list written f.found.told.items (27 * most) f.pairs
-  pub tried : f.tried ≡ length (tried_changes rules written walk)
+  pub tried : f.tried ≡ many_tried rules written walk f.plays.items
 
 abbrev pub is_illegal : Finding → Bool
 is_illegal (finding.Illegal line fault) = true

@@ -6,6 +6,10 @@ use Rattle.gcg_read.specs.declared.faults.ReadFault.{ReadFault}
 use Rattle.engine.specs.declared.entries.Entry.{Entry}
 use Rattle.engine.specs.declared.findings.Finding.{Finding}
 use Rattle.engine.specs.declared.findings.Finding.TheVariants as finding
+use Rattle.game_rows.specs.declared.walking.Walk.{Walk}
+use Rattle.game_rows.specs.Walks.{IsWalkOf}
+use Rattle.play_changes.specs.PlayChanges.{ArePlayChanges}
+use Rattle.record_changes.specs.declared.slips.Change.{Change}
 use Rattle.record_repairs.specs.Repairs.{AreFirstRepairs}
 use Rattle.record_repairs.specs.declared.listed.Listed.{Listed}
 use Rattle.record_repairs.specs.declared.remains.Remains.{Remains}
@@ -35,13 +39,17 @@ IsLikelyOf remains told left pairs (Some repair) = IsFarFirst remains told left 
 IsLikelyOf remains told left pairs None = (repair : Repair) → IsFarFirst remains told left pairs repair → ⊥
 
 -- The likely repair of a record: the first, if it is ahead of the second and of wrong numbers alone by a wrong number at the least, and if no two changes
--- that were found cost less.
+-- that were found cost less. Some plays that a search found may have been tried beside the changes of the list.
 pub record IsLikely (rules : Rules) (list : List (List ℕ)) (written : List Event) (likely : Option Repair) : Type 0 where
   pub remains : Option Remains
   pub alone : IsUnchanged rules list written remains
+  pub walk : Walk
+  pub walked : IsWalkOf rules list written walk
+  pub plays : List Change
+  pub are_plays : ArePlayChanges written walk plays
   pub told : List Repair
   pub left : List Listed
-  pub repairs : AreFirstRepairs rules list written (below_of remains) 2 told left
+  pub repairs : AreFirstRepairs rules list written plays (below_of remains) 2 told left
   pub two : Pairs
   pub pairs : ArePairs rules list written told 1 two
   pub chosen : IsLikelyOf remains told left two.told.items likely

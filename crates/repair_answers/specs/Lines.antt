@@ -10,6 +10,7 @@ use Rattle.repair_answers.specs.declared.evidence.Told.{Told}
 -- whether a line that should not be there is left out
 abbrev pub leaves_out : Slip → Bool
 leaves_out slip.Repeated = true
+leaves_out slip.ExtraPass = true
 leaves_out slip.Extra = true
 leaves_out other = false
 

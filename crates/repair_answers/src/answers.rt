@@ -2,17 +2,20 @@
 ghost use Rattle.std.specs.Prelude.{◌≡◌, Some, IfOk, OnOk};
 ghost use Rattle.game_rows.specs.Walks.{IsWalkOf};
 ghost use Rattle.engine.specs.Explaining.{IsWalkFor};
+ghost use Rattle.lex_check.specs.Pairs.{list_in};
 ghost use Rattle.repair_answers.specs.Answers.{below_of, is_illegal, RepairsIn, RepairsBy, RepairsOf, IsRepairAnswer, HasItsWalk};
 
 use crate::evidence::{Told, lines_of};
 use crate::lists::many_tried;
 use crate::pair_lines::pair_lines;
+use crate::singles::first_repairs;
 use crate::unchanged::unchanged;
 use engine::{Case, Entry, Finding, Verdict, case_verdict};
 use game_rows::Walk;
 use gcg_read::{ReadFault, Record};
-use lex_list::WordList;
-use record_repairs::{Found, Remains, repairs};
+use lex_check::Checked;
+use record_changes::Change;
+use record_repairs::{Found, Remains};
 use ref_tiles::Rules;
 use repair_pairs::{Pairs, pairs};
 use std::alloc::{AllocError, Global};
@@ -25,6 +28,8 @@ const MOST_ALIKE: usize = 27;
 pub struct Faulty {
     /// What is wrong where the numbers alone are; none where more is.
     pub unchanged: Option<Remains>,
+    /// Changes of plays that a search found, where no repair by the list of changes is a likely one. They are tried too.
+    pub plays: Vec<Change>,
     /// The first repairs, and the changes that are left open.
     pub found: Found,
     /// The first repairs in lines.
@@ -60,27 +65,36 @@ pub(crate) fn below_of(unchanged: &Option<Remains>) -> Option<usize>
 fn faulty_of(
     alloc: Global,
     rules: &Rules,
-    list: &WordList,
+    pair: &Checked<'_>,
     game: &mut Record,
     walk: &Walk,
     most: usize,
 ) -> Result<Faulty, AllocError>
-    requires { IsWalkOf rules.now list.now game.old.events walk.now }
-    ensures faulty { IfOk result (RepairsIn rules.now list.now game.old.events walk.now most) }
+    requires { IsWalkOf rules.now (list_in pair.now) game.old.events walk.now }
+    ensures faulty { IfOk result (RepairsIn rules.now (list_in pair.now) game.old.events walk.now most) }
     ensures same { OnOk result (game.new ≡ game.old) }
 {
+    let list = pair.list();
     let remains = unchanged(alloc, rules, list, game)?;
     let below = below_of(&remains);
     let wanted = most.saturating_mul(MOST_ALIKE);
-    let found = repairs(alloc, rules, list, &mut game.events, below, wanted)?;
-    let lines = lines_of(alloc, found.told.as_slice(), most)?;
-    let singles = found.told.as_slice();
-    let pairs = pairs(alloc, rules, list, &mut game.events, singles, wanted)?;
+    let singles = first_repairs(alloc, rules, pair, walk, &mut game.events, below, wanted)?;
+    let told = singles.found.told.as_slice();
+    let lines = lines_of(alloc, told, most)?;
+    let pairs = pairs(alloc, rules, list, &mut game.events, told, wanted)?;
     let pair_lines = pair_lines(alloc, pairs.told.as_slice(), most)?;
-    let tried = many_tried(alloc, rules, list, walk, game.events.as_slice())?;
+    let tried = many_tried(
+        alloc,
+        rules,
+        list,
+        walk,
+        game.events.as_slice(),
+        singles.plays.len(),
+    )?;
     Ok(Faulty {
         unchanged: remains,
-        found,
+        plays: singles.plays,
+        found: singles.found,
         lines,
         pairs,
         pair_lines,
@@ -103,19 +117,19 @@ fn is_illegal(finding: &Finding) -> bool
 fn faulty_entry(
     alloc: Global,
     rules: &Rules,
-    list: &WordList,
+    pair: &Checked<'_>,
     entry: &mut Entry,
     walk: &Walk,
     most: usize,
 ) -> Result<Option<Faulty>, AllocError>
-    requires { IsWalkOf rules.now list.now entry.old.record.events walk.now }
-    ensures repairs { IfOk result (RepairsBy entry.old.finding rules.now list.now entry.old.record.events (Some walk.now) most) }
+    requires { IsWalkOf rules.now (list_in pair.now) entry.old.record.events walk.now }
+    ensures repairs { IfOk result (RepairsBy entry.old.finding rules.now (list_in pair.now) entry.old.record.events (Some walk.now) most) }
     ensures same { OnOk result (entry.new ≡ entry.old) }
 {
     if !is_illegal(&entry.finding) {
         return Ok(None);
     }
-    let faulty = faulty_of(alloc, rules, list, &mut entry.record, walk, most)?;
+    let faulty = faulty_of(alloc, rules, pair, &mut entry.record, walk, most)?;
     Ok(Some(faulty))
 }
 
@@ -123,17 +137,17 @@ fn faulty_entry(
 fn faulty_read(
     alloc: Global,
     rules: &Rules,
-    list: &WordList,
+    pair: &Checked<'_>,
     read: &mut Result<Entry, ReadFault>,
     walk: &Walk,
     most: usize,
 ) -> Result<Option<Faulty>, AllocError>
-    requires { IsWalkFor rules.now list.now read.old (Some walk.now) }
-    ensures repairs { IfOk result (RepairsOf read.old rules.now list.now (Some walk.now) most) }
+    requires { IsWalkFor rules.now (list_in pair.now) read.old (Some walk.now) }
+    ensures repairs { IfOk result (RepairsOf read.old rules.now (list_in pair.now) (Some walk.now) most) }
     ensures same { OnOk result (read.new ≡ read.old) }
 {
     match read {
-        Ok(entry) => faulty_entry(alloc, rules, list, entry, walk, most),
+        Ok(entry) => faulty_entry(alloc, rules, pair, entry, walk, most),
         Err(_) => Ok(None),
     }
 }
@@ -143,16 +157,16 @@ fn faulty_read(
 fn faulty_in(
     alloc: Global,
     rules: &Rules,
-    list: &WordList,
+    pair: &Checked<'_>,
     case: &mut Case,
     most: usize,
 ) -> Result<Option<Faulty>, AllocError>
-    requires { HasItsWalk rules.now list.now case.old }
-    ensures repairs { IfOk result (RepairsOf case.old.read rules.now list.now case.old.walk most) }
+    requires { HasItsWalk rules.now (list_in pair.now) case.old }
+    ensures repairs { IfOk result (RepairsOf case.old.read rules.now (list_in pair.now) case.old.walk most) }
     ensures same { OnOk result (case.new ≡ case.old) }
 {
     match &case.walk {
-        Some(walk) => faulty_read(alloc, rules, list, &mut case.read, walk, most),
+        Some(walk) => faulty_read(alloc, rules, pair, &mut case.read, walk, most),
         None => Ok(None),
     }
 }
@@ -164,15 +178,15 @@ fn faulty_in(
 pub fn answer_repairs(
     alloc: Global,
     rules: &Rules,
-    list: &WordList,
+    pair: &Checked<'_>,
     case: &mut Case,
     most: usize,
 ) -> Result<RepairAnswer, AllocError>
-    requires { HasItsWalk rules.now list.now case.old }
-    ensures answer { IfOk result (IsRepairAnswer rules.now list.now case.old most) }
+    requires { HasItsWalk rules.now (list_in pair.now) case.old }
+    ensures answer { IfOk result (IsRepairAnswer rules.now (list_in pair.now) case.old most) }
     ensures same { OnOk result (case.new ≡ case.old) }
 {
     let verdict = case_verdict(case);
-    let faulty = faulty_in(alloc, rules, list, case, most)?;
+    let faulty = faulty_in(alloc, rules, pair, case, most)?;
     Ok(RepairAnswer { verdict, faulty })
 }

@@ -21,7 +21,7 @@ fn leaves_out(slip: &Slip) -> bool
     ensures { result ≡ leaves_out slip.now }
 {
     match slip {
-        Slip::Repeated | Slip::Extra => true,
+        Slip::Repeated | Slip::ExtraPass | Slip::Extra => true,
         _ => false,
     }
 }

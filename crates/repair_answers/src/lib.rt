@@ -10,6 +10,7 @@ mod evidence;
 mod likely;
 mod lists;
 mod pair_lines;
+mod singles;
 mod spots;
 mod unchanged;
 

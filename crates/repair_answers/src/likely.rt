@@ -1,14 +1,17 @@
 //! The repair of a record that is likelier than all others by far.
 ghost use Rattle.std.specs.Prelude.{◌≡◌, ◌↔◌, IsTrue, IfOk, OnOk};
+ghost use Rattle.lex_check.specs.Pairs.{list_in};
 ghost use Rattle.repair_answers.specs.Likely.{IsAheadOfNumbers, IsLikelyOf, IsLikely, IsLikelyFor, IsLikelyOfCase};
 
 use crate::answers::below_of;
 use crate::choices::{Choice, NUMBER, choice_among, cost_of};
+use crate::singles::first_repairs;
 use crate::unchanged::unchanged;
 use engine::{Case, Entry, Finding};
+use game_rows::walk_as_written;
 use gcg_read::Record;
-use lex_list::WordList;
-use record_repairs::{Found, Remains, Repair, repairs};
+use lex_check::Checked;
+use record_repairs::{Found, Remains, Repair};
 use ref_tiles::Rules;
 use repair_pairs::{Pair, pairs};
 use std::alloc::{AllocError, Global};
@@ -53,24 +56,26 @@ fn chosen(remains: &Option<Remains>, found: Found, pairs: &[Pair]) -> Option<Rep
 pub fn likely_repair(
     alloc: Global,
     rules: &Rules,
-    list: &WordList,
+    pair: &Checked<'_>,
     game: &mut Record,
 ) -> Result<Option<Repair>, AllocError>
-    ensures likely { IfOk result (IsLikely rules.now list.now game.old.events) }
+    ensures likely { IfOk result (IsLikely rules.now (list_in pair.now) game.old.events) }
     ensures same { OnOk result (game.new ≡ game.old) }
 {
+    let list = pair.list();
     let remains = unchanged(alloc, rules, list, game)?;
     let below = below_of(&remains);
-    let found = repairs(alloc, rules, list, &mut game.events, below, 2)?;
+    let walk = walk_as_written(alloc, rules, list, &mut game.events)?;
+    let singles = first_repairs(alloc, rules, pair, &walk, &mut game.events, below, 2)?;
     let two = pairs(
         alloc,
         rules,
         list,
         &mut game.events,
-        found.told.as_slice(),
+        singles.found.told.as_slice(),
         1,
     )?;
-    Ok(chosen(&remains, found, two.told.as_slice()))
+    Ok(chosen(&remains, singles.found, two.told.as_slice()))
 }
 
 /// The likely repair of a record that was judged, if it is illegal. Afterwards the entry is as it was.
@@ -79,14 +84,14 @@ pub fn likely_repair(
 pub fn likely_in(
     alloc: Global,
     rules: &Rules,
-    list: &WordList,
+    pair: &Checked<'_>,
     entry: &mut Entry,
 ) -> Result<Option<Repair>, AllocError>
-    ensures likely { IfOk result (IsLikelyFor rules.now list.now entry.old.finding entry.old.record.events) }
+    ensures likely { IfOk result (IsLikelyFor rules.now (list_in pair.now) entry.old.finding entry.old.record.events) }
     ensures same { OnOk result (entry.new ≡ entry.old) }
 {
     match entry.finding {
-        Finding::Illegal { .. } => likely_repair(alloc, rules, list, &mut entry.record),
+        Finding::Illegal { .. } => likely_repair(alloc, rules, pair, &mut entry.record),
         _ => Ok(None),
     }
 }
@@ -97,14 +102,14 @@ pub fn likely_in(
 pub fn likely_in_case(
     alloc: Global,
     rules: &Rules,
-    list: &WordList,
+    pair: &Checked<'_>,
     case: &mut Case,
 ) -> Result<Option<Repair>, AllocError>
-    ensures likely { IfOk result (IsLikelyOfCase rules.now list.now case.old.read) }
+    ensures likely { IfOk result (IsLikelyOfCase rules.now (list_in pair.now) case.old.read) }
     ensures same { OnOk result (case.new ≡ case.old) }
 {
     match &mut case.read {
-        Ok(entry) => likely_in(alloc, rules, list, entry),
+        Ok(entry) => likely_in(alloc, rules, pair, entry),
         Err(_) => Ok(None),
     }
 }

@@ -1,5 +1,5 @@
 //! How many changes of a record are tried.
-ghost use Rattle.std.specs.Prelude.{◌≡◌, ◌<◌, ◌≤◌, ◌^◌, length, IfOk};
+ghost use Rattle.std.specs.Prelude.{◌≡◌, ◌+◌, ◌<◌, ◌≤◌, ◌^◌, length, IfOk};
 ghost use Rattle.change_lists.specs.Changes.{changes_at};
 ghost use Rattle.game_rows.specs.Walks.{IsWalkOf};
 ghost use Rattle.repair_answers.specs.Tried.{tried_changes};
@@ -34,7 +34,7 @@ fn many_at(
     Ok(slips.len() as u128)
 }
 
-/// How many changes of a record are tried: those at each place up to the event at which its correction stops.
+/// How many changes of a record are tried: those at each place up to the event at which its correction stops, and so many plays.
 ///
 /// It fails only where memory runs out.
 pub(crate) fn many_tried(
@@ -43,13 +43,14 @@ pub(crate) fn many_tried(
     list: &WordList,
     walk: &Walk,
     events: &[Event],
+    plays: usize,
 ) -> Result<u128, AllocError>
     requires { IsWalkOf rules.now list.now events.now walk.now }
-    ensures { IfOk result (λ many. many ≡ length (tried_changes rules.now events.now walk.now)) }
+    ensures { IfOk result (λ many. many ≡ length (tried_changes rules.now events.now walk.now) + plays) }
 {
     let mut many = 0;
     for place in 0..walk.rows.len() + 1 {
         many += many_at(alloc, rules, list, walk, events, place)?;
     }
-    Ok(many)
+    Ok(many + plays as u128)
 }

@@ -59,7 +59,7 @@ pub(crate) fn replaced_lines(
 /// How many events stand in the place of those that a slip concerns.
 fn right_events(slip: &Slip) -> usize {
     match slip {
-        Slip::Repeated | Slip::Extra => 0,
+        Slip::Repeated | Slip::ExtraPass | Slip::Extra => 0,
         Slip::Missing(_) => 1,
         _ => wrong_events(slip),
     }

@@ -75,6 +75,7 @@ fn code_name(slip: &CodeSlip) -> &'static str {
 /// The name of a line that is missing.
 fn missing_name(line: &MissingLine) -> &'static str {
     match line {
+        MissingLine::Play { .. } => "play missing",
         MissingLine::Pass(_) => "pass missing",
         MissingLine::Exchange { .. } => "exchange missing",
         MissingLine::Time { .. } => "penalty missing",
@@ -89,6 +90,7 @@ pub(crate) fn slip_name(slip: &Slip) -> &'static str {
     match slip {
         Slip::Position(slip) => position_name(slip),
         Slip::Spelling(slip) => spelling_name(slip),
+        Slip::Replayed(_) => "another play",
         Slip::Tile { of, slip } => tile_name(*of, slip),
         Slip::NoRack => "other rack",
         Slip::Number(_) => "other number of tiles",
@@ -97,6 +99,7 @@ pub(crate) fn slip_name(slip: &Slip) -> &'static str {
         Slip::Amount(_) => "other amount",
         Slip::OtherPlayer => "other player",
         Slip::Repeated => "line repeated",
+        Slip::ExtraPass => "pass too many",
         Slip::Extra => "line too many",
         Slip::Swapped => "lines interchanged",
         Slip::SwappedOver => "lines interchanged over another",

@@ -11,6 +11,7 @@ mod likely;
 mod lines;
 mod missing;
 mod names;
+mod plays;
 mod slips;
 mod words;
 

@@ -1,8 +1,9 @@
 //! The words of a line that is missing.
 
 use crate::names::nick;
+use crate::words::push_play;
 use gcg_read::{Players, Points, Seat};
-use record_changes::MissingLine;
+use record_changes::{MissingLine, RightPlay};
 use ref_tiles::Counts;
 use sentence_parts::{Part, say};
 use std::alloc::AllocError;
@@ -16,6 +17,17 @@ fn push_done(
 ) -> Result<(), AllocError> {
     text.extend_from_slice(nick(players, player))?;
     text.extend_from_slice(done.as_bytes())
+}
+
+/// Appends that a player makes a play.
+fn push_played(
+    text: &mut Vec<u8>,
+    players: &Players,
+    player: Seat,
+    play: &RightPlay,
+) -> Result<(), AllocError> {
+    push_done(text, players, player, " plays ")?;
+    push_play(text, play.at, play.dir, play.word.as_slice())
 }
 
 /// Appends that a player exchanges so many tiles.
@@ -75,6 +87,7 @@ pub(crate) fn push_missing(
     line: &MissingLine,
 ) -> Result<(), AllocError> {
     match line {
+        MissingLine::Play { player, play } => push_played(text, players, *player, play),
         MissingLine::Pass(player) => push_done(text, players, *player, " passes"),
         MissingLine::Exchange { player, number } => push_exchange(text, players, *player, *number),
         MissingLine::Time { player, score, .. } => push_penalty(text, players, *player, *score),

@@ -2,6 +2,7 @@
 
 use crate::missing::push_missing;
 use crate::names::nick;
+use crate::plays::{have_one_position, have_one_word};
 use crate::words::{push_kind, push_position, push_word};
 use gcg_read::{Event, EventKind, Players};
 use record_changes::{Slip, TilesOf};
@@ -54,6 +55,17 @@ fn push_other(text: &mut Vec<u8>, right: &Event, written: &Event) -> Result<(), 
     push_kind(text, &right.kind)?;
     push_not(text)?;
     push_instead(text, &right.kind, &written.kind)
+}
+
+/// Appends that a play is another one: its position, its text or both.
+fn push_replayed(text: &mut Vec<u8>, right: &Event, written: &Event) -> Result<(), AllocError> {
+    if have_one_position(&right.kind, &written.kind) {
+        return push_spelled(text, right, written);
+    }
+    if have_one_word(&right.kind, &written.kind) {
+        return push_moved(text, right, written);
+    }
+    push_other(text, right, written)
 }
 
 /// Appends the rack of an event.
@@ -128,6 +140,7 @@ fn push_changed(
     match slip {
         Slip::Position(_) => push_moved(text, right, written),
         Slip::Spelling(_) => push_spelled(text, right, written),
+        Slip::Replayed(_) => push_replayed(text, right, written),
         Slip::Tile { of, .. } => push_tiles(text, *of, right, written),
         Slip::NoRack => push_racks(text, right, written),
         Slip::Number(_) | Slip::Code(_) | Slip::Rest(_) => push_other(text, right, written),
@@ -149,7 +162,7 @@ pub(crate) fn push_slip(
         Slip::Repeated => {
             text.extend_from_slice(b"it repeats the line before it and should not be there")
         }
-        Slip::Extra => text.extend_from_slice(b"it should not be there"),
+        Slip::ExtraPass | Slip::Extra => text.extend_from_slice(b"it should not be there"),
         Slip::Swapped => text.extend_from_slice(b"it belongs after the next line"),
         Slip::SwappedOver => {
             text.extend_from_slice(b"it should change places with the line after the next one")

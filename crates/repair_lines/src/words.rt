@@ -53,7 +53,12 @@ pub(crate) fn push_kind(text: &mut Vec<u8>, kind: &EventKind) -> Result<(), Allo
 }
 
 /// Appends a play: its text and where it begins.
-fn push_play(text: &mut Vec<u8>, at: Square, dir: Dir, word: &[Symbol]) -> Result<(), AllocError> {
+pub(crate) fn push_play(
+    text: &mut Vec<u8>,
+    at: Square,
+    dir: Dir,
+    word: &[Symbol],
+) -> Result<(), AllocError> {
     push_word(text, word)?;
     text.extend_from_slice(b" at ")?;
     push_position(text, at, dir)

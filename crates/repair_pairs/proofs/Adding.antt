@@ -73,7 +73,7 @@ pair_stays rules list written singles heads more p is =
     }
 
 -- a repair is one whatever number stays wrong
-any_number : (rules : Rules) (list : List (List ℕ)) (made : List Event) (below : Option ℕ) (r : Repair) → IsRepair rules list made below r → IsRepair rules list made None r
+any_number : (rules : Rules) (list : List (List ℕ)) (made : List Event) (below : Option ℕ) (r : Repair) → IsRepair rules list made [] below r → IsRepair rules list made [] None r
 any_number rules list made below r is =
     record {
       makes = record { single = is.makes.single; correction = is.makes.correction; game = is.makes.game; fewer = tt };
@@ -81,14 +81,14 @@ any_number rules list made below r is =
     }
 
 pair_of : (rules : Rules) (list : List (List ℕ)) (written : List Event) (singles : List Repair) (heads : List Head) (head : Head) (below : Option ℕ) (number weight : ℕ) (found : List Repair) (p : Pair)
-    → IsHead rules list written head → number ≡ length heads → weight ≡ weight_of head.first.change.slip → All (IsRepair rules list head.made below) found
+    → IsHead rules list written head → number ≡ length heads → weight ≡ weight_of head.first.change.slip → All (IsRepair rules list head.made [] below) found
     → Contains found p.then × IsPairWith singles head.made number weight p → IsPair rules list written singles (heads ++ head ∷ []) p
 pair_of rules list written singles heads head below number weight found p first last weighs repairs (among, is) =
     record {
       head = head;
       there = subst (λ n. slice_get (heads ++ head ∷ []) n ≡ Some head) (sym (is.of_head ∙ last)) (head_last heads head);
       first = first;
-      second = any_number rules list head.made below p.then (All-contains (IsRepair rules list head.made below) found p.then repairs among);
+      second = any_number rules list head.made below p.then (All-contains (IsRepair rules list head.made [] below) found p.then repairs among);
       lines = is.lines;
       numbers = is.numbers;
       cheaper = is.cheaper;
@@ -97,7 +97,7 @@ pair_of rules list written singles heads head below number weight found p first 
     }
 
 pub head_added : (rules : Rules) (list : List (List ℕ)) (written : List Event) (singles : List Repair) (old new : Pairs) (head : Head) (below : Option ℕ) (number weight : ℕ) (found : List Repair)
-    → IsHead rules list written head → number ≡ length old.heads.items → weight ≡ weight_of head.first.change.slip → All (IsRepair rules list head.made below) found
+    → IsHead rules list written head → number ≡ length old.heads.items → weight ≡ weight_of head.first.change.slip → All (IsRepair rules list head.made [] below) found
     → new.heads.items ≡ old.heads.items ++ head ∷ [] → AddsPairs singles head.made number weight found old.told.items new.told.items
     → ArePairsSoFar rules list written singles old → ArePairsSoFar rules list written singles new
 head_added rules list written singles old new head below number weight found first last weighs repairs heads adds so =

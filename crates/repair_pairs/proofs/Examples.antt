@@ -16,6 +16,6 @@ two_plays = refl
 twice_and_pass : weight_of slip.Repeated + costs 1 0 (slip.Missing (line.Pass seat.First)) ≡ 8
 twice_and_pass = refl
 
--- a missing pass is one line, a line that should not be there none, and two lines that change places are two
-lines_of_slips : (lines_there (slip.Missing (line.Pass seat.First)) ≡ 1) × (lines_there slip.Extra ≡ 0) × (lines_there slip.Swapped ≡ 2) × (lines_there slip.OtherPlayer ≡ 1)
-lines_of_slips = (refl, refl, refl, refl)
+-- a missing pass is one line, a line or a pass that should not be there none, and two lines that change places are two
+lines_of_slips : (lines_there (slip.Missing (line.Pass seat.First)) ≡ 1) × (lines_there slip.Extra ≡ 0) × (lines_there slip.ExtraPass ≡ 0) × (lines_there slip.Swapped ≡ 2) × (lines_there slip.OtherPlayer ≡ 1)
+lines_of_slips = (refl, refl, refl, refl, refl)

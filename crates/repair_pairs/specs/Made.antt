@@ -13,6 +13,7 @@ use Rattle.record_repairs.specs.OnSheet.{on_sheet}
 -- how many lines stand in the place of those that a slip concerns
 abbrev pub lines_there : Slip → ℕ
 lines_there slip.Repeated = 0
+lines_there slip.ExtraPass = 0
 lines_there slip.Extra = 0
 lines_there (slip.Missing line) = 1
 lines_there other = wrong_events other

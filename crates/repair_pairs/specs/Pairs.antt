@@ -1,5 +1,5 @@
 -- Pairs of changes that repair a record.
-use Rattle.std.specs.Prelude.{◌≡◌, ℕ, ◌+◌, ◌<◌, ◌≤◌, ◌==◌, not, Bool, true, List, length, take, drop, All, AllPairs, slice_get, Option, Some, None}
+use Rattle.std.specs.Prelude.{◌≡◌, ℕ, ◌+◌, ◌<◌, ◌≤◌, ◌==◌, not, Bool, true, List, [], length, take, drop, All, AllPairs, slice_get, Option, Some, None}
 use Rattle.ref_tiles.specs.declared.rulebook.Rules.{Rules}
 use Rattle.gcg_read.specs.declared.events.Event.{Event}
 use Rattle.game_sheets.specs.declared.wrong_numbers.WrongNumber.{WrongNumber}
@@ -17,7 +17,7 @@ use Rattle.repair_pairs.specs.declared.found.Pairs.{Pairs}
 
 -- a first change is one of the record's single changes, beside the record that it makes
 pub record IsHead (rules : Rules) (list : List (List ℕ)) (written : List Event) (head : Head) : Type 0 where
-  pub single : IsListed rules written head.first
+  pub single : IsListed rules written [] head.first
   pub made : IsMade rules list written head.first.change head.made
 
 -- each line that a change concerns stands on the sheet: a line that a first change puts there has the number 0
@@ -51,7 +51,7 @@ pub record IsPair (rules : Rules) (list : List (List ℕ)) (written : List Event
   pub head : Head
   pub there : slice_get heads p.head ≡ Some head
   pub first : IsHead rules list written head
-  pub second : IsRepair rules list head.made None p.then
+  pub second : IsRepair rules list head.made [] None p.then
   pub lines : ConcernsSheet head.made p.then.listed.change
   pub numbers : WrongOnSheet p.then
   pub cheaper : CostsLess singles p.cost

@@ -104,7 +104,7 @@ fn push_head(
     };
     let weight = weight_of(&first.change.slip);
     let below = below_of(singles, weight);
-    let found = repairs(alloc, rules, list, &mut made, below, most)?;
+    let found = repairs(alloc, rules, list, &mut made, &[], below, most)?;
     let number = pairs.heads.len();
     push_pairs(
         &mut pairs.told,

@@ -1,5 +1,5 @@
 //! A change of the list, by its place and its number there.
-ghost use Rattle.std.specs.Prelude.{IfOk, IfSome};
+ghost use Rattle.std.specs.Prelude.{[], IfOk, IfSome};
 ghost use Rattle.game_rows.specs.Walks.{IsWalkOf};
 ghost use Rattle.record_repairs.specs.Repairs.{IsListed};
 
@@ -26,7 +26,7 @@ pub(crate) fn listed_at(
     index: usize,
 ) -> Result<Option<Listed>, AllocError>
     requires { IsWalkOf rules.now list.now events.now walk.now }
-    ensures { IfOk result (λ found. IfSome found (IsListed rules.now events.now)) }
+    ensures { IfOk result (λ found. IfSome found (IsListed rules.now events.now [])) }
 {
     law_of_slips();
     let Some(game) = game_before(walk, place) else {

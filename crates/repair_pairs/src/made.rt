@@ -15,7 +15,7 @@ pub(crate) fn lines_there(slip: &Slip) -> usize
     ensures { result ≡ lines_there slip.now }
 {
     match slip {
-        Slip::Repeated | Slip::Extra => 0,
+        Slip::Repeated | Slip::ExtraPass | Slip::Extra => 0,
         Slip::Missing(_) => 1,
         _ => wrong_events(slip),
     }

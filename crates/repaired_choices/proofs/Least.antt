@@ -1,5 +1,5 @@
 -- The cheapest of the first repairs before a place, with the one there.
-use Rattle.std.proofs.Common.{◌≡◌, ◌⊎◌, inl, inr, ℕ, ◌+◌, ◌<◌, ◌≤◌, List, Option, Some, None, refl, sym, ◌∙◌, subst, arith}
+use Rattle.std.proofs.Common.{◌≡◌, ◌⊎◌, inl, inr, ℕ, ◌+◌, ◌<◌, ◌≤◌, List, [], Option, Some, None, refl, sym, ◌∙◌, subst, arith}
 use Rattle.std.proofs.lemmas.Bool.{cases_lt}
 use Rattle.std.specs.Prelude.{◌↔◌, All, IsTrue, length, slice_get}
 use Rattle.std.proofs.lemmas.Option.{same_Some, slice_get_within, get_or_from_slice_get}
@@ -104,10 +104,10 @@ best_is rules tried l choice repair b is at first index complete ahead settled =
       settled = settled;
     }
 
-game_of : (rules : Rules) (list : List (List ℕ)) (s : Sheets) (r : RepairedChoice) (repair : Repair) → IsRepairedChoice rules list s r → first_of r ≡ Some repair → IsRepair rules list r.written r.below repair
+game_of : (rules : Rules) (list : List (List ℕ)) (s : Sheets) (r : RepairedChoice) (repair : Repair) → IsRepairedChoice rules list s r → first_of r ≡ Some repair → IsRepair rules list r.written [] r.below repair
 game_of rules list s r repair is first =
     let within = slice_get_within r.found.told.items 0 repair first in
-    subst (IsRepair rules list r.written r.below) (get_or_from_slice_get r.found.told.items 0 repair repair first) (is.first.repairs 0 repair within)
+    subst (IsRepair rules list r.written [] r.below) (get_or_from_slice_get r.found.told.items 0 repair repair first) (is.first.repairs 0 repair within)
 
 pub games_of : (rules : Rules) (list : List (List ℕ)) (s : Sheets) (tried : List RepairedChoice) → All (IsRepairedChoice rules list s) tried → AreGames rules list tried
 games_of rules list s tried each =

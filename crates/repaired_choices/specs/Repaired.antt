@@ -18,7 +18,7 @@ use Rattle.repaired_choices.specs.declared.repaired.BestRepair.{BestRepair}
 -- a choice that was tried, with its events and the first two of their repairs: single changes after which they are a game, once their numbers are corrected
 pub record IsRepairedChoice (rules : Rules) (list : List (List ℕ)) (s : Sheets) (r : RepairedChoice) : Type 0 where
   pub written : r.written ≡ choice_events s Taken r.choice
-  pub first : AreFirstRepairs rules list r.written r.below 2 r.found.told.items r.found.left.items
+  pub first : AreFirstRepairs rules list r.written [] r.below 2 r.found.told.items r.found.left.items
 
 -- The choices that were tried: none where one makes a game, or is left open.
 pub record AreTried (rules : Rules) (list : List (List ℕ)) (s : Sheets) (f : Find) (tried : List RepairedChoice) : Type 0 where

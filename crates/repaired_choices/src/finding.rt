@@ -37,7 +37,7 @@ fn repaired_by(
     ensures { IfOk result (IsRepairedChoice rules.now list.now sheets.now) }
 {
     let mut written = events_of(alloc, sheets, choice)?;
-    let found = repairs(alloc, rules, list, &mut written, below, MOST_REPAIRS)?;
+    let found = repairs(alloc, rules, list, &mut written, &[], below, MOST_REPAIRS)?;
     Ok(RepairedChoice {
         choice,
         written,

@@ -55,6 +55,7 @@ abbrev pub in_place : Slip → (place : ℕ) → Players → (lines : List (List
 in_place slip.Swapped place players lines right line number = exchanged place 1 lines right number
 in_place slip.SwappedOver place players lines right line number = exchanged place 2 lines right number
 in_place slip.Repeated place players lines right line number = left_out place right line number
+in_place slip.ExtraPass place players lines right line number = left_out place right line number
 in_place slip.Extra place players lines right line number = left_out place right line number
 in_place (slip.Missing missing) place players lines right line number = beside_missing place right line number
 in_place other place players lines right line number = changed place players right line number

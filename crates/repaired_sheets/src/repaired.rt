@@ -84,7 +84,9 @@ impl Repaired<'_, '_> {
         match &self.change.slip {
             Slip::Swapped => self.push_exchanged(out, 1, number),
             Slip::SwappedOver => self.push_exchanged(out, 2, number),
-            Slip::Repeated | Slip::Extra => self.push_left_out(out, line, number),
+            Slip::Repeated | Slip::ExtraPass | Slip::Extra => {
+                self.push_left_out(out, line, number)
+            }
             Slip::Missing(_) => self.push_beside_missing(out, line, number),
             _ => self.push_changed(out, line, number),
         }

@@ -7,7 +7,6 @@ ghost use Rattle.serve_answers.specs.Replies.{IsLikelyAsked, IsToldCaseOf};
 use crate::games::case_in;
 use engine::{Case, RunFault};
 use lex_check::Checked;
-use lex_list::WordList;
 use record_repairs::Repair;
 use ref_tiles::Rules;
 use repair_answers::likely_in_case;
@@ -26,16 +25,16 @@ pub struct ToldCase {
 fn told_of(
     alloc: Global,
     rules: &Rules,
-    list: &WordList,
+    pair: &Checked<'_>,
     case: Case,
     asked: bool,
 ) -> Result<ToldCase, AllocError>
     ensures case { IfOk result (λ told. told.case ≡ case) }
-    ensures likely { IfOk result (λ told. IsLikelyAsked asked rules.now list.now case.read told.likely) }
+    ensures likely { IfOk result (λ told. IsLikelyAsked asked rules.now (list_in pair.now) case.read told.likely) }
 {
     let mut case = case;
     let likely = if asked {
-        likely_in_case(alloc, rules, list, &mut case)?
+        likely_in_case(alloc, rules, pair, &mut case)?
     } else {
         None
     };
@@ -53,5 +52,5 @@ pub fn told_case(
     ensures { IfOk result (IsToldCaseOf asked rules.now (list_in pair.now) (read_of game.now)) }
 {
     let case = case_in(alloc, rules, pair, game)?;
-    Ok(told_of(alloc, rules, pair.list(), case, asked)?)
+    Ok(told_of(alloc, rules, pair, case, asked)?)
 }

@@ -4,7 +4,7 @@ use command_files::{NO_GAME, has_no_event, write};
 use engine::{Case, Entry};
 use exit_statuses::{Exit, Trouble, exit_of_case};
 use explain_lines::push_explanation;
-use lex_list::WordList;
+use lex_check::Checked;
 use name_texts::Encoding;
 use ref_tiles::Rules;
 use repair_answers::likely_in;
@@ -12,12 +12,12 @@ use repair_lines::push_likely;
 use std::alloc::{AllocError, Global};
 use std::rt::Runtime;
 
-/// Explains the verdict on a record, or one of its lines, by the rules and the word list: writes it to standard output. After the verdict on an
+/// Explains the verdict on a record, or one of its lines, by the rules, the word list and the lexicon: writes it to standard output. After the verdict on an
 /// illegal record comes its likely repair, if there is one.
 pub fn tell_case<'a, R: Runtime + AllocGlobal>(
     rt: &R,
     rules: &Rules,
-    list: &WordList,
+    pair: &Checked<'_>,
     case: &mut Case,
     line: Option<u32>,
 ) -> Result<Exit, Trouble<'a>> {
@@ -25,7 +25,7 @@ pub fn tell_case<'a, R: Runtime + AllocGlobal>(
         write(rt, NO_GAME)?;
         return Ok(exit_of_case(case, line));
     }
-    let Ok(told) = text_of(rt.alloc(), rules, list, case, line) else {
+    let Ok(told) = text_of(rt.alloc(), rules, pair, case, line) else {
         return Err(Trouble::NoMemory);
     };
     write(rt, told.as_slice())?;
@@ -37,10 +37,10 @@ fn push_likely_in(
     alloc: Global,
     told: &mut Vec<u8>,
     rules: &Rules,
-    list: &WordList,
+    pair: &Checked<'_>,
     entry: &mut Entry,
 ) -> Result<(), AllocError> {
-    match likely_in(alloc, rules, list, entry)? {
+    match likely_in(alloc, rules, pair, entry)? {
         Some(repair) => push_likely(told, &entry.record, &repair),
         None => Ok(()),
     }
@@ -50,14 +50,14 @@ fn push_likely_in(
 fn text_of(
     alloc: Global,
     rules: &Rules,
-    list: &WordList,
+    pair: &Checked<'_>,
     case: &mut Case,
     line: Option<u32>,
 ) -> Result<Vec<u8>, AllocError> {
     let mut told = Vec::new(alloc);
-    push_explanation(alloc, &mut told, rules, list, case, line)?;
+    push_explanation(alloc, &mut told, rules, pair.list(), case, line)?;
     if let (None, Ok(entry)) = (line, &mut case.read) {
-        push_likely_in(alloc, &mut told, rules, list, entry)?;
+        push_likely_in(alloc, &mut told, rules, pair, entry)?;
     }
     match Encoding::of(case.text.as_slice()) {
         Encoding::Utf8 => Ok(told),

@@ -1,10 +1,11 @@
 //! `repair`: the single changes of a faulty record after which it is a game.
+ghost use Rattle.lex_check.specs.Pairs.{list_in};
 ghost use Rattle.repair_answers.specs.Answers.{HasItsWalk};
 
 use command_files::{NO_GAME, has_no_event, write_beside, write_out};
 use engine::Case;
 use exit_statuses::{Exit, Trouble, exit_of_case};
-use lex_list::WordList;
+use lex_check::Checked;
 use name_texts::Encoding;
 use record_repairs::Repair;
 use ref_tiles::Rules;
@@ -14,23 +15,23 @@ use repaired_sheets::{can_be_written, repaired_text};
 use std::alloc::{AllocError, Global};
 use std::rt::Runtime;
 
-/// Tells what repairs the record of a case, by the rules and the word list, in so many lines: writes it to standard output, and the repaired sheet
+/// Tells what repairs the record of a case, by the rules, the word list and the lexicon, in so many lines: writes it to standard output, and the repaired sheet
 /// to the output `out`, where one is named and one repair is to be chosen. Where that is standard output, the rest goes to standard error.
 pub fn tell_repairs<'a, R: Runtime + AllocGlobal>(
     rt: &R,
     rules: &Rules,
-    list: &WordList,
+    pair: &Checked<'_>,
     case: &mut Case,
     number: usize,
     out: Option<&'a str>,
 ) -> Result<Exit, Trouble<'a>>
-    requires { HasItsWalk rules.now list.now case.old }
+    requires { HasItsWalk rules.now (list_in pair.now) case.old }
 {
     if has_no_event(case) {
         write_beside(rt, out, NO_GAME)?;
         return Ok(exit_of_case(case, None));
     }
-    let Ok(answer) = answer_repairs(rt.alloc(), rules, list, case, number) else {
+    let Ok(answer) = answer_repairs(rt.alloc(), rules, pair, case, number) else {
         return Err(Trouble::NoMemory);
     };
     let Ok(told) = text_of(rt.alloc(), case, &answer, out.is_some()) else {

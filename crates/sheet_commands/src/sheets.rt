@@ -88,7 +88,7 @@ fn explain<'a, R: Runtime + AllocGlobal, F: Read + Drop, S: Read + Drop>(
         (IsCaseTold given.now.rules.now (list_in given.now.pair.now)) result }
 {
     match open_case(rt.alloc(), given.rules, given.pair, game) {
-        Ok(mut case) => Ok(Ok(tell_case(rt, given.rules, given.pair.list(), &mut case, line))),
+        Ok(mut case) => Ok(Ok(tell_case(rt, given.rules, given.pair, &mut case, line))),
         Err(fault) => Err(fault),
     }
 }
@@ -116,7 +116,7 @@ fn tell_page<'a, R: Runtime + AllocGlobal, F: Read + Drop, S: Read + Drop>(
     let Ok(maker) = maker_of(given) else {
         return Err(Trouble::NoMemory);
     };
-    let Ok(likely) = likely_in_case(rt.alloc(), given.rules, given.pair.list(), case) else {
+    let Ok(likely) = likely_in_case(rt.alloc(), given.rules, given.pair, case) else {
         return Err(Trouble::NoMemory);
     };
     let contents = Contents {
@@ -186,14 +186,7 @@ fn repair<'a, R: Runtime + AllocGlobal, F: Read + Drop, S: Read + Drop>(
         (IsCaseTold given.now.rules.now (list_in given.now.pair.now)) result }
 {
     match open_case(rt.alloc(), given.rules, given.pair, game) {
-        Ok(mut case) => Ok(Ok(tell_repairs(
-            rt,
-            given.rules,
-            given.pair.list(),
-            &mut case,
-            number,
-            out,
-        ))),
+        Ok(mut case) => Ok(Ok(tell_repairs(rt, given.rules, given.pair, &mut case, number, out))),
         Err(fault) => Err(fault),
     }
 }

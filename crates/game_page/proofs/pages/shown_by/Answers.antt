@@ -26,4 +26,5 @@ returns c =
       walk = c.args.walk.now;
       walked = is;
       sheet = subst (λ (p : ℕ). IsScoreSheet rules list entry.record right p c.in_ok-score_sheet.field-0) at (c.in_ok-score_sheet.ensures right is);
+      repaired = c.in_ok-likely_of.ensures;
     }

@@ -8,6 +8,6 @@ pub returns : goal.returns
 returns c =
     let key : Candidate → ℕ = λ (x : Candidate). x.cost in
     let rises = IsNonDecreasingBy-from_sort_by_key key c.sort_by_key.new.self.items c.in_ok-sort_by_key.ensures.sorted (λ a r f k. search rules) in
-    sorted_ones c.args.rules.now c.args.list.now c.args.events.now c.args.below c.many_places-end.result c.in_ok-found.found.items c.sort_by_key.new.self.items
-    (λ l may. c.many_places-end.ensures.all c.args.rules.now c.args.list.now c.args.events.now c.args.below l c.requires c.in_ok-stop.ensures may) c.in_ok-found.ensures c.sort_by_key.ensures.permutation rises
+    sorted_ones c.args.rules.now c.args.list.now c.args.events.now c.args.plays.now c.args.below c.many_places-end.result c.in_ok-found.found.items c.sort_by_key.new.self.items
+    (λ l may. c.many_places-end.ensures.all c.args.rules.now c.args.list.now c.args.events.now c.args.plays.now c.args.below l c.requires (c.in_ok-stop.ensures c.args.list.now c.requires) may) c.in_ok-found.ensures c.sort_by_key.ensures.permutation rises
     (c.sort_by_key.ensures.stable key (answers_always _ _ _ (λ f a r g h. search rules)))

@@ -8,18 +8,9 @@ use Rattle.record_repairs.proofs.candidates.push_slips.Goals as goal
 pub loop-slip-init : goal.loop-slip-init
 loop-slip-init c =
     record {
-      so_far = at_none c.args.rules.now c.args.list.now c.args.events.now c.args.below c.args.place c.args.found.now.items;
+      so_far = λ plays are. at_none c.args.rules.now c.args.list.now c.args.events.now plays c.args.below c.args.place c.args.found.now.items;
       counted = refl;
     }
-
-pub push_listed-requires-clause-single : goal.push_listed-requires-clause-single
-push_listed-requires-clause-single c =
-    let slips = c.args.slips.items in
-    let t = YieldsList-turn (YieldsList-from_vec slips c.into_iter-slip-iterator.ensures.into_iter_gives.0 (c.into_iter-slip-iterator.ensures.into_iter_gives.1 ∙ c.args.slips.ok.0)) c.loop-slip.yielded _ c.loop-slip.yielded_by c.next.result c.next.new.self
-    c.in-Some.slip c.in-Some.is c.next.ensures.steps in
-    let counted = c.loop-slip.invariant.counted in
-    is_listed c.args.rules.now c.args.events.now c.args.place c.loop-slip.index slips c.in-Some.slip c.requires.slips c.requires.within
-    (subst (λ n. n < length slips) (sym counted) t.0) (subst (λ n. c.in-Some.slip ≡ get_or slips n c.in-Some.slip) (sym counted) t.1)
 
 pub overflow_add-index : goal.overflow_add-index
 overflow_add-index c =
@@ -36,11 +27,12 @@ loop-slip-preserved c =
     let t = YieldsList-turn (YieldsList-from_vec slips c.into_iter-slip-iterator.ensures.into_iter_gives.0 (c.into_iter-slip-iterator.ensures.into_iter_gives.1 ∙ c.args.slips.ok.0)) c.loop-slip.yielded _ c.loop-slip.yielded_by c.next.result c.next.new.self
     c.in-Some.slip c.in-Some.is c.next.ensures.steps in
     let counted = c.loop-slip.invariant.counted in
-    let listed = is_listed c.args.rules.now c.args.events.now c.args.place c.loop-slip.index slips c.in-Some.slip c.requires.slips c.requires.within
-    (subst (λ n. n < length slips) (sym counted) t.0) (subst (λ n. c.in-Some.slip ≡ get_or slips n c.in-Some.slip) (sym counted) t.1) in
     record {
-      so_far = up_more c.args.rules.now c.args.list.now c.args.events.now c.args.below c.args.place c.loop-slip.index _ c.args.found.now.items c.loop-slip.found.items c.push_listed.new.found.items listed refl refl
-          c.loop-slip.invariant.so_far c.in_ok-push_listed.ensures;
+      so_far = λ plays are.
+          let listed = is_listed c.args.rules.now c.args.events.now plays c.args.place c.loop-slip.index slips c.in-Some.slip are c.requires.within (subst (λ n. n < length slips) (sym counted) t.0)
+          (subst (λ n. c.in-Some.slip ≡ get_or slips n c.in-Some.slip) (sym counted) t.1) in
+          up_more c.args.rules.now c.args.list.now c.args.events.now plays c.args.below c.args.place c.loop-slip.index _ c.args.found.now.items c.loop-slip.found.items c.push_listed.new.found.items listed
+          refl refl (c.loop-slip.invariant.so_far plays are) (c.in_ok-push_listed.ensures plays listed);
       counted = ap (λ n. n + 1) counted ∙ sym (length_push c.loop-slip.yielded c.in-Some.slip);
     }
 
@@ -49,5 +41,6 @@ returns c =
     let slips = c.args.slips.items in
     let t = YieldsList-end (YieldsList-from_vec slips c.into_iter-slip-iterator.ensures.into_iter_gives.0 (c.into_iter-slip-iterator.ensures.into_iter_gives.1 ∙ c.args.slips.ok.0)) c.loop-slip.yielded _ c.loop-slip.yielded_by c.next.result c.next.new.self
     c.in-None.is c.next.ensures.steps in
-    up_all c.args.rules.now c.args.list.now c.args.events.now c.args.below c.args.place c.loop-slip.index slips c.args.found.now.items c.loop-slip.found.items c.requires.slips
-    (c.loop-slip.invariant.counted ∙ t.1) c.loop-slip.invariant.so_far
+    λ plays are.
+    up_all c.args.rules.now c.args.list.now c.args.events.now plays c.args.below c.args.place c.loop-slip.index slips c.args.found.now.items c.loop-slip.found.items are
+    (c.loop-slip.invariant.counted ∙ t.1) (c.loop-slip.invariant.so_far plays are)

@@ -1,6 +1,6 @@
 use Rattle.std.proofs.Common.{◌≡◌, ◌<◌, ◌∙◌, length, refl, sym, arith}
 use Rattle.game_turns.proofs.PlaceLaws.{start_tally}
-use Rattle.record_repairs.proofs.Corrected.{stands_first, went_through, finished_then}
+use Rattle.record_repairs.proofs.Corrected.{stands_first, went_through}
 use Rattle.record_repairs.proofs.Trials.{begun, refused_by, went_by}
 use Rattle.record_repairs.proofs.correcting.correct.Goals as goal
 
@@ -28,9 +28,4 @@ returns-then-is_err-clause-none c =
 pub returns-clause-right : goal.returns-clause-right
 returns-clause-right c =
     let last : c.loop-place.place ≡ length c.args.events.now = omega arith in
-    went_through c.args.rules.now c.args.list.now c.args.events.now c.loop-place.events c.loop-place.place c.loop-place.machine c.loop-place.invariant last
-
-pub returns-clause-complete : goal.returns-clause-complete
-returns-clause-complete c =
-    let last : c.loop-place.place ≡ length c.args.events.now = omega arith in
-    finished_then c.args.rules.now c.args.list.now c.args.events.now c.loop-place.events c.loop-place.place c.loop-place.machine c.finished.result c.loop-place.invariant last c.finished.ensures
+    λ so. went_through c.args.rules.now c.args.list.now c.args.events.now c.loop-place.events c.loop-place.place c.loop-place.machine c.loop-place.invariant last

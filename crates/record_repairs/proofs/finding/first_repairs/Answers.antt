@@ -9,11 +9,12 @@ use Rattle.record_repairs.proofs.finding.first_repairs.Goals as goal
 
 pub loop-candidate-init : goal.loop-candidate-init
 loop-candidate-init c =
-    let so : AreSoFar c.args.rules.now c.args.list.now c.args.events.now c.args.below c.args.most c.args.found.items 0 [] [] =
-    none_so_far c.args.rules.now c.args.list.now c.args.events.now c.args.below c.args.most c.args.found.items in
     record {
-      so_far = subst (λ (xs : List Repair). AreSoFar c.args.rules.now c.args.list.now c.args.events.now c.args.below c.args.most c.args.found.items 0 xs c.new-2.result.items) (sym c.new.ensures.items)
-          (subst (λ (xs : List Listed). AreSoFar c.args.rules.now c.args.list.now c.args.events.now c.args.below c.args.most c.args.found.items 0 [] xs) (sym c.new-2.ensures.items) so);
+      so_far = λ plays are.
+          let so : AreSoFar c.args.rules.now c.args.list.now c.args.events.now plays c.args.below c.args.most c.args.found.items 0 [] [] =
+          none_so_far c.args.rules.now c.args.list.now c.args.events.now plays c.args.below c.args.most c.args.found.items in
+          subst (λ (xs : List Repair). AreSoFar c.args.rules.now c.args.list.now c.args.events.now plays c.args.below c.args.most c.args.found.items 0 xs c.new-2.result.items) (sym c.new.ensures.items)
+          (subst (λ (xs : List Listed). AreSoFar c.args.rules.now c.args.list.now c.args.events.now plays c.args.below c.args.most c.args.found.items 0 [] xs) (sym c.new-2.ensures.items) so);
     }
 
 pub loop-candidate-preserved : goal.loop-candidate-preserved
@@ -21,14 +22,15 @@ loop-candidate-preserved c =
     let found = c.args.found.items in
     let t = YieldsList-turn (YieldsList-from_vec found c.into_iter-candidate-iterator.ensures.into_iter_gives.0 (c.into_iter-candidate-iterator.ensures.into_iter_gives.1 ∙ c.args.found.ok.0)) c.loop-candidate.yielded _
     c.loop-candidate.yielded_by c.next.result c.next.new.self c.in-Some.candidate c.in-Some.is c.next.ensures.steps in
-    let so = c.loop-candidate.invariant.so_far in
-    let few = so.few in
-    let ok = c.loop-candidate.first.told.ok in
-    let room : length c.loop-candidate.first.told.items < c.args.most = omega arith in
-    let next = next_tried c.args.rules.now c.args.list.now c.args.events.now c.args.below c.args.most found (length c.loop-candidate.yielded) c.in-Some.candidate c.loop-candidate.first
-    c.push_candidate.new.self c.requires so t.0 t.1 room c.in_ok-push_candidate.ensures in
     record {
-      so_far = subst (λ n. AreSoFar c.args.rules.now c.args.list.now c.args.events.now c.args.below c.args.most found n c.push_candidate.new.self.told.items c.push_candidate.new.self.left.items)
+      so_far = λ plays are.
+          let so = c.loop-candidate.invariant.so_far plays are in
+          let few = so.few in
+          let ok = c.loop-candidate.first.told.ok in
+          let room : length c.loop-candidate.first.told.items < c.args.most = omega arith in
+          let next = next_tried c.args.rules.now c.args.list.now c.args.events.now plays c.args.below c.args.most found (length c.loop-candidate.yielded) c.in-Some.candidate c.loop-candidate.first
+          c.push_candidate.new.self are so t.0 t.1 room c.in_ok-push_candidate.ensures in
+          subst (λ n. AreSoFar c.args.rules.now c.args.list.now c.args.events.now plays c.args.below c.args.most found n c.push_candidate.new.self.told.items c.push_candidate.new.self.left.items)
           (sym (length_push c.loop-candidate.yielded c.in-Some.candidate)) next;
     }
 
@@ -38,12 +40,14 @@ returns c =
     let t = YieldsList-end (YieldsList-from_vec found c.into_iter-candidate-iterator.ensures.into_iter_gives.0 (c.into_iter-candidate-iterator.ensures.into_iter_gives.1 ∙ c.args.found.ok.0)) c.loop-candidate.yielded _
     c.loop-candidate.yielded_by c.next.result c.next.new.self c.in-None.is c.next.ensures.steps in
     let all = t.1 in
-    first_ones c.args.rules.now c.args.list.now c.args.events.now c.args.below c.args.most found (length c.loop-candidate.yielded) c.loop-candidate.first.told.items c.loop-candidate.first.left.items
-    c.requires c.loop-candidate.invariant.so_far (inl (omega (arith, all)))
+    λ plays are.
+    first_ones c.args.rules.now c.args.list.now c.args.events.now plays c.args.below c.args.most found (length c.loop-candidate.yielded) c.loop-candidate.first.told.items
+    c.loop-candidate.first.left.items are (c.loop-candidate.invariant.so_far plays are) (inl (omega (arith, all)))
 
 pub returns-then-len-most : goal.returns-then-len-most
 returns-then-len-most c =
     let ok = c.loop-candidate.first.told.ok in
     let many : length c.loop-candidate.first.told.items ≡ c.args.most = omega arith in
-    first_ones c.args.rules.now c.args.list.now c.args.events.now c.args.below c.args.most c.args.found.items (length c.loop-candidate.yielded) c.loop-candidate.first.told.items
-    c.loop-candidate.first.left.items c.requires c.loop-candidate.invariant.so_far (inr many)
+    λ plays are.
+    first_ones c.args.rules.now c.args.list.now c.args.events.now plays c.args.below c.args.most c.args.found.items (length c.loop-candidate.yielded) c.loop-candidate.first.told.items
+    c.loop-candidate.first.left.items are (c.loop-candidate.invariant.so_far plays are) (inr many)

@@ -1,6 +1,12 @@
-use Rattle.std.proofs.Common.{length}
+use Rattle.std.proofs.Common.{List, length}
+use Rattle.record_changes.specs.declared.slips.Change.{Change}
+use Rattle.record_repairs.specs.Candidates.{AreCandidates}
 use Rattle.record_repairs.proofs.FirstOnes.{AreSoFar}
 use Rattle.record_repairs.proofs.finding.first_repairs.Given as goal
 
 abbrev pub invariant-loop-candidate : goal.invariant-loop-candidate
-invariant-loop-candidate l = record { so_far : AreSoFar l.rules l.list l.events l.fn.below l.most l.fn.found.items (length l.yielded) l.first.told.items l.first.left.items }
+invariant-loop-candidate l =
+    record {
+      so_far : (plays : List Change) → AreCandidates l.rules l.list l.events plays l.fn.below l.fn.found.items
+          → AreSoFar l.rules l.list l.events plays l.fn.below l.most l.fn.found.items (length l.yielded) l.first.told.items l.first.left.items;
+    }

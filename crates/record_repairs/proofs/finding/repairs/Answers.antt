@@ -4,17 +4,18 @@ use Rattle.game_rows.specs.Walks.{IsWalkOf}
 use Rattle.std.specs.Prelude.{IfOk}
 use Rattle.record_repairs.specs.Candidates.{AreCandidates}
 use Rattle.record_repairs.specs.Repairs.{AreFirstRepairs}
+use Rattle.record_repairs.proofs.FirstOnes.{told_with}
 use Rattle.record_repairs.proofs.finding.repairs.Goals as goal
 
 pub all_candidates-requires : goal.all_candidates-requires
 all_candidates-requires c =
     subst (λ (es : List Event). IsWalkOf c.args.rules.now c.args.list.now es c.in_ok-walk.walk) (sym (c.as_slice.ensures ∙ c.in_ok-walk.ensures.same)) c.in_ok-walk.ensures.walk
 
-pub first_repairs-requires : goal.first_repairs-requires
-first_repairs-requires c =
-    subst (λ (es : List Event). AreCandidates c.args.rules.now c.args.list.now es c.args.below c.in_ok-found.found.items) (c.as_slice.ensures ∙ sym c.as_slice-2.ensures) c.in_ok-found.ensures
-
 pub returns-clause-told : goal.returns-clause-told
 returns-clause-told c =
-    subst (λ (es : List Event). IfOk c.first_repairs.result (λ r. AreFirstRepairs c.args.rules.now c.args.list.now es c.args.below c.args.most r.told.items r.left.items))
-    (c.as_slice-2.ensures ∙ c.in_ok-walk.ensures.same) c.first_repairs.ensures
+    let written = c.as_slice-2.result.now in
+    let are = subst (λ (es : List Event). AreCandidates c.args.rules.now c.args.list.now es c.args.plays.now c.args.below c.in_ok-found.found.items) (c.as_slice.ensures ∙ sym c.as_slice-2.ensures)
+    c.in_ok-found.ensures in
+    subst (λ (es : List Event). IfOk c.first_repairs.result (λ r. AreFirstRepairs c.args.rules.now c.args.list.now es c.args.plays.now c.args.below c.args.most r.told.items r.left.items))
+    (c.as_slice-2.ensures ∙ c.in_ok-walk.ensures.same)
+    (told_with c.args.rules.now c.args.list.now written c.args.plays.now c.args.below c.args.most c.in_ok-found.found.items c.first_repairs.result are c.first_repairs.ensures)

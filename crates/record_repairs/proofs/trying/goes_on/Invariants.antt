@@ -1,5 +1,6 @@
 use Rattle.std.proofs.Common.{◌≤◌}
 use Rattle.game_turns.specs.Machines.{rules_of}
+use Rattle.record_repairs.specs.FirstSteps.{AreFirstSteps}
 use Rattle.record_repairs.proofs.Counted.{Counts}
 use Rattle.record_repairs.proofs.Trials.{GoesTo}
 use Rattle.record_repairs.proofs.trying.goes_on.Given as goal
@@ -9,5 +10,6 @@ invariant-loop-place l =
     record {
       so_far : GoesTo (rules_of l.game) l.list l.initial.events l.events l.start l.place l.machine;
       behind : l.start ≤ l.place;
+      first : AreFirstSteps (rules_of l.game) l.list l.initial.events l.first.steps.items;
       counts : Counts (rules_of l.game) l.list l.initial.events l.start l.place l.missing l.initial.room l.room;
     }

@@ -1,4 +1,4 @@
-use Rattle.std.proofs.Common.{arith}
+use Rattle.std.proofs.Common.{ℕ, ◌+◌, ap, arith}
 use Rattle.repair_answers.proofs.Tries.{none_before, many_more, all_tried}
 use Rattle.repair_answers.proofs.lists.many_tried.Goals as goal
 
@@ -15,4 +15,5 @@ loop-place-preserved c =
     }
 
 pub returns : goal.returns
-returns c = all_tried c.args.rules.now c.args.events.now c.args.walk.now c.loop-place.place c.loop-place.many c.loop-place.invariant.so_far (omega arith)
+returns c =
+    ap (λ (n : ℕ). n + c.args.plays) (all_tried c.args.rules.now c.args.events.now c.args.walk.now c.loop-place.place c.loop-place.many c.loop-place.invariant.so_far (omega arith))

@@ -1,5 +1,6 @@
-use Rattle.std.proofs.Common.{◌≡◌, ◌<◌, ◌≤◌, length, refl, arith}
+use Rattle.std.proofs.Common.{◌≡◌, ◌<◌, ◌≤◌, ◌∙◌, [], length, refl, sym, arith}
 use Rattle.record_repairs.proofs.PlaceChanges.{is_listed, listed_here, rows_fit}
+use Rattle.record_repairs.proofs.WithPlays.{none_with}
 use Rattle.repair_pairs.proofs.listed.listed_at.Goals as goal
 
 pub returns : goal.returns
@@ -10,6 +11,7 @@ returns c =
     let slips = c.in_ok-slips.slips.items in
     let ok = c.in_ok-slips.slips.ok in
     let within : c.args.index < length slips = omega arith in
-    is_listed c.args.rules.now c.args.events.now c.args.place c.args.index slips c.swap_remove-slip.result
-    (listed_here c.law_of_slips.ensures c.args.rules.now c.args.list.now c.args.events.now c.args.place c.in-Some.game.now slips
-    (c.in-Some.ensures.game c.args.rules.now c.args.list.now c.args.events.now c.requires) c.in_ok-slips.ensures) inside within c.swap_remove-slip.ensures.value
+    let listed = listed_here c.law_of_slips.ensures c.args.rules.now c.args.list.now c.args.events.now c.args.place c.in-Some.game.now slips
+    (c.in-Some.ensures.game c.args.rules.now c.args.list.now c.args.events.now c.requires) c.in_ok-slips.ensures in
+    is_listed c.args.rules.now c.args.events.now [] c.args.place c.args.index slips c.swap_remove-slip.result (listed ∙ sym (none_with c.args.rules.now c.args.events.now c.args.place)) inside within
+    c.swap_remove-slip.ensures.value

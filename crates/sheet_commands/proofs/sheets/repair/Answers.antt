@@ -1,4 +1,4 @@
-use Rattle.std.proofs.Common.{Ok, [], List, ℕ, refl, subst, sym}
+use Rattle.std.proofs.Common.{Ok, [], refl}
 use Rattle.lex_check.specs.Pairs.{list_in}
 use Rattle.call_stages.specs.Runs.{outcomes}
 use Rattle.call_stages.proofs.Giving.{gives_failed, gives_last}
@@ -7,9 +7,7 @@ use Rattle.command_files.specs.Telling.{IsCaseTold}
 use Rattle.sheet_commands.proofs.sheets.repair.Goals as goal
 
 pub tell_repairs-requires : goal.tell_repairs-requires
-tell_repairs-requires g c =
-    let text = c.in-Ok.ensures.taken.text in
-    (text, subst (λ (l : List (List ℕ)). IsCaseOf c.args.given.now.rules.now l text c.in-Ok.case) (sym c.list.ensures.list) c.in-Ok.ensures.taken.means)
+tell_repairs-requires g c = (c.in-Ok.ensures.taken.text, c.in-Ok.ensures.taken.means)
 
 pub returns-in-Ok : goal.returns-in-Ok
 returns-in-Ok g c =

@@ -1,0 +1,39 @@
+-- What a page shows of the likely repair of a record.
+use Rattle.std.specs.Prelude.{◌≡◌, ⊤, ◌≤◌, Bool, true, false, length, Option, Some, None}
+use Rattle.record_changes.specs.declared.slips.Slip.{Slip}
+use Rattle.record_changes.specs.declared.slips.Slip.TheVariants as slip
+use Rattle.record_changes.specs.declared.slips.MissingLine.{MissingLine}
+use Rattle.record_changes.specs.declared.slips.MissingLine.TheVariants as line
+use Rattle.record_repairs.specs.declared.repair.Repair.{Repair}
+use Rattle.score_sheets.specs.declared.pictures.Picture.{Picture}
+use Rattle.score_sheets.specs.Boards.{IsShownAt}
+use Rattle.game_page.specs.declared.likely.Likely.{Likely}
+
+-- whether a missing line is a play
+abbrev pub is_missing_play : MissingLine → Bool
+is_missing_play (line.Play player play) = true
+is_missing_play other = false
+
+-- whether a slip is one of a play: of its position, of its text or of the whole play; or whether a play is missing
+abbrev pub is_of_play : Slip → Bool
+is_of_play (slip.Position s) = true
+is_of_play (slip.Spelling s) = true
+is_of_play (slip.Replayed play) = true
+is_of_play (slip.Missing m) = is_missing_play m
+is_of_play other = false
+
+-- a repair of a play, which stands at a place of the right events
+abbrev pub RepairsPlay : Repair → Type 0
+RepairsPlay repair = (is_of_play repair.listed.change.slip ≡ true) × (repair.listed.change.place ≤ length repair.right)
+
+-- the board with the play as it should be, where the repair is one of a play, and no board where it is not
+abbrev pub IsBoardOf : Repair → Option Picture → Type 0
+IsBoardOf repair None = RepairsPlay repair → ⊥
+IsBoardOf repair (Some picture) = RepairsPlay repair × IsShownAt repair.right repair.listed.change.place picture
+
+-- what is shown of the likely repair, where there is one
+abbrev pub IsLikelyShown : Option Repair → Option Likely → Type 0
+IsLikelyShown None None = ⊤
+IsLikelyShown None (Some likely) = ⊥
+IsLikelyShown (Some repair) None = ⊥
+IsLikelyShown (Some repair) (Some likely) = IsBoardOf repair likely.board

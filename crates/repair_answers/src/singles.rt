@@ -1,0 +1,94 @@
+//! The first repairs of a record by one change: of the list, and where none of these is a likely one, of plays that a search finds too.
+ghost use Rattle.std.specs.Prelude.{◌≡◌, IfOk, OnOk};
+ghost use Rattle.lex_check.specs.Pairs.{list_in};
+ghost use Rattle.play_changes.specs.PlayChanges.{ArePlayChanges};
+ghost use Rattle.record_repairs.specs.Repairs.{AreFirstRepairs};
+
+use crate::choices::{NUMBER, cost_of};
+use game_rows::Walk;
+use gcg_read::Events;
+use lex_check::Checked;
+use play_changes::plays_for;
+use record_changes::Change;
+use record_repairs::{Found, repairs};
+use ref_tiles::Rules;
+use std::alloc::{AllocError, Global};
+
+/// The first repairs of a record, and the plays that were tried beside the changes of the list.
+#[derive(Drop)]
+pub(crate) struct Singles {
+    /// The changes of plays; none where a repair by the list is a likely one.
+    pub plays: Vec<Change>,
+    /// The first repairs, and the changes that are left open.
+    pub found: Found,
+}
+
+/// Whether the first repair costs no more than a wrong number.
+fn has_likely(found: &Found) -> bool {
+    match found.told.as_slice() {
+        [first, ..] => cost_of(first) <= NUMBER,
+        [] => false,
+    }
+}
+
+/// Whether a single number or word is wrong where the numbers alone are, or none: that costs no more than a change of a play.
+fn is_nearly_right(below: Option<usize>) -> bool {
+    match below {
+        Some(below) => below <= 1,
+        None => false,
+    }
+}
+
+/// The first so many repairs of a record with some plays beside the changes of the list.
+fn with_plays(
+    alloc: Global,
+    rules: &Rules,
+    pair: &Checked<'_>,
+    events: &mut Events,
+    plays: Vec<Change>,
+    below: Option<usize>,
+    most: usize,
+) -> Result<Singles, AllocError>
+    ensures plays { IfOk result (λ s. s.plays ≡ plays) }
+    ensures told { IfOk result (λ s. AreFirstRepairs rules.now (list_in pair.now) events.old plays.items below most s.found.told.items s.found.left.items) }
+    ensures same { OnOk result (events.new ≡ events.old) }
+{
+    let found = repairs(
+        alloc,
+        rules,
+        pair.list(),
+        events,
+        plays.as_slice(),
+        below,
+        most,
+    )?;
+    Ok(Singles { plays, found })
+}
+
+/// The first so many repairs of a record by the changes of its list; where the first of them costs more than a wrong number, or there is none,
+/// those by these changes and by the plays that a search finds. No plays are looked for where a single number or word is wrong.
+///
+/// It fails only where memory runs out.
+pub(crate) fn first_repairs(
+    alloc: Global,
+    rules: &Rules,
+    pair: &Checked<'_>,
+    walk: &Walk,
+    events: &mut Events,
+    below: Option<usize>,
+    most: usize,
+) -> Result<Singles, AllocError>
+    ensures told { IfOk result (λ s. AreFirstRepairs rules.now (list_in pair.now) events.old s.plays.items below most s.found.told.items s.found.left.items) }
+    ensures plays { IfOk result (λ s. ArePlayChanges events.old walk.now s.plays.items) }
+    ensures same { OnOk result (events.new ≡ events.old) }
+{
+    let by_list = with_plays(alloc, rules, pair, events, Vec::new(alloc), below, most)?;
+    if is_nearly_right(below) || has_likely(&by_list.found) {
+        return Ok(by_list);
+    }
+    let plays = plays_for(alloc, rules, pair, walk, events.as_slice())?;
+    if plays.is_empty() {
+        return Ok(by_list);
+    }
+    with_plays(alloc, rules, pair, events, plays, below, most)
+}
