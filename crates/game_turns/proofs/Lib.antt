@@ -5,3 +5,5 @@ pub mod Allowed
 pub mod NextTallies
 pub mod PlaceLaws
 pub mod Examples
+mod SameLists
+mod SameStates

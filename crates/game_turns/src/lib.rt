@@ -1,6 +1,7 @@
 //! The turns of a game: whether the rules allow each event of a record, and the first check that fails.
 #![tactic(auto)]
 
+mod alike;
 mod amounts;
 mod changes;
 mod checks;

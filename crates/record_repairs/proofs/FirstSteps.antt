@@ -145,7 +145,7 @@ next_same written changed place start k is same below (inr there) (inr past) =
     let last : start ≡ k + 1 = omega (arith, near, past, below) in
     subst (λ n. withdraws (slice_get changed n) ≡ withdraws (slice_get written n)) last there
 
-within_take : {X : Type 0} (xs : List X) (n k : ℕ) (x : X) → slice_get (take n xs) k ≡ Some x → k < n
+pub within_take : {X : Type 0} (xs : List X) (n k : ℕ) (x : X) → slice_get (take n xs) k ≡ Some x → k < n
 within_take xs n k x there =
     let within = slice_get_within (take n xs) k x there in
     let long = length-take n xs in
@@ -161,7 +161,7 @@ steps_before rules list written changed place start steps are is same k step the
 
 -- ---- one step more
 
-got_last : {X : Type 0} (xs : List X) (y : X) (k : ℕ) (x : X) → slice_get (xs ++ y ∷ []) k ≡ Some x → (slice_get xs k ≡ Some x) ⊎ ((k ≡ length xs) × (y ≡ x))
+pub got_last : {X : Type 0} (xs : List X) (y : X) (k : ℕ) (x : X) → slice_get (xs ++ y ∷ []) k ≡ Some x → (slice_get xs k ≡ Some x) ⊎ ((k ≡ length xs) × (y ≡ x))
 got_last [] y zero x there = inr (refl, cc)
 got_last [] y (suc k) x there = cc
 got_last (z ∷ xs) y zero x there = inl there
@@ -213,7 +213,7 @@ noted_going rules list old now start place machine steps new at near more are =
 
 -- ---- the steps that are kept with a stop
 
-kept_first : (rules : Rules) (list : List (List ℕ)) (written : List Event) (stop : Option RackStop) → IsStop rules list written stop → AreFirstSteps rules list written (steps_in stop)
+pub kept_first : (rules : Rules) (list : List (List ℕ)) (written : List Event) (stop : Option RackStop) → IsStop rules list written stop → AreFirstSteps rules list written (steps_in stop)
 kept_first rules list written None is = λ k step there. cc
 kept_first rules list written (Some stop) is = is.first
 

@@ -17,7 +17,6 @@ pub mod Skipping
 pub mod Corrected
 pub mod RackStops
 pub mod FirstSteps
-pub mod RackSlips
 pub mod Foreseen
 pub mod Sorting
 pub mod Weighing
@@ -32,3 +31,7 @@ pub mod FirstOnes
 pub mod SortedOnes
 pub mod Tellings
 pub mod OneRepair
+pub mod Parts
+pub mod Neighbours
+pub mod Rejoining
+pub mod GoingWrong

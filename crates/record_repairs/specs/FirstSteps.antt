@@ -2,15 +2,11 @@
 use Rattle.std.specs.Prelude.{◌≡◌, ◌⊎◌, ℕ, ◌+◌, List, [], ◌∷◌, ◌++◌, length, slice_get, Some}
 use Rattle.ref_tiles.specs.declared.rulebook.Rules.{Rules}
 use Rattle.gcg_read.specs.declared.events.Event.{Event}
-use Rattle.gcg_read.specs.declared.events.EventKind.{EventKind}
-use Rattle.gcg_read.specs.declared.events.Seat.{Seat}
 use Rattle.game_turns.specs.Places.{AreAllowedTo}
 use Rattle.game_turns.specs.Tallies.{State, tally_at, withdraws}
 use Rattle.game_sheets.specs.Corrections.{AreRenumbered}
 use Rattle.deal_steps.specs.declared.steps.Step.{Step}
 use Rattle.game_deal.specs.Recorded.{step_in}
-use Rattle.record_changes.specs.declared.slips.Slip.{Slip}
-use Rattle.record_changes.specs.Applied.{wrong_events, right_events, right_event, right_player, right_kind, right_amount}
 
 -- The step of the event at a place, once the events before it are corrected. It hangs on no number of the event itself.
 pub record IsStepAt (rules : Rules) (list : List (List ℕ)) (events : List Event) (place : ℕ) (step : Step) : Type 0 where
@@ -35,11 +31,3 @@ pub record IsNextStep (s : State) (events : List Event) (place : ℕ) (old new :
 -- that step comes behind the others, or none does
 abbrev pub MayAddStep : State → (events : List Event) → (place : ℕ) → (old new : List Step) → Type 0
 MayAddStep s events place old new = (new ≡ old) ⊎ IsNextStep s events place old new
-
--- A slip concerns the stated rack of a single event and leaves all else of it as it is.
-pub record IsOfRack (slip : Slip) : Type 0 where
-  pub one : wrong_events slip ≡ 1
-  pub each : (e : Event) → right_events slip (e ∷ []) ≡ right_event slip e ∷ []
-  pub player : (p : Seat) → right_player slip p ≡ p
-  pub what : (k : EventKind) → right_kind slip k ≡ k
-  pub amount : (e : Event) → right_amount slip e.score ≡ e.score

@@ -12,3 +12,4 @@ pub mod Candidates
 pub mod Settling
 pub mod Telling
 pub mod Laws
+pub mod Nearby

@@ -1,5 +1,5 @@
 -- Where the racks of a record stop: no deal yields those of its first events.
-use Rattle.std.specs.Prelude.{ℕ, List, [], take, Option, Some, None}
+use Rattle.std.specs.Prelude.{◌≡◌, ℕ, ◌≤◌, List, [], ◌++◌, length, take, drop, Option, Some, None}
 use Rattle.ref_tiles.specs.declared.rulebook.Rules.{Rules}
 use Rattle.gcg_read.specs.declared.events.Event.{Event}
 use Rattle.deal_steps.specs.declared.steps.Step.{Step}
@@ -30,3 +30,17 @@ IsStop rules list written (Some stop) = IsRackStop rules list written stop.end s
 abbrev pub steps_in : Option RackStop → List Step
 steps_in None = []
 steps_in (Some stop) = stop.steps.items
+
+-- The steps of a record, with others in the place of those from one place up to another, up to some end.
+pub record IsStepsAround (kept : List Step) (start : ℕ) (first : List Step) (end : ℕ) (all : List Step) : Type 0 where
+  pub last : ℕ
+  pub are : all ≡ take start kept ++ (first ++ take last (drop end kept))
+
+-- With other steps in the place of those from one place up to another no events make a game.
+pub record StopsAgain (rules : Rules) (kept : List Step) (start many end : ℕ) (first : List Step) : Type 0 where
+  pub all : List Step
+  pub around : IsStepsAround kept start first end all
+  pub none : NoneWith rules all
+  pub as_many : length first ≡ many
+  pub within : end ≤ length kept
+  pub before : start ≤ end

@@ -11,7 +11,7 @@ use crate::correcting::corrected;
 use crate::counting::{behind_event, behind_rows, scores_but};
 use crate::first_steps::FirstSteps;
 use crate::mending::mend;
-use crate::rack_slips::stops_with_rack;
+use crate::nearby::fails_nearby;
 use crate::rack_stops::{RackStop, are_stopped, first_steps};
 use crate::remaining::what_remains;
 use crate::rooms::is_full;
@@ -133,7 +133,7 @@ pub(crate) fn weigh(
     requires stop { IsStop rules.now list.now events.now stop.now }
     ensures { IfOk result (IsWeight rules.now list.now events.now below change.now) }
 {
-    if stops_with_rack(alloc, rules, walk, events, stop, change)? {
+    if fails_nearby(alloc, rules, list, walk, events, stop, change)? {
         return Ok(None);
     }
     if !may_be_told(alloc, rules, list, walk, events, below, stop, change)? {

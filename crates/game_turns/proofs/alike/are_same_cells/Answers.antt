@@ -1,0 +1,18 @@
+use Rattle.std.proofs.Common.{◌<◌, length, refl, arith}
+use Rattle.game_turns.proofs.SameLists.{same_more, same_all}
+use Rattle.game_turns.proofs.alike.are_same_cells.Goals as goal
+
+pub loop-place-init : goal.loop-place-init
+loop-place-init c = refl
+
+pub loop-place-preserved : goal.loop-place-preserved
+loop-place-preserved c =
+    let long = c.requires in
+    let within : c.loop-place.place < length c.args.others.now = omega arith in
+    same_more c.args.cells.now c.args.others.now c.loop-place.place c.index-cells-place.result c.index-others-place.result c.loop-place-test.true within c.index-cells-place.is c.index-others-place.is
+    (c.is_same_cell.ensures.0 c.if-not-is_same_cell.false) c.loop-place.invariant
+
+pub returns : goal.returns
+returns c =
+    let all = c.loop-place-test.false in
+    (λ yes_it. same_all c.args.cells.now c.args.others.now c.loop-place.place c.requires (omega (arith, all)) c.loop-place.invariant, λ same. refl)
