@@ -1,4 +1,4 @@
--- What is told of many games, once what they are judged by is read.
+-- What is reported on many games, once the rules, the words and the lexicon are read.
 use Rattle.std.proofs.Common.{ℕ, List, [], ◌∷◌, Result, Ok, Err}
 use Rattle.call_stages.specs.declared.decisions.Decision.{Decision}
 use Rattle.call_stages.specs.declared.verdicts.Verdict.{Verdict}
@@ -7,12 +7,12 @@ use Rattle.call_stages.specs.Reading.{ReadsNoMore}
 use Rattle.call_stages.specs.Telling.{IsTold, IsLater}
 use Rattle.command_files.specs.Later.{later_as}
 
--- nothing more is read, and many games are told
+-- nothing more is read, and many games are reported
 abbrev pub AreGamesTold : {T : Type 0} → Result T Decision → (texts : List (List ℕ)) → Verdict → List ℕ → Type 0
 AreGamesTold (Ok told) texts v report = ReadsNoMore (IsTold verdict.Done []) texts v report
 AreGamesTold (Err d) texts v report = ⊥
 
--- it is not that an input before them is bad
+-- what is reported is not that an earlier input is bad
 pub games_later : {T : Type 0} (x : Result T Decision) (texts : List (List ℕ)) (v : Verdict) (report : List ℕ) → AreGamesTold x texts v report → IsLater v
 games_later (Ok told) [] v report is = later_as v is.verdict_is
 games_later (Ok told) (text ∷ rest) v report is = absurd is

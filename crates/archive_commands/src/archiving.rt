@@ -1,4 +1,4 @@
-//! `archive`: many games by one word list and one lexicon, which are read once, and a line for each.
+//! `archive`: judges many games by one word list and one lexicon, which are read once, and writes a line for each.
 ghost use Rattle.std.specs.Prelude.{[], ⊤};
 ghost use Rattle.devices.specs.Devices.{HasRoom};
 ghost use Rattle.archive_commands.specs.Telling.{AreGamesTold, games_later};
@@ -30,8 +30,8 @@ use std::rt::{Files, Runtime};
 use std::str;
 use watching::Reason;
 
-/// Judges the games of an archive, each by the settled verdict, and writes a line for each to standard output before the next one is
-/// read. `watched` says whether somebody sees standard error.
+/// Judges the games of an archive, each by the settled verdict, and writes a line for each to standard output before it reads the next
+/// one. `watched` says whether somebody sees standard error.
 pub fn archive<'r, 'a, R: Runtime + AllocGlobal>(
     rt: &'r R,
     request: &'r Archive<'a>,
@@ -77,14 +77,14 @@ pub fn buffered<'a, F: Read + Drop>(
     }
 }
 
-/// The games of an archive, which are judged one after the other.
+/// The games of an archive. They are judged one after the other.
 #[derive(Drop)]
 struct Games<N> {
     run: Run,
     names: N,
 }
 
-/// What is asked of the games of an archive, by a runtime to which their lines go.
+/// The request for the games of an archive, with the runtime to which their lines go.
 #[derive(Clone, Copy)]
 struct ArchiveQuestion<'r, 'a, R> {
     rt: &'r R,
@@ -118,7 +118,7 @@ impl<'a, R: Runtime + AllocGlobal, F: Read + Drop, S: Read + Drop, N: Names + Dr
     ghost later = { λ question rules words x texts v report is. games_later x texts v report is };
 }
 
-/// Reads the inputs, and judges the games by them where they are good. A bad one ends the run with its line.
+/// Reads the inputs, and judges the games by them if they are good. A bad one ends the run with its line.
 fn archive_by<'r, 'a, R: Runtime + AllocGlobal, N: Names + Drop>(
     rt: &'r R,
     request: &'r Archive<'a>,
@@ -152,7 +152,7 @@ fn archive_by<'r, 'a, R: Runtime + AllocGlobal, N: Names + Drop>(
     }
 }
 
-/// The pages of an archive, where they are asked for.
+/// The pages of an archive, if they are requested.
 fn pages_of<'a, R: Runtime + AllocGlobal, F: Read + Drop, S: Read + Drop>(
     rt: &R,
     folder: Option<&'a str>,
@@ -204,7 +204,7 @@ fn go_through<'a, R: Runtime + AllocGlobal, F: Read + Drop, S: Read + Drop, N: N
     Ok(run.worst)
 }
 
-/// How far a run over the games of an archive is.
+/// The state of a run over the games of an archive.
 #[derive(Drop)]
 struct Run {
     /// The games that have a line already, and are passed over.
@@ -212,12 +212,12 @@ struct Run {
     json: bool,
     /// Whether each line has the likely repair of its game.
     repairs: bool,
-    /// Whether the names of the games stand in a list, and not on the command line.
+    /// Whether the names of the games are in a list, and not on the command line.
     is_listed: bool,
     progress: Progress,
     /// The line of the game that is being judged. The games share its memory.
     line: Vec<u8>,
-    /// How the program ends by the games that are done.
+    /// How the program ends, by the games that are done.
     worst: Exit,
 }
 
@@ -237,7 +237,7 @@ impl Run {
         self.take_game(rt, rules, pair, pages, name)
     }
 
-    /// Judges one game, and writes its line. A name that is not UTF-8 text is the name of no file.
+    /// Judges one game, and writes its line. A name that is not UTF-8 text is not the name of a file.
     fn take_game<'a, R: Runtime + AllocGlobal>(
         &mut self,
         rt: &R,
@@ -263,7 +263,7 @@ impl Run {
         }
     }
 
-    /// Opens a game: a list of names names files alone, the command line standard input too.
+    /// Opens a game. A list of names has only files; the command line may name standard input too.
     fn open_game<'n, R: Runtime>(&self, rt: &R, name: &'n str) -> Result<Source<R>, Trouble<'n>> {
         if self.is_listed {
             Ok(Either::Left(open(rt, name)?))
@@ -272,7 +272,7 @@ impl Run {
         }
     }
 
-    /// Writes the line of a game, or that there was no memory for it, adds its row to the index where pages are made, and counts the
+    /// Writes the line of a game, or that there was no memory for it, adds its row to the index if pages are made, and counts the
     /// game.
     fn tell<'a, R: Runtime + AllocGlobal>(
         &mut self,
@@ -307,7 +307,7 @@ impl Run {
         Ok(())
     }
 
-    /// Makes the line of a game, in the form that was asked for.
+    /// Makes the line of a game, in the requested form.
     fn make_line(&mut self, alloc: Global, fields: &Fields<'_>) -> Result<(), AllocError> {
         self.line.clear();
         if self.json {
@@ -318,7 +318,7 @@ impl Run {
     }
 }
 
-/// What is found of the open game of this name, with its likely repair where repairs are asked for. Its page is written where pages are made.
+/// What is found of the open game of this name, with its likely repair if repairs are requested. Writes its page if pages are made.
 fn found<'n, R: Runtime + AllocGlobal, F: Read + Drop>(
     rt: &R,
     rules: &Rules,
@@ -347,7 +347,7 @@ fn found<'n, R: Runtime + AllocGlobal, F: Read + Drop>(
     }
 }
 
-/// What the line of a game says, with its likely repair where repairs are asked for.
+/// What the line of a game says, with its likely repair if repairs are requested.
 fn fields_with<'n>(
     alloc: Global,
     rules: &Rules,
@@ -361,7 +361,7 @@ fn fields_with<'n>(
     fields_of(alloc, repairs, name, entry, likely.as_ref(), encoding)
 }
 
-/// What the line of a game says, with the likely repair that was found where repairs are asked for.
+/// What the line of a game says, with the likely repair that was found if repairs are requested.
 pub fn fields_of<'n>(
     alloc: Global,
     repairs: bool,
@@ -377,7 +377,7 @@ pub fn fields_of<'n>(
     Ok(fields)
 }
 
-/// Why a game of this name is unread whose reading failed.
+/// Why the game of this name is unread, if reading it failed.
 pub fn unread_by<R: Files>(rt: &R, name: &str, fault: RunFault) -> Unread {
     match fault {
         RunFault::NoMemory => Unread::NoMemory,

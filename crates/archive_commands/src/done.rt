@@ -15,8 +15,9 @@ pub struct Done {
 }
 
 impl Done {
-    /// The names that have a line in a file, or none where no file is named. Where something in it is no line of an archive, that is
-    /// said on standard error, and there is no answer. Part of a line at the end is none: a shell that appends would join a line to it.
+    /// Reads the names that have a line in a file; there are none if no file is named. If something in it is not a line of an archive,
+    /// standard error says so, and the answer is `None`. Part of a line at the end is not a line: a shell that appends would join a
+    /// line to it.
     pub fn read<'a, R: Runtime + AllocGlobal>(
         rt: &R,
         file: Option<&'a str>,
@@ -49,7 +50,7 @@ impl Done {
         Ok(Some(done))
     }
 
-    /// Whether a game of this name has a line. A line has a name that is not UTF-8 as text with U+FFFD.
+    /// Whether a game of this name has a line. If a name is not UTF-8, its line has it as text with U+FFFD.
     pub fn has<'a>(&self, alloc: Global, name: &[u8]) -> Result<bool, Trouble<'a>> {
         if self.names.is_empty() {
             return Ok(false);

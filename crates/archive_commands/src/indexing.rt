@@ -10,8 +10,8 @@ use std::alloc::{AllocError, Global};
 use std::io::BufRead;
 use std::rt::Runtime;
 
-/// Writes the index of the pages that lines of archives name to the file `out`, with a row for each line. Where something is no line of
-/// an archive, that is said on standard error, and `out` is not touched.
+/// Writes the index of the pages that lines of archives name to the file `out`, with a row for each line. If something is not a line of
+/// an archive, standard error says so, and `out` is not touched.
 pub fn index<'a, R: Runtime + AllocGlobal>(
     rt: &R,
     lines: &'a str,
@@ -29,7 +29,7 @@ pub fn index<'a, R: Runtime + AllocGlobal>(
     Ok(Exit::Fine)
 }
 
-/// The index of these lines; none where one is no line of an archive, which is said.
+/// The index of these lines. If one is not a line of an archive, standard error says so, and the answer is `None`.
 fn index_of<'a, R: Runtime + AllocGlobal, B: BufRead + Drop>(
     rt: &R,
     lines: &mut ArchiveLines<'a, B>,
@@ -75,7 +75,7 @@ fn push_row(alloc: Global, index: &mut Index, line: &LineRead) -> Result<(), All
     index.add(alloc, &row)
 }
 
-/// The text, where there is one.
+/// The text, if there is one.
 fn text_of(text: &Option<String>) -> Option<&str> {
     text.as_ref().map(|text| text.as_str())
 }

@@ -1,4 +1,4 @@
-//! The commands that are about many games: `archive` and `index`.
+//! The commands on many games: `archive` and `index`.
 #![tactic(auto)]
 
 mod archiving;

@@ -1,4 +1,4 @@
-//! The likely repair of a game of an archive, as its line says it.
+//! The likely repair of a game of an archive, as its line has it.
 
 use archive_lines::LikelyFields;
 use engine::Entry;
@@ -26,7 +26,7 @@ pub fn likely_if(
     }
 }
 
-/// What a line says of a repair of a record. Names in it are text by the encoding of the record.
+/// What a line says of a repair of a record. Names are read by the encoding of the record.
 fn said_of(
     alloc: Global,
     record: &Record,
@@ -43,7 +43,7 @@ fn said_of(
     })
 }
 
-/// What the line of a game says of its likely repair, where there is one.
+/// What the line of a game says of its likely repair, if there is one.
 pub fn likely_fields(
     alloc: Global,
     record: &Record,

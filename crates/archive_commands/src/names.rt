@@ -4,7 +4,7 @@ use std::io::{self, BufRead};
 
 /// Where the names of games come from.
 pub trait Names {
-    /// Puts the next name into the buffer, which is empty, and says whether there is one.
+    /// Puts the next name into the buffer, which is empty, and returns whether there is one.
     fn next_name(&mut self, name: &mut Vec<u8>) -> io::Result<bool>;
 }
 
@@ -33,7 +33,7 @@ impl Names for Given<'_> {
     }
 }
 
-/// The names of a text, each up to a byte that ends it; an empty one is none.
+/// The names of a text, each up to the byte that ends it. Empty ones are passed over.
 #[derive(Drop)]
 pub struct Listed<B> {
     reader: B,
@@ -41,7 +41,7 @@ pub struct Listed<B> {
 }
 
 impl<B: BufRead + Drop> Listed<B> {
-    /// The names of the text that is read here, which this byte ends.
+    /// The names of the text that a reader gives; this byte ends each.
     pub fn new(reader: B, end: u8) -> Listed<B> {
         Listed { reader, end }
     }

@@ -23,7 +23,7 @@ use std::rt::Runtime;
 /// The file of the index in the folder.
 const INDEX: &str = "index.html";
 
-/// The pages of a run over many games: where they go, what they are made by, and their index so far.
+/// The pages of a run over many games: their folder, what they are made by, and their index so far.
 #[derive(Drop)]
 pub struct Pages<'a> {
     folder: &'a str,
@@ -35,7 +35,7 @@ pub struct Pages<'a> {
 }
 
 impl<'a> Pages<'a> {
-    /// Pages in a folder, which is made where it is not there.
+    /// The pages of a folder. Makes the folder if it is not there.
     pub fn open<R: Runtime + AllocGlobal>(
         rt: &R,
         folder: &'a str,
@@ -53,7 +53,7 @@ impl<'a> Pages<'a> {
         })
     }
 
-    /// Judges the open game of this name, and writes its page: what its line says.
+    /// Judges the open game of this name, writes its page, and returns what its line says.
     pub fn found<'n, R: Runtime + AllocGlobal, F: Read + Drop>(
         &mut self,
         rt: &R,
@@ -81,7 +81,7 @@ impl<'a> Pages<'a> {
         fields
     }
 
-    /// Makes the page of a case and writes it, where its text is a record with an event.
+    /// Makes the page of a case and writes it, if its text is a record with an event.
     fn write_page<R: Runtime + AllocGlobal>(
         &mut self,
         rt: &R,
@@ -114,7 +114,7 @@ impl<'a> Pages<'a> {
         }
     }
 
-    /// Adds the row of a game to the index. Where there is no memory for it, the line of the game says so.
+    /// Adds the row of a game to the index. If there is no memory for it, the line of the game says so.
     pub fn add(&mut self, alloc: Global, fields: &mut Fields<'_>) {
         if self.index.add(alloc, &row_of(fields)).is_err() {
             fields.page = Some(PageField::NoMemory);
@@ -142,7 +142,7 @@ impl<'a> Pages<'a> {
     }
 }
 
-/// The likely repair of the game of a case, where repairs are asked for.
+/// The likely repair of the game of a case, if repairs are requested.
 fn likely_by(
     alloc: Global,
     rules: &Rules,
@@ -156,7 +156,7 @@ fn likely_by(
     }
 }
 
-/// What the line of a case says of its game, with the likely repair that was found where repairs are asked for.
+/// What the line of a case says of its game, with the likely repair that was found if repairs are requested.
 fn fields_in<'n>(
     alloc: Global,
     repairs: bool,
@@ -202,7 +202,7 @@ fn page_of(alloc: Global, name: &str) -> Result<String, AllocError> {
     String::from_utf8_lossy(alloc, page.as_slice())
 }
 
-/// In how many folders a page is, below that of the index.
+/// How many folders below that of the index a page is.
 fn folders_of(page: &str) -> usize {
     page.as_bytes().iter().filter(|byte| **byte == b'/').count()
 }
@@ -215,7 +215,7 @@ fn path_in(alloc: Global, folder: &str, file: &str) -> Result<String, AllocError
     Ok(path)
 }
 
-/// Writes a page to the file of a path, whose folders are made where they are not there, and says whether it was done.
+/// Writes a page to the file of a path, makes the folders of the path that are not there, and returns whether it was done.
 fn put_page<R: Runtime + AllocGlobal>(
     rt: &R,
     path: &str,

@@ -1,4 +1,4 @@
-//! How far a run over many games is.
+//! The progress of a run over many games.
 
 use std::rt::Runtime;
 
@@ -33,7 +33,7 @@ impl Progress {
         }
     }
 
-    /// Tells how many games are done.
+    /// Writes to standard error how many games are done, if that is shown.
     fn tell<R: Runtime>(&self, rt: &R) {
         if self.shown {
             let games = self.games;

@@ -1,4 +1,4 @@
-//! The lines of archives that are done, one after the other.
+//! The lines of earlier archive runs, one after the other.
 
 use archive_lines::LineRead;
 use exit_statuses::Trouble;
@@ -11,7 +11,7 @@ use watching::Reason;
 #[derive(Drop)]
 pub struct ArchiveLines<'a, B> {
     reader: B,
-    /// What messages name the text.
+    /// The name of the text in messages.
     name: &'a str,
     /// The line that was read last.
     line: Vec<u8>,
@@ -24,7 +24,7 @@ pub struct ArchiveLines<'a, B> {
 pub enum NextLine {
     /// A line of an archive.
     Whole(LineRead),
-    /// A line that is none.
+    /// A line that is not one of an archive.
     NoLine,
     /// The text ends without an LF.
     Part,
@@ -33,7 +33,7 @@ pub enum NextLine {
 }
 
 impl<'a, B: BufRead + Drop> ArchiveLines<'a, B> {
-    /// The lines of the text that is read here, of this name.
+    /// The lines of the text that a reader gives; messages call the text by this name.
     pub fn new(alloc: Global, reader: B, name: &'a str) -> ArchiveLines<'a, B> {
         ArchiveLines {
             reader,
@@ -64,7 +64,7 @@ impl<'a, B: BufRead + Drop> ArchiveLines<'a, B> {
         }
     }
 
-    /// Tells that the last line is none of an archive.
+    /// Writes to standard error that the last line is not one of an archive.
     pub fn tell_no_line<R: Runtime>(&self, rt: &R) {
         let (name, number) = (self.name, self.number);
         let _ = rt.eprintln(format_args!(
@@ -72,7 +72,7 @@ impl<'a, B: BufRead + Drop> ArchiveLines<'a, B> {
         ));
     }
 
-    /// Tells that the text ends with part of a line.
+    /// Writes to standard error that the text ends with part of a line.
     pub fn tell_part<R: Runtime>(&self, rt: &R) {
         let (name, number) = (self.name, self.number);
         let _ = rt.eprintln(format_args!(

@@ -13,7 +13,7 @@ use ref_tiles::Rules;
 use repair_json::{RepairObject, single_object};
 use std::alloc::{AllocError, Global};
 
-/// The line that is explained, as it stands in the file.
+/// The line that is explained, as it is in the file.
 fn written_of<'t>(bytes: &'t [u8], told: &Option<Explanation<'_>>) -> Option<&'t [u8]> {
     match told {
         Some(
@@ -69,7 +69,7 @@ fn likely_object(
 ///
 /// # Errors
 ///
-/// Memory was refused.
+/// It fails only if memory is refused.
 pub fn case_text(
     alloc: Global,
     rules: &Rules,

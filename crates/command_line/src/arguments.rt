@@ -4,7 +4,7 @@ use clap::builder::ValueParser;
 use clap::{Arg, ArgAction};
 use std::alloc::{AllocError, Global};
 
-/// How an argument stands on a command line.
+/// The form of an argument on a command line.
 #[derive(Clone, Copy)]
 pub enum Form {
     /// One word that the command needs.
@@ -13,30 +13,30 @@ pub enum Form {
     Last,
     /// All words at the end.
     Several,
-    /// All words at the end, of which the command needs one.
+    /// All words at the end; the command needs at least one.
     SomeNeeded,
     /// An option without a value.
     Flag,
-    /// An option without a value, which has a letter or a digit too.
+    /// An option without a value that also has a letter or a digit.
     Letter(char),
-    /// An option with a value, which help calls by this name.
+    /// An option with a value that help calls by this name.
     Option(&'static str),
 }
 
 /// An argument of a command.
 #[derive(Clone, Copy)]
 pub struct Argument {
-    /// The name by which it is read, and which an option has on the command line.
+    /// The name by which its value is read. An option has it on the command line too.
     pub id: &'static str,
     /// What help says of it.
     pub help: &'static str,
-    /// How it stands on the command line.
+    /// Its form on the command line.
     pub form: Form,
     /// What its value has to be.
     pub value: ValueParser<'static>,
-    /// The option without which it is needed.
+    /// If this option is missing, the argument is needed.
     pub unless: Option<&'static str>,
-    /// The argument beside which it is a mistake.
+    /// If this argument is present too, that is a mistake.
     pub against: Option<&'static str>,
 }
 

@@ -6,34 +6,34 @@ use clap::Command;
 use clap::builder::ValueParser;
 use std::alloc::{AllocError, Global};
 
-/// What `--version` prints behind the program's name.
+/// What `--version` prints after the program's name.
 pub const VERSION: &str = "1.1.0
 records: GCG
 word lists: one word a line
 lexicons: GAD1, GAD2";
 
-/// What `-V` prints behind the program's name.
+/// What `-V` prints after the program's name.
 pub const SHORT_VERSION: &str = "1.1.0";
 
-/// The name of the program, with which its messages begin.
+/// The name of the program. Its messages begin with it.
 pub const PROGRAM_NAME: &str = "referee";
 
 /// The name and the version of the program.
 pub const PROGRAM: &str = "referee 1.1.0";
 
-/// The name of the option by which the first field of each line of a word list is read.
+/// The name of the option that makes the program read only the first field of each line of a word list.
 pub const FIRST_FIELD: &str = "first-field";
 
-/// The name of the option by which lines of a word list that are no words are passed over.
+/// The name of the option that makes the program pass over lines of a word list that are not words.
 pub const SKIP_OTHERS: &str = "skip-others";
 
-/// How many best plays may be asked for.
+/// The largest number of best plays that can be requested.
 pub const MOST_PLAYS: u32 = 100;
 
-/// How many repairs may be asked for.
+/// The largest number of repairs that can be requested.
 pub const MOST_REPAIRS: u32 = 100;
 
-/// How many repairs are listed where no number is asked for.
+/// How many repairs are listed if no number is given.
 pub const FEW_REPAIRS: u32 = 10;
 
 /// A command.
@@ -42,7 +42,7 @@ struct CommandRow {
     name: &'static str,
     /// What help says of it.
     about: &'static str,
-    /// What help says behind its arguments: an example, and the exit statuses.
+    /// What help says after its arguments: an example, and the exit statuses.
     behind: &'static str,
     /// Its arguments, in the order in which help shows them.
     arguments: &'static [Argument],
@@ -106,15 +106,15 @@ const WORDS: Argument = argument!(Form::Needed, "WORDS", "the word list; - is st
 
 const LEXICON: Argument = argument!(Form::Needed, "LEXICON", "the lexicon file of the words");
 
-/// The word list where standard input has something else.
+/// The word list of a command that reads something else from standard input.
 const WORDS_FILE: Argument = argument!(Form::Needed, "WORDS", "the word list");
 
-/// The lexicon where the command has no words.
+/// A lexicon file that need not be the lexicon of a word list.
 const LEXICON_FILE: Argument = argument!(Form::Needed, "LEXICON", "the lexicon file");
 
 const GAME: Argument = argument!(Form::Needed, "GAME", "the GCG record; - is standard input");
 
-/// A line of a record, in place of text.
+/// The number of a line of a record, for an argument that is not any text.
 const LINE_NUMBER: ValueParser<'static> = ValueParser::Signed(0, 4_294_967_295);
 
 /// The lexicon file that a command writes.
@@ -124,7 +124,7 @@ const LEXICON_OUT: Argument = argument!(
     "the lexicon file to be written; - is standard output"
 );
 
-/// The line before which a board is taken.
+/// The line of a record before which the board is taken.
 const BEFORE: Argument = Argument {
     value: LINE_NUMBER,
     ..argument!(
@@ -146,16 +146,16 @@ const FIRST_FIELD_OPTION: Argument = flag!(
     None
 );
 
-/// The answer of a command as an object.
+/// The option for an answer that is a JSON object.
 const JSON: Argument = flag!("json", "write the answer as a JSON object", None);
 
 const SKIP_OTHERS_OPTION: Argument = flag!(
     SKIP_OTHERS,
-    "pass over the lines of WORDS that are no words of 2 to 15 letters",
+    "pass over the lines of WORDS that are not words of 2 to 15 letters",
     None
 );
 
-/// What help says behind the arguments of a command: an example, and the exit statuses, of which every command has the last two.
+/// What help says after the arguments of a command: an example, and the exit statuses. Every command has the last two of these.
 macro_rules! behind {
     ($example:literal, $heading:literal, $($status:literal),+) => {
         concat!(
@@ -210,7 +210,7 @@ const JUDGE: CommandRow = CommandRow {
         GAME,
         flag!(
             "settle",
-            "search for a deal, or a proof that there is none, where the game would be unsettled",
+            "search for a deal, or a proof that there is none, if the game would otherwise be unsettled",
             None
         ),
         JSON,
@@ -328,7 +328,7 @@ const AUDIT: CommandRow = CommandRow {
         argument!(
             Form::Option("OUT"),
             "corrected",
-            "write the corrected record to this file, where nothing else is wrong; - is standard output"
+            "write the corrected record to this file, if nothing else is wrong; - is standard output"
         ),
         Argument {
             against: Some("corrected"),
@@ -398,7 +398,7 @@ const REPAIR: CommandRow = CommandRow {
         argument!(
             Form::Option("OUT"),
             "repaired",
-            "write the sheet with the first repair to this file, where it is ahead of the second by a number; - is standard output"
+            "write the sheet with the first repair to this file, if it is ahead of the second by a number; - is standard output"
         ),
         Argument {
             against: Some("repaired"),
@@ -413,7 +413,7 @@ const REPAIR: CommandRow = CommandRow {
 /// `compare [--first-field] [--skip-others] [--rules FILE] [--merged OUT] WORDS LEXICON SHEET1 SHEET2`.
 const COMPARE: CommandRow = CommandRow {
     name: "compare",
-    about: "Compares two players' sheets of one game, and tells which lines the rules support where they differ",
+    about: "Compares two players' sheets of one game, and says which lines the rules support where they differ",
     behind: behind!(
         "referee compare words.txt words.gad anna.gcg ben.gcg",
         "Exit status:",
@@ -434,7 +434,7 @@ const COMPARE: CommandRow = CommandRow {
         argument!(
             Form::Option("OUT"),
             "merged",
-            "write the merged record to this file, where one choice of the lines is ahead of all others; - is standard output"
+            "write the merged record to this file, if one choice of the lines is ahead of all others; - is standard output"
         ),
         FIRST_FIELD_OPTION,
         SKIP_OTHERS_OPTION,
@@ -545,7 +545,7 @@ const WORD: CommandRow = CommandRow {
         "Exit status:",
         "0   each word is in the list",
         "1   a word is not in the list",
-        "3   a word is none of 2 to 15 letters, or the word list or the lexicon is bad"
+        "3   a word does not have 2 to 15 letters, or the word list or the lexicon is bad"
     ),
     arguments: &[
         WORDS,
@@ -609,7 +609,7 @@ const TOP: CommandRow = CommandRow {
             ..argument!(
                 Form::Option("N"),
                 "number",
-                "how many plays are printed at the most, 1 to 100; 10 without it"
+                "how many plays are printed at most, 1 to 100; 10 without it"
             )
         },
         BEFORE,
@@ -668,7 +668,7 @@ const SERVE: CommandRow = CommandRow {
 /// `rules`.
 const ENGLISH_RULES: CommandRow = CommandRow {
     name: "rules",
-    about: "Prints the English rules as a rules text, of which others can be made",
+    about: "Prints the English rules as a rules text, from which others can be made",
     behind: behind!("referee rules", "Exit status:", "0   the text is printed"),
     arguments: &[],
 };

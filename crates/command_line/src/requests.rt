@@ -19,7 +19,7 @@ pub struct WordsFile<'a> {
     pub name: &'a str,
     /// Whether the first field of each line is read, and not the whole line.
     pub first_field: bool,
-    /// Whether lines that are no words are passed over.
+    /// Whether lines that are not words are passed over.
     pub skip_others: bool,
 }
 
@@ -43,23 +43,23 @@ pub struct GameFiles<'a> {
     pub game: &'a str,
 }
 
-/// Which best plays are asked for.
+/// Which best plays are requested.
 #[derive(Clone, Copy)]
 pub struct PlaysAsked<'a> {
     /// The tiles of the rack; without them the rack is the one that the line shows.
     pub rack: Option<&'a str>,
-    /// How many plays are printed at the most, where that is said.
+    /// How many plays are printed at most, if a number is given.
     pub number: Option<u32>,
     /// The line before which the board is; without one it is the board after the last event.
     pub before: Option<u32>,
 }
 
-/// Where the names of the games of an archive stand.
+/// Where the names of the games of an archive are.
 #[derive(Drop)]
 pub enum ArchiveNames<'a> {
     /// On the command line.
     Given(Vec<&'a str>),
-    /// In the file of this name, or on standard input where it is `-`.
+    /// In the file of this name, or on standard input if it is `-`.
     Listed(&'a str),
 }
 
@@ -73,7 +73,7 @@ impl<'a> ArchiveNames<'a> {
     }
 }
 
-/// What is said of the progress of a run.
+/// What the command line says of the progress of a run.
 #[derive(Clone, Copy)]
 pub enum Progressing {
     /// That it is to be shown.
@@ -84,7 +84,7 @@ pub enum Progressing {
     Unsaid,
 }
 
-/// The games of an archive, and what they are judged by.
+/// The games of an archive, and the rules and words to judge them by.
 #[derive(Drop)]
 pub struct Archive<'a> {
     /// The rules text; without one the rules are the English ones.
@@ -99,7 +99,7 @@ pub struct Archive<'a> {
     pub skip: Option<&'a str>,
     /// Whether the lines are JSON objects.
     pub json: bool,
-    /// The folder for a page of each game, where pages are wanted.
+    /// The folder for a page of each game, if pages are wanted.
     pub pages: Option<&'a str>,
     /// Whether each line has the likely repair of its game.
     pub repairs: bool,
@@ -110,7 +110,7 @@ pub struct Archive<'a> {
 /// What the command line asks for. Files are given by their names, a rack by its tiles.
 #[derive(Drop)]
 pub enum Request<'a> {
-    /// To judge the game of a record, and to search for a deal where `settle` says so; `json` asks for an object.
+    /// To judge the game of a record, and to search for a deal if `settle` says so; `json` asks for an object.
     Judge {
         settle: bool,
         json: bool,
@@ -123,26 +123,26 @@ pub enum Request<'a> {
         lines: &'a str,
         out: &'a str,
     },
-    /// To audit the sheet of a record, and to write the corrected record to the file `out` where there is one; `json` asks for an object.
+    /// To audit the sheet of a record, and to write the corrected record to the file `out` if there is one; `json` asks for an object.
     Audit {
         files: GameFiles<'a>,
         out: Option<&'a str>,
         json: bool,
     },
-    /// To explain the verdict on a record, or the event on a line where one is named; `json` asks for an object.
+    /// To explain the verdict on a record, or the event on a line if one is named; `json` asks for an object.
     Explain {
         files: GameFiles<'a>,
         line: Option<u32>,
         json: bool,
     },
-    /// To list so many repairs of a record, and to write the repaired sheet to the file `out` where there is one; `json` asks for an object.
+    /// To list at most `number` repairs of a record, and to write the repaired sheet to the file `out` if there is one; `json` asks for an object.
     Repair {
         files: GameFiles<'a>,
         number: u32,
         out: Option<&'a str>,
         json: bool,
     },
-    /// To compare the sheet of `files` with a second one, and to write the merged record to the file `out` where there is one.
+    /// To compare the sheet of `files` with a second one, and to write the merged record to the file `out` if there is one.
     Compare {
         files: GameFiles<'a>,
         second: &'a str,
@@ -185,7 +185,7 @@ pub enum Request<'a> {
     Tidy {
         game: &'a str,
     },
-    /// To write the board of a record, before a line where one is named; `json` asks for an object.
+    /// To write the board of a record, before a line if one is named; `json` asks for an object.
     Board {
         rules: Option<&'a str>,
         before: Option<u32>,
@@ -211,7 +211,7 @@ pub enum Request<'a> {
 ///
 /// # Errors
 ///
-/// `OutOfMemory` where memory was refused. Each other kind is a mistake in the arguments or a request for help, with
+/// `OutOfMemory` if memory was refused. Each other kind is a mistake in the arguments or a request for help, with
 /// its text.
 pub fn parse_arguments<'a>(alloc: Global, arguments: &'a [String]) -> Result<Request<'a>, Error> {
     let matches = command(alloc)?.try_get_matches_from(arguments)?;
@@ -240,7 +240,7 @@ fn reads_twice(matches: &ArgMatches<'_>) -> bool {
     let Some((command, names)) = matches.subcommand() else {
         return false;
     };
-    // The requests of `serve` stand on standard input.
+    // `serve` reads its requests from standard input.
     let requests: usize = if command == "serve" { 1 } else { 0 };
     let times = [
         "WORDS", "GAME", "SHEET1", "SHEET2", "names", "skip", "LINES",
@@ -323,7 +323,7 @@ fn index_of<'a>(names: &ArgMatches<'a>) -> Option<Request<'a>> {
     })
 }
 
-/// What is said of the progress of a run.
+/// What the command line says of the progress of a run.
 fn wanted_progress(names: &ArgMatches<'_>) -> Progressing {
     if names.get_flag("progress") {
         Progressing::Shown
@@ -334,7 +334,7 @@ fn wanted_progress(names: &ArgMatches<'_>) -> Progressing {
     }
 }
 
-/// What the matches of a command ask for that is about one game.
+/// What the matches of a command about one game ask for.
 fn game_request_of<'a>(command: &str, names: &ArgMatches<'a>) -> Option<Request<'a>> {
     match command {
         "judge" => Some(Request::Judge {
@@ -399,7 +399,7 @@ fn game_request_of<'a>(command: &str, names: &ArgMatches<'a>) -> Option<Request<
     }
 }
 
-/// What the matches of a command ask for that keeps the lexicon of a word list.
+/// What the matches of a command about a lexicon ask for.
 fn lexicon_request_of<'a>(command: &str, names: &ArgMatches<'a>) -> Option<Request<'a>> {
     match command {
         "build" => Some(Request::Build {

@@ -5,7 +5,7 @@ use sentence_parts::{Part, say};
 use sheet_comparisons::Comparison;
 use std::alloc::AllocError;
 
-/// Why a repaired record is not written; nothing where it is.
+/// Why a repaired record is not written; an empty text if it is.
 fn why_not_repaired(repaired: &RepairedChoices) -> &'static str {
     match &repaired.best {
         Some(best) => {
@@ -21,9 +21,9 @@ fn why_not_repaired(repaired: &RepairedChoices) -> &'static str {
     }
 }
 
-/// Appends why the merged record is not written, where it is not.
+/// Appends why the merged record is not written, if it is not.
 ///
-/// It fails only where memory runs out.
+/// It fails only if memory runs out.
 pub fn push_choice(
     text: &mut Vec<u8>,
     comparison: &Comparison,

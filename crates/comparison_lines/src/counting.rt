@@ -1,4 +1,4 @@
-//! Where the event of a pair stands among those of a choice.
+//! The place of the event of a pair among those of a choice.
 
 use sheet_alignments::{Pair, Side, chosen_side};
 
@@ -30,7 +30,7 @@ impl Before {
         }
     }
 
-    /// Behind a pair.
+    /// After a pair.
     pub(crate) fn behind(self, pair: &Pair, choice: usize) -> Before {
         let taken = has_event(pair, choice, self.number);
         Before {

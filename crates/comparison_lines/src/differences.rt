@@ -50,7 +50,7 @@ pub(crate) fn push_stop(
     )
 }
 
-/// The score that a line says, and the one that the rules give with it, where these differ.
+/// The score on a line, and the one that the rules give with it, if these differ.
 fn other_score(
     sheets: &Sheets,
     pair: &Pair,
@@ -116,7 +116,7 @@ fn push_with(text: &mut Vec<u8>, side: Side, what: &str) -> Result<(), AllocErro
     )
 }
 
-/// Appends what comes of the best choice with the other line of an item.
+/// Appends what becomes of the best choice with the other line of an item.
 fn push_flip(
     alloc: Global,
     text: &mut Vec<u8>,
@@ -146,7 +146,7 @@ fn is_as_good(flip: &Trial, best: &Best) -> bool {
     }
 }
 
-/// A choice with the other line of the item of a number.
+/// A choice with the other line of the item with a number.
 fn flipped(choice: usize, number: usize) -> usize {
     if number < MOST_ITEMS {
         choice ^ (1 << number)
@@ -194,7 +194,7 @@ fn push_support(
     )
 }
 
-/// Appends a difference: its two lines, and which of them the rules support, where a choice makes a game.
+/// Appends a difference: its two lines and, if a choice makes a game, which of them the rules support.
 pub(crate) fn push_difference(
     alloc: Global,
     text: &mut Vec<u8>,
@@ -221,7 +221,7 @@ pub(crate) fn push_difference(
     say(text, &[Part::Say("\n")])
 }
 
-/// Appends the lines of a pair that agrees where their scores differ, with the right one.
+/// Appends the lines of a pair that agrees, with the right score, if their scores differ.
 pub(crate) fn push_scores(
     text: &mut Vec<u8>,
     sheets: &Sheets,

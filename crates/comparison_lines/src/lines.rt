@@ -40,7 +40,7 @@ fn push_pair_at(
     }
 }
 
-/// Appends how many other choices are as good, where there are any.
+/// Appends how many other choices are as good, if there are any.
 fn push_rivals(text: &mut Vec<u8>, comparison: &Comparison) -> Result<(), AllocError> {
     let rivals = comparison.find.rivals.len();
     if rivals == 0 {
@@ -55,7 +55,7 @@ fn push_rivals(text: &mut Vec<u8>, comparison: &Comparison) -> Result<(), AllocE
     )
 }
 
-/// Appends how many choices are left open, where there are any.
+/// Appends how many choices are left open, if there are any.
 fn push_left(text: &mut Vec<u8>, comparison: &Comparison) -> Result<(), AllocError> {
     let left = comparison.find.left.len();
     if left == 0 {
@@ -90,7 +90,7 @@ fn push_taken(text: &mut Vec<u8>, choice: usize, items: usize) -> Result<(), All
     Ok(())
 }
 
-/// Appends which lines a choice takes, where there is a choice.
+/// Appends which lines a choice takes, if there is a choice.
 pub(crate) fn push_name(
     text: &mut Vec<u8>,
     sheets: &Sheets,
@@ -150,10 +150,10 @@ fn push_verdict(alloc: Global, text: &mut Vec<u8>, best: &Best) -> Result<(), Al
     text.extend_from_slice(line.as_slice())
 }
 
-/// Appends the comparison of two sheets: each difference with its lines and what the rules say of them, and the verdict on the merged record. Where no choice of
+/// Appends the comparison of two sheets: each difference with its lines and what the rules say of them, and the verdict on the merged record. If no choice of
 /// the lines makes a game, the verdict is that on the record of a choice with one more change, if there is one.
 ///
-/// It fails only where memory runs out.
+/// It fails only if memory runs out.
 pub fn push_comparison(
     alloc: Global,
     text: &mut Vec<u8>,

@@ -20,7 +20,7 @@ fn has_number(event: Option<&Event>, line: u32) -> bool {
     }
 }
 
-/// The words for the sheet whose line an event of a choice is; none where its line has the same number on both.
+/// The words for the sheet whose line an event of a choice is; an empty text if its line has the same number on both.
 fn sheet_of(sheets: &Sheets, choice: &RepairedChoice, place: usize) -> &'static str {
     let Some(event) = choice.written.as_slice().get(place) else {
         return "";
@@ -68,7 +68,7 @@ fn push_first(
     push_repair(text, sheets, choice, repair)
 }
 
-/// Appends that a repair is not ahead of all others, where that is so.
+/// Appends that a repair is not ahead of all others, if that is so.
 fn push_rival(text: &mut Vec<u8>, best: &BestRepair) -> Result<(), AllocError> {
     if best.ahead {
         return Ok(());
@@ -79,7 +79,7 @@ fn push_rival(text: &mut Vec<u8>, best: &BestRepair) -> Result<(), AllocError> {
     )
 }
 
-/// Appends the repaired choice with the cheapest repair, and the verdict on its record, where there is one.
+/// Appends the repaired choice with the cheapest repair, if there is one, and the verdict on its record.
 pub(crate) fn push_repaired(
     alloc: Global,
     text: &mut Vec<u8>,

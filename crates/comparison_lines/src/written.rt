@@ -7,7 +7,7 @@ use sheet_alignments::Pair;
 use sheet_comparisons::Sheets;
 use std::alloc::AllocError;
 
-/// The event at a place, where there is a place.
+/// The event at a place, if there is a place.
 pub(crate) fn event_at(record: &Record, place: Option<usize>) -> Option<&Event> {
     match place {
         Some(place) => record.events.as_slice().get(place),
@@ -15,7 +15,7 @@ pub(crate) fn event_at(record: &Record, place: Option<usize>) -> Option<&Event> 
     }
 }
 
-/// Appends the number of a line, where there is a line.
+/// Appends the number of a line, if there is a line.
 fn push_number(text: &mut Vec<u8>, event: Option<&Event>) -> Result<(), AllocError> {
     match event {
         Some(event) => say(text, &[Part::Say("line "), Part::Line(event.line)]),
@@ -34,7 +34,7 @@ pub(crate) fn push_numbers(
     push_number(text, event_at(&sheets.second, pair.second))
 }
 
-/// Appends what a line says behind its rack, and its player where that is asked for.
+/// Appends what a line says after its rack, with its player if `named` says so.
 fn push_line(
     text: &mut Vec<u8>,
     record: &Record,

@@ -131,7 +131,7 @@ fn word_objects(alloc: Global, words: &[PlayedWord]) -> Result<Vec<WordObject>, 
     Ok(objects)
 }
 
-/// The words of a play and what they add up to, where there is one.
+/// The words of a play and what they add up to, if there is a play.
 fn play_object(alloc: Global, shown: &Shown) -> Result<Option<PlayObject>, AllocError> {
     match &shown.play {
         None => Ok(None),
@@ -196,7 +196,7 @@ fn marked_names(alloc: Global, squares: &[ShownSquare]) -> Result<Vec<String>, A
     Ok(names)
 }
 
-/// What is shown beside the facts: the play, the board, or the line of the play that cannot be laid.
+/// What is shown with the facts: the play, the board, or the line of the play that cannot be laid.
 #[derive(Drop)]
 struct PictureObjects {
     play: Option<PlayObject>,
@@ -204,7 +204,7 @@ struct PictureObjects {
     unknown_since: Option<u32>,
 }
 
-/// What is shown beside the facts.
+/// What is shown with the facts.
 fn picture_objects(alloc: Global, picture: &Option<Picture>) -> Result<PictureObjects, AllocError> {
     match picture {
         None => Ok(PictureObjects {
@@ -237,7 +237,7 @@ fn fact_objects(alloc: Global, told: &Explanation<'_>) -> Result<Vec<FactObject>
     Ok(objects)
 }
 
-/// A line as it stands in the file, where there is one.
+/// A line as it is in the file, if there is one.
 fn line_text(alloc: Global, written: Option<&[u8]>) -> Result<Option<String>, AllocError> {
     match written {
         None => Ok(None),
@@ -245,7 +245,7 @@ fn line_text(alloc: Global, written: Option<&[u8]>) -> Result<Option<String>, Al
     }
 }
 
-/// Appends an explanation: the verdict on the record, the line that is explained as it stands in the file, the facts, the words of its play,
+/// Appends an explanation: the verdict on the record, the line that is explained as it is in the file, the facts, the words of its play,
 /// the board before it, and the likely repair of the record.
 fn push_told(
     alloc: Global,
@@ -273,7 +273,7 @@ fn push_told(
     push_object(alloc, text, &object)
 }
 
-/// Appends what explains a record or one of its lines, by the verdict on the record and the line as it stands in the file, with the likely repair
+/// Appends what explains a record or one of its lines, by the verdict on the record and the line as it is in the file, with the likely repair
 /// of the record, if there is one; or that no event is on the line or after it.
 pub fn push_explained(
     alloc: Global,

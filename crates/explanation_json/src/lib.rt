@@ -1,7 +1,7 @@
 //! Explanations as JSON, for programs: one object and an LF for each.
 //!
-//! [`push_explained`] takes the value that `explanations` makes and gives bytes, as `answer_json` does for all other answers. It asks no engine, adds
-//! no numbers and looks at no record. The verdict comes first, then the line and each fact with its name and its numbers, and then the words of
+//! [`push_explained`] takes the value that `explanations` makes and gives bytes, as `answer_json` does for all other answers. It does not ask the engine,
+//! add numbers or look at a record. The verdict comes first, then the line and each fact with its name and its numbers, and then the words of
 //! the play and the board.
 #![tactic(auto)]
 

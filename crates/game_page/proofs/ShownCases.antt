@@ -11,7 +11,7 @@ use Rattle.record_repairs.specs.declared.repair.Repair.{Repair}
 use Rattle.game_page.specs.declared.showing.Shown.{Shown}
 use Rattle.game_page.specs.Pages.{ShowsEntry, IsShownOf}
 
--- where it is what the walk over the record gives, whatever the right numbers are, it is what the case has
+-- if it is what the walk over the record gives, whatever the right numbers are, then it is what the case has
 pub shown_for : (rules : Rules) (list : List (List ℕ)) (own text : List ℕ) (read : Result Entry ReadFault) (likely : Option Repair) (walked : Option Walk) (entry : Entry) (walk : Walk) (shown : Shown)
     → read ≡ Ok entry → walked ≡ Some walk → own ≡ text → IsWalkFor rules list read walked
     → ((right : List Event) → IsWalk rules list entry.record.events right walk → ShowsEntry rules list own read likely entry shown)

@@ -22,16 +22,16 @@ is_of_play (slip.Replayed play) = true
 is_of_play (slip.Missing m) = is_missing_play m
 is_of_play other = false
 
--- a repair of a play, which stands at a place of the right events
+-- a repair of a play whose place is one of the right events, or the one after the last
 abbrev pub RepairsPlay : Repair → Type 0
 RepairsPlay repair = (is_of_play repair.listed.change.slip ≡ true) × (repair.listed.change.place ≤ length repair.right)
 
--- the board with the play as it should be, where the repair is one of a play, and no board where it is not
+-- the board with the play as it should be, if the repair is one of a play, and no board if it is not
 abbrev pub IsBoardOf : Repair → Option Picture → Type 0
 IsBoardOf repair None = RepairsPlay repair → ⊥
 IsBoardOf repair (Some picture) = RepairsPlay repair × IsShownAt repair.right repair.listed.change.place picture
 
--- what is shown of the likely repair, where there is one
+-- what is shown of the likely repair, if there is one
 abbrev pub IsLikelyShown : Option Repair → Option Likely → Type 0
 IsLikelyShown None None = ⊤
 IsLikelyShown None (Some likely) = ⊥

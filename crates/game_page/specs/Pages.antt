@@ -16,12 +16,12 @@ use Rattle.record_repairs.specs.declared.repair.Repair.{Repair}
 use Rattle.game_page.specs.declared.showing.Shown.{Shown}
 use Rattle.game_page.specs.Likely.{IsLikelyShown}
 
--- a place, where it is that of one of so many events
+-- a place, if it is that of one of `many` events
 abbrev pub place_within : (many : ℕ) → Option ℕ → Option ℕ
 place_within many None = None
 place_within many (Some place) = if nat_lt place many then Some place else None
 
--- the place of the faulty event, where the record has it
+-- the place of the faulty event, if the record has it
 abbrev pub faulty_place : List Event → Finding → Option ℕ
 faulty_place events found = place_within (length events) (place_of_fault events found)
 
@@ -30,9 +30,9 @@ abbrev pub place_in_view : List Event → (faulty : Option ℕ) → ℕ
 place_in_view events None = length events
 place_in_view events (Some place) = place
 
--- What a page shows of the entry of a text: its finding, the line of its verdict and what explains it, the words of the text beside the
--- events, and the score sheet of the record, beside the events with their right numbers, with the board at the faulty event or at the end;
--- and of the likely repair, where one is given, the board with the play as it should be.
+-- What a page shows of the entry of a text: its finding, the line of its verdict and what explains it, the words of the text in addition to
+-- the events, and the score sheet of the record, compared with the events with their right numbers, with the board at the faulty event or at
+-- the end; and of the likely repair, if one is given, the board with the play as it should be.
 pub record ShowsEntry (rules : Rules) (list : List (List ℕ)) (text : List ℕ) (read : Result Entry ReadFault) (likely : Option Repair) (entry : Entry) (shown : Shown) : Type 0 where
   pub finding : shown.finding ≡ entry.finding
   pub faulty : shown.faulty ≡ faulty_place entry.record.events entry.finding
@@ -45,7 +45,7 @@ pub record ShowsEntry (rules : Rules) (list : List (List ℕ)) (text : List ℕ)
   pub sheet : IsScoreSheet rules list entry.record right (place_in_view entry.record.events shown.faulty) shown.sheet
   pub repaired : IsLikelyShown likely shown.likely
 
--- the same of what was read from a text; nothing where that is no record
+-- the same for what was read from a text; nothing if that is not a record
 abbrev pub IsShownOf : Rules → (list : List (List ℕ)) → (text : List ℕ) → Result Entry ReadFault → (likely : Option Repair) → Option Shown → Type 0
 IsShownOf rules list text (Ok entry) likely (Some shown) = ShowsEntry rules list text (Ok entry) likely entry shown
 IsShownOf rules list text (Ok entry) likely None = ⊥

@@ -40,7 +40,7 @@ fn push_name(
     page.push(&[Piece::Markup(before), name, Piece::Markup(after)])
 }
 
-/// Appends the first player's name and total, where the record names that player.
+/// Appends the first player's name and total, if the record names that player.
 fn push_first(page: &mut PageText, shown: &Shown<'_>) -> Result<(), AllocError> {
     if !is_named(shown.player(Seat::First)) {
         return Ok(());
@@ -49,7 +49,7 @@ fn push_first(page: &mut PageText, shown: &Shown<'_>) -> Result<(), AllocError> 
     push_total(page, shown.sheet.first_total)
 }
 
-/// Appends the second player's total and name, where the record names that player.
+/// Appends the second player's total and name, if the record names that player.
 fn push_second(page: &mut PageText, shown: &Shown<'_>) -> Result<(), AllocError> {
     if !is_named(shown.player(Seat::Second)) {
         return Ok(());
@@ -67,7 +67,7 @@ fn push_names(page: &mut PageText, shown: &Shown<'_>) -> Result<(), AllocError> 
     page.push(&[Piece::Markup("</h1>\n")])
 }
 
-/// What stands between the name of the player who is ahead and by how much, and behind it, and what is said where nobody is.
+/// The words before the name of the player who is ahead, between the name and the lead, and after the lead; and those for a tie.
 fn result_words(finding: &Finding) -> [&'static str; 4] {
     match finding {
         Finding::Legal { complete: true } => ["", " won by ", ".", "A tie."],
@@ -100,7 +100,7 @@ fn push_result(page: &mut PageText, shown: &Shown<'_>) -> Result<(), AllocError>
     page.push(&[Piece::Markup("</p>\n")])
 }
 
-/// Appends what the record says under a name, where it does.
+/// Appends what the record says under a name, if it says something.
 fn push_own(
     page: &mut PageText,
     shown: &Shown<'_>,
@@ -119,7 +119,7 @@ fn push_own(
     }
 }
 
-/// Appends the notes that stand before the first event, and gives those behind them.
+/// Appends the notes before the first event, and returns those after them.
 fn push_notes<'n, 'a>(
     page: &mut PageText,
     shown: &Shown<'_>,
@@ -139,7 +139,7 @@ fn push_notes<'n, 'a>(
     Ok(left)
 }
 
-/// Appends what the record says of the game as a whole, and gives the notes of its events.
+/// Appends what the record says of the game as a whole, and returns the notes of its events.
 fn push_words<'n, 'a>(
     page: &mut PageText,
     shown: &'n Shown<'a>,
@@ -197,7 +197,7 @@ fn push_faulty(page: &mut PageText, shown: &Shown<'_>) -> Result<(), AllocError>
     push_numbers(page, line.event)
 }
 
-/// Appends the sum of the play that the verdict is about, where it is about one.
+/// Appends the sum of the play that the verdict is about, if it is about one.
 fn push_fault_sum(page: &mut PageText, shown: &Shown<'_>) -> Result<(), AllocError> {
     let Some(explanation) = &shown.explanation else {
         return Ok(());
@@ -239,7 +239,7 @@ fn push_verdict(page: &mut PageText, shown: &Shown<'_>) -> Result<(), AllocError
     page.push(&[Piece::Markup("</section>\n")])
 }
 
-/// Appends so many steps to the folder above.
+/// Appends `up` steps to the folder above.
 fn push_steps(page: &mut PageText, up: usize) -> Result<(), AllocError> {
     for _ in 0..up {
         page.push(&[Piece::Markup("../")])?;
@@ -247,7 +247,7 @@ fn push_steps(page: &mut PageText, up: usize) -> Result<(), AllocError> {
     Ok(())
 }
 
-/// Appends the link to the index, where there is one.
+/// Appends the link to the index, if there is one.
 fn push_back(page: &mut PageText, up: Option<usize>) -> Result<(), AllocError> {
     let Some(up) = up else {
         return Ok(());
@@ -257,7 +257,7 @@ fn push_back(page: &mut PageText, up: Option<usize>) -> Result<(), AllocError> {
     page.push(&[Piece::Markup("index.html\">&lsaquo; All games</a></p>\n")])
 }
 
-/// Appends names, totals and result, what the record says of the game, the verdict and what explains it. It gives the notes of the events.
+/// Appends names, totals and result, what the record says of the game, the verdict and what explains it. Returns the notes of the events.
 pub fn push_banner<'n, 'a>(
     page: &mut PageText,
     shown: &'n Shown<'a>,

@@ -11,7 +11,7 @@ use std::alloc::AllocError;
 /// The number of the centre, 8H.
 const CENTRE: usize = 112;
 
-/// The markup of an empty square up to its text: the class is the letter that a rules text has for its premium, and `x` where it is marked.
+/// The markup of an empty square up to its text: the class is the letter that a rules text has for its premium, and `x` if it is marked.
 fn empty_begin(premium: Premium, is_marked: bool) -> &'static str {
     match (premium, is_marked) {
         (Premium::Plain, false) => "<td>",
@@ -27,7 +27,7 @@ fn empty_begin(premium: Premium, is_marked: bool) -> &'static str {
     }
 }
 
-/// What stands on an empty square: the first letters of the name of its premium.
+/// The text on an empty square: the first letters of the name of its premium.
 fn premium_name(premium: Premium) -> &'static str {
     match premium {
         Premium::Plain => "",
@@ -48,7 +48,7 @@ fn centre(premium: Premium, is_marked: bool) -> [Piece<'static>; 2] {
     [Piece::Markup(begin), Piece::Markup("&#9733;")]
 }
 
-/// The markup before the letter of a tile: a class has a blank, a new tile and a new blank.
+/// The markup before the letter of a tile: a blank, a new tile and a new blank each have a class.
 fn tile_begin(kind: Kind, is_marked: bool) -> &'static str {
     match (kind, is_marked) {
         (Kind::Letter(_), false) => "<td>",
@@ -73,7 +73,7 @@ fn push_tile(
     ])
 }
 
-/// Appends a square: its tile with the points, or what its premium is called.
+/// Appends a square: its tile with the points, or the name of its premium.
 fn push_square(
     page: &mut PageText,
     rules: &Rules,

@@ -1,6 +1,6 @@
 //! Faults in a few words, for the index.
 
-/// A fault of a play in a few words, by its name; nothing for another name.
+/// A fault of a play in a few words, by its name; `None` for another name.
 fn play_fault_words(name: &str) -> Option<&'static str> {
     match name {
         "OffBoard" => Some("the play leaves the board"),
@@ -18,7 +18,7 @@ fn play_fault_words(name: &str) -> Option<&'static str> {
     }
 }
 
-/// A fault of another event or of the racks in a few words, by its name; nothing for another name.
+/// A fault of another event or of the racks in a few words, by its name; `None` for another name.
 fn event_fault_words(name: &str) -> Option<&'static str> {
     match name {
         "NotYourTurn" => Some("it is the other player's turn"),
@@ -39,7 +39,7 @@ fn event_fault_words(name: &str) -> Option<&'static str> {
     }
 }
 
-/// A fault of a record in a few words, by its name; nothing for another name.
+/// A fault of a record in a few words, by its name; `None` for another name.
 fn record_fault_words(name: &str) -> Option<&'static str> {
     match name {
         "TooLong" => Some("the file is too long"),
@@ -64,7 +64,7 @@ fn name_in(fault: &str) -> &str {
     }
 }
 
-/// A fault in a few words, by its text; nothing where it is none that has a name.
+/// A fault in a few words, by its text; `None` if it is not one that has a name.
 pub fn fault_words(fault: &str) -> Option<&'static str> {
     let name = name_in(fault);
     if let Some(words) = play_fault_words(name) {

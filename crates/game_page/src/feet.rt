@@ -12,11 +12,11 @@ pub struct Maker {
     pub words: usize,
     /// The SHA-256 of the bytes of the list.
     pub list: [u8; 32],
-    /// The SHA-256 of the bytes of the rules text; none for the rules of the English game.
+    /// The SHA-256 of the bytes of the rules text; `None` for the rules of the English game.
     pub rules: Option<[u8; 32]>,
 }
 
-/// A byte by two digits from 0 to f.
+/// A byte as two digits from 0 to f.
 fn digits_of(byte: u8) -> [u8; 2] {
     let digits = b"0123456789abcdef";
     [
@@ -34,7 +34,7 @@ fn push_digest(page: &mut PageText, digest: &[u8; 32]) -> Result<(), AllocError>
     page.push(&[Piece::Markup("</code>")])
 }
 
-/// Appends by which rules the page was made.
+/// Appends the rules by which the page was made.
 fn push_rules(page: &mut PageText, rules: Option<&[u8; 32]>) -> Result<(), AllocError> {
     match rules {
         None => page.push(&[Piece::Markup("Rules: the English game.")]),

@@ -11,7 +11,7 @@ pub fn is_named(player: &Player) -> bool {
     !player.full.as_bytes().is_empty() || !player.nick.as_bytes().is_empty()
 }
 
-/// A player's name: the full name, or the nickname where there is none.
+/// A player's name: the full name, or the nickname if there is none.
 pub fn name_of<'a>(shown: &Shown<'_>, player: &'a Player) -> Piece<'a> {
     let full = player.full.as_bytes();
     let name = if full.is_empty() {
@@ -39,14 +39,14 @@ fn push_names(page: &mut PageText, shown: &Shown<'_>) -> Result<(), AllocError> 
     ])
 }
 
-/// Appends what a page begins with, up to its title.
+/// Appends the beginning of a page, up to its title.
 pub fn push_start(page: &mut PageText) -> Result<(), AllocError> {
     page.push(&[Piece::Markup(
         "<!DOCTYPE html>\n<html lang=\"en\">\n<head>\n<meta charset=\"utf-8\">\n<meta name=\"viewport\" content=\"width=device-width, initial-scale=1\">\n<title>",
     )])
 }
 
-/// Appends what stands between the title of a page and its body.
+/// Appends what is between the title of a page and its body.
 pub fn push_style(page: &mut PageText) -> Result<(), AllocError> {
     page.push(&[
         Piece::Markup("</title>\n<style>\n"),

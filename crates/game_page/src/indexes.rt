@@ -8,7 +8,7 @@ use page_pieces::{PageText, Piece};
 use percent_encoding::{AsciiSet, NON_ALPHANUMERIC, ascii_set, utf8_percent_encode};
 use std::alloc::{AllocError, Global};
 
-/// What is written by its number in the address of a page: all but letters, digits and the slashes between its folders.
+/// The characters that are percent-encoded in the address of a page: all except letters, digits and the slashes between its folders.
 const IN_ADDRESS: AsciiSet = ascii_set!(NON_ALPHANUMERIC.remove(b'/'));
 
 /// The answers, in the order in which they are counted.
@@ -24,9 +24,9 @@ const ANSWERS: [Answer; 6] = [
 /// A player in the index.
 #[derive(Clone, Copy)]
 pub struct IndexPlayer<'a> {
-    /// The nickname, where there is one.
+    /// The nickname, if there is one.
     pub nick: Option<&'a str>,
-    /// The last total, where there is one.
+    /// The last total, if there is one.
     pub total: Option<i32>,
 }
 
@@ -35,23 +35,23 @@ pub struct IndexPlayer<'a> {
 pub struct IndexRow<'a> {
     /// The name of the game, as it was given.
     pub game: &'a str,
-    /// The path of its page from the folder of the index; none where there is none.
+    /// The path of its page from the folder of the index, if it has a page.
     pub page: Option<&'a str>,
-    /// What was answered of it.
+    /// The answer on it.
     pub answer: Answer,
-    /// The line of the fault, where there is one.
+    /// The line of the fault, if there is one.
     pub line: Option<u32>,
-    /// What is said of the answer: the fault, or whether the game has ended.
+    /// What is said about the answer: the fault, or whether the game has ended.
     pub why: Option<&'a str>,
     /// The player who began.
     pub first: IndexPlayer<'a>,
     /// The other one.
     pub second: IndexPlayer<'a>,
-    /// How many plays stand with a word that is not listed, where that is known.
+    /// How many plays stand with a word that is not listed, if that is known.
     pub unlisted: Option<usize>,
 }
 
-/// The index of many games, which grows by a row for each.
+/// The index of many games. It grows by a row for each.
 #[derive(Drop)]
 pub struct Index {
     rows: PageText,
@@ -60,7 +60,7 @@ pub struct Index {
 }
 
 impl Index {
-    /// The index of no game yet.
+    /// An index without games.
     pub fn new(alloc: Global) -> Index {
         Index {
             rows: PageText::new(alloc),
@@ -68,7 +68,7 @@ impl Index {
         }
     }
 
-    /// Adds the row of a game. Where memory runs out, the index stays as it was.
+    /// Adds the row of a game. If memory runs out, the index stays as it was.
     pub fn add(&mut self, alloc: Global, row: &IndexRow<'_>) -> Result<(), AllocError> {
         let before = self.rows.len();
         match push_row(alloc, &mut self.rows, row) {
@@ -86,7 +86,7 @@ impl Index {
 
     /// The bytes of the index.
     ///
-    /// It fails only where memory runs out.
+    /// It fails only if memory runs out.
     pub fn to_bytes(&self, alloc: Global) -> Result<Vec<u8>, AllocError> {
         let mut head = PageText::new(alloc);
         push_head(&mut head, &self.counts)?;
@@ -131,7 +131,7 @@ fn class_of(answer: Answer) -> &'static str {
     }
 }
 
-/// Appends how many games had an answer, where some had.
+/// Appends how many games had an answer, if any had.
 fn push_count(page: &mut PageText, answer: Answer, many: usize) -> Result<(), AllocError> {
     if many == 0 {
         return Ok(());
@@ -186,7 +186,7 @@ fn push_address(page: &mut PageText, address: &[u8]) -> Result<(), AllocError> {
     ])
 }
 
-/// Appends the name of a game, as a link where it has a page.
+/// Appends the name of a game, as a link if it has a page.
 fn push_link(alloc: Global, page: &mut PageText, row: &IndexRow<'_>) -> Result<(), AllocError> {
     let Some(name) = row.page else {
         return page.push(&[Piece::Text(row.game.as_bytes())]);
@@ -197,7 +197,7 @@ fn push_link(alloc: Global, page: &mut PageText, row: &IndexRow<'_>) -> Result<(
     page.push(&[Piece::Text(row.game.as_bytes()), Piece::Markup("</a>")])
 }
 
-/// Appends what was answered of a game.
+/// Appends the answer on a game.
 fn push_answer(page: &mut PageText, row: &IndexRow<'_>) -> Result<(), AllocError> {
     page.push(&[
         Piece::Markup("</td><td class=\"vd\"><b>"),
@@ -214,7 +214,7 @@ fn push_answer(page: &mut PageText, row: &IndexRow<'_>) -> Result<(), AllocError
     push_unlisted(page, row.unlisted.unwrap_or(0))
 }
 
-/// Appends how many plays stand with a word that is not listed, where some do.
+/// Appends how many plays stand with a word that is not listed, if any do.
 fn push_unlisted(page: &mut PageText, plays: usize) -> Result<(), AllocError> {
     match plays {
         0 => page.push(&[Piece::Markup("</td>")]),
@@ -227,7 +227,7 @@ fn push_unlisted(page: &mut PageText, plays: usize) -> Result<(), AllocError> {
     }
 }
 
-/// Appends what is said of an answer: a fault in words, with its name.
+/// Appends what is said about an answer: a fault in words, with its name.
 fn push_why(page: &mut PageText, why: &str) -> Result<(), AllocError> {
     match fault_words(why) {
         Some(words) => page.push(&[

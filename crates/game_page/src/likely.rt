@@ -67,7 +67,7 @@ fn likely_by(alloc: Global, record: &Record, repair: &Repair) -> Result<Likely, 
     })
 }
 
-/// The same where there is a likely repair.
+/// The likely repair of a record, if there is one, as its page shows it.
 pub(crate) fn likely_of(
     alloc: Global,
     record: &Record,

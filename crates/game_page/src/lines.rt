@@ -16,7 +16,7 @@ pub struct Line<'a> {
     pub event: &'a Event,
     /// What the sheet says of it.
     pub row: &'a SheetRow,
-    /// The board behind it, where the plays up to it can be laid.
+    /// The board after it, if the plays up to it can be laid.
     pub picture: Option<&'a Picture>,
     /// What is said of that board.
     pub position: Option<&'a Position>,
@@ -30,7 +30,7 @@ impl<'a> Line<'a> {
         self.row.unlisted.as_slice()
     }
 
-    /// Its play as it lies on the board, where it does.
+    /// Its play as it lies on the board, if it does.
     pub fn laid(&self) -> Option<&'a LaidPlay> {
         self.position?.play.as_ref()
     }
@@ -48,7 +48,7 @@ impl<'a> Line<'a> {
         matches!(self.event.kind, EventKind::Play { .. })
     }
 
-    /// Its best play, where there is one.
+    /// Its best play, if there is one.
     pub fn best(&self) -> Option<&'a BestPlay> {
         match &self.row.best {
             Some(TurnBest::Best(best)) => Some(best),

@@ -52,7 +52,7 @@ fn push_end(page: &mut PageText, shown: &Shown<'_>) -> Result<(), AllocError> {
     page.push(&[Piece::Markup(KEY)])
 }
 
-/// Appends the tiles that are not on the last board, where that is the one in view.
+/// Appends the tiles that are not on the last board, if that is the one in view.
 fn push_last_bag(page: &mut PageText, shown: &Shown<'_>) -> Result<(), AllocError> {
     if faulty_line(&shown.finding).is_some() {
         return Ok(());
@@ -72,15 +72,15 @@ pub struct Contents<'a> {
     pub pair: &'a Checked<'a>,
     /// The bytes of the record, and what is found of it.
     pub case: &'a Case,
-    /// The likely repair of the record, where there is one that the page is to show.
+    /// The likely repair of the record, if there is one that the page is to show.
     pub likely: Option<&'a Repair>,
-    /// How many folders above the page its index is, where it has one.
+    /// How many folders above the page its index is, if it has one.
     pub up: Option<usize>,
     /// What the page is made by.
     pub maker: &'a Maker,
 }
 
-/// The place of the faulty event, where the record has it.
+/// The place of the faulty event, if the record has it.
 fn faulty_place(events: &[Event], finding: &Finding) -> Option<usize>
     ensures is { result ≡ faulty_place events.now finding.now }
     ensures within { IfSome result (λ place. place < length events.now) }
@@ -136,9 +136,9 @@ fn shown_by<'a>(
     })
 }
 
-/// What the page of a case shows; none where its text is no record.
+/// What the page of a case shows; `None` if its text is not a record.
 ///
-/// It fails only where memory runs out.
+/// It fails only if memory runs out.
 pub fn shown_of<'a>(alloc: Global, contents: &Contents<'a>) -> Result<Option<Shown<'a>>, AllocError>
     ensures { IfOk result (λ shown. (text : List ℕ)
         → IsCaseOf contents.now.rules.now (list_in contents.now.pair.now) text contents.now.case.now
@@ -168,9 +168,9 @@ fn push_contents(page: &mut PageText, shown: &Shown<'_>) -> Result<(), AllocErro
     page.push(&[Piece::Markup("</body>\n</html>\n")])
 }
 
-/// Appends the page of a game, which shows what [`shown_of`] gives. Nothing where the text is no record.
+/// Appends the page of a game, which shows what [`shown_of`] gives. Appends nothing if the text is not a record.
 ///
-/// It fails only where memory runs out.
+/// It fails only if memory runs out.
 pub fn push_page(
     alloc: Global,
     page: &mut PageText,

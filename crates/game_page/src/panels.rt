@@ -1,4 +1,4 @@
-//! The position behind an event: its board, and what lies beside it.
+//! The position after an event: its board, and what is not on it.
 
 use crate::boards::push_board;
 use crate::lines::Line;
@@ -10,7 +10,7 @@ use ref_tiles::{Counts, KINDS, Kind};
 use score_sheets::{Picture, Position};
 use std::alloc::AllocError;
 
-/// Appends a link to the row of an event, or the same words where there is none.
+/// Appends a link to the row of an event, or only its words if there is no event.
 fn push_turn(
     page: &mut PageText,
     event: Option<&Event>,
@@ -32,7 +32,7 @@ fn push_turn(
     }
 }
 
-/// The event before a place, where there is one.
+/// The event before a place, if there is one.
 fn event_before<'a>(shown: &Shown<'a>, place: usize) -> Option<&'a Event> {
     if place == 0 {
         return None;
@@ -40,7 +40,7 @@ fn event_before<'a>(shown: &Shown<'a>, place: usize) -> Option<&'a Event> {
     shown.event_at(place - 1)
 }
 
-/// The event behind a place, where there is one with a board.
+/// The event after a place, if there is one with a board.
 fn event_behind<'a>(shown: &Shown<'a>, place: usize) -> Option<&'a Event> {
     let next = place.checked_add(1)?;
     if next < shown.sheet.boards.len() {
@@ -50,7 +50,7 @@ fn event_behind<'a>(shown: &Shown<'a>, place: usize) -> Option<&'a Event> {
     }
 }
 
-/// Appends the links to the positions before and behind the event at a place.
+/// Appends the links to the positions before and after the event at a place.
 fn push_turns(
     page: &mut PageText,
     shown: &Shown<'_>,
@@ -73,7 +73,7 @@ pub fn plus(points: i32) -> &'static str {
     if points < 0 { "" } else { "+" }
 }
 
-/// Appends who the event is of.
+/// Appends whose event it is.
 fn push_who(page: &mut PageText, line: &Line<'_>) -> Result<(), AllocError> {
     page.push(&[
         Piece::Markup("<p class=\"now\">"),
@@ -95,7 +95,7 @@ fn push_now(page: &mut PageText, line: &Line<'_>) -> Result<(), AllocError> {
     ])
 }
 
-/// Appends so many tiles of a kind, each for itself.
+/// Appends `many` tiles of a kind, each in its own element.
 fn push_rack_tiles(page: &mut PageText, kind: Kind, many: u8) -> Result<(), AllocError> {
     let letter = [kind.byte()];
     for _ in 0..many {
@@ -117,7 +117,7 @@ fn push_tiles(page: &mut PageText, rack: &Counts) -> Result<(), AllocError> {
     page.push(&[Piece::Markup("</p>")])
 }
 
-/// Appends the rack of the event behind a place, where its line shows one.
+/// Appends the rack of the event after a place, if its line shows one.
 fn push_next_rack(page: &mut PageText, shown: &Shown<'_>, place: usize) -> Result<(), AllocError> {
     let Some(event) = event_behind(shown, place) else {
         return Ok(());
@@ -134,7 +134,7 @@ fn push_next_rack(page: &mut PageText, shown: &Shown<'_>, place: usize) -> Resul
     push_tiles(page, rack)
 }
 
-/// Appends so many tiles of a kind behind each other, where there are any.
+/// Appends `many` tiles of a kind, one after the other, and a space if there are any.
 fn push_kind(page: &mut PageText, kind: Kind, many: usize) -> Result<(), AllocError> {
     if many == 0 {
         return Ok(());
@@ -161,7 +161,7 @@ pub fn push_bag(page: &mut PageText, position: &Position) -> Result<(), AllocErr
     page.push(&[Piece::Markup("</p>")])
 }
 
-/// Appends the position behind the event at a place.
+/// Appends the position after the event at a place.
 fn push_position(
     page: &mut PageText,
     shown: &Shown<'_>,
@@ -180,7 +180,7 @@ fn push_position(
     page.push(&[Piece::Markup("</td>")])
 }
 
-/// Appends the link to the first position, where there is one.
+/// Appends the link to the first position, if there is one.
 pub fn push_first(page: &mut PageText, shown: &Shown<'_>) -> Result<(), AllocError> {
     if shown.sheet.boards.is_empty() {
         return Ok(());
@@ -195,7 +195,7 @@ pub fn push_first(page: &mut PageText, shown: &Shown<'_>) -> Result<(), AllocErr
     ])
 }
 
-/// Appends the position behind the event at a place, where the plays up to it can be laid.
+/// Appends the position after the event at a place, if the plays up to it can be laid.
 pub fn push_panel(
     page: &mut PageText,
     shown: &Shown<'_>,

@@ -6,7 +6,7 @@ use page_pieces::{PageText, Piece};
 use score_sheets::{LaidPlay, PlayedTile};
 use std::alloc::AllocError;
 
-/// What an event other than a play is called, before its tiles where it has any.
+/// What an event other than a play is called, before its tiles if it has any.
 fn words_of(kind: &EventKind) -> &'static str {
     match kind {
         EventKind::Play { .. } => "",
@@ -20,7 +20,7 @@ fn words_of(kind: &EventKind) -> &'static str {
     }
 }
 
-/// The bracket before a tile of a play: tiles that were on the board already stand in brackets.
+/// The bracket before a tile of a play: tiles that were on the board already are in brackets.
 fn bracket(was_new: bool, is_new: bool) -> &'static str {
     match (was_new, is_new) {
         (true, false) => "(",
@@ -29,7 +29,7 @@ fn bracket(was_new: bool, is_new: bool) -> &'static str {
     }
 }
 
-/// Appends a tile of a play by its letter, behind a bracket where one stands there.
+/// Appends a tile of a play by its letter, after a bracket if there is one.
 fn push_tile(page: &mut PageText, was_new: bool, tile: &PlayedTile) -> Result<(), AllocError> {
     let Some(cell) = tile.cell else {
         return Ok(());
@@ -41,7 +41,7 @@ fn push_tile(page: &mut PageText, was_new: bool, tile: &PlayedTile) -> Result<()
     ])
 }
 
-/// Appends the word of a play, in which tiles that were on the board already stand in brackets.
+/// Appends the word of a play. Tiles that were on the board already are in brackets.
 fn push_word(page: &mut PageText, play: &LaidPlay) -> Result<(), AllocError> {
     let mut was_new = true;
     for tile in play.tiles.iter() {
@@ -51,7 +51,7 @@ fn push_word(page: &mut PageText, play: &LaidPlay) -> Result<(), AllocError> {
     page.push(&[Piece::Markup(bracket(was_new, true))])
 }
 
-/// Appends a play: where it begins and its word, where it lies on the board; else as it is written.
+/// Appends a play: where it begins, and its word as it lies on the board or, if it does not, as it is written.
 fn push_play(
     page: &mut PageText,
     event: &Event,
@@ -69,7 +69,7 @@ fn push_play(
     }
 }
 
-/// Appends what happened in an event. `laid` is its play as it lies on the board, where it does.
+/// Appends what happened in an event. `laid` is its play as it lies on the board, if it does.
 pub fn push_event(
     page: &mut PageText,
     event: &Event,

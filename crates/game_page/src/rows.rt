@@ -12,7 +12,7 @@ use record_words::Note;
 use score_sheets::SheetRow;
 use std::alloc::AllocError;
 
-/// Which columns a sheet has beside those that every sheet has: those in which something stands.
+/// Which columns a sheet has in addition to those that every sheet has: those that are not empty.
 #[derive(Clone, Copy)]
 struct Columns {
     /// Words that are not in the list.
@@ -21,7 +21,7 @@ struct Columns {
     right: bool,
 }
 
-/// Whether some number of a row should be another one.
+/// Whether a number of a row is wrong.
 fn has_right(row: &SheetRow) -> bool {
     row.score.is_some() || row.total.is_some()
 }
@@ -54,7 +54,7 @@ fn push_heading(page: &mut PageText, columns: Columns) -> Result<(), AllocError>
     ])
 }
 
-/// The class of a row: whether it is the faulty one, a play that is taken back, or no play.
+/// The class of a row: whether it is the faulty one, a play that is taken back, or not a play.
 fn class_of(line: &Line<'_>) -> &'static str {
     match (line.is_faulty, line.row.taken_back, line.is_play()) {
         (true, true, _) => "\" class=\"fault back\">",
@@ -80,7 +80,7 @@ fn push_start(page: &mut PageText, line: &Line<'_>) -> Result<(), AllocError> {
     ])
 }
 
-/// The marks behind a play.
+/// The marks after a play.
 fn tags_of(line: &Line<'_>) -> [Piece<'static>; 3] {
     [
         Piece::Markup(if line.is_full() {
@@ -101,7 +101,7 @@ fn tags_of(line: &Line<'_>) -> [Piece<'static>; 3] {
     ]
 }
 
-/// Appends what happened, which leads to the position behind it where there is one.
+/// Appends what happened, as a link to the position after it if there is one.
 fn push_play(page: &mut PageText, line: &Line<'_>) -> Result<(), AllocError> {
     page.push(&[Piece::Markup("<td class=\"play\">")])?;
     if line.picture.is_none() {
@@ -157,7 +157,7 @@ fn push_best(page: &mut PageText, best: &TurnBest) -> Result<(), AllocError> {
     }
 }
 
-/// Appends how many points more the best play of an event would have given, where it would have.
+/// Appends how many points more the best play of an event would have given, if it would have given more.
 fn push_more(page: &mut PageText, line: &Line<'_>) -> Result<(), AllocError> {
     match line.best() {
         Some(best) if best.more > 0 => {
@@ -167,7 +167,7 @@ fn push_more(page: &mut PageText, line: &Line<'_>) -> Result<(), AllocError> {
     }
 }
 
-/// Appends the best play of a turn and what it would have given more.
+/// Appends the best play of a turn and how much more it would have given.
 fn push_best_cells(page: &mut PageText, line: &Line<'_>) -> Result<(), AllocError> {
     page.push(&[Piece::Markup("<td class=\"bp\">")])?;
     if let Some(best) = &line.row.best {
@@ -178,7 +178,7 @@ fn push_best_cells(page: &mut PageText, line: &Line<'_>) -> Result<(), AllocErro
     page.push(&[Piece::Markup("</td>")])
 }
 
-/// Appends words, each behind a space.
+/// Appends words, each with a space after it.
 fn push_words(page: &mut PageText, words: &[SpelledWord]) -> Result<(), AllocError> {
     page.push(&[Piece::Markup("<td class=\"un\">")])?;
     for word in words {
@@ -187,7 +187,7 @@ fn push_words(page: &mut PageText, words: &[SpelledWord]) -> Result<(), AllocErr
     page.push(&[Piece::Markup("</td>")])
 }
 
-/// Appends what a number should be, where it is not that.
+/// Appends what a number should be, if it is wrong.
 fn push_should_be(
     page: &mut PageText,
     name: &'static str,
@@ -203,7 +203,7 @@ fn push_should_be(
     }
 }
 
-/// Appends what the score and the total of an event should be, where they are not that.
+/// Appends what the score and the total of an event should be, if they are wrong.
 fn push_right(page: &mut PageText, row: &SheetRow) -> Result<(), AllocError> {
     page.push(&[Piece::Markup("<td class=\"sb\">")])?;
     push_should_be(page, "score ", row.score)?;
@@ -242,7 +242,7 @@ fn push_note(page: &mut PageText, shown: &Shown<'_>, note: &Note<'_>) -> Result<
     ])
 }
 
-/// Appends the notes from a place on that stand with the last of so many events, and gives the place behind them.
+/// Appends the notes from place `from` on that come no later than after `events` events, and returns the place after them.
 fn push_notes(
     page: &mut PageText,
     shown: &Shown<'_>,
@@ -261,13 +261,13 @@ fn push_notes(
     Ok(next)
 }
 
-/// Appends the name of a player, before what the best plays would have given more.
+/// Appends the name of a player, before how much more the best plays would have given.
 fn push_gainer(page: &mut PageText, shown: &Shown<'_>, seat: Seat) -> Result<(), AllocError> {
     let name = name_of(shown, shown.player(seat));
     page.push(&[name, Piece::Markup(" <b>")])
 }
 
-/// Appends what the best plays of a player would have given more together.
+/// Appends how much more the best plays of a player would have given together.
 fn push_gains(
     page: &mut PageText,
     shown: &Shown<'_>,
@@ -281,7 +281,7 @@ fn push_gains(
     page.push(&[Piece::Many(gains as usize), Piece::Markup("</b>")])
 }
 
-/// Appends what the best plays would have given more, by player.
+/// Appends how much more the best plays would have given, by player.
 fn push_sums(page: &mut PageText, shown: &Shown<'_>) -> Result<(), AllocError> {
     let sheet = &shown.sheet;
     page.push(&[Piece::Markup(
@@ -295,7 +295,7 @@ fn push_sums(page: &mut PageText, shown: &Shown<'_>) -> Result<(), AllocError> {
     page.push(&[Piece::Markup("</p>\n")])
 }
 
-/// Appends the row of the event at a place, and the notes from a place on that stand with it; gives the place behind them.
+/// Appends the row of the event at a place and, of the notes from place `from` on, those of the event; returns the place after them.
 fn push_place(
     page: &mut PageText,
     shown: &Shown<'_>,
@@ -311,7 +311,7 @@ fn push_place(
     push_notes(page, shown, notes, from, place.saturating_add(1))
 }
 
-/// Appends the sheet: a row for each event with the position behind it, and the notes that stand with it.
+/// Appends the sheet: a row for each event with the position after it, and the notes of the event.
 pub fn push_rows(
     page: &mut PageText,
     shown: &Shown<'_>,

@@ -18,23 +18,23 @@ pub struct Shown<'a> {
     pub rules: &'a Rules,
     /// The sheet.
     pub sheet: ScoreSheet<'a>,
-    /// What the record says in words beside its events.
+    /// What the record says in words in addition to its events.
     pub words: RecordWords<'a>,
     /// How names are read.
     pub encoding: Encoding,
     /// What is found of the record.
     pub finding: Finding,
-    /// The place of the faulty event, where there is one.
+    /// The place of the faulty event, if there is one.
     pub faulty: Option<usize>,
-    /// The line that tells the verdict.
+    /// The line with the verdict.
     pub verdict: Vec<u8>,
     /// The sentences that explain it.
     pub reason: Vec<u8>,
     /// What explains it, with the words of the play.
     pub explanation: Option<Explanation<'a>>,
-    /// The likely repair of the record, where there is one.
+    /// The likely repair of the record, if there is one.
     pub likely: Option<Likely>,
-    /// How many folders above the page its index is, where it has one.
+    /// How many folders above the page its index is, if it has one.
     pub up: Option<usize>,
     /// What the page is made by.
     pub maker: &'a Maker,
@@ -49,12 +49,12 @@ impl<'a> Shown<'a> {
         }
     }
 
-    /// The event at a place, where there is one.
+    /// The event at a place, if there is one.
     pub fn event_at(&self, place: usize) -> Option<&'a Event> {
         self.sheet.events.get(place)
     }
 
-    /// The line of the event at a place, where there is one.
+    /// The line of the event at a place, if there is one.
     pub fn line_at(&self, place: usize) -> Option<Line<'_>> {
         let event = self.sheet.events.get(place)?;
         let row = self.sheet.rows.as_slice().get(place)?;
@@ -70,7 +70,7 @@ impl<'a> Shown<'a> {
     }
 }
 
-/// The line of the fault, where there is one.
+/// The line of the fault, if there is one.
 pub fn faulty_line(finding: &Finding) -> Option<u32> {
     match finding {
         Finding::Illegal { line, .. } => Some(*line),

@@ -5,7 +5,7 @@ use game_board::tile_mark;
 use page_pieces::{PageText, Piece};
 use std::alloc::AllocError;
 
-/// Appends by what a number is multiplied, where that is not 1.
+/// Appends the factor of a number, if that is not 1.
 fn push_factor(page: &mut PageText, factor: u32) -> Result<(), AllocError> {
     if factor == 1 {
         return Ok(());
@@ -13,7 +13,7 @@ fn push_factor(page: &mut PageText, factor: u32) -> Result<(), AllocError> {
     page.push(&[Piece::Markup(" &times; "), Piece::Number(i64::from(factor))])
 }
 
-/// Appends a square of a word: the letter that its tile shows, its points, and by what they are multiplied.
+/// Appends a square of a word: the letter that its tile shows, its points, and their factor.
 fn push_square(
     page: &mut PageText,
     before: &'static str,
@@ -65,7 +65,7 @@ fn push_word(page: &mut PageText, word: &PlayedWord) -> Result<(), AllocError> {
     page.push(&[Piece::Markup("</li>\n")])
 }
 
-/// Appends the bonus of seven tiles, where there is one.
+/// Appends the bonus for seven tiles, if there is one.
 fn push_bonus(page: &mut PageText, bonus: Option<u32>) -> Result<(), AllocError> {
     match bonus {
         Some(bonus) => page.push(&[

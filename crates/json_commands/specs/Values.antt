@@ -1,4 +1,4 @@
--- A value that is told, by what it is of the bytes of a record.
+-- A value that is reported, and how it depends on the bytes of a record.
 use Rattle.std.proofs.Common.{ℕ, List, [], ◌∷◌, Result, Ok, Err}
 use Rattle.call_stages.specs.declared.decisions.Decision.{Decision}
 use Rattle.call_stages.specs.declared.verdicts.Verdict.{Verdict}
@@ -8,12 +8,12 @@ use Rattle.call_stages.specs.Sparing.{record_spares}
 use Rattle.call_stages.specs.Telling.{IsTold, IsLater}
 use Rattle.command_files.specs.Later.{later_as}
 
--- the value of the record is told, or the record is bad
+-- the value of the record is reported, or the record is bad
 abbrev pub IsValueTold : {A T : Type 0} → (IsValue : List ℕ → Result A Decision → Type 0) → Result T Decision → (texts : List (List ℕ)) → Verdict → List ℕ → Type 0
 IsValueTold {A} IsValue (Ok told) texts v report = ReadsNext (λ text. ReadsNoMore (λ w said. (a : A) × IsValue text (Ok a) × IsTold verdict.Done [] w said)) texts v report
 IsValueTold {A} IsValue (Err d) texts v report = ReadsRecord (λ r rest w said. ⊥) texts v report
 
--- neither is that an input before it is bad
+-- neither of these says that an earlier input is bad
 pub value_later : {A T : Type 0} (IsValue : List ℕ → Result A Decision → Type 0) (x : Result T Decision) (texts : List (List ℕ)) (v : Verdict) (report : List ℕ) → IsValueTold IsValue x texts v report
     → IsLater v
 value_later IsValue (Ok told) [] v report is = absurd is

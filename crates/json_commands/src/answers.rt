@@ -1,4 +1,4 @@
-//! The commands whose answer is a JSON object: what is asked of a record, by rules, a word list and its lexicon that are read before it.
+//! The commands on a record whose answer is a JSON object. The rules, the word list and its lexicon are read before the record.
 ghost use Rattle.std.specs.Prelude.{◌∷◌, [], refl};
 ghost use Rattle.devices.specs.Devices.{HasRoom};
 ghost use Rattle.lex_check.specs.Pairs.{list_in};
@@ -24,7 +24,7 @@ use std::alloc::Global;
 use std::io::Read;
 use std::rt::Runtime;
 
-/// What is asked of a record.
+/// A request for a record.
 #[derive(Clone, Copy)]
 pub enum AnswerTask {
     /// Its verdict, and the best play of each turn.
@@ -35,11 +35,11 @@ pub enum AnswerTask {
     Audit,
     /// What explains its verdict, or one of its lines.
     Explain(Option<u32>),
-    /// The repairs of its record, in so many lines.
+    /// The repairs of its record, in at most the given number of lines.
     Repair(usize),
 }
 
-/// Tells a judged game.
+/// Writes a judged game.
 fn tell_judged<R: Runtime + AllocGlobal>(
     rt: &R,
     game: &JudgedGame,
@@ -52,7 +52,7 @@ fn tell_judged<R: Runtime + AllocGlobal>(
     Ok(Exit::from(game.verdict))
 }
 
-/// Judges a game, and tells what was found.
+/// Judges a game, and writes what was found.
 fn judge<R: Runtime + AllocGlobal, F: Read + Drop, S: Read + Drop>(
     rt: &R,
     given: &GivenFiles<'_, F, S>,
@@ -70,7 +70,7 @@ fn judge<R: Runtime + AllocGlobal, F: Read + Drop, S: Read + Drop>(
     }
 }
 
-/// Tells what was found where the best plays before a line are asked for.
+/// Writes what was found when the best plays before a line were requested.
 fn tell_plays<R: Runtime + AllocGlobal>(
     rt: &R,
     found: &FoundPlays,
@@ -83,7 +83,7 @@ fn tell_plays<R: Runtime + AllocGlobal>(
     Ok(Exit::from(found.verdict()))
 }
 
-/// Finds the best plays before a line, and tells them.
+/// Finds the best plays before a line, and writes them.
 fn top<R: Runtime + AllocGlobal, F: Read + Drop, S: Read + Drop>(
     rt: &R,
     given: &GivenFiles<'_, F, S>,
@@ -101,7 +101,7 @@ fn top<R: Runtime + AllocGlobal, F: Read + Drop, S: Read + Drop>(
     }
 }
 
-/// What is asked of a record, by a runtime to which the answer goes.
+/// A request for a record, with the runtime to which the answer goes.
 #[derive(Clone, Copy)]
 struct AnswerQuestion<'r, R> {
     rt: &'r R,
@@ -143,7 +143,7 @@ impl<R: Runtime + AllocGlobal, F: Read + Drop, S: Read + Drop> Question<
     ghost later = { λ question rules words x texts v report is. answer_later question.task rules words x texts v report is };
 }
 
-/// Opens the files of a record, reads what it is judged by, and tells the answer to what is asked of it.
+/// Opens the files of a record, reads the rules, the words and the lexicon, and writes the answer to the request.
 fn answer_files<'a, R: Runtime + AllocGlobal>(
     rt: &R,
     files: GameFiles<'a>,
@@ -173,7 +173,7 @@ fn answer_files<'a, R: Runtime + AllocGlobal>(
     }
 }
 
-/// The answer to what is asked of a record, as a JSON object, also where something keeps the program from its end.
+/// Writes the answer to a request for a record as a JSON object; if the program cannot finish, the object says why.
 pub fn answer_in_json<'a, R: Runtime + AllocGlobal>(
     rt: &R,
     files: GameFiles<'a>,

@@ -16,7 +16,7 @@ use sheet_json::push_audit_answer;
 use std::io::Read;
 use std::rt::Runtime;
 
-/// Tells an audit.
+/// Writes an audit.
 fn tell_audit<R: Runtime + AllocGlobal>(
     rt: &R,
     answer: &AuditAnswer,
@@ -29,7 +29,7 @@ fn tell_audit<R: Runtime + AllocGlobal>(
     Ok(exit_of_audit(&answer.audit))
 }
 
-/// Audits a sheet, and tells the audit.
+/// Audits a sheet, and writes the audit.
 pub fn audit<R: Runtime + AllocGlobal, F: Read + Drop, S: Read + Drop>(
     rt: &R,
     given: &GivenFiles<'_, F, S>,

@@ -10,7 +10,7 @@ use game_answers::{ShownBoard, shown_board};
 use sheet_json::push_shown_board;
 use std::rt::Runtime;
 
-/// Tells a board, or that no event is on the line.
+/// Writes a board, or that no event is on the line.
 fn tell_board<'a, R: Runtime + AllocGlobal>(
     rt: &R,
     shown: &Option<ShownBoard>,
@@ -26,7 +26,7 @@ fn tell_board<'a, R: Runtime + AllocGlobal>(
     }
 }
 
-/// Opens a rules text where one is named, and a record, and tells its board.
+/// Opens a rules text, if one is named, and a record, and writes its board.
 fn show_files<'a, R: Runtime + AllocGlobal>(
     rt: &R,
     rules: Option<&'a str>,
@@ -50,7 +50,7 @@ fn show_files<'a, R: Runtime + AllocGlobal>(
     }
 }
 
-/// The board of a record, before a line where one is named, as a JSON object, also where something keeps the program from its end.
+/// Writes the board of a record, before a line if one is named, as a JSON object; if the program cannot finish, the object says why.
 pub fn board_in_json<'a, R: Runtime + AllocGlobal>(
     rt: &R,
     rules: Option<&'a str>,

@@ -11,7 +11,7 @@ use exit_statuses::{Exit, Trouble};
 use game_answers::count_words;
 use std::rt::Runtime;
 
-/// Tells how many words a list has.
+/// Writes how many words a list has.
 fn tell_words<'a, R: Runtime + AllocGlobal>(rt: &R, words: usize) -> Result<Exit, Trouble<'a>> {
     let mut text = Vec::new(rt.alloc());
     if push_checked(rt.alloc(), &mut text, words).is_err() {
@@ -21,7 +21,7 @@ fn tell_words<'a, R: Runtime + AllocGlobal>(rt: &R, words: usize) -> Result<Exit
     Ok(Exit::Fine)
 }
 
-/// Opens a word list and a lexicon, and tells whether they belong together.
+/// Opens a word list and a lexicon, and writes whether they belong together.
 fn check_files<'a, R: Runtime + AllocGlobal>(
     rt: &R,
     pair: PairFiles<'a>,
@@ -41,7 +41,7 @@ fn check_files<'a, R: Runtime + AllocGlobal>(
     }
 }
 
-/// Whether a file is the lexicon of a word list, as a JSON object, also where something keeps the program from its end.
+/// Writes whether a file is the lexicon of a word list as a JSON object; if the program cannot finish, the object says why.
 pub fn check_in_json<'a, R: Runtime + AllocGlobal>(
     rt: &R,
     pair: PairFiles<'a>,

@@ -33,7 +33,7 @@ fn object_of(
     case_text(alloc, rules, pair.list(), case, likely.as_ref(), line)
 }
 
-/// Tells what explains a case, or one of its lines.
+/// Writes what explains a case, or one of its lines.
 fn tell_explained<R: Runtime + AllocGlobal>(
     rt: &R,
     rules: &Rules,
@@ -48,7 +48,7 @@ fn tell_explained<R: Runtime + AllocGlobal>(
     Ok(exit_of_case(case, line))
 }
 
-/// Opens the case of a record, and tells what explains it or one of its lines.
+/// Opens the case of a record, and writes what explains it or one of its lines.
 pub fn explain_in_json<R: Runtime + AllocGlobal, F: Read + Drop, S: Read + Drop>(
     rt: &R,
     given: &GivenFiles<'_, F, S>,

@@ -20,7 +20,7 @@ use std::alloc::{AllocError, Global};
 use std::io::Read;
 use std::rt::Runtime;
 
-/// The object of what repairs the record of a case, in so many lines.
+/// The object of what repairs the record of a case, in at most `number` lines.
 fn case_text(
     alloc: Global,
     rules: &Rules,
@@ -43,7 +43,7 @@ fn case_text(
     Ok(text)
 }
 
-/// Tells what repairs the record of a case.
+/// Writes what repairs the record of a case.
 fn tell_repairs<R: Runtime + AllocGlobal>(
     rt: &R,
     rules: &Rules,
@@ -60,7 +60,7 @@ fn tell_repairs<R: Runtime + AllocGlobal>(
     Ok(exit_of_case(case, None))
 }
 
-/// Opens the case of a record, and tells what repairs it, in so many lines.
+/// Opens the case of a record, and writes what repairs it, in at most `number` lines.
 pub fn repair_in_json<R: Runtime + AllocGlobal, F: Read + Drop, S: Read + Drop>(
     rt: &R,
     given: &GivenFiles<'_, F, S>,

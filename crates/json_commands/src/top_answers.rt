@@ -9,10 +9,10 @@ use exit_statuses::{Exit, Trouble};
 use gcg_read::read_rack;
 use std::rt::Runtime;
 
-/// How many plays are given where no number is asked for.
+/// How many plays are given if no number is requested.
 const USUAL_PLAYS: u32 = 10;
 
-/// The question that the command line asks; none where the rack that it names is no rack.
+/// The question that the command line asks; `None` if the rack that it names is not a rack.
 fn question_of(plays: PlaysAsked<'_>) -> Option<TurnPlays> {
     let rack = match plays.rack {
         None => None,
@@ -26,7 +26,7 @@ fn question_of(plays: PlaysAsked<'_>) -> Option<TurnPlays> {
     })
 }
 
-/// Opens the files of a record, and tells that the rack is none.
+/// Opens the files of a record, and writes that the rack is not one.
 fn refuse_rack<'a, R: Runtime + AllocGlobal>(
     rt: &R,
     files: GameFiles<'a>,
@@ -39,7 +39,7 @@ fn refuse_rack<'a, R: Runtime + AllocGlobal>(
     }
 }
 
-/// The best plays by a rack on a board of a record, as a JSON object, also where something keeps the program from its end.
+/// Writes the best plays with a rack on a board of a record as a JSON object; if the program cannot finish, the object says why.
 pub fn top_in_json<'a, R: Runtime + AllocGlobal>(
     rt: &R,
     files: GameFiles<'a>,

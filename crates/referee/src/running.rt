@@ -1,4 +1,4 @@
-//! What the program does: it takes the command line for a request, has it done, and says what kept it from its end.
+//! What the program does: it parses the command line as a request, carries it out, and says what kept it from finishing.
 
 use crate::same_files::lost_input;
 use archive_commands::{archive, index};
@@ -18,8 +18,8 @@ use std::rt::Runtime;
 use std::{env, io};
 use watching::Reason;
 
-/// Runs the program on the arguments of its command line. What keeps it from its end is said on standard error, which somebody
-/// sees where it is `watched`.
+/// Runs the program on the arguments of its command line. If something keeps it from finishing, standard error says what; `watched`
+/// says whether somebody sees standard error.
 pub fn run_program<R: Runtime + AllocGlobal>(rt: &R, watched: bool) -> Exit {
     let arguments = match arguments_of(rt) {
         Ok(arguments) => arguments,
@@ -40,7 +40,7 @@ fn arguments_of<R: Runtime + AllocGlobal>(rt: &R) -> Result<Vec<String>, Error> 
     }
 }
 
-/// What a command line without a request comes to. Help and the version go to standard output, a mistake to standard error.
+/// Answers a command line without a request. Help and the version go to standard output, a mistake to standard error.
 fn refuse<R: Runtime>(rt: &R, error: &Error) -> Exit {
     if error.kind() == ErrorKind::OutOfMemory {
         return give_up(rt, Trouble::NoMemory);
@@ -58,13 +58,13 @@ fn refuse<R: Runtime>(rt: &R, error: &Error) -> Exit {
     }
 }
 
-/// Says what kept the program from its end.
+/// Says what kept the program from finishing.
 fn give_up<R: Runtime>(rt: &R, trouble: Trouble<'_>) -> Exit {
     let _ = rt.eprintln(format_args!("{PROGRAM_NAME}: {trouble}"));
     Exit::Broken
 }
 
-/// Does what was asked for, unless an output that it names is one of its inputs, which would be lost.
+/// Carries out the request, unless an output that it names is one of its inputs, which would be lost.
 fn answer<R: Runtime + AllocGlobal>(rt: &R, request: Request<'_>, watched: bool) -> Exit {
     if let Some(input) = lost_input(rt, &request) {
         return match format!(in rt.alloc();

@@ -7,7 +7,7 @@ use whole_files::is_same_file;
 /// The file that standard input may be.
 const STANDARD_INPUT_FILE: &str = "/dev/stdin";
 
-/// What help calls the first input of a command that is the same file as its output, where there is one.
+/// What help calls the first input of a command that is the same file as its output, if there is one.
 pub fn lost_input<R: Runtime>(rt: &R, request: &Request<'_>) -> Option<&'static str> {
     match request {
         Request::Build { words, out } => first_lost(rt, out, &[("WORDS", source(words.name))]),
@@ -38,7 +38,7 @@ pub fn lost_input<R: Runtime>(rt: &R, request: &Request<'_>) -> Option<&'static 
     }
 }
 
-/// The first file of a game, whose record help calls so, that is the same as an output.
+/// The first file of a game that is the same as an output. Help calls the record of the game `record`.
 fn lost_of_game<R: Runtime>(
     rt: &R,
     out: &str,
@@ -54,7 +54,7 @@ fn lost_of_game<R: Runtime>(
     first_lost(rt, out, &inputs)
 }
 
-/// The name of a file that is read where an input is named so: that of standard input may be a file too.
+/// The file that is read for an input of this name: standard input may be a file too.
 fn source(name: &str) -> &str {
     if name == STANDARD_INPUT {
         STANDARD_INPUT_FILE

@@ -1,4 +1,4 @@
--- What is wrong with a record whose numbers alone are.
+-- What is wrong with a record of which only the numbers are wrong.
 use Rattle.std.proofs.Common.{◌≡◌, ℕ, List, true, false, Option, Some, None, ap, ◌∙◌, subst}
 use Rattle.std.specs.Option.{is_some}
 use Rattle.std.specs.List.{filter}
@@ -23,7 +23,7 @@ use Rattle.record_repairs.proofs.Audits.{audited_right, audited_words}
 use Rattle.record_repairs.proofs.WrongLines.{lines_alone}
 use Rattle.repair_answers.specs.Unchanged.{MayBeGame, AreNumbersAlone, AreLeft}
 
--- ---- where the correction stops, and where it does not
+-- ---- a correction that stops, and one that does not
 
 stopped_none : (rules : Rules) (list : List (List ℕ)) (written right : List Event) (end : ℕ) (stopped : Option Stop) → EndsAt rules list written right end stopped → is_some stopped ≡ true
     → (other : List Event) → IsWritable rules list written other → IsGame rules list other → ⊥
@@ -44,13 +44,13 @@ pub whole : (rules : Rules) (list : List (List ℕ)) (written right : List Event
     → IsCorrection rules list written right
 whole rules list written right walk is goes = whole_by rules list written right is.end walk.stopped is.ends goes
 
--- where it is no game, no correction is one
+-- if the right events are not a game, no correction is one
 pub none_game : (rules : Rules) (list : List (List ℕ)) (written right : List Event) → IsCorrection rules list written right → (IsGame rules list right → ⊥)
     → (other : List Event) → IsWritable rules list written other → IsGame rules list other → ⊥
 none_game rules list written right is none other writable game =
     none (subst (λ (es : List Event). IsGame rules list es) (one_correction rules list written other right writable.correction is) game)
 
--- ---- the numbers alone are wrong
+-- ---- only the numbers are wrong
 
 pub numbers_alone : (rules : Rules) (list : List (List ℕ)) (written right : List Event) (wrong : List WrongNumber) (walk : Walk) (remains : Remains) → IsCorrection rules list written right
     → HavePoints right → MayBeGame rules list right → IsAudited rules list written right wrong → IsWalk rules list written right walk → AreLeft list wrong walk.rows.items remains

@@ -32,7 +32,7 @@ none_by (Ok entry) rules list (Some walk) most none is = cc
 none_by (Ok entry) rules list None most none is = absurd is
 none_by (Err fault) rules list walk most none is = refl
 
--- there is no walk where the text is no record
+-- if the text is not a record, there is no walk
 pub none_walked : (rules : Rules) (list : List (List ℕ)) (case : Case) (most : ℕ) → HasItsWalk rules list case → case.walk ≡ None → RepairsOf case.read rules list case.walk most None
 none_walked rules list case most has none = none_by case.read rules list case.walk most none has.1.2
 

@@ -27,7 +27,7 @@ like_before repairs index before less here = sym (not_all (λ k. not (like_at re
 pub all_unlike : (repairs : List Repair) (index before : ℕ) → AreUnlike repairs index before → before ≡ index → true ≡ is_first repairs index
 all_unlike repairs index before so_far is = sym (subst (AreUnlike repairs index) is so_far)
 
--- ---- those behind it that are like it
+-- ---- later ones that are like it
 
 abbrev pub like_to : List Repair → (first end : ℕ) → List ℕ
 like_to repairs first end = filter (like_at repairs first) (range_with_len (first + 1) (end - (first + 1)))

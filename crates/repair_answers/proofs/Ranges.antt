@@ -23,14 +23,14 @@ range_more a n k is = range_joined a n 1 ∙ ap (λ j. range_with_len a n ++ j �
 pub filter_more : (p : ℕ → Bool) (a n k : ℕ) → a + n ≡ k → filter p (range_with_len a (n + 1)) ≡ filter p (range_with_len a n) ++ cond (p k) (k ∷ []) []
 filter_more p a n k is = ap (filter p) (range_more a n k is) ∙ filter-append p (range_with_len a n) (k ∷ [])
 
--- a number more passes the test
+-- one more number passes the test
 pub filter_passed : (p : ℕ → Bool) (a n k : ℕ) → a + n ≡ k → p k ≡ true → filter p (range_with_len a (n + 1)) ≡ filter p (range_with_len a n) ++ k ∷ []
 filter_passed p a n k is passes = filter_more p a n k is ∙ ap (λ b. filter p (range_with_len a n) ++ cond b (k ∷ []) []) passes
 
 pub filter_failed : (p : ℕ → Bool) (a n k : ℕ) → a + n ≡ k → p k ≡ false → filter p (range_with_len a (n + 1)) ≡ filter p (range_with_len a n)
 filter_failed p a n k is fails = filter_more p a n k is ∙ ap (λ b. filter p (range_with_len a n) ++ cond b (k ∷ []) []) fails ∙ append-nil (filter p (range_with_len a n))
 
--- the test holds of a number more, or it fails of one
+-- the test holds for one more number, or it fails for one
 pub all_more : (p : ℕ → Bool) (k : ℕ) → list_all p (range_with_len 0 k) ≡ true → p k ≡ true → list_all p (range_with_len 0 (k + 1)) ≡ true
 all_more p k before here =
     ap (list_all p) (range_more 0 k k (omega arith)) ∙ list_all-append p (range_with_len 0 k) (k ∷ []) ∙ ap (λ b. b && (p k && true)) before ∙ ap (λ b. b && true) here
@@ -44,7 +44,7 @@ take_front : {X : Type 0} (xs ys : List X) → take (length xs) (xs ++ ys) ≡ x
 take_front [] ys = refl
 take_front {X} (x ∷ xs) ys = ap (λ (zs : List X). x ∷ zs) (take_front xs ys)
 
--- the first of the numbers that pass, where so many are there already
+-- the first of the numbers that pass, if `most` of them were found already
 pub first_passed : (p : ℕ → Bool) (k n most : ℕ) (xs : List ℕ) → k ≤ n → xs ≡ filter p (range_with_len 0 k) → length xs ≡ most → xs ≡ take most (filter p (range_with_len 0 n))
 first_passed p k n most xs within is many =
     let rest : List ℕ = filter p (range_with_len k (n - k)) in

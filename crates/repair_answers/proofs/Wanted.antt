@@ -1,4 +1,4 @@
--- Repairs of which more are asked for than a list can hold.
+-- Requests for more repairs than a list can hold.
 use Rattle.std.proofs.Common.{◌≡◌, ◌⊎◌, inl, inr, ℕ, ◌+◌, ◌-◌, ◌*◌, ◌<◌, ◌≤◌, ◌^◌, List, length, Option, ap, ◌∙◌, subst, arith}
 use Rattle.std.specs.Prelude.{min, Contains}
 use Rattle.ref_tiles.specs.declared.rulebook.Rules.{Rules}

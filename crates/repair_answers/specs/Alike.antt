@@ -1,4 +1,4 @@
--- Repairs that are told in one line: those of one kind and one cost at one place, which differ in a letter or in how many tiles are exchanged.
+-- Repairs that share a line: those of one kind and one cost at one place, which differ in a letter or in how many tiles are exchanged.
 use Rattle.std.specs.Prelude.{ℕ, ◌==◌, ◌&&◌, Bool, true, false, length}
 use Rattle.ref_tiles.specs.declared.kinds.Kind.{Kind}
 use Rattle.ref_tiles.specs.Kinds.{kind_byte}

@@ -1,4 +1,4 @@
--- What is answered of the case of a record where repairs are asked for.
+-- What `repair` answers of the case of a record.
 use Rattle.std.specs.Prelude.{◌≡◌, ℕ, ◌+◌, ◌*◌, Bool, true, false, List, length, Option, Some, None, Result, Ok, Err}
 use Rattle.std.specs.Option.{option_map}
 use Rattle.ref_tiles.specs.declared.rulebook.Rules.{Rules}
@@ -24,12 +24,12 @@ use Rattle.repair_answers.specs.declared.answers.RepairAnswer.{RepairAnswer}
 abbrev pub HasItsWalk : Rules → (list : List (List ℕ)) → Case → Type 0
 HasItsWalk rules list case = (text : List ℕ) × IsCaseOf rules list text case
 
--- how many numbers and words are wrong where the numbers alone are: fewer must stay wrong with a repair
+-- how many numbers and words are wrong if only the numbers are: fewer must stay wrong with a repair
 abbrev pub below_of : Option Remains → Option ℕ
 below_of remains = option_map (λ (r : Remains). length r.wrong.items + length r.unlisted.items) remains
 
--- What repairs an illegal record: what is wrong where its numbers alone are, changes of plays that a search found, which are tried too, its first repairs,
--- as many as may be on so many lines, the lines, pairs of changes that cost less than each of these repairs, and how many changes were tried.
+-- What repairs an illegal record: what is wrong if only its numbers are, changes of plays that a search found, which are tried too, its first repairs,
+-- as many as `most` lines can have, the lines, pairs of changes that cost less than each of these repairs, and how many changes were tried.
 pub record RepairsIn (rules : Rules) (list : List (List ℕ)) (written : List Event) (walk : Walk) (most : ℕ) (f : Faulty) : Type 0 where
   pub alone : IsUnchanged rules list written f.unchanged
   pub plays : ArePlayChanges written walk f.plays.items
@@ -51,7 +51,7 @@ abbrev pub RepairsOf : Result Entry ReadFault → Rules → (list : List (List �
 RepairsOf (Ok entry) rules list walk most answer = RepairsBy entry.finding rules list entry.record.events walk most answer
 RepairsOf (Err fault) rules list walk most answer = answer ≡ None
 
--- the verdict of a case, and what repairs its record where it is illegal
+-- the verdict of a case, and what repairs its record if it is illegal
 pub record IsRepairAnswer (rules : Rules) (list : List (List ℕ)) (case : Case) (most : ℕ) (answer : RepairAnswer) : Type 0 where
   pub verdict : answer.verdict ≡ case_verdict case.read
   pub repairs : RepairsOf case.read rules list case.walk most answer.faulty

@@ -7,11 +7,11 @@ use Rattle.repair_answers.specs.Alike.{cost_in}
 use Rattle.repair_answers.specs.declared.choices.Choice.{Choice}
 use Rattle.repair_answers.specs.declared.choices.Choice.TheVariants as choice
 
--- one repair is ahead of another by a wrong number at the least, which costs 5
+-- one repair is ahead of another by at least a wrong number, which costs 5
 abbrev pub IsFarAhead : (first second : Repair) → Type 0
 IsFarAhead first second = cost_in first + 5 ≤ cost_in second
 
--- the first is ahead of the second by that, where there is a second
+-- the first is ahead of the second by that, if there is a second
 abbrev pub IsAheadOfNext : Repair → List Repair → Type 0
 IsAheadOfNext first [] = Unit {0}
 IsAheadOfNext first (second ∷ rest) = IsFarAhead first second
@@ -43,7 +43,7 @@ abbrev pub HasFirstRival : (told : List Repair) → (pairs : List Pair) → Type
 HasFirstRival [] pairs = ⊥
 HasFirstRival (first ∷ rest) pairs = HasRival first pairs
 
--- Which of the repairs that were found is to be chosen, if one is: none where some change is left open, and none where two changes
+-- Which of the repairs that were found is to be chosen, if one is: none if some change is left open, and none if two changes
 -- cost less.
 abbrev pub IsChoice : (told : List Repair) → (left : List Listed) → (pairs : List Pair) → Choice → Type 0
 IsChoice told left pairs choice.None = (told ≡ []) × (left ≡ [])

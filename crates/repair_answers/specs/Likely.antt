@@ -22,13 +22,13 @@ use Rattle.repair_answers.specs.Answers.{below_of}
 use Rattle.repair_answers.specs.Choices.{IsFirst, HasRival}
 use Rattle.repair_answers.specs.Unchanged.{IsUnchanged}
 
--- A repair is ahead of wrong numbers alone by a wrong number at the least: 5 for each number, 3 for each word that is not in the list. Where more than
--- numbers is wrong, there is nothing to be ahead of.
+-- A repair is ahead of correcting only the numbers by at least a wrong number: 5 for each number, 3 for each word that is not in the list. If more than numbers
+-- is wrong, there is nothing to be ahead of.
 abbrev pub IsAheadOfNumbers : Option Remains → Repair → Type 0
 IsAheadOfNumbers None repair = ⊤
 IsAheadOfNumbers (Some remains) repair = cost_in repair + 5 ≤ 5 * length remains.wrong.items + 3 * length remains.unlisted.items
 
--- The likely one of some repairs: no change is left open, it is ahead of the others, and of the record as it is but for its numbers, and no two changes
+-- The likely one of some repairs: no change is left open, it is ahead of the others and of the record with only its numbers corrected, and no two changes
 -- cost less.
 abbrev pub IsFarFirst : Option Remains → (told : List Repair) → (left : List Listed) → (pairs : List Pair) → Repair → Type 0
 IsFarFirst remains told left pairs repair = (left ≡ []) × IsFirst told repair × (HasRival repair pairs → ⊥) × IsAheadOfNumbers remains repair
@@ -38,8 +38,8 @@ abbrev pub IsLikelyOf : Option Remains → (told : List Repair) → (left : List
 IsLikelyOf remains told left pairs (Some repair) = IsFarFirst remains told left pairs repair
 IsLikelyOf remains told left pairs None = (repair : Repair) → IsFarFirst remains told left pairs repair → ⊥
 
--- The likely repair of a record: the first, if it is ahead of the second and of wrong numbers alone by a wrong number at the least, and if no two changes
--- that were found cost less. Some plays that a search found may have been tried beside the changes of the list.
+-- The likely repair of a record: the first, if it is ahead of the second and of correcting only the numbers by at least a wrong number, and if no two
+-- changes that were found cost less. Some plays that a search found may have been tried in addition to the changes of the list.
 pub record IsLikely (rules : Rules) (list : List (List ℕ)) (written : List Event) (likely : Option Repair) : Type 0 where
   pub remains : Option Remains
   pub alone : IsUnchanged rules list written remains
@@ -54,12 +54,12 @@ pub record IsLikely (rules : Rules) (list : List (List ℕ)) (written : List Eve
   pub pairs : ArePairs rules list written told 1 two
   pub chosen : IsLikelyOf remains told left two.told.items likely
 
--- The likely repair of a record of which this is found: of an illegal one alone.
+-- The likely repair of a record with this finding: only an illegal one has it.
 abbrev pub IsLikelyFor : Rules → (list : List (List ℕ)) → Finding → (written : List Event) → Option Repair → Type 0
 IsLikelyFor rules list (finding.Illegal line fault) written likely = IsLikely rules list written likely
 IsLikelyFor rules list other written likely = likely ≡ None
 
--- the same of the case of a text
+-- the same for the case of a text
 abbrev pub IsLikelyOfCase : Rules → (list : List (List ℕ)) → Result Entry ReadFault → Option Repair → Type 0
 IsLikelyOfCase rules list (Ok entry) likely = IsLikelyFor rules list entry.finding entry.record.events likely
 IsLikelyOfCase rules list (Err fault) likely = likely ≡ None

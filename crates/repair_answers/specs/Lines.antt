@@ -14,11 +14,11 @@ leaves_out slip.ExtraPass = true
 leaves_out slip.Extra = true
 leaves_out other = false
 
--- how many numbers of a sheet with so many events stand with a slip: a score and a total on each line, but for one that should not be there
+-- how many numbers a sheet has with a slip: a score and a total on each line, except one that should not be there
 abbrev pub numbers_with : Slip → (events : ℕ) → ℕ
 numbers_with what events = 2 * (if leaves_out what then events - 1 else events)
 
--- how many stand with two slips
+-- how many numbers it has with two slips
 abbrev pub numbers_with_both : (first second : Slip) → (events : ℕ) → ℕ
 numbers_with_both first second events = if leaves_out first then numbers_with second (events - 1) else numbers_with second events
 
@@ -34,11 +34,11 @@ like_at repairs first other = are_like (slice_get repairs first) (slice_get repa
 abbrev pub is_first : List Repair → (index : ℕ) → Bool
 is_first repairs index = list_all (λ before. not (like_at repairs before index)) (range_with_len 0 index)
 
--- the number of another one, where it is like the one at a number
+-- the number of another one, if that is like the one at a number
 abbrev pub those_like : List Repair → (first other : ℕ) → List ℕ
 those_like repairs first other = if like_at repairs first other then (other ∷ []) else []
 
--- those behind it that are like it
+-- later ones that are like it
 abbrev pub others_of : List Repair → (first : ℕ) → List ℕ
 others_of repairs first = filter (like_at repairs first) (range_with_len (first + 1) (length repairs - (first + 1)))
 
@@ -50,7 +50,7 @@ IsLine repairs line = line.others.items ≡ others_of repairs line.first
 abbrev pub first_ones : List Repair → List ℕ
 first_ones repairs = filter (is_first repairs) (range_with_len 0 (length repairs))
 
--- the line of the repair at a number is added, where it is the first of one
+-- the line of the repair at a number is added, if the repair is the first of a line
 pub record AddsOne (repairs : List Repair) (index : ℕ) (old new : List Told) : Type 0 where
   pub line : Told
   pub added : new ≡ old ++ line ∷ []
@@ -64,7 +64,7 @@ AddsBy false repairs index old new = new ≡ old
 abbrev pub AddsLine : List Repair → (index : ℕ) → (old new : List Told) → Type 0
 AddsLine repairs index old new = AddsBy (is_first repairs index) repairs index old new
 
--- The first so many lines of some repairs, in the order of their first ones.
+-- The first `most` lines of some repairs, in the order of their first ones.
 pub record AreLines (repairs : List Repair) (most : ℕ) (lines : List Told) : Type 0 where
   pub firsts : map (λ (line : Told). line.first) lines ≡ take most (first_ones repairs)
   pub each : All (IsLine repairs) lines

@@ -1,4 +1,4 @@
--- Where a change stands in the file.
+-- Where a change is in the file.
 use Rattle.std.specs.Prelude.{ℕ, List, [], ◌∷◌, slice_get, Option, Some, None}
 use Rattle.std.specs.Option.{option_map}
 use Rattle.gcg_read.specs.declared.events.Event.{Event}
@@ -8,22 +8,22 @@ use Rattle.record_changes.specs.declared.slips.Slip.TheVariants as slip
 use Rattle.repair_answers.specs.declared.spots.Spot.{Spot}
 use Rattle.repair_answers.specs.declared.spots.Spot.TheVariants as spot
 
--- the line of the event at a place; none behind the last
+-- the line of the event at a place; none after the last
 abbrev pub line_at : List Event → (place : ℕ) → Option ℕ
 line_at events place = option_map (λ (e : Event). e.line) (slice_get events place)
 
--- the line of the last event, or 0 where there is none
+-- the line of the last event, or 0 if there is none
 abbrev pub last_line : List Event → ℕ
 last_line [] = 0
 last_line (e ∷ []) = e.line
 last_line (e ∷ next ∷ events) = last_line (next ∷ events)
 
--- where a missing line belongs: before the line of the event at its place, or behind the last
+-- where a missing line belongs: before the line of the event at its place, or after the last
 abbrev pub before_line : List Event → Option ℕ → Spot
 before_line events (Some line) = spot.Before line
 before_line events None = spot.Behind (last_line events)
 
--- where a change of a line stands
+-- where a change of a line is
 abbrev pub on_line : List Event → Option ℕ → Spot
 on_line events (Some line) = spot.On line
 on_line events None = spot.Behind (last_line events)

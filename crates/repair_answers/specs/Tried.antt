@@ -7,7 +7,7 @@ use Rattle.game_rows.specs.declared.walking.Walk.{Walk}
 use Rattle.record_changes.specs.declared.slips.Change.{Change}
 use Rattle.change_lists.specs.Changes.{changes_at}
 
--- the changes of a record at each place up to the one at which its correction stops, or behind its last event
+-- the changes of a record at each place up to the one at which its correction stops, or up to the end
 unfoldable pub tried_changes : Rules → List Event → Walk → List Change
 tried_changes rules events walk = flat_map (changes_at rules events) (range_with_len 0 (length walk.rows.items + 1))
 

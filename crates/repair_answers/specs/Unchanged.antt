@@ -1,4 +1,4 @@
--- A record that is a game, as far as is known, once its numbers alone are corrected.
+-- A record that is a game, as far as is known, once only its numbers are corrected.
 use Rattle.std.specs.Prelude.{◌≡◌, ◌⊎◌, ℕ, Bool, true, false, List, filter, Option, Some, None}
 use Rattle.ref_tiles.specs.declared.rulebook.Rules.{Rules}
 use Rattle.gcg_read.specs.declared.events.Event.{Event}
@@ -17,7 +17,7 @@ use Rattle.record_repairs.specs.declared.remains.Remains.{Remains}
 abbrev pub MayBeGame : Rules → (list : List (List ℕ)) → List Event → Type 0
 MayBeGame rules list events = IsGame rules list events ⊎ IsUnsettled rules list events
 
--- what is wrong with a record whose numbers alone are: scores and sums, and words that are not in the list
+-- what is wrong with a record of which only the numbers are wrong: scores and sums, and words that are not in the list
 pub record AreNumbersAlone (rules : Rules) (list : List (List ℕ)) (written : List Event) (remains : Remains) : Type 0 where
   pub right : List Event
   pub correction : IsWritable rules list written right
@@ -25,22 +25,22 @@ pub record AreNumbersAlone (rules : Rules) (list : List (List ℕ)) (written : L
   pub wrong : remains.wrong.items ≡ wrong_lines written right
   pub unlisted : letters_in remains.unlisted.items ≡ unlisted_words rules list right
 
--- what is found of right events: they are a game, as far as is known, or they are none
+-- what is found of right events: they are a game, as far as is known, or they are not
 abbrev pub IsFound : Rules → (list : List (List ℕ)) → List Event → Bool → Type 0
 IsFound rules list events true = MayBeGame rules list events
 IsFound rules list events false = IsGame rules list events → ⊥
 
--- What is wrong where the numbers alone are; or more is wrong: no right numbers that a record can write make it a game.
+-- What is wrong if only the numbers are; or more is wrong: no right numbers that a record can write make it a game.
 abbrev pub IsUnchanged : Rules → (list : List (List ℕ)) → (written : List Event) → Option Remains → Type 0
 IsUnchanged rules list written (Some remains) = AreNumbersAlone rules list written remains
 IsUnchanged rules list written None = (right : List Event) → IsWritable rules list written right → IsGame rules list right → ⊥
 
--- what is left of an audit: the wrong numbers that stand on a line, and the words of its rows that are not in the list
+-- what is left of an audit: the wrong numbers that are on a line, and the words of its rows that are not in the list
 pub record AreLeft (list : List (List ℕ)) (audited : List WrongNumber) (rows : List Row) (remains : Remains) : Type 0 where
   pub wrong : remains.wrong.items ≡ filter is_on_line audited
   pub unlisted : letters_in remains.unlisted.items ≡ words_of_rows list rows
 
--- a record of the same players, with the same events but for their numbers
+-- a record of the same players, with the same events except for their numbers
 pub record HasOtherNumbers (old new : Record) : Type 0 where
   pub players : new.players ≡ old.players
   pub events : AreRenumbered old.events new.events

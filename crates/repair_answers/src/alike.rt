@@ -26,7 +26,7 @@ fn same_use(of: TilesOf, other: TilesOf) -> bool
     }
 }
 
-/// Whether two slips of a text differ in a letter at the most.
+/// Whether two slips of a text differ at most in a letter.
 fn like_spelling(slip: &SpellingSlip, other: &SpellingSlip) -> bool
     ensures { result ≡ like_spelling slip.now other.now }
 {
@@ -48,7 +48,7 @@ fn like_spelling(slip: &SpellingSlip, other: &SpellingSlip) -> bool
     }
 }
 
-/// Whether two slips of tiles differ in the right tile at the most.
+/// Whether two slips of tiles differ at most in the right tile.
 fn like_tile(slip: &TileSlip, other: &TileSlip) -> bool
     ensures { result ≡ like_tile slip.now other.now }
 {
@@ -60,7 +60,7 @@ fn like_tile(slip: &TileSlip, other: &TileSlip) -> bool
     }
 }
 
-/// Whether two codes differ in how many tiles are exchanged at the most.
+/// Whether two codes differ at most in how many tiles are exchanged.
 fn like_code(slip: &CodeSlip, other: &CodeSlip) -> bool
     ensures { result ≡ like_code slip.now other.now }
 {
@@ -70,7 +70,7 @@ fn like_code(slip: &CodeSlip, other: &CodeSlip) -> bool
     }
 }
 
-/// Whether two missing lines differ in how many tiles are exchanged at the most.
+/// Whether two missing lines differ at most in how many tiles are exchanged.
 fn like_missing(line: &MissingLine, other: &MissingLine) -> bool
     ensures { result ≡ like_missing line.now other.now }
 {
@@ -82,7 +82,7 @@ fn like_missing(line: &MissingLine, other: &MissingLine) -> bool
     }
 }
 
-/// Whether two slips are of one kind, and differ in a letter, or in how many tiles are exchanged.
+/// Whether two slips are of one kind, and differ at most in a letter or in how many tiles are exchanged.
 fn like_slip(slip: &Slip, other: &Slip) -> bool
     ensures { result ≡ like_slip slip.now other.now }
 {
@@ -102,7 +102,7 @@ fn like_slip(slip: &Slip, other: &Slip) -> bool
     }
 }
 
-/// Whether two repairs are told in one line: at one place, of one kind and one cost.
+/// Whether two repairs share a line: they are of one kind and one cost, at one place.
 pub(crate) fn is_like(repair: &Repair, other: &Repair) -> bool
     ensures { result ≡ is_like repair.now other.now }
 {

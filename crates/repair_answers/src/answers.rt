@@ -20,15 +20,15 @@ use ref_tiles::Rules;
 use repair_pairs::{Pairs, pairs};
 use std::alloc::{AllocError, Global};
 
-/// How many repairs one line may have: a letter more than there are.
+/// How many repairs one line may have: one more than there are letters.
 const MOST_ALIKE: usize = 27;
 
-/// What is answered of an illegal record.
+/// The answer on an illegal record.
 #[derive(Drop)]
 pub struct Faulty {
-    /// What is wrong where the numbers alone are; none where more is.
+    /// What is wrong if only the numbers are; `None` if more is wrong.
     pub unchanged: Option<Remains>,
-    /// Changes of plays that a search found, where no repair by the list of changes is a likely one. They are tried too.
+    /// Changes of plays that a search found, if no repair by the list of changes is a likely one. They are tried too.
     pub plays: Vec<Change>,
     /// The first repairs, and the changes that are left open.
     pub found: Found,
@@ -42,16 +42,16 @@ pub struct Faulty {
     pub tried: u128,
 }
 
-/// What is answered of a record.
+/// The answer on a record.
 #[derive(Drop)]
 pub struct RepairAnswer {
     /// The verdict, by a search.
     pub verdict: Verdict,
-    /// What repairs it, where it is illegal.
+    /// What repairs it, if it is illegal.
     pub faulty: Option<Faulty>,
 }
 
-/// How many numbers and words have to stay wrong with a repair at the most, and one more; none where any number may.
+/// Fewer numbers and words than this may stay wrong with a repair; `None` if any number may.
 pub(crate) fn below_of(unchanged: &Option<Remains>) -> Option<usize>
     ensures { result ≡ below_of unchanged.now }
 {
@@ -61,7 +61,7 @@ pub(crate) fn below_of(unchanged: &Option<Remains>) -> Option<usize>
     }
 }
 
-/// What repairs an illegal record, in so many lines.
+/// What repairs an illegal record, in at most `most` lines.
 fn faulty_of(
     alloc: Global,
     rules: &Rules,
@@ -112,7 +112,7 @@ fn is_illegal(finding: &Finding) -> bool
     }
 }
 
-/// What repairs the record of an entry, where it is illegal.
+/// What repairs the record of an entry, if it is illegal.
 #[tactic(auto, using(crate::proofs::Answered::none_legal, crate::proofs::Answered::where_illegal))]
 fn faulty_entry(
     alloc: Global,
@@ -133,7 +133,7 @@ fn faulty_entry(
     Ok(Some(faulty))
 }
 
-/// What repairs a record that was read, where it is illegal.
+/// What repairs a record that was read, if it is illegal.
 fn faulty_read(
     alloc: Global,
     rules: &Rules,
@@ -152,7 +152,7 @@ fn faulty_read(
     }
 }
 
-/// What repairs the record of a case, where it is illegal.
+/// What repairs the record of a case, if it is illegal.
 #[tactic(auto, using(crate::proofs::Answered::none_walked, crate::proofs::Answered::walked))]
 fn faulty_in(
     alloc: Global,
@@ -171,10 +171,10 @@ fn faulty_in(
     }
 }
 
-/// The answer of `repair` on the case of a record: its verdict and, where it is illegal, its first repairs in so many lines. Behind it the case is as it
-/// was.
+/// The answer of `repair` on the case of a record: its verdict and, if it is illegal, its first repairs in at most `most` lines. Afterwards the case is as
+/// it was.
 ///
-/// It fails only where memory runs out.
+/// It fails only if memory runs out.
 pub fn answer_repairs(
     alloc: Global,
     rules: &Rules,

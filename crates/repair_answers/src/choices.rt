@@ -15,13 +15,13 @@ pub(crate) const NUMBER: u128 = 5;
 pub enum Choice<'a> {
     /// There is no repair.
     None,
-    /// Of some changes it is not known whether they are repairs.
+    /// It is not known of some changes whether they are repairs.
     Open,
     /// The second repair is less than a wrong number behind the first.
     Close,
     /// Two changes together cost less than the first repair.
     Pair,
-    /// The first repair is ahead of the second by a wrong number at the least, or it is the only one, and no two changes cost less.
+    /// The first repair is ahead of the second by at least a wrong number, or it is the only one, and no two changes cost less.
     Clear(&'a Repair),
 }
 
@@ -32,7 +32,7 @@ pub(crate) fn cost_of(repair: &Repair) -> u128
     repair.remains.cost(&repair.listed.change.slip)
 }
 
-/// Whether one repair is ahead of another by a wrong number at the least.
+/// Whether one repair is ahead of another by at least a wrong number.
 fn is_far_ahead(first: &Repair, second: &Repair) -> bool
     ensures { IsTrue result ↔ IsFarAhead first.now second.now }
 {
@@ -50,7 +50,7 @@ fn has_rival(first: &Repair, pairs: &[Pair]) -> bool
     }
 }
 
-/// The choice of a repair, where no pair costs less.
+/// The choice of a repair, if no pair costs less.
 fn chosen<'a>(first: &'a Repair, pairs: &[Pair]) -> Choice<'a>
     ensures { IsChosen first.now pairs.now result }
 {
@@ -61,7 +61,7 @@ fn chosen<'a>(first: &'a Repair, pairs: &[Pair]) -> Choice<'a>
     }
 }
 
-/// Which of some repairs is to be chosen beside some pairs, if one is.
+/// Which of some repairs is to be chosen, if one is, given some pairs that were found too.
 pub(crate) fn choice_among<'a>(found: &'a Found, pairs: &[Pair]) -> Choice<'a>
     ensures { IsChoice found.now.told.items found.now.left.items pairs.now result }
 {

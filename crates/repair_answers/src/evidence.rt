@@ -1,4 +1,4 @@
-//! Repairs that are told in one line, and how many numbers of the sheet there are with them.
+//! Repairs that share a line, and how many numbers the sheet has with them.
 ghost use Rattle.std.specs.Prelude.{◌≡◌, ◌<◌, ◌++◌, length, IfOk, OnOk};
 ghost use Rattle.repair_answers.specs.Lines.{leaves_out, numbers_with, numbers_with_both, like_at, is_first, those_like, others_of, AddsLine, AreLines};
 
@@ -26,7 +26,7 @@ fn leaves_out(slip: &Slip) -> bool
     }
 }
 
-/// How many numbers of a sheet with so many events stand with a slip: a score and a total on each line, but for one that should not be there.
+/// How many numbers a sheet of `events` events has with a slip: a score and a total on each line, except one that should not be there.
 pub fn numbers_with(slip: &Slip, events: usize) -> u128
     ensures { result ≡ numbers_with slip.now events }
 {
@@ -37,7 +37,7 @@ pub fn numbers_with(slip: &Slip, events: usize) -> u128
     }
 }
 
-/// How many numbers of a sheet with so many events stand with two slips.
+/// How many numbers a sheet of `events` events has with two slips.
 pub fn numbers_with_both(first: &Slip, second: &Slip, events: usize) -> u128
     ensures { result ≡ numbers_with_both first.now second.now events }
 {
@@ -70,7 +70,7 @@ fn is_first(repairs: &[Repair], index: usize) -> bool
     true
 }
 
-/// Adds the number of a repair, where it is like the first of a line.
+/// Adds the number of a repair, if it is like the first of a line.
 #[tactic(auto, using(crate::proofs::Grouped::one_added, crate::proofs::Grouped::none_added))]
 fn push_like(
     others: &mut Vec<usize>,
@@ -87,7 +87,7 @@ fn push_like(
     Ok(())
 }
 
-/// The numbers of the repairs behind one that are like it.
+/// The numbers of the repairs after one that are like it.
 fn others_of(alloc: Global, repairs: &[Repair], first: usize) -> Result<Vec<usize>, AllocError>
     requires { first < length repairs.now }
     ensures { IfOk result (λ others. others.items ≡ others_of repairs.now first) }
@@ -99,7 +99,7 @@ fn others_of(alloc: Global, repairs: &[Repair], first: usize) -> Result<Vec<usiz
     Ok(others)
 }
 
-/// Adds the line of the repair at a number, where it is the first of one.
+/// Adds the line of the repair at a number, if the repair is the first of a line.
 fn push_line(
     alloc: Global,
     lines: &mut Vec<Told>,
@@ -120,7 +120,7 @@ fn push_line(
     Ok(())
 }
 
-/// The first so many lines of repairs.
+/// The first `most` lines of repairs.
 pub(crate) fn lines_of(
     alloc: Global,
     repairs: &[Repair],

@@ -1,6 +1,6 @@
-//! What `repair` answers of a record: its verdict and, where it is illegal, the first repairs.
+//! What `repair` answers of a record: its verdict and, if it is illegal, the first repairs.
 //!
-//! [`answer_repairs`] makes the answer of the case of a record. It is plain data: text and objects are made of it alone.
+//! [`answer_repairs`] makes the answer of the case of a record. It is plain data: text and objects are made only from it.
 #![tactic(auto)]
 
 mod alike;

@@ -19,7 +19,7 @@ use std::alloc::{AllocError, Global};
 /// What a word costs that is not in the list.
 const WORD: u128 = 3;
 
-/// Whether a repair is ahead of wrong numbers alone by a wrong number at the least, where the numbers alone may be wrong.
+/// Whether a repair is ahead of correcting only the numbers by at least a wrong number; it is if more than numbers is wrong.
 fn is_ahead_of_numbers(remains: &Option<Remains>, repair: &Repair) -> bool
     ensures { IsTrue result ↔ IsAheadOfNumbers remains.now repair.now }
 {
@@ -33,7 +33,7 @@ fn is_ahead_of_numbers(remains: &Option<Remains>, repair: &Repair) -> bool
     }
 }
 
-/// The first of the repairs that were found, if it is the likely one beside some pairs.
+/// The first of the repairs that were found, if it is the likely one, given some pairs that were found too.
 fn chosen(remains: &Option<Remains>, found: Found, pairs: &[Pair]) -> Option<Repair>
     ensures { IsLikelyOf remains.now found.told.items found.left.items pairs.now result }
 {
@@ -49,10 +49,10 @@ fn chosen(remains: &Option<Remains>, found: Found, pairs: &[Pair]) -> Option<Rep
     }
 }
 
-/// The likely repair of a record: the first, if it is ahead of the second by a wrong number at the least, and also of the record as it is but for
-/// its numbers, and if no two changes cost less. Afterwards the record is as it was.
+/// The likely repair of a record: the first, if it is ahead by at least a wrong number of the second and of the record with only its numbers
+/// corrected, and if no two changes cost less. Afterwards the record is as it was.
 ///
-/// It fails only where memory runs out.
+/// It fails only if memory runs out.
 pub fn likely_repair(
     alloc: Global,
     rules: &Rules,
@@ -80,7 +80,7 @@ pub fn likely_repair(
 
 /// The likely repair of a record that was judged, if it is illegal. Afterwards the entry is as it was.
 ///
-/// It fails only where memory runs out.
+/// It fails only if memory runs out.
 pub fn likely_in(
     alloc: Global,
     rules: &Rules,
@@ -98,7 +98,7 @@ pub fn likely_in(
 
 /// The likely repair of the record of a case, if it is illegal. Afterwards the case is as it was.
 ///
-/// It fails only where memory runs out.
+/// It fails only if memory runs out.
 pub fn likely_in_case(
     alloc: Global,
     rules: &Rules,

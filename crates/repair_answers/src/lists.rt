@@ -12,7 +12,7 @@ use ref_tiles::Rules;
 use repair_pairs::game_before;
 use std::alloc::{AllocError, Global};
 
-/// How many changes there are at a place, up to the one behind the last row.
+/// How many changes there are at a place, up to the one after the last row.
 fn many_at(
     alloc: Global,
     rules: &Rules,
@@ -34,9 +34,9 @@ fn many_at(
     Ok(slips.len() as u128)
 }
 
-/// How many changes of a record are tried: those at each place up to the event at which its correction stops, and so many plays.
+/// How many changes of a record are tried: those at each place up to the event at which its correction stops, and `plays` plays.
 ///
-/// It fails only where memory runs out.
+/// It fails only if memory runs out.
 pub(crate) fn many_tried(
     alloc: Global,
     rules: &Rules,

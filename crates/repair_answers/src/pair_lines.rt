@@ -1,4 +1,4 @@
-//! Pairs of changes that are told in one line: of one first change, and of second ones that are told in one line.
+//! Pairs of changes that share a line: those with the same first change, and with second ones that share a line.
 
 use crate::alike::is_like;
 use crate::evidence::Told;
@@ -23,7 +23,7 @@ fn is_first(pairs: &[Pair], index: usize) -> bool {
     true
 }
 
-/// The numbers of the pairs behind one that are like it.
+/// The numbers of the pairs after one that are like it.
 fn others_of(alloc: Global, pairs: &[Pair], first: usize) -> Result<Vec<usize>, AllocError> {
     let mut others = Vec::new(alloc);
     for other in 0..pairs.len() {
@@ -34,7 +34,7 @@ fn others_of(alloc: Global, pairs: &[Pair], first: usize) -> Result<Vec<usize>, 
     Ok(others)
 }
 
-/// The first so many lines of pairs.
+/// The first `most` lines of pairs.
 pub(crate) fn pair_lines(
     alloc: Global,
     pairs: &[Pair],

@@ -1,4 +1,4 @@
-//! The first repairs of a record by one change: of the list, and where none of these is a likely one, of plays that a search finds too.
+//! The first repairs of a record by one change: of the list and, if none of these is a likely one, also of plays that a search finds.
 ghost use Rattle.std.specs.Prelude.{◌≡◌, IfOk, OnOk};
 ghost use Rattle.lex_check.specs.Pairs.{list_in};
 ghost use Rattle.play_changes.specs.PlayChanges.{ArePlayChanges};
@@ -14,10 +14,10 @@ use record_repairs::{Found, repairs};
 use ref_tiles::Rules;
 use std::alloc::{AllocError, Global};
 
-/// The first repairs of a record, and the plays that were tried beside the changes of the list.
+/// The first repairs of a record, and the plays that were tried in addition to the changes of the list.
 #[derive(Drop)]
 pub(crate) struct Singles {
-    /// The changes of plays; none where a repair by the list is a likely one.
+    /// The changes of plays; there are none if a repair by the list is a likely one.
     pub plays: Vec<Change>,
     /// The first repairs, and the changes that are left open.
     pub found: Found,
@@ -31,7 +31,7 @@ fn has_likely(found: &Found) -> bool {
     }
 }
 
-/// Whether a single number or word is wrong where the numbers alone are, or none: that costs no more than a change of a play.
+/// Whether only numbers are wrong, and at most one number or word of the sheet is: that costs no more than a change of a play.
 fn is_nearly_right(below: Option<usize>) -> bool {
     match below {
         Some(below) => below <= 1,
@@ -39,7 +39,7 @@ fn is_nearly_right(below: Option<usize>) -> bool {
     }
 }
 
-/// The first so many repairs of a record with some plays beside the changes of the list.
+/// The first `most` repairs of a record by the changes of its list and by some plays.
 fn with_plays(
     alloc: Global,
     rules: &Rules,
@@ -65,10 +65,10 @@ fn with_plays(
     Ok(Singles { plays, found })
 }
 
-/// The first so many repairs of a record by the changes of its list; where the first of them costs more than a wrong number, or there is none,
-/// those by these changes and by the plays that a search finds. No plays are looked for where a single number or word is wrong.
+/// The first `most` repairs of a record by the changes of its list; if the first of them costs more than a wrong number, or there is none,
+/// those by these changes and by the plays that a search finds. No plays are looked for if only a single number or word is wrong.
 ///
-/// It fails only where memory runs out.
+/// It fails only if memory runs out.
 pub(crate) fn first_repairs(
     alloc: Global,
     rules: &Rules,

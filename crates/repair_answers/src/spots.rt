@@ -1,22 +1,22 @@
-//! Where a change stands in the file.
+//! Where a change is in the file.
 ghost use Rattle.std.specs.Prelude.{◌≡◌};
 ghost use Rattle.repair_answers.specs.Spots.{line_at, last_line, on_line, before_line, spot_of};
 
 use gcg_read::Event;
 use record_changes::{Change, Slip};
 
-/// Where a change stands in the file: on a line, or between two of them. Lines are counted from 1.
+/// Where a change is in the file: on a line, or between two of them. Lines are counted from 1.
 #[derive(Clone, Copy, Debug, PartialEq, Eq)]
 pub enum Spot {
     /// On this line.
     On(u32),
     /// A line is missing before this one.
     Before(u32),
-    /// A line is missing behind this one, which is that of the last event.
+    /// A line is missing after this one, which is that of the last event.
     Behind(u32),
 }
 
-/// The line of the event at a place; none behind the last.
+/// The line of the event at a place; `None` after the last.
 fn line_at(events: &[Event], place: usize) -> Option<u32>
     ensures { result ≡ line_at events.now place }
 {
@@ -26,7 +26,7 @@ fn line_at(events: &[Event], place: usize) -> Option<u32>
     }
 }
 
-/// The line of the last event, or 0 where there is none.
+/// The line of the last event, or 0 if there is none.
 #[tactic(auto, using(crate::proofs::LastLines::last_there, crate::proofs::LastLines::last_none))]
 fn last_line(events: &[Event]) -> u32
     ensures { result ≡ last_line events.now }
@@ -47,7 +47,7 @@ fn before_line(events: &[Event], line: Option<u32>) -> Spot
     }
 }
 
-/// Where a change of a line stands.
+/// Where a change of a line is.
 fn on_line(events: &[Event], line: Option<u32>) -> Spot
     ensures { result ≡ on_line events.now line }
 {
@@ -57,7 +57,7 @@ fn on_line(events: &[Event], line: Option<u32>) -> Spot
     }
 }
 
-/// Where a change stands in the file of a record with these events.
+/// Where a change is in the file of a record with these events.
 pub fn spot_of(events: &[Event], change: &Change) -> Spot
     ensures { result ≡ spot_of events.now change.now }
 {
@@ -68,7 +68,7 @@ pub fn spot_of(events: &[Event], change: &Change) -> Spot
     }
 }
 
-/// The line of the first event at a place or behind it that stands on the sheet.
+/// The line of the first event at a place or after it that is on the sheet.
 fn line_from(made: &[Event], place: usize) -> Option<u32> {
     for at in place..made.len() {
         if made[at].line != 0 {
@@ -78,7 +78,7 @@ fn line_from(made: &[Event], place: usize) -> Option<u32> {
     None
 }
 
-/// The line of the last event that stands on the sheet, or 0 where there is none.
+/// The line of the last event that is on the sheet, or 0 if there is none.
 fn last_from(made: &[Event]) -> u32 {
     let mut last = 0;
     for event in made {
@@ -89,7 +89,7 @@ fn last_from(made: &[Event]) -> u32 {
     last
 }
 
-/// Where a second change stands in the file, by the record that the first one makes. A line that the first one put there is none of the file.
+/// Where a second change is in the file, by the record that the first one makes. A line that the first one added is not in the file.
 pub fn second_spot(made: &[Event], change: &Change) -> Spot {
     match (&change.slip, line_from(made, change.place)) {
         (_, None) => Spot::Behind(last_from(made)),

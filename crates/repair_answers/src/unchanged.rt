@@ -1,4 +1,4 @@
-//! A record with no change but for its numbers.
+//! A record with no change except to its numbers.
 ghost use Rattle.std.specs.Prelude.{◌≡◌, ◌++◌, filter, IfOk, OnOk};
 ghost use Rattle.event_notes.specs.Unlisted.{letters_in};
 ghost use Rattle.game_sheets.specs.Corrections.{HavePoints};
@@ -20,7 +20,7 @@ use record_repairs::Remains;
 use ref_tiles::Rules;
 use std::alloc::{AllocError, Global};
 
-/// Whether a number stands on a line, and is not the last total of a player, which the lines tell too.
+/// Whether a number is on a line, and not the last total of a player, which the lines give too.
 fn is_on_line(number: &WrongNumber) -> bool
     ensures { result ≡ is_on_line number.now }
 {
@@ -30,14 +30,14 @@ fn is_on_line(number: &WrongNumber) -> bool
     }
 }
 
-/// The numbers that stand on a line.
+/// Keeps only the numbers that are on a line.
 fn keep_lines(wrong: &mut Vec<WrongNumber>)
     ensures { wrong.new.items ≡ filter is_on_line wrong.old.items }
 {
     wrong.retain(|number| is_on_line(number));
 }
 
-/// Puts words behind others.
+/// Appends words to others.
 #[tactic(auto, using(record_repairs::proofs::Weighing::letters_joined))]
 fn push_words(words: &mut Vec<SpelledWord>, mut more: Vec<SpelledWord>) -> Result<(), AllocError>
     ensures { OnOk result (letters_in words.new.items ≡ letters_in words.old.items ++ letters_in more.items) }
@@ -98,7 +98,7 @@ fn may_be_game(alloc: Global, passed: &Passed<'_>) -> Result<bool, AllocError>
     }
 }
 
-/// Whether no racks of a record are ruled out, each event of which the rules allow.
+/// Whether no racks of a record are ruled out, if the rules allow each of its events.
 fn may_be_dealt(
     alloc: Global,
     rules: &Rules,
@@ -114,7 +114,7 @@ fn may_be_dealt(
     }
 }
 
-/// What is wrong with the right numbers of a record, as [`unchanged`] says; behind it the record has these numbers.
+/// What is wrong with a record, as [`unchanged`] says. Afterwards the record has its right numbers.
 fn with_right_numbers(
     alloc: Global,
     rules: &Rules,
@@ -136,10 +136,10 @@ fn with_right_numbers(
     Ok(Some(remains))
 }
 
-/// What of a record is wrong where its numbers alone are: once they are corrected the rules allow each event, and no racks are ruled out. None
-/// where more is wrong. Behind it the record is as it was.
+/// What is wrong with a record if only its numbers are: once they are corrected, the rules allow each event, and no racks are ruled out. `None`
+/// if more is wrong. Afterwards the record is as it was.
 ///
-/// It fails only where memory runs out.
+/// It fails only if memory runs out.
 pub(crate) fn unchanged(
     alloc: Global,
     rules: &Rules,

@@ -9,7 +9,7 @@ use repair_answers::{Faulty, RepairAnswer};
 use serde::Serialize;
 use std::alloc::{AllocError, Global};
 
-/// An answer. What is said of an illegal record alone is null for every other.
+/// An answer. What is said only of an illegal record is null for every other.
 #[derive(Drop, Serialize)]
 struct AnswerObject {
     verdict: &'static str,
@@ -65,7 +65,7 @@ fn pair_objects(
     Ok(objects)
 }
 
-/// What is wrong where the numbers alone are.
+/// What is wrong if only the numbers are.
 fn alone_object(
     alloc: Global,
     record: &Record,
@@ -115,9 +115,9 @@ fn bare_object(alloc: Global, fields: VerdictFields) -> AnswerObject {
     }
 }
 
-/// Appends an answer on a record: its verdict and, where it is illegal, its repairs with their evidence.
+/// Appends an answer on a record: its verdict and, if it is illegal, its repairs with their evidence.
 ///
-/// It fails only where memory runs out.
+/// It fails only if memory runs out.
 pub fn push_repair_answer(
     alloc: Global,
     text: &mut Vec<u8>,

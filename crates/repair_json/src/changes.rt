@@ -11,7 +11,7 @@ use repair_answers::{Spot, Told, numbers_with, spot_of};
 use serde::Serialize;
 use std::alloc::{AllocError, Global};
 
-/// A repair: where it stands, the lines of the sheet that it replaces, what stands in their place, and the evidence.
+/// A repair: where it is, the lines of the sheet that it replaces, the right lines, and the evidence.
 #[derive(Drop, Serialize)]
 pub struct RepairObject {
     at: &'static str,
@@ -34,7 +34,7 @@ pub(crate) fn at_name(spot: Spot) -> &'static str {
     }
 }
 
-/// The line of the file where a change stands.
+/// The line of the file where a change is.
 pub(crate) fn line_in(spot: Spot) -> u32 {
     match spot {
         Spot::On(line) | Spot::Before(line) | Spot::Behind(line) => line,
@@ -56,7 +56,7 @@ pub(crate) fn replaced_lines(
     Ok(lines)
 }
 
-/// How many events stand in the place of those that a slip concerns.
+/// How many events replace those that a slip concerns.
 fn right_events(slip: &Slip) -> usize {
     match slip {
         Slip::Repeated | Slip::ExtraPass | Slip::Extra => 0,
@@ -72,7 +72,7 @@ fn event_text(alloc: Global, players: &Players, event: &Event) -> Result<String,
     text_of(alloc, line.as_slice())
 }
 
-/// The lines of some events that stand in the place of those that a change replaces.
+/// The lines of the events that replace those that a change concerns.
 pub(crate) fn right_lines(
     alloc: Global,
     players: &Players,
@@ -88,7 +88,7 @@ pub(crate) fn right_lines(
     Ok(lines)
 }
 
-/// The line that stands at the place of another repair.
+/// The line at the place of another repair.
 pub(crate) fn other_line(
     alloc: Global,
     players: &Players,
@@ -100,7 +100,7 @@ pub(crate) fn other_line(
     }
 }
 
-/// The lines that the other repairs have there which are told with one.
+/// The lines that the repairs on the same line as one have at its place.
 fn other_lines(
     alloc: Global,
     players: &Players,
@@ -118,7 +118,7 @@ fn other_lines(
     Ok(lines)
 }
 
-/// A repair, with those that are told with it.
+/// A repair, with those that share its line.
 pub(crate) fn repair_object(
     alloc: Global,
     record: &Record,
@@ -143,9 +143,9 @@ pub(crate) fn repair_object(
     })
 }
 
-/// A repair of a record, told alone.
+/// A single repair of a record.
 ///
-/// It fails only where memory runs out.
+/// It fails only if memory runs out.
 pub fn single_object(
     alloc: Global,
     record: &Record,

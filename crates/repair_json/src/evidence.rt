@@ -35,7 +35,7 @@ fn wrong_on(wrong: &'static str, line: u32, written: i32, right: i32) -> WrongOb
     }
 }
 
-/// A number that is wrong; none for a last total, which the lines tell too.
+/// A number that is wrong; `None` for a last total, which the lines give too.
 fn wrong_object(number: &WrongNumber) -> Option<WrongObject> {
     match number {
         WrongNumber::Score {
@@ -72,7 +72,7 @@ fn word_texts(alloc: Global, words: &[SpelledWord]) -> Result<Vec<String>, Alloc
     Ok(texts)
 }
 
-/// What stays wrong, of so many numbers.
+/// What stays wrong, out of the given number of numbers.
 pub(crate) fn evidence_object(
     alloc: Global,
     remains: &Remains,

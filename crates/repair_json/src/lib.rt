@@ -1,7 +1,7 @@
 //! The answer of `repair` as JSON, for programs: one object and an LF.
 //!
-//! [`push_repair_answer`] takes the answer that `repair_answers` makes and gives bytes, as `answer_json` does for all other answers. It asks no engine
-//! and tries no change.
+//! [`push_repair_answer`] takes the answer that `repair_answers` makes and gives bytes, as `answer_json` does for all other answers. It does not ask
+//! the engine or try changes.
 #![tactic(auto)]
 
 mod answers;

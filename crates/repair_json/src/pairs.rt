@@ -10,7 +10,7 @@ use repair_pairs::{Head, Pair, Pairs};
 use serde::Serialize;
 use std::alloc::{AllocError, Global};
 
-/// One of two changes: where it stands, the lines of the sheet that it replaces, and what stands in their place.
+/// One of two changes: where it is, the lines of the sheet that it replaces, and the right lines.
 #[derive(Drop, Serialize)]
 struct ChangeObject {
     at: &'static str,
@@ -30,7 +30,7 @@ pub(crate) struct PairObject {
     evidence: EvidenceObject,
 }
 
-/// One of two changes, of the events that it is a change of.
+/// One of two changes, by the events that it changes.
 fn change_object(
     alloc: Global,
     players: &Players,
@@ -92,7 +92,7 @@ fn other_seconds(
     Ok(lines)
 }
 
-/// A pair of changes, with those that are told with it.
+/// A pair of changes, with those that share its line.
 pub(crate) fn pair_object(
     alloc: Global,
     record: &Record,

@@ -7,7 +7,7 @@ use repair_answers::{Choice, RepairAnswer, choice_of};
 use repaired_sheets::can_be_written;
 use std::alloc::AllocError;
 
-/// Appends why the sheet with a repair is not written, where it cannot be.
+/// Appends why the sheet with a repair is not written, if it cannot be.
 fn push_unwritten(
     text: &mut Vec<u8>,
     players: &Players,
@@ -19,9 +19,9 @@ fn push_unwritten(
     text.extend_from_slice(b"not written: a player of the repaired sheet has no nickname\n")
 }
 
-/// Appends why the repaired sheet is not written, where it is not.
+/// Appends why the repaired sheet is not written, if it is not.
 ///
-/// It fails only where memory runs out.
+/// It fails only if memory runs out.
 pub fn push_choice(
     text: &mut Vec<u8>,
     case: &Case,

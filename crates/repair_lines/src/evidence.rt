@@ -58,7 +58,7 @@ fn push_words(text: &mut Vec<u8>, words: &[SpelledWord]) -> Result<(), AllocErro
     Ok(())
 }
 
-/// Appends the words that are not in the list, where there are any.
+/// Appends the words that are not in the list, if there are any.
 fn push_unlisted(text: &mut Vec<u8>, words: &[SpelledWord]) -> Result<(), AllocError> {
     if words.is_empty() {
         return Ok(());
@@ -80,7 +80,7 @@ pub(crate) fn push_share(
     push_number(text, numbers)
 }
 
-/// Appends how many of so many numbers are right, each that is not, and each word that is not in the list.
+/// Appends how many of `numbers` numbers are right, each number that is not, and each word that is not in the list.
 pub(crate) fn push_evidence(
     text: &mut Vec<u8>,
     remains: &Remains,

@@ -36,7 +36,7 @@ fn push_number(text: &mut Vec<u8>, number: u8) -> Result<(), AllocError> {
     say(text, &[Part::Many(number as usize)])
 }
 
-/// Appends what a slip has that those do not have that it is like: a letter, a tile, or how many tiles are exchanged.
+/// Appends in what a slip differs from those that it is like: a letter, a tile, or how many tiles are exchanged.
 pub(crate) fn push_difference(text: &mut Vec<u8>, slip: &Slip) -> Result<(), AllocError> {
     match slip {
         Slip::Spelling(slip) => push_spelling(text, slip),

@@ -1,6 +1,6 @@
 //! What `repair` says of a record, in plain words for a director.
 //!
-//! [`push_repairs`] writes the verdict line and, where the record is illegal, the repairs with their evidence. All of it stands in the answer that
+//! [`push_repairs`] writes the verdict line and, if the record is illegal, the repairs with their evidence. All of it is in the answer that
 //! `repair_answers` makes; here it is only put into words.
 #![tactic(auto)]
 

@@ -7,9 +7,9 @@ use record_repairs::Repair;
 use repair_answers::numbers_with;
 use std::alloc::AllocError;
 
-/// Appends the change of a repair of a record: where it stands in the file, what should be there, and what is.
+/// Appends the change of a repair of a record: where it is in the file, what should be there, and what is.
 ///
-/// It fails only where memory runs out.
+/// It fails only if memory runs out.
 pub fn push_change_of(
     text: &mut Vec<u8>,
     record: &Record,
@@ -26,7 +26,7 @@ pub fn push_change_of(
 
 /// Appends how many numbers of a record are right with a repair, and how many there are, such as `90 of 90`.
 ///
-/// It fails only where memory runs out.
+/// It fails only if memory runs out.
 pub fn push_numbers(
     text: &mut Vec<u8>,
     record: &Record,
@@ -38,7 +38,7 @@ pub fn push_numbers(
 
 /// Appends the likely repair of a record: its change on a line that begins with `Likely: `, and its evidence.
 ///
-/// It fails only where memory runs out.
+/// It fails only if memory runs out.
 pub fn push_likely(text: &mut Vec<u8>, record: &Record, repair: &Repair) -> Result<(), AllocError> {
     text.extend_from_slice(b"Likely: ")?;
     push_change_of(text, record, repair)?;

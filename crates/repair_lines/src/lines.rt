@@ -15,7 +15,7 @@ use repair_pairs::{Head, Pair, Pairs};
 use sentence_parts::{Part, say, say_of_line};
 use std::alloc::{AllocError, Global};
 
-/// Appends where a change stands in the file.
+/// Appends where a change is in the file.
 fn push_spot(text: &mut Vec<u8>, spot: Spot) -> Result<(), AllocError> {
     match spot {
         Spot::On(line) => say_of_line(text, "line ", line, ": "),
@@ -24,7 +24,7 @@ fn push_spot(text: &mut Vec<u8>, spot: Spot) -> Result<(), AllocError> {
     }
 }
 
-/// Appends a change: where it stands in the file, what should be there, and what is.
+/// Appends a change: where it is in the file, what should be there, and what is.
 pub fn push_change(
     text: &mut Vec<u8>,
     players: &Players,
@@ -147,7 +147,7 @@ fn push_pair(
     push_evidence(text, &pair.then.remains, numbers)
 }
 
-/// Appends the pairs of changes that repair a record, where there are any.
+/// Appends the pairs of changes that repair a record, if there are any.
 fn push_pairs(text: &mut Vec<u8>, record: &Record, faulty: &Faulty) -> Result<(), AllocError> {
     if faulty.pair_lines.is_empty() {
         return Ok(());
@@ -159,7 +159,7 @@ fn push_pairs(text: &mut Vec<u8>, record: &Record, faulty: &Faulty) -> Result<()
     Ok(())
 }
 
-/// Appends that the numbers alone are wrong, where that is so.
+/// Appends that only the numbers are wrong, if that is so.
 fn push_unchanged(text: &mut Vec<u8>, record: &Record, faulty: &Faulty) -> Result<(), AllocError> {
     let Some(remains) = &faulty.unchanged else {
         return Ok(());
@@ -168,7 +168,7 @@ fn push_unchanged(text: &mut Vec<u8>, record: &Record, faulty: &Faulty) -> Resul
     push_evidence(text, remains, 2 * record.events.len() as u128)
 }
 
-/// Appends that no single change helps, where that is so.
+/// Appends that no single change helps, if that is so.
 fn push_none(text: &mut Vec<u8>, faulty: &Faulty) -> Result<(), AllocError> {
     if !faulty.lines.is_empty() {
         return Ok(());
@@ -181,7 +181,7 @@ fn push_none(text: &mut Vec<u8>, faulty: &Faulty) -> Result<(), AllocError> {
     }
 }
 
-/// Appends how many changes are left open, where there are any.
+/// Appends how many changes are left open, if there are any.
 fn push_left(text: &mut Vec<u8>, faulty: &Faulty) -> Result<(), AllocError> {
     let left = faulty.found.left.len();
     if left == 0 {
@@ -208,9 +208,9 @@ fn push_faulty(text: &mut Vec<u8>, record: &Record, faulty: &Faulty) -> Result<(
     push_pairs(text, record, faulty)
 }
 
-/// Appends the answer on the case of a record: its verdict line and, where the record is illegal, its repairs with their evidence.
+/// Appends the answer on the case of a record: its verdict line and, if the record is illegal, its repairs with their evidence.
 ///
-/// It fails only where memory runs out.
+/// It fails only if memory runs out.
 pub fn push_repairs(
     alloc: Global,
     text: &mut Vec<u8>,

@@ -30,7 +30,7 @@ fn push_played(
     push_play(text, play.at, play.dir, play.word.as_slice())
 }
 
-/// Appends that a player exchanges so many tiles.
+/// Appends that a player exchanges a number of tiles.
 fn push_exchange(
     text: &mut Vec<u8>,
     players: &Players,
@@ -80,7 +80,7 @@ fn push_rest(
     say(text, &[Part::Tiles(tiles)])
 }
 
-/// Appends what stands on a line that is missing.
+/// Appends what is on a line that is missing.
 pub(crate) fn push_missing(
     text: &mut Vec<u8>,
     players: &Players,

@@ -1,4 +1,4 @@
-//! Whether two plays have one position, and one text.
+//! Whether two plays have the same position, and the same text.
 
 use gcg_read::EventKind;
 use ref_tiles::Symbol;
@@ -16,7 +16,7 @@ fn same_symbols(word: &[Symbol], other: &[Symbol]) -> bool {
     true
 }
 
-/// Whether both are plays of one text.
+/// Whether both are plays with the same text.
 pub(crate) fn have_one_word(kind: &EventKind, other: &EventKind) -> bool {
     match (kind, other) {
         (EventKind::Play { word, .. }, EventKind::Play { word: text, .. }) => {
@@ -26,7 +26,7 @@ pub(crate) fn have_one_word(kind: &EventKind, other: &EventKind) -> bool {
     }
 }
 
-/// Whether both are plays in one position.
+/// Whether both are plays in the same position.
 pub(crate) fn have_one_position(kind: &EventKind, other: &EventKind) -> bool {
     match (kind, other) {
         (

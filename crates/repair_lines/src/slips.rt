@@ -1,4 +1,4 @@
-//! The words of a slip: what should stand on a line, and what stands there.
+//! The words of a slip: what should be on a line, and what is there.
 
 use crate::missing::push_missing;
 use crate::names::nick;
@@ -9,7 +9,7 @@ use record_changes::{Slip, TilesOf};
 use sentence_parts::{Part, say};
 use std::alloc::AllocError;
 
-/// Appends what stands between what should be there and what is.
+/// Appends the words between what should be there and what is.
 fn push_not(text: &mut Vec<u8>) -> Result<(), AllocError> {
     text.extend_from_slice(b", not ")
 }
@@ -34,7 +34,7 @@ fn push_spelled(text: &mut Vec<u8>, right: &Event, written: &Event) -> Result<()
     }
 }
 
-/// Appends what happened where something else should have: its tiles or how many they are, where the same was done with other ones.
+/// Appends what is written in place of what should have happened: only the tiles, or how many they are, if the same was done with other ones.
 fn push_instead(
     text: &mut Vec<u8>,
     right: &EventKind,
@@ -111,7 +111,7 @@ fn push_amount(text: &mut Vec<u8>, right: &Event, written: &Event) -> Result<(),
     )
 }
 
-/// Appends whose line it is.
+/// Appends whose line it should be, and whose it is.
 fn push_player(
     text: &mut Vec<u8>,
     players: &Players,
@@ -150,7 +150,7 @@ fn push_changed(
     }
 }
 
-/// Appends the words of a slip at a place of the events, beside the events as they should be.
+/// Appends the words of a slip, given the event as it should be and the event as it is written.
 pub(crate) fn push_slip(
     text: &mut Vec<u8>,
     players: &Players,

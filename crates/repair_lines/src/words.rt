@@ -1,4 +1,4 @@
-//! The words of what should stand on a line, and of what stands there.
+//! The words for what should be on a line, and for what is there.
 
 use gcg_read::EventKind;
 use ref_board::{Dir, Square};
@@ -6,7 +6,7 @@ use ref_tiles::Symbol;
 use sentence_parts::{Part, say};
 use std::alloc::AllocError;
 
-/// Appends the position of a play as records write it: row and column of one across, column and row of one down.
+/// Appends the position of a play as records write it: row and column if it goes across, column and row if it goes down.
 pub(crate) fn push_position(text: &mut Vec<u8>, at: Square, dir: Dir) -> Result<(), AllocError> {
     match dir {
         Dir::Across => say(text, &[Part::At(at)]),

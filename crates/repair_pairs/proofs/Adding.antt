@@ -1,14 +1,13 @@
 -- Pairs that are added, one repair after another, and one head after another.
-use Rattle.std.proofs.Common.{◌≡◌, ◌⊎◌, inl, inr, ℕ, ◌+◌, ◌<◌, ◌≤◌, List, [], ◌∷◌, ◌++◌, length, get_or, slice_get, Option, Some, None, refl, sym, ap, ◌∙◌, subst, append_assoc, append-nil, arith}
-use Rattle.std.specs.Prelude.{All, AllPairs, Contains, Result, Ok, Err, IfOk}
+use Rattle.std.proofs.Common.{◌≡◌, inl, inr, ℕ, ◌+◌, ◌<◌, List, [], ◌∷◌, ◌++◌, length, get_or, slice_get, Option, Some, None, refl, sym, ap, ◌∙◌, subst, append_assoc, append-nil, arith}
+use Rattle.std.specs.Prelude.{All, Contains, Result, Ok, Err, IfOk}
 use Rattle.std.proofs.lemmas.List.{get_or_append_left, get_or_push, length_push}
 use Rattle.std.proofs.lemmas.List.Elements.{All-append, All-push, All-weaker, All-contains}
 use Rattle.std.proofs.lemmas.Option.{slice_get_read, slice_get_within, get_or_from_slice_get}
 use Rattle.ref_tiles.specs.declared.rulebook.Rules.{Rules}
 use Rattle.gcg_read.specs.declared.events.Event.{Event}
 use Rattle.record_changes.specs.Weights.{weight_of}
-use Rattle.record_repairs.specs.Repairs.{MakesGame, IsRepair, AreFirstRepairs}
-use Rattle.record_repairs.specs.declared.listed.Listed.{Listed}
+use Rattle.record_repairs.specs.Repairs.{IsRepair}
 use Rattle.record_repairs.specs.declared.repair.Repair.{Repair}
 use Rattle.repair_pairs.specs.Pairs.{ConcernsSheet, WrongOnSheet, CostsLess, MakesOther, IsHead, IsPair, ArePairs, cost_with}
 use Rattle.repair_pairs.specs.Finding.{IsPairWith, AddsPair, AddsPairs, ArePairsSoFar, AreFirstOf, AreSorted}
@@ -72,7 +71,7 @@ pair_stays rules list written singles heads more p is =
       costs = is.costs;
     }
 
--- a repair is one whatever number stays wrong
+-- a repair is still one if any number may stay wrong
 any_number : (rules : Rules) (list : List (List ℕ)) (made : List Event) (below : Option ℕ) (r : Repair) → IsRepair rules list made [] below r → IsRepair rules list made [] None r
 any_number rules list made below r is =
     record {

@@ -1,6 +1,6 @@
 -- The first of some pairs, each record once: one pair after another.
-use Rattle.std.proofs.Common.{◌≡◌, ◌⊎◌, inl, inr, ℕ, zero, suc, ◌+◌, ◌<◌, ◌≤◌, List, [], ◌∷◌, ◌++◌, length, get_or, slice_get, Some, refl, sym, ap, ◌∙◌, subst, arith}
-use Rattle.std.specs.Prelude.{All, AllPairs, Any, Contains}
+use Rattle.std.proofs.Common.{◌≡◌, ℕ, zero, suc, ◌+◌, ◌<◌, ◌≤◌, List, [], ◌∷◌, ◌++◌, length, get_or, slice_get, Some, refl, sym, subst, arith}
+use Rattle.std.specs.Prelude.{All, AllPairs, Contains}
 use Rattle.std.proofs.lemmas.List.{length_push}
 use Rattle.std.proofs.lemmas.List.Elements.{All-push}
 use Rattle.std.proofs.lemmas.List.Quantifiers.{all_pairs_push}
@@ -10,7 +10,7 @@ use Rattle.record_repairs.specs.Repairs.{SameRecord}
 use Rattle.repair_pairs.specs.Finding.{IsCheaper, IsMadeBy, AreFirstOf}
 use Rattle.repair_pairs.specs.declared.found.Pair.{Pair}
 
--- what is told of the pairs before an index
+-- what the list `told` has of the pairs before an index
 pub record AreSoFar (found : List Pair) (most index : ℕ) (told : List Pair) : Type 0 where
   pub each : All (Contains found) told
   pub few : length told ≤ most

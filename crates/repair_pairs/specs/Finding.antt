@@ -17,18 +17,18 @@ pub record IsPairWith (singles : List Repair) (made : List Event) (head weight :
   pub other : MakesOther singles p.then
   pub costs : p.cost ≡ cost_with weight p.then
 
--- the pair by this repair is put behind the others
+-- the pair by this repair is added after the others
 pub record PutsPair (singles : List Repair) (made : List Event) (head weight : ℕ) (then : Repair) (old new : List Pair) : Type 0 where
   pub pair : Pair
   pub added : new ≡ old ++ pair ∷ []
   pub by : pair.then ≡ then
   pub is : IsPairWith singles made head weight pair
 
--- it is put there, or nothing is changed
+-- it is added, or nothing is changed
 abbrev pub AddsPair : (singles : List Repair) → (made : List Event) → (head weight : ℕ) → (then : Repair) → (old new : List Pair) → Type 0
 AddsPair singles made head weight then old new = PutsPair singles made head weight then old new ⊎ (new ≡ old)
 
--- pairs by some of these repairs are put behind the others
+-- pairs by some of these repairs are added after the others
 pub record AddsPairs (singles : List Repair) (made : List Event) (head weight : ℕ) (found : List Repair) (old new : List Pair) : Type 0 where
   pub more : List Pair
   pub added : new ≡ old ++ more
@@ -44,14 +44,14 @@ IsCheaper a b = a.cost ≤ b.cost
 abbrev pub IsMadeBy : (told : List Pair) → (right : List Event) → Type 0
 IsMadeBy told right = Any (λ (p : Pair). SameRecord p.then.right right) told
 
--- some of these pairs, so many at most, in the order of their costs, and each record once
+-- at most `most` of these pairs, in the order of their costs, and each record once
 pub record AreFirstOf (found : List Pair) (most : ℕ) (told : List Pair) : Type 0 where
   pub each : All (Contains found) told
   pub few : length told ≤ most
   pub ordered : AllPairs IsCheaper told
   pub once : AllPairs (λ (a b : Pair). SameRecord a.then.right b.then.right → ⊥) told
 
--- the same of the pairs of these heads
+-- the same for the pairs of these heads
 pub record AreSorted (pairs : Pairs) (most : ℕ) (first : Pairs) : Type 0 where
   pub heads : first.heads.items ≡ pairs.heads.items
   pub told : AreFirstOf pairs.told.items most first.told.items

@@ -10,7 +10,7 @@ use Rattle.record_changes.specs.declared.slips.Slip.TheVariants as slip
 use Rattle.record_changes.specs.Applied.{applied, wrong_events}
 use Rattle.record_repairs.specs.OnSheet.{on_sheet}
 
--- how many lines stand in the place of those that a slip concerns
+-- how many lines replace those that a slip concerns
 abbrev pub lines_there : Slip → ℕ
 lines_there slip.Repeated = 0
 lines_there slip.ExtraPass = 0
@@ -18,8 +18,8 @@ lines_there slip.Extra = 0
 lines_there (slip.Missing line) = 1
 lines_there other = wrong_events other
 
--- The record that a change makes, with the numbers of the sheet. Once they are corrected, the rules allow it up to the lines of the change; a line that is
--- missing has the score that it has then, and the total that goes with it, so that it does not count as wrong what nobody wrote.
+-- The record that a change makes, with the numbers of the sheet. Once they are corrected, the rules allow it up to the lines of the change. A missing line
+-- gets its right score and the total that goes with it, so that numbers that nobody wrote do not count as wrong.
 pub record IsMade (rules : Rules) (list : List (List ℕ)) (written : List Event) (change : Change) (made : List Event) : Type 0 where
   pub right : List Event
   pub renumbered : AreRenumbered (applied change written) right

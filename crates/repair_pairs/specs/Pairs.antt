@@ -15,16 +15,16 @@ use Rattle.repair_pairs.specs.declared.found.Head.{Head}
 use Rattle.repair_pairs.specs.declared.found.Pair.{Pair}
 use Rattle.repair_pairs.specs.declared.found.Pairs.{Pairs}
 
--- a first change is one of the record's single changes, beside the record that it makes
+-- a first change is one of the record's single changes, together with the record that it makes
 pub record IsHead (rules : Rules) (list : List (List ℕ)) (written : List Event) (head : Head) : Type 0 where
   pub single : IsListed rules written [] head.first
   pub made : IsMade rules list written head.first.change head.made
 
--- each line that a change concerns stands on the sheet: a line that a first change puts there has the number 0
+-- each line that a change concerns is on the sheet: a line that a first change adds has the number 0
 abbrev pub ConcernsSheet : (made : List Event) → Change → Type 0
 ConcernsSheet made change = All (λ (e : Event). e.line ≡ 0 → ⊥) (take (wrong_events change.slip) (drop change.place made))
 
--- whether a number that is wrong stands on the sheet
+-- whether a wrong number is on the sheet
 abbrev pub is_on_sheet : WrongNumber → Bool
 is_on_sheet (number.Score line written right) = not (line == 0)
 is_on_sheet (number.Sum line written right) = not (line == 0)
@@ -33,20 +33,20 @@ is_on_sheet (number.Total player written right) = true
 abbrev pub WrongOnSheet : Repair → Type 0
 WrongOnSheet then = All (λ (w : WrongNumber). is_on_sheet w ≡ true) then.remains.wrong.items
 
--- so much is less than each of some repairs costs
+-- each of some repairs costs more than `cost`
 abbrev pub CostsLess : (singles : List Repair) → (cost : ℕ) → Type 0
 CostsLess singles cost = All (λ (single : Repair). cost < (rank_of single).cost) singles
 
--- a repair makes another record than each of some others
+-- a repair makes a record that none of some others makes
 abbrev pub MakesOther : (singles : List Repair) → Repair → Type 0
 MakesOther singles then = IsAmong singles then.right → ⊥
 
--- Two slips cost what both weigh, and what stays wrong with both counts as with a single one.
+-- Two slips cost their two weights, and what stays wrong with both counts as it does with a single slip.
 abbrev pub cost_with : (weight : ℕ) → (then : Repair) → ℕ
 cost_with weight then = weight + costs (length then.remains.wrong.items) (length then.remains.unlisted.items) then.listed.change.slip
 
 -- A pair of changes: one of the record's single changes, and a repair of the record that it makes. The second concerns lines of the sheet, and so does each
--- number that stays wrong. Both cost less than each single repair, and make another record.
+-- number that stays wrong. Together they cost less than each single repair, and they make a record that no single repair makes.
 pub record IsPair (rules : Rules) (list : List (List ℕ)) (written : List Event) (singles : List Repair) (heads : List Head) (p : Pair) : Type 0 where
   pub head : Head
   pub there : slice_get heads p.head ≡ Some head
@@ -58,8 +58,8 @@ pub record IsPair (rules : Rules) (list : List (List ℕ)) (written : List Event
   pub other : MakesOther singles p.then
   pub costs : p.cost ≡ cost_with (weight_of head.first.change.slip) p.then
 
--- Some pairs that repair a record, so many at most, in the order of their costs. Each record that they make is made once. That they are all, or the
--- first of all, is not said.
+-- At most `most` pairs that repair a record, in the order of their costs. Each record that they make is made once. Nothing says that they are all pairs,
+-- or the first of all.
 pub record ArePairs (rules : Rules) (list : List (List ℕ)) (written : List Event) (singles : List Repair) (most : ℕ) (pairs : Pairs) : Type 0 where
   pub each : All (IsPair rules list written singles pairs.heads.items) pairs.told.items
   pub few : length pairs.told.items ≤ most

@@ -18,20 +18,20 @@ use record_repairs::{Repair, repairs};
 use ref_tiles::Rules;
 use std::alloc::{AllocError, Global};
 
-/// How many first changes are gone on with.
+/// How many first changes the search goes on with.
 const MOST_HEADS: usize = 3;
 
-/// What a wrong number costs. A repair that costs no more is likely enough: no pair is looked for beside it.
+/// What a wrong number costs. A repair that costs no more is likely enough: then no pairs are looked for.
 const NUMBER: usize = 5;
 
-/// Fewer numbers and words than these have to stay wrong with both changes, as each costs 3 at the least; none where no single repair is known.
+/// Fewer numbers and words than these have to stay wrong with both changes, as each costs at least 3; `None` if no single repair is known.
 fn below_of(singles: &[Repair], weight: usize) -> Option<usize> {
     let least = least_cost(singles)?;
     let left = least.saturating_sub(weight) / 3;
     Some(left.saturating_add(1))
 }
 
-/// Whether pairs are looked for: where the rules refuse an event whatever its numbers are, and no single repair is likely.
+/// Whether pairs are looked for: only if the rules refuse an event whatever its numbers are, and no single repair is likely.
 fn is_open(walk: &Walk, singles: &[Repair]) -> bool {
     if walk.stopped.is_none() {
         return false;
@@ -42,7 +42,7 @@ fn is_open(walk: &Walk, singles: &[Repair]) -> bool {
     }
 }
 
-/// Adds a pair of the head with a number, where it is told beside the single repairs.
+/// Adds a pair of the head with a number, if the pair is listed in addition to the single repairs.
 fn push_pair(
     told: &mut Vec<Pair>,
     singles: &[Repair],
@@ -64,7 +64,7 @@ fn push_pair(
     Ok(())
 }
 
-/// Adds the pairs of the head with a number that are told beside the single repairs.
+/// Adds the pairs of the head with a number that are listed in addition to the single repairs.
 fn push_pairs(
     told: &mut Vec<Pair>,
     singles: &[Repair],
@@ -150,7 +150,7 @@ fn pairs_of(
     Ok(pairs)
 }
 
-/// The first so many of the pairs of some heads, in the order of their costs.
+/// The first `most` of the pairs of some heads, in the order of their costs.
 fn first_of(alloc: Global, pairs: Pairs, most: usize) -> Result<Pairs, AllocError>
     ensures { IfOk result (λ first. AreSorted pairs most first) }
 {
@@ -163,14 +163,14 @@ fn first_of(alloc: Global, pairs: Pairs, most: usize) -> Result<Pairs, AllocErro
     })
 }
 
-/// Pairs of changes after which a record is a legal game once its numbers are corrected, those that cost least first and at most so many: the first is one
-/// of its single changes, and the second a repair of the record that the first makes. Each costs less than each of the single repairs that are given, and
-/// makes another record. Behind it the events are as they are written.
+/// At most `most` pairs of changes after which a record is a legal game once its numbers are corrected, those that cost least first. The first change is one
+/// of the record's single changes, and the second a repair of the record that the first makes. Each pair costs less than each of the given single repairs,
+/// and makes a record that none of them makes. Afterwards the events are as they were written.
 ///
-/// Pairs are looked for where the rules refuse an event whatever its numbers are and no single repair is likely, and only among some first changes: there
+/// Pairs are looked for only if the rules refuse an event whatever its numbers are and no single repair is likely, and only among some first changes: there
 /// may be others.
 ///
-/// It fails only where memory runs out.
+/// It fails only if memory runs out.
 pub fn pairs(
     alloc: Global,
     rules: &Rules,

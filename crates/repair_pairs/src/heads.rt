@@ -1,5 +1,5 @@
-//! The search for heads: changes with which the rules allow the first refused event too, so that the fault moves on. Nothing is claimed of it: what a head
-//! is, `listed_at` and `made_by` say.
+//! The search for heads: changes with which the rules allow the first refused event too, so that the fault moves on. Nothing is claimed about the search:
+//! `listed_at` and `made_by` say what a head is.
 ghost use Rattle.std.specs.Prelude.{◌≤◌};
 ghost use Rattle.gcg_read.specs.Numerals.{IsPoints};
 
@@ -16,7 +16,7 @@ use record_repairs::sheet_with;
 use ref_tiles::Rules;
 use std::alloc::{AllocError, Global};
 
-/// A change with which the fault moves on, by where it stands in the list of all.
+/// A change with which the fault moves on, by its position in the list of all changes.
 #[derive(Clone, Copy)]
 pub(crate) struct HeadAt {
     /// Its place in the record.
@@ -27,8 +27,8 @@ pub(crate) struct HeadAt {
     cost: u128,
 }
 
-/// The place from which on a change has to be tried: the one before it, where with the change the event there is taken back and else is not, or the other
-/// way round.
+/// The place from which a change has to be tried: the one before it, if the event there is taken back with the change but not without it, or the other
+/// way round; otherwise its own place.
 fn start_of(events: &[Event], changed: &[Event], place: usize) -> usize {
     if withdraws(changed.get(place)) == withdraws(events.get(place)) {
         place
@@ -37,7 +37,7 @@ fn start_of(events: &[Event], changed: &[Event], place: usize) -> usize {
     }
 }
 
-/// How many events have to be allowed with a change: up to the first refused one, or up to the last that the change puts there.
+/// How many events have to be allowed with a change: up to the first refused one, or up to the last one that the change adds.
 fn end_of(walk: &Walk, events: &[Event], changed: &[Event], change: &Change) -> usize {
     let behind = events
         .len()
@@ -48,7 +48,7 @@ fn end_of(walk: &Walk, events: &[Event], changed: &[Event], change: &Change) -> 
     if there > refused { there } else { refused }
 }
 
-/// Whether the events from one place to another are allowed once they have their right numbers, which they get.
+/// Gives the events from one place to another their right numbers, and returns whether the rules allow them then.
 fn goes_to(
     game: &Machine,
     changed: &mut Events,
@@ -65,7 +65,7 @@ fn goes_to(
     true
 }
 
-/// How many numbers of a line are wrong, by what the player had before it.
+/// How many numbers of a line are wrong, given what the player had before it.
 fn wrong_on(row: &Row, had: i32) -> u128
     requires { IsPoints had }
     ensures { result ≤ 2 }
@@ -81,7 +81,7 @@ fn wrong_on(row: &Row, had: i32) -> u128
     wrong
 }
 
-/// What a line costs: its wrong numbers, and those of its words that stand and are not in the list.
+/// What a line costs: its wrong numbers, and its words that stand although they are not in the list.
 fn line_cost(alloc: Global, list: &WordList, row: &Row, had: i32) -> Result<u128, AllocError>
     requires { IsPoints had }
 {
@@ -89,7 +89,7 @@ fn line_cost(alloc: Global, list: &WordList, row: &Row, had: i32) -> Result<u128
     Ok(5 * wrong_on(row, had) + 3 * words.len() as u128)
 }
 
-/// What the first lines of a sheet cost, so many.
+/// What the lines of a sheet before the place `end` cost.
 fn front_cost(
     alloc: Global,
     rules: &Rules,
@@ -113,7 +113,7 @@ fn front_cost(
     Ok(cost)
 }
 
-/// What a change costs, where the fault moves on with it.
+/// What a change costs, if the fault moves on with it.
 fn head_cost(
     alloc: Global,
     rules: &Rules,
@@ -166,7 +166,7 @@ fn push_heads(
 
 /// The changes with which the fault moves on, those that cost least first, and of equal costs in the order of the list.
 ///
-/// It fails only where memory runs out.
+/// It fails only if memory runs out.
 pub(crate) fn heads_of(
     alloc: Global,
     rules: &Rules,

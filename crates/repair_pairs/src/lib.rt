@@ -1,7 +1,8 @@
 //! Two slips in one record: pairs of changes after which it is a legal game once its numbers are corrected, those that cost least first.
 //!
-//! [`pairs`] takes the cheapest changes with which the rules allow the first refused event too, so that the fault moves on, and of the record that each of
-//! them makes the first repairs. The search for these changes is not complete, and nothing is claimed of it: what is told of a pair is proved of the pair.
+//! [`pairs`] takes the cheapest changes with which the rules allow the first refused event too, so that the fault moves on, and finds the first repairs of
+//! the record that each of them makes. The search for these changes is not complete, and nothing is claimed about it: what is said of a pair is proved of the
+//! pair itself.
 #![tactic(auto)]
 
 mod finding;

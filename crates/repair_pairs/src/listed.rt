@@ -13,9 +13,9 @@ use record_repairs::Listed;
 use ref_tiles::Rules;
 use std::alloc::{AllocError, Global};
 
-/// The change with a number among those at a place, where there is one.
+/// The change with a number among those at a place, if there is one.
 ///
-/// It fails only where memory runs out.
+/// It fails only if memory runs out.
 pub(crate) fn listed_at(
     alloc: Global,
     rules: &Rules,

@@ -10,7 +10,7 @@ use record_repairs::sheet_with;
 use ref_tiles::Rules;
 use std::alloc::{AllocError, Global};
 
-/// How many lines stand in the place of those that a slip concerns.
+/// How many lines replace those that a slip concerns.
 pub(crate) fn lines_there(slip: &Slip) -> usize
     ensures { result ≡ lines_there slip.now }
 {
@@ -21,9 +21,9 @@ pub(crate) fn lines_there(slip: &Slip) -> usize
     }
 }
 
-/// The record that a change makes, with the numbers of the sheet, where the rules allow it up to the lines of the change.
+/// The record that a change makes, with the numbers of the sheet, if the rules allow it up to the lines of the change.
 ///
-/// It fails only where memory runs out.
+/// It fails only if memory runs out.
 pub(crate) fn made_by(
     alloc: Global,
     rules: &Rules,

@@ -1,4 +1,4 @@
-//! Whether two changes are told, beside single repairs of the record.
+//! Whether two changes are listed in addition to single repairs of the record.
 ghost use Rattle.std.specs.Prelude.{◌≡◌, IsTrue};
 ghost use Rattle.repair_pairs.specs.Pairs.{ConcernsSheet, is_on_sheet, WrongOnSheet, CostsLess, MakesOther};
 
@@ -7,7 +7,7 @@ use gcg_read::Event;
 use record_changes::{Change, weight_of, wrong_events};
 use record_repairs::{Repair, makes};
 
-/// Whether each line that a change concerns stands on the sheet, and is none that a first change put there.
+/// Whether each line that a change concerns is on the sheet, and not one that a first change added.
 fn concerns_sheet(made: &[Event], change: &Change) -> bool
     ensures { IsTrue result → ConcernsSheet made.now change.now }
 {
@@ -23,7 +23,7 @@ fn concerns_sheet(made: &[Event], change: &Change) -> bool
     true
 }
 
-/// Whether a number that is wrong stands on the sheet.
+/// Whether a wrong number is on the sheet.
 fn is_on_sheet(number: &WrongNumber) -> bool
     ensures { result ≡ is_on_sheet number.now }
 {
@@ -34,7 +34,7 @@ fn is_on_sheet(number: &WrongNumber) -> bool
     }
 }
 
-/// Whether each number that stays wrong stands on the sheet, and on no line that a first change put there.
+/// Whether each number that stays wrong is on the sheet, and not on a line that a first change added.
 fn wrong_on_sheet(then: &Repair) -> bool
     ensures { IsTrue result → WrongOnSheet then.now }
 {
@@ -46,7 +46,7 @@ fn wrong_on_sheet(then: &Repair) -> bool
     true
 }
 
-/// Whether so much is less than each of these repairs costs.
+/// Whether each of these repairs costs more than `cost`.
 fn costs_less(singles: &[Repair], cost: u128) -> bool
     ensures { IsTrue result → CostsLess singles.now cost }
 {
@@ -70,8 +70,8 @@ fn makes_other(singles: &[Repair], then: &Repair) -> bool
     true
 }
 
-/// Whether two changes are told that cost so much, beside single repairs: the second concerns lines of the sheet, and so does each number that stays wrong;
-/// each of the single repairs costs more, and makes another record.
+/// Whether two changes that cost `cost` are listed in addition to single repairs: the second concerns lines of the sheet, and so does each number that stays
+/// wrong; each of the single repairs costs more, and makes another record.
 pub(crate) fn is_told(singles: &[Repair], made: &[Event], then: &Repair, cost: u128) -> bool
     ensures lines { IsTrue result → ConcernsSheet made.now then.now.listed.change }
     ensures numbers { IsTrue result → WrongOnSheet then.now }
@@ -84,7 +84,7 @@ pub(crate) fn is_told(singles: &[Repair], made: &[Event], then: &Repair, cost: u
         && makes_other(singles, then)
 }
 
-/// What the likeliest of some repairs costs; none where there is no repair.
+/// What the likeliest of some repairs costs; `None` if there is no repair.
 pub(crate) fn least_cost(singles: &[Repair]) -> Option<usize> {
     let first = singles.first()?;
     let numbers = first.remains.wrong.len().saturating_mul(5);

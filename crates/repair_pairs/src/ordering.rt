@@ -19,7 +19,7 @@ fn is_made_by(told: &[Pair], right: &[Event]) -> bool
     false
 }
 
-/// The first so many of some pairs, each record that they make once.
+/// The first `most` of some pairs, with each record that they make only once.
 pub(crate) fn first_pairs(
     alloc: Global,
     found: Vec<Pair>,

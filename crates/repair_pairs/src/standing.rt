@@ -8,7 +8,7 @@ ghost use Rattle.record_repairs.specs.Trying.{StandsBefore};
 use game_rows::Walk;
 use game_turns::Machine;
 
-/// The game before the event at a place, and behind the last row; none behind that.
+/// The game before the event at a place, or after the last row; `None` for a later place.
 #[tactic(auto, using(record_repairs::proofs::Walked::first_game, record_repairs::proofs::Walked::next_game))]
 pub fn game_before(walk: &Walk, place: usize) -> Option<&Machine>
     ensures there { IsSome result ↔ (place ≤ length walk.now.rows.items) }

@@ -17,7 +17,7 @@ use Rattle.repaired_choices.specs.declared.best.Least.{Least}
 pub none_before : (tried : List RepairedChoice) → IsLeastTo tried 0 None
 none_before tried = λ place cost before at. absurd (omega (arith, before))
 
--- what holds of each cost before a place and of that at the place holds of each before the next
+-- what holds for each cost before a place and for the one at the place holds for each before the next
 one_more : (P : ℕ → Type 0) (tried : List RepairedChoice) (index place cost : ℕ) → ((k n : ℕ) → k < index → cost_at tried k ≡ Some n → P n) → ((n : ℕ) → cost_at tried index ≡ Some n → P n)
     → place < index + 1 → cost_at tried place ≡ Some cost → (place < index) ⊎ (index ≤ place) → P cost
 one_more P tried index place cost old here before at (inl less) = old place cost less at

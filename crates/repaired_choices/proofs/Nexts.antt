@@ -1,4 +1,4 @@
--- What holds of each thing of a list before a place, and of the one there, holds of each before the next place.
+-- What holds for each element of a list before a place, and for the one there, holds for each before the next place.
 use Rattle.std.proofs.Common.{◌≡◌, ◌⊎◌, inl, inr, ℕ, ◌+◌, ◌<◌, ◌≤◌, List, length, get_or, sym, ◌∙◌, subst, arith}
 use Rattle.std.proofs.lemmas.Bool.{cases_lt}
 use Rattle.std.proofs.lemmas.Option.{same_Some, slice_get-get_or}

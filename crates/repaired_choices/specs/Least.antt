@@ -4,12 +4,12 @@ use Rattle.repaired_choices.specs.Repaired.{cost_at}
 use Rattle.repaired_choices.specs.declared.repaired.RepairedChoice.{RepairedChoice}
 use Rattle.repaired_choices.specs.declared.best.Least.{Least}
 
--- the first repair of the choice with a number costs this, and those of the choices before a place cost no less
+-- the first repair of the choice with a number has this cost, and those of the choices before a place cost no less
 pub record IsLeast (tried : List RepairedChoice) (end : ℕ) (l : Least) : Type 0 where
   pub there : cost_at tried l.index ≡ Some l.cost
   pub least : (place cost : ℕ) → place < end → cost_at tried place ≡ Some cost → l.cost ≤ cost
 
--- the same where one of the choices before a place has a repair
+-- the same, if one of the choices before a place has a repair
 abbrev pub IsLeastTo : (tried : List RepairedChoice) → (end : ℕ) → Option Least → Type 0
 IsLeastTo tried end None = (place cost : ℕ) → place < end → cost_at tried place ≡ Some cost → ⊥
 IsLeastTo tried end (Some l) = IsLeast tried end l

@@ -1,4 +1,4 @@
--- Choices of two sheets' lines that make no game, and the single changes with which they do.
+-- Choices of two sheets' lines that do not make a game, and the single changes with which they do.
 use Rattle.std.specs.Prelude.{◌≡◌, ◌⊎◌, ◌↔◌, ℕ, ◌<◌, ◌≤◌, List, [], length, All, IsTrue, slice_get, Option, Some, None}
 use Rattle.ref_tiles.specs.declared.rulebook.Rules.{Rules}
 use Rattle.game_turns.specs.Places.{AreAllowed, is_finished}
@@ -20,7 +20,7 @@ pub record IsRepairedChoice (rules : Rules) (list : List (List ℕ)) (s : Sheets
   pub written : r.written ≡ choice_events s Taken r.choice
   pub first : AreFirstRepairs rules list r.written [] r.below 2 r.found.told.items r.found.left.items
 
--- The choices that were tried: none where one makes a game, or is left open.
+-- The choices that were tried: none if one makes a game, or is left open.
 pub record AreTried (rules : Rules) (list : List (List ℕ)) (s : Sheets) (f : Find) (tried : List RepairedChoice) : Type 0 where
   pub each : All (IsRepairedChoice rules list s) tried
   pub no_best : (b : Best) → f.best ≡ Some b → tried ≡ []
@@ -30,7 +30,7 @@ pub record AreTried (rules : Rules) (list : List (List ℕ)) (s : Sheets) (f : F
 abbrev pub first_of : RepairedChoice → Option Repair
 first_of r = slice_get r.found.told.items 0
 
--- what the first repair of a choice costs, where it has one
+-- what the first repair of a choice costs, if it has one
 abbrev pub cost_of : Option Repair → Option ℕ
 cost_of None = None
 cost_of (Some repair) = Some (rank_of repair).cost
@@ -39,7 +39,7 @@ abbrev pub first_cost : Option RepairedChoice → Option ℕ
 first_cost None = None
 first_cost (Some r) = cost_of (first_of r)
 
--- the same of the choice with a number
+-- the same for the choice with a number
 abbrev pub cost_at : (tried : List RepairedChoice) → (index : ℕ) → Option ℕ
 cost_at tried index = first_cost (slice_get tried index)
 
@@ -74,7 +74,7 @@ abbrev pub HasBest : Rules → (tried : List RepairedChoice) → Option BestRepa
 HasBest rules tried None = (place cost : ℕ) → cost_at tried place ≡ Some cost → ⊥
 HasBest rules tried (Some b) = IsBest rules tried b
 
--- What repairs choices of two sheets that make no game.
+-- What repairs choices of two sheets that do not make a game.
 pub record AreRepaired (rules : Rules) (list : List (List ℕ)) (s : Sheets) (f : Find) (r : RepairedChoices) : Type 0 where
   pub tried : AreTried rules list s f r.tried.items
   pub best : HasBest rules r.tried.items r.best

@@ -3,7 +3,7 @@ use Rattle.std.specs.Prelude.{⊤, ◌≡◌, ℕ, List, length, slice_get, Opti
 use Rattle.gcg_read.specs.declared.events.Event.{Event}
 use Rattle.sheet_alignments.specs.Agreeing.{Agree}
 
--- two lines state the same rack, or one of them states none
+-- two lines state the same rack, or one of them does not state a rack
 abbrev pub RacksAgree : Option (List ℕ) → Option (List ℕ) → Type 0
 RacksAgree (Some tiles) (Some others) = tiles ≡ others
 RacksAgree (Some tiles) None = ⊤

@@ -23,7 +23,7 @@ pub(crate) struct Least {
     pub(crate) cost: u128,
 }
 
-/// What the first repair of a choice costs, where it has one.
+/// What the first repair of a choice costs, if it has one.
 fn first_cost(repair: Option<&Repair>) -> Option<u128>
     ensures { result ≡ cost_of (option_copied repair.entry) }
 {
@@ -33,7 +33,7 @@ fn first_cost(repair: Option<&Repair>) -> Option<u128>
     }
 }
 
-/// The same of the choice with a number.
+/// The same for the choice with a number.
 fn cost_at(tried: &[RepairedChoice], index: usize) -> Option<u128>
     ensures { result ≡ cost_at tried.now index }
 {
@@ -76,7 +76,7 @@ pub(crate) fn least_of(tried: &[RepairedChoice]) -> Option<Least>
     least
 }
 
-/// Whether the last racks are in behind the last event, where the rules allow each.
+/// Whether the last racks are in after the last event, if the rules allow each event.
 fn is_finished(rules: &Rules, list: &WordList, right: &Events) -> bool
     requires { AreAllowed rules.now list.now right.now }
     ensures { result ≡ is_finished rules.now right.now }
@@ -91,7 +91,7 @@ fn is_finished(rules: &Rules, list: &WordList, right: &Events) -> bool
     machine.finished()
 }
 
-/// The best of some choices, where one has a repair.
+/// The best of some choices, if one has a repair.
 #[tactic(auto, using(crate::proofs::Least::none_best, crate::proofs::Least::no_choice, crate::proofs::Least::no_repair, crate::proofs::Least::best_is))]
 pub(crate) fn best_of(
     rules: &Rules,

@@ -10,7 +10,7 @@ use std::alloc::{AllocError, Global};
 
 /// The events of a choice, with the numbers of the lines that are taken.
 ///
-/// It fails only where memory runs out.
+/// It fails only if memory runs out.
 pub(crate) fn events_of(alloc: Global, sheets: &Sheets, choice: usize) -> Result<Events, AllocError>
     ensures { IfOk result (λ events. events ≡ choice_events sheets.now Taken choice) }
 {

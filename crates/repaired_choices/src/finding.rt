@@ -12,10 +12,10 @@ use ref_tiles::Rules;
 use sheet_comparisons::{Comparison, Find, Sheets};
 use std::alloc::{AllocError, Global};
 
-/// How many repairs of each choice are told: the first, and one that may cost as little.
+/// How many repairs of each choice are kept: the first, and one that may cost as little.
 const MOST_REPAIRS: usize = 2;
 
-/// Fewer numbers and words than these stay wrong with each repair that costs no more than those before, as each costs 3 at the least.
+/// Fewer numbers and words than these stay wrong with each repair that costs no more than those before, as each costs at least 3.
 fn below_of(tried: &[RepairedChoice]) -> Option<usize> {
     let least = least_of(tried)?;
     if least.cost < 3000 {
@@ -65,7 +65,7 @@ fn tried_of(
     Ok(tried)
 }
 
-/// The same, where no choice makes a game or is left open.
+/// The same, if no choice makes a game or is left open.
 fn tried_by(
     alloc: Global,
     rules: &Rules,
@@ -81,9 +81,9 @@ fn tried_by(
     tried_of(alloc, rules, list, sheets)
 }
 
-/// Choices that go furthest, where no choice of two sheets makes a game or is left open, and the first repairs of each.
+/// The choices that go furthest and the first repairs of each, if no choice of two sheets makes a game or is left open.
 ///
-/// It fails only where memory runs out.
+/// It fails only if memory runs out.
 #[tactic(auto, using(crate::proofs::Least::games_of))]
 pub fn repaired_choices(
     alloc: Global,

@@ -1,4 +1,4 @@
-//! Which choices go furthest. Nothing is claimed of this search.
+//! Which choices go furthest. Nothing is claimed about this search.
 
 use crate::events::events_of;
 use game_rows::walk_and_correct;
@@ -8,7 +8,7 @@ use sheet_alignments::many_choices;
 use sheet_comparisons::Sheets;
 use std::alloc::{AllocError, Global};
 
-/// How many choices are repaired at the most.
+/// The largest number of choices that are repaired.
 const MOST_TRIED: usize = 8;
 
 /// A choice, and how far its correction goes.
@@ -16,7 +16,7 @@ const MOST_TRIED: usize = 8;
 pub(crate) struct Reach {
     /// The choice.
     pub(crate) choice: usize,
-    /// The place of the event that is refused, or one behind all where none is.
+    /// The place of the refused event, or one after all if none is refused.
     place: usize,
 }
 
@@ -46,7 +46,7 @@ fn is_no_further(reaches: &[Reach], index: usize, other: usize) -> bool {
     }
 }
 
-/// Which of some choices goes least far: of equal ones the last.
+/// Which of some choices goes least far; the last of equal ones.
 fn least_far(reaches: &[Reach]) -> usize {
     let mut least = 0;
     for index in 0..reaches.len() {
@@ -57,7 +57,7 @@ fn least_far(reaches: &[Reach]) -> usize {
     least
 }
 
-/// Adds a choice to those that go furthest, where it is one of them.
+/// Adds a choice to those that go furthest, if it is one of them.
 fn push_reach(first: &mut Vec<Reach>, reach: Reach) -> Result<(), AllocError> {
     if first.len() < MOST_TRIED {
         first.push(reach)?;
@@ -74,7 +74,7 @@ fn push_reach(first: &mut Vec<Reach>, reach: Reach) -> Result<(), AllocError> {
 
 /// The choices that go furthest.
 ///
-/// It fails only where memory runs out.
+/// It fails only if memory runs out.
 pub(crate) fn furthest(
     alloc: Global,
     rules: &Rules,

@@ -1,7 +1,7 @@
-//! Choices of two sheets' lines that make no game, and the single changes with which they do.
+//! Choices of two sheets' lines that do not make a game, and the single changes with which they do.
 //!
-//! Where no choice of the lines of two sheets makes a game, [`repaired_choices`] takes those that go furthest, and finds of each the first repairs. The search for
-//! these choices is not complete, and nothing is claimed of it: what is told of a choice is proved of the choice.
+//! If no choice of the lines of two sheets makes a game, [`repaired_choices`] takes those that go furthest, and finds the first repairs of each. The search for
+//! these choices is not complete, and nothing is claimed about it: what is said of a choice is proved of the choice itself.
 #![tactic(auto)]
 
 mod ahead;

@@ -1,4 +1,4 @@
-//! What repairs choices that make no game.
+//! What repairs choices that do not make a game.
 ghost use Rattle.std.specs.Prelude.{◌≡◌};
 ghost use Rattle.std.specs.Option.{option_copied};
 ghost use Rattle.repaired_choices.specs.Repaired.{first_of};
@@ -13,9 +13,9 @@ pub struct RepairedChoice {
     pub choice: usize,
     /// Its events.
     pub written: Events,
-    /// Fewer numbers and words than these stay wrong with each of the repairs, where a number is given.
+    /// Fewer numbers and words than these stay wrong with each of the repairs, if a number is given.
     pub below: Option<usize>,
-    /// Its first two repairs, and the changes of which it is not known whether they are repairs.
+    /// Its first two repairs, and the changes that are not known to be repairs or not.
     pub found: Found,
 }
 
@@ -28,7 +28,7 @@ pub struct BestRepair {
     pub complete: bool,
     /// Whether each other repair of a choice that was tried costs more or makes a record of the same game.
     pub ahead: bool,
-    /// Whether it is known of each change of a choice that was tried whether it is a repair.
+    /// Whether no change of a choice that was tried is left open.
     pub settled: bool,
 }
 
@@ -37,11 +37,11 @@ pub struct BestRepair {
 pub struct RepairedChoices {
     /// The choices.
     pub tried: Vec<RepairedChoice>,
-    /// One whose first repair costs the least; none where no choice has a repair.
+    /// One whose first repair costs the least; `None` if no choice has a repair.
     pub best: Option<BestRepair>,
 }
 
-/// The first repair of a choice, where it has one.
+/// The first repair of a choice, if it has one.
 pub(crate) fn first_of(choice: &RepairedChoice) -> Option<&Repair>
     ensures { option_copied result ≡ first_of choice.now }
 {
@@ -49,7 +49,7 @@ pub(crate) fn first_of(choice: &RepairedChoice) -> Option<&Repair>
 }
 
 impl RepairedChoices {
-    /// The choice with the cheapest repair, where there is one.
+    /// The choice with the cheapest repair, if there is one.
     pub fn best_choice(&self) -> Option<&RepairedChoice> {
         match &self.best {
             Some(best) => self.tried.as_slice().get(best.index),
@@ -57,7 +57,7 @@ impl RepairedChoices {
         }
     }
 
-    /// The cheapest repair, where there is one.
+    /// The cheapest repair, if there is one.
     pub fn best_repair(&self) -> Option<&Repair> {
         match self.best_choice() {
             Some(choice) => first_of(choice),

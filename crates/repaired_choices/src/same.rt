@@ -6,7 +6,7 @@ use gcg_read::Event;
 use ref_tiles::Counts;
 use sheet_alignments::agree;
 
-/// Whether two lines state the same rack, or one of them states none.
+/// Whether two lines state the same rack, or one of them does not state a rack.
 fn racks_agree(rack: &Option<Counts>, other: &Option<Counts>) -> bool
     ensures { IsTrue result ↔ RacksAgree rack.now other.now }
 {

@@ -1,4 +1,4 @@
--- Verdicts on records of whose events nothing is answered.
+-- Verdicts on records whose events get no answers.
 use Rattle.std.proofs.Common.{◌≡◌, ℕ, List, [], refl, sym, subst, inl, inr}
 use Rattle.ref_tiles.specs.declared.rulebook.Rules.{Rules}
 use Rattle.gcg_read.specs.declared.records.Record.{Record}

@@ -1,4 +1,4 @@
--- The best plays that are asked for, by the rack that is given.
+-- The requested best plays, by the given rack.
 use Rattle.std.proofs.Common.{◌≡◌, ℕ, List, Option, Some, None, Result, Err, IfOk, sym, subst}
 use Rattle.ref_tiles.specs.declared.rulebook.Rules.{Rules}
 use Rattle.call_stages.specs.declared.decisions.Decision.{Decision}

@@ -1,4 +1,4 @@
--- The normal form of the record of a text, or that it is none.
+-- The normal form of the record of a text, or that the text is not a record.
 use Rattle.std.proofs.Common.{◌≡◌, ℕ, List, [], ◌∷◌, Result, Ok, Err, refl, subst}
 use Rattle.gcg_read.specs.declared.records.Record.{Record}
 use Rattle.gcg_read.specs.Records.{record_of}

@@ -1,4 +1,4 @@
--- What is answered of a request, by rules and the words of a list.
+-- The answer to a request, by rules and the words of a list.
 use Rattle.std.specs.Prelude.{◌≡◌, ◌&&◌, is_none, ℕ, Bool, true, false, List, Option, None, Result}
 use Rattle.std.specs.Option.{option_copied}
 use Rattle.ref_tiles.specs.declared.rulebook.Rules.{Rules}
@@ -25,17 +25,17 @@ use Rattle.serve_answers.specs.Plays.{number_asked, ArePlaysBy}
 use Rattle.serve_answers.specs.Tidied.{IsTidiedOf}
 use Rattle.serve_answers.specs.Words.{IsRuledOn}
 
--- the judged game of a text, with what is answered of its events or without
+-- the judged game of a text, with or without answers on its events
 abbrev pub IsJudgedWith : (best : Bool) → (question : Judging) → Rules → (list : List (List ℕ)) → (text : List ℕ) → Result JudgedGame Decision → Type 0
 IsJudgedWith true question rules list text x = IsJudgedGameOf question rules list text x
 IsJudgedWith false question rules list text x = IsPlainGameOf question rules list text x
 
--- the likely repair of the case of a text, where it is asked for
+-- the likely repair of the case of a text, if it is requested
 abbrev pub IsLikelyAsked : (asked : Bool) → Rules → (list : List (List ℕ)) → Result Entry ReadFault → Option Repair → Type 0
 IsLikelyAsked true rules list read likely = IsLikelyOfCase rules list read likely
 IsLikelyAsked false rules list read likely = likely ≡ None
 
--- the case of a text, with its likely repair where it is asked for
+-- the case of a text, with its likely repair if it is requested
 abbrev pub IsToldCaseOf : (asked : Bool) → Rules → (list : List (List ℕ)) → (text : List ℕ) → ToldCase → Type 0
 IsToldCaseOf asked rules list text told = IsCaseOf rules list text told.case × IsLikelyAsked asked rules list told.case.read told.likely
 

@@ -10,19 +10,19 @@ use Rattle.serve_answers.specs.declared.words.Ruled.{Ruled}
 abbrev pub AreWordsOf : (texts : List (Bor (List ℕ))) → List AskedWord → Type 0
 AreWordsOf texts words = map (λ (w : AskedWord). Some (letters_of w)) words ≡ map (λ (t : Bor (List ℕ)). asked_of t.now) texts
 
--- a text is no word
+-- a text is not a word
 pub record HasNoWord (texts : List (Bor (List ℕ))) : Type 0 where
   pub place : ℕ
   pub text : Bor (List ℕ)
   pub stands : slice_get texts place ≡ Some text
   pub none : asked_of text.now ≡ None
 
--- the words of texts; none only where a text is no word
+-- the words of texts; none only if a text is not a word
 abbrev pub WordsOf : (texts : List (Bor (List ℕ))) → Option (List AskedWord) → Type 0
 WordsOf texts (Some words) = AreWordsOf texts words
 WordsOf texts None = HasNoWord texts
 
--- the ruling on the words of texts; none only where a text is no word
+-- the ruling on the words of texts; none only if a text is not a word
 abbrev pub IsRuledOn : (list : List (List ℕ)) → (texts : List (Bor (List ℕ))) → Option Ruled → Type 0
 IsRuledOn list texts (Some r) = AreWordsOf texts r.words.items × IsRuling list r.words.items r.ruling
 IsRuledOn list texts None = HasNoWord texts

@@ -37,7 +37,7 @@ pub fn judged(
     judge_game_with(alloc, rules, pair, &mut input, question, known)
 }
 
-/// The same without what is answered of the events.
+/// The same without answers on the events.
 #[tactic(auto, using(crate::proofs::Reading::means_read))]
 pub fn judged_plainly(
     alloc: Global,
@@ -66,7 +66,7 @@ pub fn audited(
     answer_audit(alloc, rules, pair, &mut input)
 }
 
-/// The case of a record: what `explain` and `page` tell of.
+/// The case of a record, which `explain` and `page` are about.
 #[tactic(auto, using(crate::proofs::Reading::means_read))]
 pub fn case_in(
     alloc: Global,
@@ -80,7 +80,7 @@ pub fn case_in(
     open_case(alloc, rules, pair, &mut input)
 }
 
-/// The board of a record, before a line where one is named: what `board --json` shows.
+/// The board of a record, before a line if one is named: what `board --json` shows.
 #[tactic(auto, using(crate::proofs::Reading::means_read))]
 pub fn board_in(
     alloc: Global,

@@ -1,7 +1,7 @@
-//! What is answered of a request, as a value: what the command of its name finds of the same bytes.
+//! The answer to a request as a value: what the command of its name finds in the same bytes.
 //!
 //! [`reply_to`] gives the [`Reply`] to a [`Request`](serve_requests::Request) by rules and a word list with its lexicon. Its contract says what the
-//! reply is by these and the request alone, in the words of the command's own contract.
+//! reply is, by only these and the request, in the words of the command's own contract.
 #![tactic(auto)]
 
 mod games;

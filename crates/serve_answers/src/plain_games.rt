@@ -1,4 +1,4 @@
-//! The judged game of a record without what is answered of its events, by the bytes of its input.
+//! The judged game of a record without answers on its events, by the bytes of its input.
 ghost use Rattle.std.specs.Prelude.{◌≡◌, IfOk};
 ghost use Rattle.devices.specs.Devices.{HasRoom};
 ghost use Rattle.gcg_read.specs.Records.{most_bytes};
@@ -61,7 +61,7 @@ fn verdict_alone(
     }
 }
 
-/// The judged game of a record, of whose events nothing is answered.
+/// The judged game of a record whose events get no answers.
 fn plain_game(
     alloc: Global,
     rules: &Rules,
@@ -80,7 +80,7 @@ fn plain_game(
     })
 }
 
-/// The same of the record of a text, or the verdict that it is none.
+/// The same for the record of a text, or the verdict that the text is not a record.
 fn plain_from(
     alloc: Global,
     rules: &Rules,
@@ -98,14 +98,14 @@ fn plain_from(
     Ok(Ok(judged))
 }
 
-/// Reads the record of a game and judges it as [`judge_game`](game_answers::judge_game) does, but answers nothing of its events: no best play is
-/// looked for.
+/// Reads the record of a game and judges it as [`judge_game`](game_answers::judge_game) does, but without answers on its events: it does not look for
+/// best plays.
 ///
-/// The input is read to its end, or to one byte past 1 MiB and no further.
+/// It reads the input to its end, or to one byte past 1 MiB and no further.
 ///
 /// # Errors
 ///
-/// `ReadFailed` comes only where the input failed; `NoMemory` where memory was refused.
+/// `ReadFailed` only if the input failed; `NoMemory` if memory was refused.
 pub fn judge_plainly<G: Input>(
     alloc: Global,
     rules: &Rules,

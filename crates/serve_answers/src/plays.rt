@@ -1,4 +1,4 @@
-//! The best plays that are asked for.
+//! The best plays that a request asks for.
 ghost use Rattle.std.specs.Prelude.{◌≡◌, ◌≤◌, None, Some, IfOk, IfSome};
 ghost use Rattle.std.specs.Option.{option_copied};
 ghost use Rattle.lex_check.specs.Pairs.{list_in};
@@ -19,10 +19,10 @@ use lex_check::Checked;
 use ref_tiles::Rules;
 use std::alloc::{AllocError, Global};
 
-/// How many plays are given where no number is asked for.
+/// How many plays are given if no number is requested.
 const USUAL_PLAYS: usize = 10;
 
-/// How many plays are asked for.
+/// How many plays are requested.
 fn number_asked(number: Option<u32>) -> usize
     ensures number { result ≡ number_asked number }
     ensures few { result ≤ 100 }
@@ -33,7 +33,7 @@ fn number_asked(number: Option<u32>) -> usize
     }
 }
 
-/// The question by the bytes of a rack, or by none; none where the bytes are no rack.
+/// The question by the bytes of a rack, if they are given; `None` if they are not a rack.
 fn turn_plays(rack: Option<&str>, number: usize, line: Option<u32>) -> Option<TurnPlays>
     requires { number ≤ 100 }
     ensures rack { IfSome result (λ question. given_rack (option_copied rack.entry) ≡ Some question.rack) }
@@ -52,14 +52,14 @@ fn turn_plays(rack: Option<&str>, number: usize, line: Option<u32>) -> Option<Tu
     })
 }
 
-/// The verdict that a rack is none.
+/// The verdict that a rack is not one.
 fn no_rack(alloc: Global) -> Result<Decision, AllocError>
     ensures { IfOk result (λ d. IsTold verdict.BadRack bad_rack_line d.verdict d.report.items) }
 {
     Decision::refused(alloc, InputFault::Rack)
 }
 
-/// What is found in a record where a question is asked.
+/// What is found in a record for a question.
 #[tactic(auto, using(crate::proofs::Reading::means_read))]
 fn plays_by(
     alloc: Global,

@@ -19,7 +19,7 @@ use ref_tiles::Rules;
 use serve_requests::Request;
 use std::alloc::Global;
 
-/// What is answered of a request. A decision says that the record, or the rack, is none.
+/// The answer to a request. A decision says that the record, or the rack, is not one.
 #[derive(Drop)]
 pub enum Reply {
     /// To one that asks to judge a game: the judged game.
@@ -28,11 +28,11 @@ pub enum Reply {
     Explained(ToldCase),
     /// To one that asks to audit a sheet: the audit.
     Audited(Result<AuditAnswer, Decision>),
-    /// To one that asks for a board: the board, where there is an event on the line or after it.
+    /// To one that asks for a board: the board, if there is an event on the line or after it.
     Boarded(Result<Option<ShownBoard>, Decision>),
     /// To one that asks for best plays: these.
     Found(Result<FoundPlays, Decision>),
-    /// To one that names words: the ruling on them, where each is a word.
+    /// To one that names words: the ruling on them, if each is a word.
     Ruled(Option<Ruled>),
     /// To one that asks for the normal form of a record: that it is done, with the normal form.
     Tidied(Decision),
@@ -51,7 +51,7 @@ fn judging_by(settle: bool) -> Judging
     }
 }
 
-/// The judged game of a record, with what is answered of its events or without.
+/// The judged game of a record, with or without answers on its events.
 fn judged_by(
     alloc: Global,
     rules: &Rules,
@@ -72,12 +72,12 @@ fn judged_by(
     }
 }
 
-/// The reply to a request, by rules and the words of a pair. It depends only on these. What is kept from one request to the next are best plays that
-/// are proved for their board and their rack, so that they need not be looked for again; the reply does not depend on them.
+/// The reply to a request, by rules and the words of a pair. It depends only on these. Best plays that are proved for their board and their rack are kept
+/// from one request to the next, so that they need not be looked for again; the reply does not depend on them.
 ///
 /// # Errors
 ///
-/// `NoMemory` where memory was refused.
+/// `NoMemory` if memory was refused.
 pub fn reply_to(
     alloc: Global,
     rules: &Rules,

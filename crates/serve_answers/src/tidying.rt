@@ -19,7 +19,7 @@ fn normal_form(alloc: Global, game: &Record) -> Result<Vec<u8>, AllocError>
     Ok(text)
 }
 
-/// The normal form of the record of a text, or the verdict that it is none.
+/// The normal form of the record of a text, or the verdict that the text is not a record.
 #[tactic(auto, using(crate::proofs::TidyLaws::no_record, crate::proofs::TidyLaws::is_record))]
 fn tidied_from(alloc: Global, text: &[u8]) -> Result<Decision, AllocError>
     ensures { IfOk result (IsTidiedOf text.now) }
@@ -45,7 +45,7 @@ fn bytes_read(alloc: Global, game: &str) -> Result<Vec<u8>, RunFault>
     read_text(alloc, &mut input, MAX_BYTES)
 }
 
-/// The normal form of a record, or the verdict that it is none: what `tidy` writes.
+/// The normal form of a record, or the verdict that it is not one: what `tidy` writes.
 #[tactic(auto, using(crate::proofs::TidyLaws::of_read))]
 pub fn tidied(alloc: Global, game: &str) -> Result<Decision, RunFault>
     ensures { IfOk result (IsTidiedOf (read_of game.now)) }

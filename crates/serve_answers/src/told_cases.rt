@@ -12,16 +12,16 @@ use ref_tiles::Rules;
 use repair_answers::likely_in_case;
 use std::alloc::{AllocError, Global};
 
-/// The case of a record: what `explain` and `page` tell of.
+/// The case of a record, which `explain` and `page` are about.
 #[derive(Drop)]
 pub struct ToldCase {
     /// The case.
     pub case: Case,
-    /// The likely repair of its record, if it is asked for and there is one.
+    /// The likely repair of its record, if it is requested and there is one.
     pub likely: Option<Repair>,
 }
 
-/// The case with its likely repair, if that is asked for.
+/// The case with its likely repair, if that is requested.
 fn told_of(
     alloc: Global,
     rules: &Rules,
@@ -41,7 +41,7 @@ fn told_of(
     Ok(ToldCase { case, likely })
 }
 
-/// The case of a record, with its likely repair if that is asked for.
+/// The case of a record, with its likely repair if that is requested.
 pub fn told_case(
     alloc: Global,
     rules: &Rules,

@@ -38,7 +38,7 @@ fn legal(passed: &Passed<'_>) -> Verdict
     }
 }
 
-/// The verdict by the deal of the rule of completion alone.
+/// The verdict by the deal of the rule of completion, without a search.
 #[tactic(auto, using(game_answers::proofs::VerdictLaws::rule_dealt, game_answers::proofs::VerdictLaws::rule_past, game_answers::proofs::VerdictLaws::rule_open))]
 fn verdict_by_rule(
     alloc: Global,
@@ -80,7 +80,7 @@ fn verdict_by_search(
     }
 }
 
-/// The verdict on a record of which the rules allow every event, by the deal of the rule of completion alone or by a search.
+/// The verdict on a record of which the rules allow every event, by the deal of the rule of completion or by a search.
 pub(crate) fn verdict_on(
     alloc: Global,
     passed: &Passed<'_>,

@@ -15,7 +15,7 @@ pub struct Ruled {
     pub ruling: Ruling,
 }
 
-/// The words of texts; none where a text is no word.
+/// The words of texts; `None` if a text is not a word.
 fn words_of(alloc: Global, texts: &[&str]) -> Result<Option<Vec<AskedWord>>, AllocError>
     ensures { IfOk result (λ words. WordsOf texts.now (option_map (λ w. w.items) words)) }
 {
@@ -29,7 +29,7 @@ fn words_of(alloc: Global, texts: &[&str]) -> Result<Option<Vec<AskedWord>>, All
     Ok(Some(words))
 }
 
-/// The ruling on the words of texts: what `word` finds; none where a text is no word.
+/// The ruling on the words of texts: what `word` finds; `None` if a text is not a word.
 pub fn rule_on_texts(
     alloc: Global,
     list: &WordList,

@@ -21,7 +21,7 @@ use serve_requests::Request;
 use sheet_json::{push_audit_answer, push_shown_board};
 use std::alloc::{AllocError, Global};
 
-/// What games are judged by.
+/// The rules, the words and the maker by which requests are answered.
 #[derive(Clone, Copy)]
 pub struct Judges<'a> {
     /// The rules.
@@ -32,7 +32,7 @@ pub struct Judges<'a> {
     pub maker: &'a Maker,
 }
 
-/// What the answer has beside the status.
+/// What the answer has in addition to the status.
 #[derive(Drop)]
 pub enum Body {
     /// A JSON object, which may end in an LF.
@@ -48,7 +48,7 @@ pub enum Body {
 pub struct Response {
     /// How the program would end after it.
     pub exit: Exit,
-    /// What it has beside that.
+    /// What it has in addition to that.
     pub body: Body,
 }
 
@@ -130,7 +130,7 @@ fn tell_audit(
     })
 }
 
-/// An audit, with the corrected record where that is asked for and it stands.
+/// An audit, with the corrected record if that is requested and it stands.
 fn tell_audited(
     alloc: Global,
     found: &Result<AuditAnswer, Decision>,
@@ -142,7 +142,7 @@ fn tell_audited(
     }
 }
 
-/// How the program ends after a board, or where there is none.
+/// How the program ends after a board, or if there is none.
 fn exit_of_board(shown: &Option<ShownBoard>) -> Exit {
     match shown {
         Some(_) => Exit::Fine,
@@ -202,7 +202,7 @@ fn tell_tidied(alloc: Global, decision: Decision) -> Result<Response, AllocError
     tell_refusal(alloc, &decision)
 }
 
-/// The page of a case; where there is none, what `explain` says of the case.
+/// The page of a case; if there is none, what `explain` says of the case.
 fn tell_page(alloc: Global, judges: &Judges<'_>, told: &ToldCase) -> Result<Response, AllocError> {
     if !has_page(&told.case) {
         return tell_explained(alloc, judges, told, None);
@@ -237,7 +237,7 @@ fn asks_corrected(request: &Request<'_>) -> bool {
     }
 }
 
-/// The answer that has a reply to a request.
+/// The answer that gives the reply to a request.
 fn tell_reply(
     alloc: Global,
     judges: &Judges<'_>,
@@ -256,11 +256,11 @@ fn tell_reply(
     }
 }
 
-/// The answer to a request. The best plays that are known are not looked for.
+/// The answer to a request. Best plays that are known are not looked for again.
 ///
 /// # Errors
 ///
-/// Memory was refused.
+/// It fails only if memory is refused.
 pub fn answer_to(
     alloc: Global,
     judges: &Judges<'_>,

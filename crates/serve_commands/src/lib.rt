@@ -1,7 +1,7 @@
 //! The command that answers requests until standard input ends: `serve`.
 //!
-//! A line is read, taken for a request (`serve_requests`), answered by what was read once (`serve_answers`), and its answer written as one line
-//! before the next is read.
+//! It reads a line, parses it as a request (`serve_requests`), answers it by the inputs that were read once (`serve_answers`), and writes the answer as one
+//! line before it reads the next.
 #![tactic(auto)]
 
 mod answering;

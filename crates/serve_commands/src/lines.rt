@@ -3,7 +3,7 @@
 use std::alloc::Global;
 use std::io::{self, BufRead, Read};
 
-/// How many bytes a line may have, without its LF.
+/// The largest number of bytes of a line, without its LF.
 pub const LONGEST_LINE: usize = 4 << 20;
 
 /// The lines of a text. The last one need not end in an LF.
@@ -19,7 +19,7 @@ pub struct Lines<B> {
 pub enum NextLine {
     /// A line.
     Line,
-    /// A line of too many bytes, which is passed over.
+    /// A line with too many bytes, which is passed over.
     TooLong,
     /// A line for which there is no memory, which is passed over.
     NoMemory,
@@ -28,7 +28,7 @@ pub enum NextLine {
 }
 
 impl<B: BufRead + Drop> Lines<B> {
-    /// The lines of the text that is read here.
+    /// The lines of the text that a reader gives.
     pub fn new(alloc: Global, reader: B) -> Lines<B> {
         Lines {
             reader,
@@ -58,14 +58,14 @@ impl<B: BufRead + Drop> Lines<B> {
         }
     }
 
-    /// Passes over the rest of a line, of which this is said.
+    /// Passes over the rest of a line, and returns `what`.
     fn pass_over(&mut self, what: NextLine) -> io::Result<NextLine> {
         self.line.clear();
         self.reader.skip_until(b'\n')?;
         Ok(what)
     }
 
-    /// The line that was read last, with its LF where it has one.
+    /// The line that was read last, with its LF if it has one.
     pub fn line(&self) -> &[u8] {
         self.line.as_slice()
     }

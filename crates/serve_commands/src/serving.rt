@@ -1,4 +1,4 @@
-//! `serve`: requests, by rules, a word list and a lexicon that are read once.
+//! `serve`: answers requests by rules, a word list and a lexicon that are read once.
 ghost use Rattle.std.specs.Prelude.{[], ⊤};
 ghost use Rattle.lex_check.specs.Pairs.{list_in};
 ghost use Rattle.known_bests.specs.Known.{AreKnown};
@@ -26,7 +26,7 @@ use watching::Reason;
 /// How many best plays are kept from one request to the next: those of a hundred games, in a few megabytes.
 const KNOWN_PLACES: usize = 4096;
 
-/// What is asked of the lines of standard input, by a runtime to which their answers go.
+/// The requests of standard input, with the runtime to which their answers go.
 #[derive(Clone, Copy)]
 struct ServeQuestion<'r, R> {
     rt: &'r R,
@@ -59,7 +59,7 @@ impl<R: Runtime + AllocGlobal, F: Read + Drop, S: Read + Drop, B: BufRead + Drop
     ghost later = { λ question rules words x texts v report is. served_later x texts v report is };
 }
 
-/// What pages are made by. The inputs are digested.
+/// What pages are made by, with the digests of the inputs.
 fn maker_of<F: Read + Drop, S: Read + Drop>(
     given: &GivenFiles<'_, F, S>,
 ) -> Result<Maker, AllocError> {
@@ -72,7 +72,7 @@ fn maker_of<F: Read + Drop, S: Read + Drop>(
     })
 }
 
-/// Answers the lines by these inputs, once that can be done.
+/// Writes that requests can be asked, and answers the lines by these inputs.
 fn serve_given<R: Runtime + AllocGlobal, F: Read + Drop, S: Read + Drop, B: BufRead + Drop>(
     rt: &R,
     given: &GivenFiles<'_, F, S>,
@@ -151,8 +151,8 @@ fn open_lines<'a, R: Runtime + AllocGlobal>(
     }
 }
 
-/// Reads rules where a text is named, a word list and its lexicon, and then answers the requests of standard input, one a line, until it ends.
-/// Where one of the inputs is bad or cannot be read, that is told as a JSON object, and nothing is answered.
+/// Reads a rules text if one is named, a word list and its lexicon, and then answers the requests of standard input, one a line, until it ends.
+/// If one of the inputs is bad or cannot be read, a JSON object says so, and nothing is answered.
 pub fn serve<'a, R: Runtime + AllocGlobal>(
     rt: &R,
     rules: Option<&'a str>,

@@ -16,7 +16,7 @@ use std::alloc::{AllocError, Global};
 /// The id of an answer to a line that has none.
 const NO_ID: &[u8] = b"null";
 
-/// The answer to a line for whose own answer there is no memory.
+/// The answer to a line if there is no memory for its own answer.
 pub const NO_MEMORY_LINE: &[u8] =
     b"{\"id\":null,\"status\":4,\"answer\":{\"verdict\":\"no memory\",\"line\":null,\"fault\":null,\"file\":null}}\n";
 
@@ -28,14 +28,14 @@ struct ReadyObject {
     version: &'static str,
 }
 
-/// The line that says that requests can be asked, by a list of so many words.
+/// The line that says that requests can be asked, and that the list has `words` words.
 pub fn ready_line(alloc: Global, words: usize) -> Result<Vec<u8>, AllocError> {
     let object = ReadyObject {
         ready: true,
         words,
         version: SHORT_VERSION,
     };
-    // Of data without a float and without a map of other keys, want of memory is the only error.
+    // For data without floats and without maps with other keys, lack of memory is the only error.
     let Ok(mut line) = serde_json::to_vec(alloc, &object) else {
         return Err(AllocError);
     };
@@ -43,7 +43,7 @@ pub fn ready_line(alloc: Global, words: usize) -> Result<Vec<u8>, AllocError> {
     Ok(line)
 }
 
-/// Appends how the line of an answer begins.
+/// Appends the beginning of the line of an answer.
 fn push_head(out: &mut Vec<u8>, id: &[u8], exit: Exit) -> Result<(), AllocError> {
     out.extend_from_slice(b"{\"id\":")?;
     out.extend_from_slice(id)?;
@@ -52,9 +52,9 @@ fn push_head(out: &mut Vec<u8>, id: &[u8], exit: Exit) -> Result<(), AllocError>
     Ok(())
 }
 
-/// Appends a text as JSON has it.
+/// Appends a text as a JSON string.
 fn push_text(alloc: Global, out: &mut Vec<u8>, text: &String) -> Result<(), AllocError> {
-    // Of a text, want of memory is the only error.
+    // For a text, lack of memory is the only error.
     let Ok(bytes) = serde_json::to_vec(alloc, text) else {
         return Err(AllocError);
     };
@@ -77,14 +77,14 @@ fn push_object(out: &mut Vec<u8>, object: &[u8]) -> Result<(), AllocError> {
     Ok(())
 }
 
-/// Appends the text of an answer. Bytes that are no UTF-8 are written as U+FFFD.
+/// Appends the text of an answer. Bytes that are not UTF-8 are written as U+FFFD.
 fn push_bytes(alloc: Global, out: &mut Vec<u8>, bytes: &[u8]) -> Result<(), AllocError> {
     out.extend_from_slice(b",\"text\":")?;
     let text = String::from_utf8_lossy(alloc, bytes)?;
     push_text(alloc, out, &text)
 }
 
-/// Appends what an answer has beside its status.
+/// Appends what an answer has in addition to its status.
 fn push_body(alloc: Global, out: &mut Vec<u8>, body: &Body) -> Result<(), AllocError> {
     match body {
         Body::Object(object) => push_object(out, object.as_slice())?,
@@ -109,7 +109,7 @@ fn push_told(
     push_body(alloc, out, &told.body)
 }
 
-/// Appends the line that a line asks for nothing.
+/// Appends the line that says that a line is not a request.
 fn push_refused(
     alloc: Global,
     out: &mut Vec<u8>,
@@ -129,7 +129,7 @@ fn push_refused(
     Ok(())
 }
 
-/// Appends the line of the answer to what an object asks for.
+/// Appends the line of the answer to the request in an object.
 fn push_answer(
     alloc: Global,
     out: &mut Vec<u8>,
@@ -146,7 +146,7 @@ fn push_answer(
             let told = answer_to(alloc, judges, &request, known)?;
             push_told(alloc, out, id, &told)
         }
-        // Without a `do` a line is no request, and what it has as its id is none.
+        // Without a `do`, a line is not a request, and its `id` does not count.
         Err(Refusal::NoCommand) => push_refused(alloc, out, NO_ID, Refusal::NoCommand),
         Err(refusal) => push_refused(alloc, out, id, refusal),
     }
@@ -160,7 +160,7 @@ fn push_no_memory(alloc: Global, out: &mut Vec<u8>, id: &[u8]) -> Result<(), All
     push_body(alloc, out, &Body::Object(object))
 }
 
-/// Makes the line of the answer to what an object asks for, or that there is no memory for it.
+/// Makes the line of the answer to the request in an object, or the line that there is no memory for it.
 fn make_answer(
     alloc: Global,
     out: &mut Vec<u8>,
@@ -201,11 +201,11 @@ fn make_line_of(
     }
 }
 
-/// Makes the line that a line asks for nothing.
+/// Makes the line that says that a line is not a request.
 ///
 /// # Errors
 ///
-/// Memory was refused.
+/// It fails only if memory is refused.
 pub fn make_refusal(
     alloc: Global,
     out: &mut Vec<u8>,
@@ -219,7 +219,7 @@ pub fn make_refusal(
 ///
 /// # Errors
 ///
-/// Memory was refused, so that not even that can be told of the line.
+/// It fails only if memory is refused, even for the line that says so.
 pub fn make_line(
     alloc: Global,
     out: &mut Vec<u8>,

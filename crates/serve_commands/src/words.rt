@@ -11,7 +11,7 @@ struct WordObject {
     acceptable: bool,
 }
 
-/// The ruling on words. It has no line and no fault, as every object says where it has none.
+/// The ruling on words. Every object has a line and a fault; here both are null.
 #[derive(Drop, Serialize)]
 struct RulingObject {
     verdict: &'static str,
@@ -20,7 +20,7 @@ struct RulingObject {
     words: Vec<WordObject>,
 }
 
-/// That a word is none of 2 to 15 letters.
+/// That a word does not have 2 to 15 letters.
 #[derive(Drop, Serialize)]
 struct NoWordObject {
     verdict: &'static str,
@@ -34,7 +34,7 @@ fn push_object<T: Serialize>(
     text: &mut Vec<u8>,
     object: &T,
 ) -> Result<(), AllocError> {
-    // Of data without a float and without a map of other keys, want of memory is the only error.
+    // For data without floats and without maps with other keys, lack of memory is the only error.
     let Ok(bytes) = serde_json::to_vec(alloc, object) else {
         return Err(AllocError);
     };
@@ -42,7 +42,7 @@ fn push_object<T: Serialize>(
     Ok(())
 }
 
-/// The words with what is ruled of each.
+/// The words with the ruling on each.
 fn word_objects(alloc: Global, ruled: &Ruled) -> Result<Vec<WordObject>, AllocError> {
     let mut objects = Vec::new(alloc);
     for (word, acceptable) in ruled.words.iter().zip(ruled.ruling.each.as_slice()) {
@@ -54,7 +54,7 @@ fn word_objects(alloc: Global, ruled: &Ruled) -> Result<Vec<WordObject>, AllocEr
     Ok(objects)
 }
 
-/// Appends the ruling on words: of all together, and of each.
+/// Appends the ruling on words: on all together, and on each.
 pub fn push_ruled(alloc: Global, text: &mut Vec<u8>, ruled: &Ruled) -> Result<(), AllocError> {
     let object = RulingObject {
         verdict: if ruled.ruling.acceptable {
@@ -69,7 +69,7 @@ pub fn push_ruled(alloc: Global, text: &mut Vec<u8>, ruled: &Ruled) -> Result<()
     push_object(alloc, text, &object)
 }
 
-/// Appends that a word is none of 2 to 15 letters.
+/// Appends that a word does not have 2 to 15 letters.
 pub fn push_no_word(alloc: Global, text: &mut Vec<u8>) -> Result<(), AllocError> {
     let object = NoWordObject {
         verdict: "bad word",

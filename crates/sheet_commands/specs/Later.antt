@@ -1,4 +1,4 @@
--- What is told is not that an input is bad that was read before.
+-- What is reported is not that an earlier input is bad.
 use Rattle.std.proofs.Common.{ℕ, List, [], ◌∷◌, Result, Ok, Err}
 use Rattle.ref_tiles.specs.declared.rulebook.Rules.{Rules}
 use Rattle.call_stages.specs.declared.decisions.Decision.{Decision}

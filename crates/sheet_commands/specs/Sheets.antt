@@ -1,4 +1,4 @@
--- What is told of a sheet, by what is asked.
+-- What is reported on a sheet for each request.
 use Rattle.std.proofs.Common.{ℕ, List, Result}
 use Rattle.ref_tiles.specs.declared.rulebook.Rules.{Rules}
 use Rattle.call_stages.specs.declared.decisions.Decision.{Decision}

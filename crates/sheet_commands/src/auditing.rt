@@ -7,8 +7,8 @@ use exit_statuses::{Exit, Trouble, exit_of_audit};
 use std::alloc::{AllocError, Global};
 use std::rt::{Files, Runtime};
 
-/// Tells the audit of a sheet: writes each wrong number and the verdict of the corrected record to standard output, and that record in
-/// its normal form to the output `out`, where one is named and the record stands. Where that is standard output, the rest goes to standard
+/// Reports the audit of a sheet: writes each wrong number and the verdict of the corrected record to standard output, and that record in
+/// its normal form to the output `out`, if one is named and the record stands. If that is standard output, the rest goes to standard
 /// error.
 pub fn tell_audit<'a, R: Runtime + AllocGlobal>(
     rt: &R,
@@ -37,7 +37,7 @@ fn lines_of(alloc: Global, audit: &Audit) -> Result<Vec<u8>, AllocError> {
     Ok(told)
 }
 
-/// Writes the corrected record of an audit to the output `out`, which is opened once its text is made.
+/// Writes the corrected record of an audit to the output `out`, which it opens once the text is made.
 fn keep<'a, R: Runtime + AllocGlobal>(
     rt: &R,
     out: &'a str,

@@ -13,27 +13,27 @@ use sheet_alignments::many_items;
 use sheet_comparisons::{Best, Comparison, Find, Sheets, compare};
 use std::alloc::{AllocError, Global};
 
-/// What is found of two sheets.
+/// What `compare` finds of two sheets.
 #[derive(Drop)]
 pub(crate) struct Compared {
     /// What is said of them.
     pub(crate) told: Vec<u8>,
     /// How the program ends.
     pub(crate) exit: Exit,
-    /// The merged record in the normal form, if it is asked for, one is ahead of all others, and it can be written.
+    /// The merged record in the normal form, if it is requested, one is ahead of all others, and it can be written.
     pub(crate) merged: Option<Vec<u8>>,
 }
 
-/// What comes of two sheets.
+/// The answer on two sheets.
 #[derive(Drop)]
 struct Answer {
-    /// What comes of the choices of their lines.
+    /// The comparison by the choices of their lines.
     comparison: Comparison,
-    /// What repairs those that go furthest, where none makes a game.
+    /// What repairs the choices that go furthest, if none makes a game.
     repaired: RepairedChoices,
 }
 
-/// Compares two sheets, and repairs choices where none makes a game.
+/// Compares two sheets, and repairs choices if none makes a game.
 fn answer_of(
     alloc: Global,
     rules: &Rules,
@@ -48,7 +48,7 @@ fn answer_of(
     })
 }
 
-/// What is found of two sheets, in words. Where the first states its encoding, names are UTF-8.
+/// What is found of two sheets, in words. If the first states its encoding, names are UTF-8.
 fn text_of(
     alloc: Global,
     sheets: &Sheets,
@@ -76,7 +76,7 @@ fn text_of(
     }
 }
 
-/// Whether two sheets agree in all, and every number of both is right.
+/// Whether two sheets agree in everything, and every number of both is right.
 fn agree(sheets: &Sheets, best: &Best) -> bool {
     many_items(sheets.pairs.as_slice()) == 0 && best.cost == 3 * best.unlisted as u128
 }
@@ -101,7 +101,7 @@ fn exit_of(sheets: &Sheets, comparison: &Comparison) -> Exit {
     }
 }
 
-/// The events of the best of some choices, where it is ahead of all others.
+/// The events of the best of some choices, if it is ahead of all others.
 fn best_events(find: Find) -> Option<Events> {
     if !find.rivals.is_empty() || !find.left.is_empty() {
         return None;
@@ -110,7 +110,7 @@ fn best_events(find: Find) -> Option<Events> {
     Some(best.right)
 }
 
-/// The events of the cheapest repair of some choices, where it is ahead of all others.
+/// The events of the cheapest repair of some choices, if it is ahead of all others.
 fn repaired_events(repaired: RepairedChoices) -> Option<Events> {
     let best = repaired.best?;
     if !best.ahead || !best.settled {
@@ -126,7 +126,7 @@ fn repaired_events(repaired: RepairedChoices) -> Option<Events> {
     Some(repair.right)
 }
 
-/// The events of the merged record, where one is ahead of all others.
+/// The events of the merged record, if one is ahead of all others.
 fn merged_events(answer: Answer) -> Option<Events> {
     let comparison = answer.comparison;
     let repaired = answer.repaired;

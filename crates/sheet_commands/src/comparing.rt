@@ -19,12 +19,13 @@ use std::rt::Runtime;
 enum Second {
     /// Its record.
     Good(Record),
-    /// It has none: what is wrong with it is told, and the program ends so.
+    /// It has none: what is wrong with it has been reported, and the program ends with this.
     Bad(Exit),
 }
 
-/// Compares the sheet of a case with a second one, by the rules and the list of the pair, and writes what is found to standard output, and the merged record to the output
-/// `out`, where one is named and one choice of the lines, or one repair of a choice, is ahead of all others. Where that is standard output, the rest goes to standard error.
+/// Compares the sheet of a case with a second one, by the rules and the list of the pair, and writes what is found to standard output, and the merged
+/// record to the output `out`, if one is named and one choice of the lines, or one repair of a choice, is ahead of all others. If that is standard output,
+/// the rest goes to standard error.
 pub fn tell_comparison<'a, R: Runtime + AllocGlobal>(
     rt: &R,
     rules: &Rules,
@@ -47,7 +48,7 @@ fn is_bad(case: &Case) -> bool {
     case.read.is_err() || has_no_event(case)
 }
 
-/// The record of a case, where it has one.
+/// The record of a case, if it has one.
 fn record_of(case: Case) -> Option<Record> {
     let read = case.read;
     match read {
@@ -56,7 +57,7 @@ fn record_of(case: Case) -> Option<Record> {
     }
 }
 
-/// Opens the second sheet, and tells what is wrong with it where it has no record.
+/// Opens the second sheet, and reports what is wrong with it if it has no record.
 fn open_second<'a, R: Runtime + AllocGlobal>(
     rt: &R,
     rules: &Rules,
@@ -100,7 +101,7 @@ fn tell_both<'a, R: Runtime + AllocGlobal>(
     tell_records(rt, rules, list, game, second, encoding, out)
 }
 
-/// Writes that a sheet is no record, or that it has no event.
+/// Writes that a sheet is not a record, or that it has no event.
 fn tell_bad<'a, R: Runtime + AllocGlobal>(
     rt: &R,
     case: &Case,

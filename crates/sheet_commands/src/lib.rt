@@ -1,4 +1,4 @@
-//! The commands that are about one sheet: `annotate`, `audit`, `compare`, `explain`, `page` and `repair`.
+//! The commands on one sheet: `annotate`, `audit`, `compare`, `explain`, `page` and `repair`.
 #![tactic(auto)]
 
 mod annotating;

@@ -6,7 +6,7 @@ use exit_statuses::{Exit, Trouble, exit_of_case};
 use std::rt::Runtime;
 
 /// Writes a text that was made of a case to the output `out`, which is opened here, and the verdict line to standard output, or to standard
-/// error where `out` is standard output. Of a text that is no record, and of a record without an event, nothing was made, and `out` is not
+/// error if `out` is standard output. If the text of the case is not a record, or a record without an event, nothing was made, and `out` is not
 /// touched.
 pub fn write_made<'a, R: Runtime + AllocGlobal>(
     rt: &R,

@@ -19,7 +19,7 @@ pub fn write_page<'a, R: Runtime + AllocGlobal>(
     write_made(rt, contents.case, out, page.as_slice())
 }
 
-/// The page of a case, or nothing where its text is no record.
+/// The page of a case, or nothing if its text is not a record.
 fn page_of(alloc: Global, contents: &Contents<'_>) -> Result<PageText, AllocError> {
     let mut page = PageText::new(alloc);
     push_page(alloc, &mut page, contents)?;

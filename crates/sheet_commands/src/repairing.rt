@@ -15,8 +15,8 @@ use repaired_sheets::{can_be_written, repaired_text};
 use std::alloc::{AllocError, Global};
 use std::rt::Runtime;
 
-/// Tells what repairs the record of a case, by the rules, the word list and the lexicon, in so many lines: writes it to standard output, and the repaired sheet
-/// to the output `out`, where one is named and one repair is to be chosen. Where that is standard output, the rest goes to standard error.
+/// Reports what repairs the record of a case, by the rules, the word list and the lexicon, in at most `number` lines: writes it to standard output, and the
+/// repaired sheet to the output `out`, if one is named and one repair is to be chosen. If that is standard output, the rest goes to standard error.
 pub fn tell_repairs<'a, R: Runtime + AllocGlobal>(
     rt: &R,
     rules: &Rules,
@@ -44,7 +44,7 @@ pub fn tell_repairs<'a, R: Runtime + AllocGlobal>(
     Ok(exit_of_case(case, None))
 }
 
-/// What repairs the record of a case. Where the record states its encoding, names in it are UTF-8.
+/// What repairs the record of a case. If the record states its encoding, names in it are UTF-8.
 fn text_of(
     alloc: Global,
     case: &Case,
@@ -65,7 +65,7 @@ fn text_of(
     }
 }
 
-/// The text of the sheet of a case with a repair; none where it cannot be written.
+/// The text of the sheet of a case with a repair; `None` if it cannot be written.
 fn sheet_with(alloc: Global, case: &Case, repair: &Repair) -> Result<Option<Vec<u8>>, AllocError> {
     let Ok(entry) = &case.read else {
         return Ok(None);
@@ -80,7 +80,7 @@ fn sheet_with(alloc: Global, case: &Case, repair: &Repair) -> Result<Option<Vec<
     Ok(Some(text))
 }
 
-/// Writes the sheet of a case with the repair that is to be chosen to the output `out`, which is opened once its text is made.
+/// Writes the sheet of a case with the repair that is to be chosen to the output `out`, which it opens once the text is made.
 fn keep<'a, R: Runtime + AllocGlobal>(
     rt: &R,
     out: &'a str,

@@ -1,4 +1,4 @@
-//! The commands that are about one sheet, by rules, a word list and its lexicon that are read before its record.
+//! The commands on one sheet. The rules, the word list and its lexicon are read before its record.
 ghost use Rattle.std.specs.Prelude.{◌∷◌, [], refl};
 ghost use Rattle.devices.specs.Devices.{HasRoom};
 ghost use Rattle.lex_check.specs.Pairs.{list_in};
@@ -30,25 +30,25 @@ use std::io::Read;
 use std::rt::Runtime;
 use watching::Front;
 
-/// What is asked of a sheet.
+/// A request for a sheet.
 #[derive(Clone, Copy)]
 pub enum SheetTask<'a> {
-    /// To audit it, and to write the corrected record to a file where one is named.
+    /// To audit it, and to write the corrected record to a file if one is named.
     Audit(Option<&'a str>),
     /// To explain its verdict, or one of its lines.
     Explain(Option<u32>),
     /// To write its page to a file.
     Page(&'a str),
-    /// To write it with notes, which have so many best plays, to a file.
+    /// To write it with notes, each with at most the given number of best plays, to a file.
     Annotate(usize, &'a str),
-    /// To tell the repairs of its record, in so many lines, and to write the repaired sheet to a file where one is named.
+    /// To list the repairs of its record, in at most the given number of lines, and to write the repaired sheet to a file if one is named.
     Repair(usize, Option<&'a str>),
-    /// To compare it with the sheet of this name, and to write the merged record to a file where one is named.
+    /// To compare it with the sheet of this name, and to write the merged record to a file if one is named.
     Compare(&'a str, Option<&'a str>),
 }
 
 impl<'a> SheetTask<'a> {
-    /// The output that is written beside the report, where there is one.
+    /// The output that is written in addition to the report, if there is one.
     fn out(self) -> Option<&'a str> {
         match self {
             SheetTask::Audit(out) | SheetTask::Repair(_, out) | SheetTask::Compare(_, out) => out,
@@ -58,7 +58,7 @@ impl<'a> SheetTask<'a> {
     }
 }
 
-/// Audits a sheet, and tells the audit.
+/// Audits a sheet, and reports the audit.
 fn audit<'a, R: Runtime + AllocGlobal, F: Read + Drop, S: Read + Drop>(
     rt: &R,
     given: &GivenFiles<'_, F, S>,
@@ -93,7 +93,7 @@ fn explain<'a, R: Runtime + AllocGlobal, F: Read + Drop, S: Read + Drop>(
     }
 }
 
-/// What the page of a sheet by these inputs is made by. They are digested.
+/// What the page of a sheet is made by, with the digests of these inputs.
 fn maker_of<F: Read + Drop, S: Read + Drop>(
     given: &GivenFiles<'_, F, S>,
 ) -> Result<Maker, AllocError> {
@@ -147,7 +147,7 @@ fn page<'a, R: Runtime + AllocGlobal, F: Read + Drop, S: Read + Drop>(
     }
 }
 
-/// Writes a sheet with notes, which have so many best plays.
+/// Writes a sheet with notes, each with at most `number` best plays.
 fn annotate<'a, R: Runtime + AllocGlobal, F: Read + Drop, S: Read + Drop>(
     rt: &R,
     given: &GivenFiles<'_, F, S>,
@@ -173,7 +173,7 @@ fn annotate<'a, R: Runtime + AllocGlobal, F: Read + Drop, S: Read + Drop>(
     }
 }
 
-/// Tells what repairs the record of a sheet, in so many lines.
+/// Reports what repairs the record of a sheet, in at most `number` lines.
 fn repair<'a, R: Runtime + AllocGlobal, F: Read + Drop, S: Read + Drop>(
     rt: &R,
     given: &GivenFiles<'_, F, S>,
@@ -209,7 +209,7 @@ fn compare<'a, R: Runtime + AllocGlobal, F: Read + Drop, S: Read + Drop>(
     }
 }
 
-/// What is asked of a sheet, by a runtime to which the answer goes.
+/// A request for a sheet, with the runtime to which the answer goes.
 #[derive(Clone, Copy)]
 struct SheetQuestion<'r, 'a, R> {
     rt: &'r R,
@@ -252,7 +252,7 @@ impl<'a, R: Runtime + AllocGlobal, F: Read + Drop, S: Read + Drop> Question<
     ghost later = { λ question rules words x texts v report is. sheet_later question.task rules words x texts v report is };
 }
 
-/// Opens the files of a sheet, reads what it is judged by, and does what is asked of it.
+/// Opens the files of a sheet, reads the rules, the words and the lexicon, and carries out the request.
 pub fn answer_sheet<'a, R: Runtime + AllocGlobal>(
     rt: &R,
     files: GameFiles<'a>,
@@ -299,7 +299,7 @@ pub fn answer_sheet<'a, R: Runtime + AllocGlobal>(
     }
 }
 
-/// Says beside what was told of a sheet why its file is no game. `explain` tells itself what is wrong with a bad record.
+/// Says, in addition to the report on a sheet, why its file is not a game. `explain` itself says what is wrong with a bad record.
 fn advise<R: Runtime + AllocGlobal>(rt: &R, name: &str, task: SheetTask<'_>, game: &Front) {
     if is_record(rt.alloc(), game) {
         advise_no_game(rt, name, game);

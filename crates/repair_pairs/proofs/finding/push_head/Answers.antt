@@ -1,7 +1,6 @@
-use Rattle.std.proofs.Common.{◌≡◌, ◌∙◌, List, [], Option, sym, subst}
+use Rattle.std.proofs.Common.{◌∙◌, List, [], sym, subst}
 use Rattle.std.specs.Prelude.{All, IfSome}
 use Rattle.gcg_read.specs.declared.events.Event.{Event}
-use Rattle.record_changes.specs.declared.slips.Change.{Change}
 use Rattle.record_repairs.specs.Repairs.{IsListed, IsRepair}
 use Rattle.repair_pairs.specs.Finding.{AddsPairs}
 use Rattle.repair_pairs.specs.Made.{IsMade}

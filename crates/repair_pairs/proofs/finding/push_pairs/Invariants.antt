@@ -1,4 +1,3 @@
-use Rattle.std.proofs.Common.{length}
 use Rattle.repair_pairs.specs.Finding.{AddsPairs}
 use Rattle.repair_pairs.proofs.finding.push_pairs.Given as goal
 

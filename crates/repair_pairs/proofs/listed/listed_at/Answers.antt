@@ -1,4 +1,4 @@
-use Rattle.std.proofs.Common.{◌≡◌, ◌<◌, ◌≤◌, ◌∙◌, [], length, refl, sym, arith}
+use Rattle.std.proofs.Common.{◌<◌, ◌≤◌, ◌∙◌, [], length, refl, sym, arith}
 use Rattle.record_repairs.proofs.PlaceChanges.{is_listed, listed_here, rows_fit}
 use Rattle.record_repairs.proofs.WithPlays.{none_with}
 use Rattle.repair_pairs.proofs.listed.listed_at.Goals as goal

@@ -1,8 +1,7 @@
-use Rattle.std.proofs.Common.{◌≡◌, ◌<◌, ◌+◌, ◌∙◌, length, List, sym, subst, arith}
+use Rattle.std.proofs.Common.{◌<◌, ◌+◌, ◌∙◌, length, List, sym, subst, arith}
 use Rattle.std.proofs.lemmas.Iterator.Adapters.{YieldsList-from_vec}
 use Rattle.std.proofs.lemmas.Iterator.Consumers.{YieldsList-turn}
 use Rattle.std.proofs.lemmas.List.{length_push}
-use Rattle.gcg_read.specs.declared.events.Event.{Event}
 use Rattle.repair_pairs.specs.Finding.{IsMadeBy}
 use Rattle.repair_pairs.specs.declared.found.Pair.{Pair}
 use Rattle.repair_pairs.proofs.Firsts.{AreSoFar, told_more}

@@ -1,4 +1,4 @@
-use Rattle.std.proofs.Common.{◌≡◌, refl, sym}
+use Rattle.std.proofs.Common.{refl, sym}
 use Rattle.record_repairs.specs.Repairs.{SameRecord}
 use Rattle.record_repairs.proofs.SameLists.{none_more, none_at_all}
 use Rattle.repair_pairs.specs.declared.found.Pair.{Pair}
