@@ -17,7 +17,7 @@ fn push_play(note: &mut Vec<u8>, written: &Notation, score: i32) -> Result<(), A
     push_number(note, score)
 }
 
-/// How many points a best play would have given more than its turn; a play that is taken back gives nothing.
+/// How many points more than its turn a best play would have given; a play that is taken back gives nothing.
 fn points_more(best: &BestPlay, taken_back: bool) -> i64 {
     if taken_back {
         i64::from(best.score)
@@ -26,7 +26,7 @@ fn points_more(best: &BestPlay, taken_back: bool) -> i64 {
     }
 }
 
-/// Appends the best play, its score, and what it would have given more where that is above 0.
+/// Appends the best play, its score, and how many points more it would have given if that is above 0.
 fn push_best(note: &mut Vec<u8>, best: &BestPlay, taken_back: bool) -> Result<(), AllocError> {
     note.extend_from_slice(b"best ")?;
     push_play(note, &best.written, best.score)?;
@@ -39,7 +39,7 @@ fn push_best(note: &mut Vec<u8>, best: &BestPlay, taken_back: bool) -> Result<()
     note.extend_from_slice(b" more")
 }
 
-/// Appends the next best plays, where there are some.
+/// Appends the next best plays, if there are any.
 fn push_next(note: &mut Vec<u8>, plays: &[ScoredPlay]) -> Result<(), AllocError> {
     let mut before: &[u8] = b"; then ";
     for play in plays {

@@ -26,11 +26,11 @@ pub struct SheetToAnnotate<'a> {
     pub pair: &'a Checked<'a>,
     /// The bytes of the record, and what is found of it.
     pub case: &'a Case,
-    /// How many best plays a note has, 100 at the most.
+    /// How many best plays a note has, at most 100.
     pub number: usize,
 }
 
-/// The line of the fault, where there is one.
+/// The line of the fault, if there is one.
 fn faulty_line(finding: &Finding) -> Option<u32> {
     match finding {
         Finding::Illegal { line, .. } => Some(*line),
@@ -51,7 +51,7 @@ fn count_noted(events: &[Event], faulty: Option<u32>) -> usize
     }
 }
 
-/// The best plays of a turn, best first, where the line shows the whole rack and the game before it is known.
+/// The best plays of a turn, best first, if the line shows the whole rack and the game before it is known.
 fn plays_of_turn(
     alloc: Global,
     sheet: &SheetToAnnotate<'_>,
@@ -84,7 +84,7 @@ fn plays_of_turn(
     }
 }
 
-/// The next best plays of a turn after the best, where they are asked for.
+/// The next best plays of a turn after the best, if they are wanted.
 fn next_plays(
     alloc: Global,
     sheet: &SheetToAnnotate<'_>,
@@ -146,7 +146,7 @@ fn notes_of(
     Ok(notes)
 }
 
-/// The notes of a sheet. None where its text is no record.
+/// The notes of a sheet. None if its text is not a record.
 fn notes_in(alloc: Global, sheet: &SheetToAnnotate<'_>) -> Result<Vec<u8>, AllocError> {
     match (&sheet.case.read, &sheet.case.walk) {
         (Ok(entry), Some(walk)) => notes_of(alloc, sheet, entry, walk),
@@ -154,10 +154,11 @@ fn notes_in(alloc: Global, sheet: &SheetToAnnotate<'_>) -> Result<Vec<u8>, Alloc
     }
 }
 
-/// The text of a sheet with notes: after each turn its best play, with its score and the points that it would have given more, the next
-/// best ones where they are asked for, and the words of a play that are not in the list. After the faulty line a note says why it is refused, and there is none after that.
+/// The text of a sheet with notes: after each turn its best play, with its score and how many points more it would have given, the next best ones if
+/// they are wanted, and the words of a play that are not in the list. After the faulty line a note says why it is refused, and there is none after
+/// that.
 ///
-/// It fails only where memory runs out.
+/// It fails only if memory runs out.
 pub fn annotated_text(alloc: Global, sheet: &SheetToAnnotate<'_>) -> Result<Vec<u8>, AllocError>
     ensures { IfOk result (λ text. IsAnnotated sheet.now.case.now.text.items text.items) }
 {

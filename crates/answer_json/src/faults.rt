@@ -6,8 +6,8 @@ use fault_names::{NamedInput, named_game_fault};
 use serde::Serialize;
 use std::alloc::{AllocError, Global};
 
-/// A fault: its name, and where it has one, the number that was expected, the kind of tile that is short, or the path by which a lexicon and a
-/// list differ first.
+/// A fault: its name, and if it has one, the number that was expected, the kind of tile that is short, or the path of the first difference
+/// between a lexicon and a list.
 #[derive(Drop, Serialize)]
 pub struct FaultObject {
     name: &'static str,
@@ -20,7 +20,7 @@ pub struct FaultObject {
 }
 
 impl FaultObject {
-    /// A fault of this name, with nothing beside it.
+    /// A fault of this name, with nothing else.
     pub fn named(name: &'static str) -> FaultObject {
         FaultObject {
             name,
@@ -45,7 +45,7 @@ impl FaultObject {
         })
     }
 
-    /// A fault of an input, where it has a name.
+    /// A fault of an input, if it has a name.
     pub fn of_input(alloc: Global, named: &NamedInput) -> Result<Option<FaultObject>, AllocError> {
         let Some(name) = named.name else {
             return Ok(None);

@@ -1,8 +1,8 @@
-//! What all answers as JSON have in common, for programs: one object and an LF for each.
+//! What all JSON answers for programs have in common: one object and an LF for each.
 //!
-//! A rendering takes a value and gives bytes. It asks no engine, adds no numbers and looks at no record. Keys are stable: what is not known, or
+//! A rendering takes a value and gives bytes. It calls no engine, adds no numbers and looks at no record. Keys are stable: what is not known, or
 //! does not apply, is null. Every object begins with `verdict`, `line` and `fault`, so that a program reads one form whatever happened:
-//! [`push_refusal`] tells that an input is bad, and [`push_trouble`] what kept the program from its end. Games and best plays are in `game_json`,
+//! [`push_refusal`] writes that an input is bad, and [`push_trouble`] why the program could not finish. Games and best plays are in `game_json`,
 //! audits and boards in `sheet_json`, explanations in `explanation_json`.
 #![tactic(auto)]
 

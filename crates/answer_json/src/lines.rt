@@ -9,7 +9,7 @@ pub fn push_object<T: Serialize>(
     line: &mut Vec<u8>,
     object: &T,
 ) -> Result<(), AllocError> {
-    // Of data without a float and without a map of other keys, want of memory is the only error.
+    // For data without a float and without a map with other keys, lack of memory is the only error.
     let Ok(text) = serde_json::to_vec(alloc, object) else {
         return Err(AllocError);
     };

@@ -6,14 +6,14 @@ use ref_board::{Dir, Square};
 use ref_tiles::Symbol;
 use std::alloc::{AllocError, Global};
 
-/// Where a play stands, and its text.
+/// Where a play begins, and its text.
 #[derive(Drop)]
 pub struct PlayFields {
     /// The position, as event lines have it.
     pub place: String,
     /// `across` or `down`.
     pub direction: &'static str,
-    /// The text, as event lines have it: a dot for a tile that lay there, and a small letter for a blank.
+    /// The text, as event lines have it: a dot for a tile that was there, and a small letter for a blank.
     pub text: String,
 }
 
@@ -25,7 +25,7 @@ pub fn direction_of(dir: Dir) -> &'static str {
     }
 }
 
-/// Where a play stands, and its text.
+/// Where a play begins, and its text.
 pub fn play_fields(
     alloc: Global,
     at: Square,

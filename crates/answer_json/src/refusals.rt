@@ -1,4 +1,4 @@
-//! That an input is bad, and what kept the program from its end.
+//! That an input is bad, and why the program could not finish.
 
 use crate::faults::FaultObject;
 use crate::lines::push_object;
@@ -17,7 +17,7 @@ struct RefusalObject {
     fault: Option<FaultObject>,
 }
 
-/// What kept the program from its end.
+/// Why the program could not finish.
 #[derive(Drop, Serialize)]
 struct TroubleObject<'a> {
     verdict: &'static str,
@@ -67,7 +67,7 @@ pub fn push_bad_record(
     push_refusal(alloc, text, &decision)
 }
 
-/// Appends what kept the program from its end, and the name of the file that it was about, where there is one.
+/// Appends why the program could not finish, and the name of the file that it was about, if there is one.
 pub fn push_trouble(
     alloc: Global,
     text: &mut Vec<u8>,
@@ -83,7 +83,7 @@ pub fn push_trouble(
     push_object(alloc, text, &object)
 }
 
-/// Appends that a lexicon is that of a word list of so many words.
+/// Appends that a lexicon is that of a word list of `words` words.
 pub fn push_checked(alloc: Global, text: &mut Vec<u8>, words: usize) -> Result<(), AllocError> {
     let object = CheckedObject {
         verdict: "ok",

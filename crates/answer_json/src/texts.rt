@@ -4,12 +4,12 @@ use gcg_write::tiles_text;
 use ref_tiles::Counts;
 use std::alloc::{AllocError, Global};
 
-/// Bytes as text, with U+FFFD for what is no UTF-8.
+/// Bytes as text, with U+FFFD for what is not UTF-8.
 pub fn text_of(alloc: Global, bytes: &[u8]) -> Result<String, AllocError> {
     String::from_utf8_lossy(alloc, bytes)
 }
 
-/// Bytes as text; none where there are none.
+/// Bytes as text; none if there are none.
 pub fn text_unless_empty(alloc: Global, bytes: &[u8]) -> Result<Option<String>, AllocError> {
     if bytes.is_empty() {
         return Ok(None);
@@ -24,7 +24,7 @@ pub fn tiles_of(alloc: Global, tiles: &Counts) -> Result<String, AllocError> {
     text_of(alloc, text.as_slice())
 }
 
-/// A rack, where there is one.
+/// A rack, if there is one.
 pub fn rack_text(alloc: Global, rack: &Option<Counts>) -> Result<Option<String>, AllocError> {
     match rack {
         Some(rack) => Ok(Some(tiles_of(alloc, rack)?)),

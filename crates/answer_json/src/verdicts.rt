@@ -27,7 +27,7 @@ pub struct VerdictFields {
     pub fault: Option<FaultObject>,
 }
 
-/// A verdict by its name alone.
+/// A verdict with only its name.
 fn bare(verdict: &'static str) -> VerdictFields {
     VerdictFields {
         verdict,

@@ -37,7 +37,7 @@ answer_of (finding.Legal complete) = Legal
 answer_of (finding.Illegal line fault) = Illegal
 answer_of finding.Unsettled = Unsettled
 
--- whether it has ended, where it is legal
+-- whether it has ended, if it is legal
 abbrev pub ending_in : Finding → Option Ending
 ending_in (finding.Legal complete) = Some (if complete then Complete else Unfinished)
 ending_in other = None

@@ -24,7 +24,7 @@ abbrev pub fault_in : Finding → Option (List ℕ)
 fault_in (finding.Illegal line fault) = Some (fault_text fault)
 fault_in other = None
 
--- the name of a fault, which stands before the first blank of its text
+-- the name of a fault, which is before the first blank of its text
 abbrev pub name_in : Option (List ℕ) → Option (List ℕ)
 name_in text = option_map (before_first is_blank) text
 

@@ -7,7 +7,7 @@ use Rattle.archive_lines.specs.declared.likely.LikelyFields.{LikelyFields}
 use Rattle.archive_lines.specs.declared.pages.PageField.{PageField}
 use Rattle.archive_lines.specs.Tabs.{told}
 
--- a reader that cuts the line at its tabs, and undoes the escapes, has what was told
+-- a reader that cuts the line at its tabs, and undoes the escapes, has what was written
 abbrev pub IsReadBack : Type 0
 IsReadBack = (f : Fields) → fields_read (joined (told f)) ≡ told f
 

@@ -3,7 +3,7 @@ use Rattle.std.specs.Prelude.{ℕ, List, [], ◌∷◌, Option, Some, None}
 use Rattle.name_texts.specs.declared.encodings.Encoding.{Encoding}
 use Rattle.name_texts.specs.Texts.{text_by}
 
--- the text of a nickname, where there is one
+-- the text of a nickname, if there is one
 abbrev pub nick_of : Encoding → List ℕ → Option (List ℕ)
 nick_of encoding [] = None
 nick_of encoding (byte ∷ bytes) = Some (text_by encoding (byte ∷ bytes))

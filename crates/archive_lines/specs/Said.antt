@@ -1,4 +1,4 @@
--- What the fields of a line say: of an entry, of a file that is no record, and of a file that was not read.
+-- What the fields of a line say: of an entry, of a file that is not a record, and of a file that was not read.
 use Rattle.std.specs.Prelude.{◌≡◌, ℕ, List, Option, Some, None, length, option_map}
 use Rattle.std.specs.Borrow.{Bor}
 use Rattle.std.specs.String.{string_bytes}
@@ -57,6 +57,6 @@ pub record IsBare (name : Bor (List ℕ)) (verdict : Answer) (line : Option ℕ)
 abbrev pub SaysUnread : Bor (List ℕ) → Unread → Fields → Type 0
 SaysUnread name why f = IsBare name answer.Unread None (unread_text why) None f
 
--- what it says of a file that is no record
+-- what it says of a file that is not a record
 abbrev pub SaysBadRecord : Bor (List ℕ) → ReadFault → Fields → Type 0
 SaysBadRecord name fault f = IsBare name answer.BadRecord (line_of_fault fault) (read.name_of fault.why) (Some (read.name_of fault.why)) f

@@ -10,7 +10,7 @@ use Rattle.archive_lines.specs.declared.pages.PageField.{PageField}
 use Rattle.archive_lines.specs.Answers.{answer_text, ending_text}
 use Rattle.archive_lines.specs.Pages.{page_text}
 
--- a hyphen stands for what is none
+-- a hyphen stands for a missing field
 abbrev pub shown : Option (List ℕ) → List ℕ
 shown None = codes "-"
 shown (Some text) = text
@@ -35,17 +35,17 @@ record_told f =
     ∷ shown (option_map decimal f.unlisted)
     ∷ []
 
--- the page, where pages are made
+-- the page, if pages are made
 abbrev pub page_told : Option PageField → List (List ℕ)
 page_told None = []
 page_told (Some page) = shown (page_text page) ∷ []
 
--- the likely repair, where repairs are asked for
+-- the likely repair, if repairs are looked for
 abbrev pub likely_told : Option LikelyFields → List (List ℕ)
 likely_told None = []
 likely_told (Some likely) = shown (option_map string_bytes likely.change) ∷ shown (option_map string_bytes likely.numbers_right) ∷ []
 
--- what is told only if it is asked for
+-- the fields that a line has only on request
 abbrev pub options_told : Option PageField → Option LikelyFields → List (List ℕ)
 options_told page likely = page_told page ++ likely_told likely
 
@@ -57,7 +57,7 @@ told f = f.name.now ∷ (verdict_told f ++ (record_told f ++ options_told f.page
 unfoldable pub tab_line : Fields → List ℕ
 tab_line f = line_text (told f)
 
--- fields that stand after the first one, each after a tab (9)
+-- fields after the first one, each after a tab (9)
 abbrev pub behind : List (List ℕ) → List ℕ
 behind [] = []
 behind (field ∷ fields) = 9 ∷ escaped field ++ behind fields

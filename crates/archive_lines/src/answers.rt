@@ -1,11 +1,11 @@
-//! What a line answers of a game.
+//! What a line answers about a game.
 ghost use Rattle.std.specs.Prelude.{◌≡◌};
 ghost use Rattle.archive_lines.specs.Answers.{answer_of, ending_in};
 
 use engine::Finding;
 use serde::{Described, Serialize, Serializer};
 
-/// What a line answers of a game.
+/// What a line answers about a game.
 #[derive(Clone, Copy, Debug, PartialEq, Eq)]
 pub enum Answer {
     /// The game is legal.
@@ -14,7 +14,7 @@ pub enum Answer {
     Illegal,
     /// Whether the game is legal was not settled.
     Unsettled,
-    /// The file is no record.
+    /// The file is not a record.
     BadRecord,
     /// The record has no event.
     NoGame,
@@ -133,7 +133,7 @@ pub fn answer_of(finding: Finding) -> Answer
     }
 }
 
-/// Whether the game of a finding has ended, where it is legal.
+/// Whether the game of a finding has ended, if it is legal.
 pub fn ending_in(finding: Finding) -> Option<Ending>
     ensures { result ≡ ending_in finding }
 {

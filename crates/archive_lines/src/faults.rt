@@ -24,7 +24,7 @@ pub fn line_in(finding: Finding) -> Option<u32>
     }
 }
 
-/// The line of the fault of a record; none where it lies on no line.
+/// The line of the fault of a record; none if it is on no line.
 pub fn line_of_fault(fault: &ReadFault) -> Option<u32>
     ensures { result ≡ line_of_fault fault.now }
 {

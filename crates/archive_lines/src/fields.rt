@@ -15,7 +15,7 @@ use serde::Serialize;
 use std::alloc::{AllocError, Global};
 use std::borrow::CowStr;
 
-/// What a line says of a game, in the order in which it says it. What is not known, or does not apply, is none.
+/// What a line says of a game, in the order in which it says it. What is not known, or does not apply, is `None`.
 #[derive(Drop, Serialize)]
 pub struct Fields<'a> {
     /// The name of the file, as it was given.
@@ -32,23 +32,23 @@ pub struct Fields<'a> {
     pub events: Option<usize>,
     /// The nickname of player 1.
     pub player1: Option<String>,
-    /// The last total that the record has of player 1.
+    /// The last total that the record has for player 1.
     pub total1: Option<i32>,
     /// The nickname of player 2.
     pub player2: Option<String>,
-    /// The last total that the record has of player 2.
+    /// The last total that the record has for player 2.
     pub total2: Option<i32>,
     /// How many plays stand with a word that is not listed.
     pub unlisted: Option<usize>,
-    /// The page of the game; none where no pages are made, and then no line has the field.
+    /// The page of the game; none if no pages are made, and then no line has the field.
     #[serde(skip_serializing_if = "Option::is_none")]
     pub page: Option<PageField>,
-    /// The likely repair of the game; none where repairs are not asked for, and then no line has its fields.
+    /// The likely repair of the game; none if no repairs are looked for, and then no line has its fields.
     #[serde(skip_serializing_if = "Option::is_none")]
     pub likely: Option<LikelyFields>,
-    /// The name of the fault of a game or a record, without a number or a tile behind it. Only the JSON object has it.
+    /// The name of the fault of a game or a record, without a number or a tile after it. Only the JSON object has it.
     pub fault_name: Option<CowStr<'a, Global>>,
-    /// The number that was expected in the place of the one that is wrong. Only the JSON object has it.
+    /// The number that was expected instead of the wrong one. Only the JSON object has it.
     pub expected: Option<i32>,
 }
 
@@ -89,7 +89,7 @@ impl<'a> Fields<'a> {
         Fields::bare(name, Answer::Unread, None, why.name(), None)
     }
 
-    /// What is said of a file that is no record.
+    /// What is said of a file that is not a record.
     pub fn bad_record(name: &'a str, fault: &ReadFault) -> Fields<'a>
         ensures { SaysBadRecord name.entry fault.now result }
     {

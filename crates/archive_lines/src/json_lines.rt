@@ -3,13 +3,13 @@
 use crate::fields::Fields;
 use std::alloc::{AllocError, Global};
 
-/// Appends a line: a JSON object with the fields by their names, null for what is none, and an LF.
+/// Appends a line: a JSON object with the fields by their names, null for a missing one, and an LF.
 pub fn push_json_line(
     alloc: Global,
     line: &mut Vec<u8>,
     fields: &Fields<'_>,
 ) -> Result<(), AllocError> {
-    // Of data without a float and without a map of other keys, want of memory is the only error.
+    // For data without a float and without a map with other keys, lack of memory is the only error.
     let Ok(object) = serde_json::to_vec(alloc, fields) else {
         return Err(AllocError);
     };

@@ -2,7 +2,7 @@
 
 use serde::Serialize;
 
-/// What a line says of the likely repair of a game, where repairs are asked for.
+/// What a line says of the likely repair of a game, if repairs are looked for.
 #[derive(Drop, Serialize)]
 pub struct LikelyFields {
     /// The change, in words; none if the game is not illegal, or if no repair is likelier than all others by far.

@@ -3,10 +3,10 @@ ghost use Rattle.std.specs.Prelude.{◌≡◌, option_map};
 
 use serde::{Described, Serialize, Serializer};
 
-/// What a line says of the page of a game, where pages are made.
+/// What a line says of the page of a game, if pages are made.
 #[derive(Drop)]
 pub enum PageField {
-    /// There is none, as of a file that is no record.
+    /// There is none, as for a file that is not a record.
     Missing,
     /// The page is written, to the file of this name in the folder of the pages.
     Written(String),
@@ -19,7 +19,7 @@ pub enum PageField {
 impl PageField {
     ghost use Rattle.archive_lines.specs.Pages.{page_text};
 
-    /// The field as a line has it: a name with `.html` at its end, why there is none, or nothing where there is nothing to be shown.
+    /// The field as a line has it: a name with `.html` at its end, why there is none, or nothing if there is nothing to be shown.
     pub fn text(&self) -> Option<&str>
         ensures { option_map (λ text. text.now) result ≡ page_text self.now }
     {
@@ -31,7 +31,7 @@ impl PageField {
         }
     }
 
-    /// The name of the page, where it is written.
+    /// The name of the page, if it is written.
     pub fn name(&self) -> Option<&str> {
         match self {
             PageField::Written(name) => Some(name.as_str()),

@@ -19,7 +19,7 @@ pub fn total_of(events: &[Event], player: Seat) -> Option<i32>
     }
 }
 
-/// The nickname of a player as text, by this encoding; none where there is none.
+/// The nickname of a player as text, by this encoding; none if there is none.
 pub fn nick_of(
     alloc: Global,
     player: &Player,

@@ -1,4 +1,4 @@
-//! Reading a line again.
+//! Reading a line back.
 
 use crate::answers::Answer;
 use serde::Deserialize;
@@ -6,10 +6,10 @@ use std::alloc::{AllocError, Global};
 use std::str::{self, FromStr};
 use tab_lines::read_fields;
 
-/// How many fields a line with tabs has at least. A page is one more, and a likely repair two more.
+/// The least number of fields that a line with tabs has. A page is one more, and a likely repair two more.
 const FIELDS: usize = 11;
 
-/// What a line of an archive says, as its reader has it: of the fields those that name a game and its result.
+/// What a line of an archive says, as its reader has it: only the fields that name a game and its result.
 #[derive(Drop)]
 pub struct LineRead {
     /// The name of the file.
@@ -55,7 +55,7 @@ struct ObjectRead {
 }
 
 impl LineRead {
-    /// What a line without its LF says, in either form; none where it is no line of an archive.
+    /// What a line without its LF says, in either form; none if it is not a line of an archive.
     ///
     /// # Errors
     ///
@@ -109,7 +109,7 @@ impl LineRead {
         }
     }
 
-    /// What a JSON object says, where its verdict is one.
+    /// What a JSON object says, if its verdict is one.
     fn of_parts(object: ObjectRead) -> Option<LineRead> {
         let verdict = Answer::of_name(object.verdict.as_str())?;
         Some(LineRead {
@@ -127,7 +127,7 @@ impl LineRead {
         })
     }
 
-    /// The file of the page, where one is written: of what may stand in its place nothing ends in `.html`.
+    /// The file of the page, if one is written: nothing else that the field may have ends in `.html`.
     pub fn page_name(&self) -> Option<&str> {
         match &self.page {
             Some(page) if page.as_str().ends_with(".html") => Some(page.as_str()),
@@ -146,7 +146,7 @@ struct Numbers {
 }
 
 impl Numbers {
-    /// The numbers of these fields; none where one is neither a number nor `-`.
+    /// The numbers of these fields; none if one is neither a number nor `-`.
     fn of(fields: &[Vec<u8>]) -> Option<Numbers> {
         let _events = number_at::<u64>(fields, 5)?;
         Some(Numbers {
@@ -171,7 +171,7 @@ fn text_at(fields: &[Vec<u8>], place: usize) -> &str {
     }
 }
 
-/// The field at a place, where it is there and is not `-`.
+/// The field at a place, if it is there and is not `-`.
 fn shown_at(alloc: Global, fields: &[Vec<u8>], place: usize) -> Result<Option<String>, AllocError> {
     match text_at(fields, place) {
         "" | "-" => Ok(None),
@@ -179,7 +179,7 @@ fn shown_at(alloc: Global, fields: &[Vec<u8>], place: usize) -> Result<Option<St
     }
 }
 
-/// The field of the page, where a line has one: then it has an even number of fields.
+/// The field of the page, if a line has one: then it has an even number of fields.
 fn page_in(alloc: Global, fields: &[Vec<u8>]) -> Result<Option<String>, AllocError> {
     if fields.len() % 2 == 0 {
         shown_at(alloc, fields, FIELDS)
@@ -194,7 +194,7 @@ struct Known<T> {
     value: Option<T>,
 }
 
-/// The number at a place, or none where the field is `-`; nothing where it is neither.
+/// The number at a place, or none if the field is `-`; nothing if it is neither.
 fn number_at<T: FromStr>(fields: &[Vec<u8>], place: usize) -> Option<Known<T>>
 where
     T::Err: Drop,

@@ -91,7 +91,7 @@ fn push_record(line: &mut Vec<u8>, fields: &Fields<'_>) -> Result<(), AllocError
     push_known(line, fields.unlisted)
 }
 
-/// Appends the field of the page, where pages are made.
+/// Appends the field of the page, if pages are made.
 fn push_page(line: &mut Vec<u8>, page: &Option<PageField>) -> Result<(), AllocError>
     ensures { OnOk result (line.new.items ≡ line.old.items ++ behind (page_told page.now)) }
 {
@@ -101,7 +101,7 @@ fn push_page(line: &mut Vec<u8>, page: &Option<PageField>) -> Result<(), AllocEr
     }
 }
 
-/// Appends the fields of the likely repair, where repairs are asked for.
+/// Appends the fields of the likely repair, if repairs are looked for.
 fn push_likely(line: &mut Vec<u8>, likely: &Option<LikelyFields>) -> Result<(), AllocError>
     ensures { OnOk result (line.new.items ≡ line.old.items ++ behind (likely_told likely.now)) }
 {
@@ -114,7 +114,7 @@ fn push_likely(line: &mut Vec<u8>, likely: &Option<LikelyFields>) -> Result<(), 
     }
 }
 
-/// Appends the fields that a line has only if they are asked for.
+/// Appends the fields that a line has only on request.
 #[tactic(auto, using(crate::proofs::Joined::two_parts))]
 fn push_options(line: &mut Vec<u8>, fields: &Fields<'_>) -> Result<(), AllocError>
     ensures { OnOk result (line.new.items ≡ line.old.items ++ behind (options_told fields.now.page fields.now.likely)) }
@@ -123,8 +123,9 @@ fn push_options(line: &mut Vec<u8>, fields: &Fields<'_>) -> Result<(), AllocErro
     push_likely(line, &fields.likely)
 }
 
-/// Appends a line: its fields in their order with a tab between two, `-` for what is none, and an LF. It has the field of the page only
-/// if pages are made, and those of the likely repair only if repairs are asked for. A tab, an LF and a backslash of a field are written `\t`, `\n` and `\\`.
+/// Appends a line: its fields in their order with a tab between two, `-` for a missing one, and an LF. It has the field of the page only if pages
+/// are made, and those of the likely repair only if repairs are looked for. A tab, an LF and a backslash of a field are written `\t`, `\n` and
+/// `\\`.
 ///
 /// # Errors
 ///

@@ -32,7 +32,7 @@ unfolding told_numbers
 answered rules list text audit a rises is same numbers =
     by_numbers rules list text a rises (subst (IsAuditOfRecord rules list text) (sym same) is) (numbers ∙ ap told_numbers (sym same))
 
--- an input that was read, and taken for more
+-- an input that was read, and a larger meaning of it
 pub read_on : {A B : Type 0} (limit : ℕ) (old new : Device) (Means : List ℕ → A → Type 0) (More : List ℕ → B → Type 0) (a : A) (b : B) → IsRead limit old new Means (Ok a)
     → ((text : List ℕ) → Means text a → More text b) → IsRead limit old new More (Ok b)
 read_on limit old new Means More a b is more =

@@ -1,4 +1,4 @@
--- Texts that are put behind one another.
+-- Texts that are put one after another.
 use Rattle.std.proofs.Common.{◌≡◌, ℕ, ℤ, ◌++◌, List, Option, codes, slice_get, sym, ap, ◌∙◌}
 use Rattle.std.proofs.lemmas.List.{append_assoc}
 use Rattle.gcg_read.specs.declared.events.Event.{Event}
@@ -12,7 +12,7 @@ pub three : (old a b c x y z : List ℕ) → a ≡ old ++ x → b ≡ a ++ y →
 three old a b c x y z first second third =
     third ∙ ap (λ l. l ++ z) (second ∙ ap (λ l. l ++ y) first ∙ append_assoc old x y) ∙ append_assoc old (x ++ y) z
 
--- the line of a wrong sum, by its front and by what stands behind that
+-- the line of a wrong sum, by its front and by what comes after that
 pub sum_line : (players : Players) (events : List Event) (t : ToldNumber) (place line : ℕ) (player : Seat) (written sum w s : ℤ) (right : Option ℤ) (old a new : List ℕ)
     → t ≡ told.Sum place line player written sum right → w ≡ written → s ≡ sum → a ≡ old ++ wrong_text line (codes "sum ") w s
     → new ≡ a ++ (event_text players (slice_get events place) ++ corrected_total s right ++ end_text) → new ≡ old ++ told_text players events t

@@ -45,7 +45,7 @@ others (w ∷ ws) [] are points = let long = are.as_many in absurd (omega (arith
 others (w ∷ ws) (r ∷ rs) are points =
     (other w r (first_like w r ws rs are) (points 0 r refl), others ws rs (others_like w r ws rs are) (λ place e is. points (suc place) e is))
 
--- a record with the events of another one that has the same players is that one
+-- a record with the events of another one and the same players is that one
 same_record : (old new : Record) → new.players ≡ old.players → record old { events = new.events } ≡ new
 same_record old new same = ap (λ players. record new { players = players }) (sym same)
 

@@ -1,4 +1,4 @@
--- The numbers that are told are the wrong ones, each with the event on its line.
+-- The numbers of the answer are the wrong ones, each with the event on its line.
 use Rattle.std.proofs.Common.{◌≡◌, inl, inr, ℕ, ℤ, ◌<◌, ◌+ℤ◌, nat_lt, Bool, true, false, List, [], ◌∷◌, ◌++◌, length, get_or, slice_get, Option, Some, None, if◌then◌else◌, refl, sym, ap, ◌∙◌, subst, append-nil, arith, AllPairs}
 use Rattle.std.specs.Prelude.{min}
 use Rattle.std.specs.List.{flat_map, range_with_len, position_or_len, position}
@@ -33,7 +33,7 @@ first_is p events place e within =
     let t : nat_lt (position_or_len p events) (length events) ≡ true = grind (arith, nat_tests) in
     rw (t, e) refl
 
--- the lines rise, so the event at a place is the first on its line or behind it
+-- the lines rise, so the event at a place is the first on its line or after it
 pub place_there : (events : List Event) (place : ℕ) (e : Event) → Rise events → slice_get events place ≡ Some e → place_of_line events e.line ≡ Some place
 place_there events place e rise there =
     let within = slice_get_within events place e there in
@@ -61,7 +61,7 @@ rise_too written right same rise i j d earlier within =
     let above = rise i j d earlier (omega (arith, within, long)) in
     omega (arith, first, second, above)
 
--- ---- what is told at a place
+-- ---- the numbers at a place
 
 score_there : (right : List Event) (place : ℕ) (e r : Event) → place_of_line right e.line ≡ Some place → slice_get right place ≡ Some r → r.player ≡ e.player
     → (written other : ℤ) → score_on right e.line written other (place_of_line right e.line) ≡ told.Score place e.line e.player written other ∷ []
@@ -100,7 +100,7 @@ told_here stop written right same rise place (Some e) (Some r) of_a of_b =
 
 -- ---- all lines, and the totals
 
--- what is told of several lists, where it is known of each
+-- what is said of several lists, if it is known of each
 each_list : {A B : Type 0} (f : ℕ → List A) (g : A → List B) (h : ℕ → List B) → ((k : ℕ) → flat_map g (f k) ≡ h k) → (ks : List ℕ) → flat_map g (flat_map f ks) ≡ flat_map h ks
 each_list f g h each [] = refl
 each_list f g h each (k ∷ ks) = flat_map-append g (f k) (flat_map f ks) ∙ ap (λ l. l ++ flat_map g (flat_map f ks)) (each k) ∙ ap (λ l. h k ++ l) (each_list f g h each ks)

@@ -12,7 +12,7 @@ pub record IsAuditAnswer (rules : Rules) (list : List (List ℕ)) (text : List �
   pub audit : IsAuditOfRecord rules list text a.audit
   pub told : AreTold rules list (stop_of a.audit.entry.finding) audit.written.events a.audit.entry.record.events a.numbers.items
 
--- or the verdict that tells its first fault
+-- or the verdict that names its first fault
 abbrev pub IsAuditAnswerOf : Rules → (list : List (List ℕ)) → (text : List ℕ) → Result AuditAnswer Decision → Type 0
 IsAuditAnswerOf rules list text (Ok a) = IsAuditAnswer rules list text a
 IsAuditAnswerOf rules list text (Err d) = IsRecordOf text (Err d)

@@ -5,7 +5,7 @@ use Rattle.gcg_read.specs.Records.{record_of, most_bytes}
 use Rattle.engine.specs.declared.audits.Audit.{Audit}
 use Rattle.engine.specs.Auditing.{IsAuditOfRecord}
 
--- The bytes are a record again, where they are no longer than a record may be: the corrected record of an audit, on the lines of the sheet.
+-- The bytes are a record again, if they are no longer than a record may be: the corrected record of an audit, on the lines of the sheet.
 abbrev pub IsReadBack : Audit → (bytes : List ℕ) → Type 0
 IsReadBack a bytes =
     (rules : Rules) (list : List (List ℕ)) (text : List ℕ) → IsAuditOfRecord rules list text a → length bytes ≤ most_bytes → record_of bytes ≡ Ok a.entry.record

@@ -13,7 +13,7 @@ use Rattle.audit_lines.specs.declared.told.ToldNumber.{ToldNumber}
 use Rattle.audit_lines.specs.declared.told.ToldNumber.TheVariants as told
 use Rattle.audit_lines.specs.Numbers.{told_numbers}
 
--- what stands between a number that is written and the right one
+-- what comes between a number that is written and the right one
 unfoldable pub should_be : List ℕ
 should_be = codes ", should be "
 
@@ -25,7 +25,7 @@ right_text right = should_be ++ signed_decimal right ++ 10 ∷ []
 abbrev pub both_text : (written right : ℤ) → List ℕ
 both_text written right = signed_decimal written ++ right_text right
 
--- the number of a line, and what stands behind it
+-- the number of a line, and what comes after it
 unfoldable pub line_text : (line : ℕ) → List ℕ
 line_text line = codes "line " ++ decimal line ++ codes ": "
 
@@ -34,7 +34,7 @@ abbrev pub event_text : Players → Option Event → List ℕ
 event_text players None = []
 event_text players (Some e) = (player_of players e.player).nick ++ codes ", " ++ kind_text e.kind
 
--- what stands before another total
+-- what comes before another total
 unfoldable pub on_the_sheet : List ℕ
 on_the_sheet = codes "; on the corrected sheet "
 
@@ -42,7 +42,7 @@ on_the_sheet = codes "; on the corrected sheet "
 abbrev pub other_total : (right : ℤ) → List ℕ
 other_total right = on_the_sheet ++ signed_decimal right
 
--- the total on the corrected sheet, where it is another one than the sum
+-- the total on the corrected sheet, if it differs from the sum
 abbrev pub corrected_total : (sum : ℤ) → Option ℤ → List ℕ
 corrected_total sum None = []
 corrected_total sum (Some right) = if int_eq right sum then [] else other_total right
@@ -75,6 +75,6 @@ told_text players events (told.Total player written right) = codes "total of " +
 abbrev pub told_texts : Players → List Event → List ToldNumber → List ℕ
 told_texts players events numbers = flat_map (told_text players events) numbers
 
--- a line for each wrong number, and behind them the verdict line of the corrected record
+-- a line for each wrong number, and after them the verdict line of the corrected record
 unfoldable pub audit_text : Audit → List ℕ
 audit_text a = told_texts a.entry.record.players a.entry.record.events (told_numbers a) ++ finding_line a.entry.finding

@@ -1,4 +1,4 @@
--- The numbers that are told, by the wrong numbers of an audit and the events of its record.
+-- The numbers of an answer, by the wrong numbers of an audit and the events of its record.
 use Rattle.std.specs.Prelude.{ℕ, ℤ, List, [], ◌∷◌, slice_get, Option, Some, None}
 use Rattle.std.specs.List.{flat_map}
 use Rattle.gcg_read.specs.declared.events.Event.{Event}

@@ -24,14 +24,14 @@ stop_by line game.RackTooBig = None
 stop_by line (game.TilesShort kind) = None
 stop_by line (game.NoDeal earlier) = None
 
--- the line at which the correction stops: that of the event that the rules refuse with its right numbers too
+-- the line at which the correction stops: that of the event that the rules refuse even with its right numbers
 abbrev pub stop_of : Finding → Option ℕ
 stop_of finding.NoGame = None
 stop_of (finding.Legal complete) = None
 stop_of (finding.Illegal line fault) = stop_by line fault
 stop_of finding.Unsettled = None
 
--- the total of an event that is corrected; none at the line at which the correction stops, and behind it
+-- the total of an event that is corrected; none at the line at which the correction stops, and after it
 abbrev pub right_total : (stop : Option ℕ) → (right : Event) → Option ℤ
 right_total None right = Some right.total
 right_total (Some stop) right = if nat_lt right.line stop then Some right.total else None
@@ -62,7 +62,7 @@ told_at stop written right place = told_of stop written place (slice_get written
 abbrev pub told_lines : (stop : Option ℕ) → (written right : List Event) → List ToldNumber
 told_lines stop written right = flat_map (told_at stop written right) (range_with_len 0 (min (length written) (length right)))
 
--- the last total of a player, where it is not the right one
+-- the last total of a player, if it is not the right one
 abbrev pub told_total_of : Seat → (written right : Option ℤ) → List ToldNumber
 told_total_of player (Some written) (Some right) = if int_eq written right then [] else (told.Total player written right ∷ [])
 told_total_of player None o = []
@@ -73,8 +73,9 @@ abbrev pub told_totals : (written right : List Event) → List ToldNumber
 told_totals written right =
     told_total_of First (last_total First written) (last_total First right) ++ told_total_of Second (last_total Second written) (last_total Second right)
 
--- The numbers that are told of a sheet, beside its correction as far as that goes: where it has one, exactly the wrong scores and sums, and
--- then the last totals that are wrong; where no numbers that a record can write make it a correction, exactly the wrong scores and sums.
+-- The numbers of the answer about a sheet, compared with its correction as far as that goes: if it has one, exactly the wrong scores and
+-- sums, and then the last totals that are wrong; if no numbers that a record can write make it a correction, exactly the wrong scores and
+-- sums.
 abbrev pub AreTold : Rules → (list : List (List ℕ)) → (stop : Option ℕ) → (written right : List Event) → List ToldNumber → Type 0
 AreTold rules list stop written right numbers =
     (IsCorrection rules list written right × (numbers ≡ told_lines stop written right ++ told_totals written right))

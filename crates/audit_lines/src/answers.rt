@@ -41,7 +41,7 @@ fn answer_of(alloc: Global, audit: Audit) -> Result<AuditAnswer, AllocError>
 ///
 /// # Errors
 ///
-/// `ReadFailed` comes only where the input failed; `NoMemory` where memory was refused.
+/// `ReadFailed` comes only if the input failed; `NoMemory` if memory was refused.
 pub fn answer_audit<G: Input>(
     alloc: Global,
     rules: &Rules,

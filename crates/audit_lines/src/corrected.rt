@@ -17,10 +17,10 @@ fn renumbered_text(alloc: Global, text: &[u8], events: &[Event]) -> Result<Vec<u
     Ok(right)
 }
 
-/// The sheet of an audit with the scores and sums of its entry: of the corrected record, where [`is_corrected`](crate::is_corrected)
-/// says that it stands. Every other byte is as it was given. Reading it gives that record, where it is no longer than a record may be.
+/// The sheet of an audit with the scores and sums of its entry: of the corrected record, if [`is_corrected`](crate::is_corrected) says
+/// that it stands. Every other byte is as it was given. Reading it gives that record, if it is no longer than a record may be.
 ///
-/// It fails only where memory runs out.
+/// It fails only if memory runs out.
 pub fn corrected_text(alloc: Global, audit: &Audit) -> Result<Vec<u8>, AllocError>
     ensures text { IfOk result (λ text. text.items ≡ text_with audit.now.entry.record.events audit.now.text.items) }
     ensures again { IfOk result (λ text. IsReadBack audit.now text.items) }

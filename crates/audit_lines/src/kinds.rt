@@ -33,7 +33,7 @@ fn push_exchange(text: &mut Vec<u8>, tiles: &Counts) -> Result<(), AllocError>
     tiles_text(tiles, text)
 }
 
-/// Appends the code of an exchange of that many unknown tiles.
+/// Appends the code of an exchange of `number` unknown tiles.
 fn push_unknown(text: &mut Vec<u8>, number: u8) -> Result<(), AllocError>
     ensures { OnOk result (text.new.items ≡ text.old.items ++ 45 ∷ decimal number) }
 {

@@ -14,7 +14,7 @@ use std::alloc::{AllocError, Global};
 
 /// Appends the lines of an audit: one for each wrong number, and the verdict line of the corrected record.
 ///
-/// It fails only where memory runs out.
+/// It fails only if memory runs out.
 #[tactic(auto, unfolding(crate::specs::Lines::audit_text))]
 pub fn push_audit(alloc: Global, text: &mut Vec<u8>, audit: &Audit) -> Result<(), AllocError>
     ensures { OnOk result (text.new.items ≡ text.old.items ++ audit_text audit.now) }
@@ -73,7 +73,7 @@ fn push_told(text: &mut Vec<u8>, record: &Record, told: &ToldNumber) -> Result<(
     }
 }
 
-/// Appends the event of a wrong sum, what its total is on the corrected sheet, and what ends the line.
+/// Appends the event of a wrong sum, its total on the corrected sheet, and the end of the line.
 #[tactic(auto, using(crate::proofs::LineTexts::three))]
 fn push_sum_event(
     text: &mut Vec<u8>,
@@ -133,7 +133,7 @@ fn push_wrong(text: &mut Vec<u8>, written: i32, right: i32) -> Result<(), AllocE
     Ok(())
 }
 
-/// Appends the event at a place, where there is one.
+/// Appends the event at a place, if there is one.
 fn push_event_at(text: &mut Vec<u8>, record: &Record, place: usize) -> Result<(), AllocError>
     ensures { OnOk result (text.new.items ≡ text.old.items ++ event_text record.now.players (slice_get record.now.events place)) }
 {
@@ -147,7 +147,7 @@ fn push_event_at(text: &mut Vec<u8>, record: &Record, place: usize) -> Result<()
     }
 }
 
-/// Appends the total on the corrected sheet, where it is another one than the sum.
+/// Appends the total on the corrected sheet, if it differs from the sum.
 fn push_corrected(text: &mut Vec<u8>, sum: i32, right: Option<i32>) -> Result<(), AllocError>
     ensures { OnOk result (text.new.items ≡ text.old.items ++ corrected_total sum right) }
 {
@@ -165,7 +165,7 @@ fn push_other_total(text: &mut Vec<u8>, right: i32) -> Result<(), AllocError>
     push_number(text, right)
 }
 
-/// Appends what stands before a total on the corrected sheet.
+/// Appends what comes before a total on the corrected sheet.
 #[tactic(auto, unfolding(crate::specs::Lines::on_the_sheet))]
 fn push_on_the_sheet(text: &mut Vec<u8>) -> Result<(), AllocError>
     ensures { OnOk result (text.new.items ≡ text.old.items ++ on_the_sheet) }
@@ -173,7 +173,7 @@ fn push_on_the_sheet(text: &mut Vec<u8>) -> Result<(), AllocError>
     text.extend_from_slice(b"; on the corrected sheet ")
 }
 
-/// Appends what ends a line behind its event.
+/// Appends what ends a line after its event.
 #[tactic(auto, unfolding(crate::specs::Lines::end_text))]
 fn push_end(text: &mut Vec<u8>) -> Result<(), AllocError>
     ensures { OnOk result (text.new.items ≡ text.old.items ++ end_text) }
@@ -189,7 +189,7 @@ fn push_both(text: &mut Vec<u8>, written: i32, right: i32) -> Result<(), AllocEr
     push_right(text, right)
 }
 
-/// Appends what stands between a number that is written and the right one.
+/// Appends what comes between a number that is written and the right one.
 #[tactic(auto, unfolding(crate::specs::Lines::should_be))]
 fn push_should_be(text: &mut Vec<u8>) -> Result<(), AllocError>
     ensures { OnOk result (text.new.items ≡ text.old.items ++ should_be) }
@@ -208,7 +208,7 @@ fn push_right(text: &mut Vec<u8>, right: i32) -> Result<(), AllocError>
     Ok(())
 }
 
-/// Appends the number of a line and what stands behind it.
+/// Appends the number of a line and what comes after it.
 #[tactic(auto, unfolding(crate::specs::Lines::line_text))]
 fn push_line(text: &mut Vec<u8>, line: u32) -> Result<(), AllocError>
     ensures { OnOk result (text.new.items ≡ text.old.items ++ line_text line) }

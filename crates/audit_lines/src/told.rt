@@ -54,7 +54,7 @@ pub enum ToldNumber {
     },
 }
 
-/// The line at which a correction stops that ends in this fault on a line.
+/// The line at which a correction stops, if it ends in this fault on a line.
 fn stop_by(line: u32, fault: &GameFault) -> Option<u32>
     ensures { result ≡ stop_by line fault.now }
 {
@@ -64,8 +64,8 @@ fn stop_by(line: u32, fault: &GameFault) -> Option<u32>
     }
 }
 
-/// The line at which the correction of a sheet stops, by what is found of it: that of an event that the rules refuse with its right numbers
-/// too.
+/// The line at which the correction of a sheet stops, by what is found of it: that of an event that the rules refuse even with its right
+/// numbers.
 fn stop_of(finding: &Finding) -> Option<u32>
     ensures { result ≡ stop_of finding.now }
 {

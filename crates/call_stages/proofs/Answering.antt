@@ -18,7 +18,7 @@ use Rattle.call_stages.specs.Stages.{IsRead, AreRead, IsListOf, AreRulesOf, IsPa
 use Rattle.call_stages.proofs.Giving.{gives_failed, gives_bad, gives_good}
 use Rattle.call_stages.proofs.Stages.{Form, Means, ReadsText, source_of, lists, rules_texts, meaning_bad, meaning_good}
 
--- an answer that says what a decision says is one where the decision is
+-- if a decision is an answer, so is an answer that says the same
 same_said : (IsAnswer : Verdict → List ℕ → Type 0) (v w : Verdict) (report told : List ℕ) → v ≡ w → report ≡ told → IsAnswer w told → IsAnswer v report
 same_said IsAnswer v w report told same_verdict same_report is = subst (λ x. IsAnswer x report) (sym same_verdict) (subst (IsAnswer w) (sym same_report) is)
 

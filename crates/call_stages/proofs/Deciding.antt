@@ -9,7 +9,7 @@ use Rattle.call_stages.specs.Sources.{Source, AreUntouched}
 use Rattle.call_stages.specs.Stages.{IsRead}
 use Rattle.call_stages.proofs.Giving.{all_worked, all_within, all_ended, some_texts, some_given, gives_failed, gives_stopped, gives_bad, gives_last, gives_good}
 
--- ---- what is decided where nothing is read
+-- ---- what is decided if nothing is read
 
 pub decided_unread : (sources : List Source) (IsAnswer : List (List ℕ) → Verdict → List ℕ → Type 0) (d : Decision) → AreUntouched sources
     → ((texts : List (List ℕ)) → IsAnswer texts d.verdict d.report.items) → Decides sources IsAnswer (Ok d)
@@ -30,7 +30,7 @@ pub nothing_left : (IsAnswer : List (List ℕ) → Verdict → List ℕ → Type
 nothing_left IsAnswer d answer =
     record { answered = record { texts = []; given = tt; answer = answer }; worked = tt; gave_up = tt; within = tt; ended = tt }
 
--- ---- one input more, in front
+-- ---- one more input, before the others
 
 -- it was not read
 pub front_failed : {A : Type 0} (s : Source) (sources : List Source) (Means : List ℕ → A → Type 0) (IsAnswer : List (List ℕ) → Verdict → List ℕ → Type 0) (fault : RunFault)
@@ -53,8 +53,8 @@ pub last_read : {A : Type 0} (s : Source) (Means : List ℕ → A → Type 0) (I
     → IsRead s.limit s.old s.new Means (Ok a) → ((text : List ℕ) → Means text a → IsAnswer (text ∷ []) d.verdict d.report.items) → Decides (s ∷ []) IsAnswer (Ok d)
 last_read s Means IsAnswer a d read answer = gives_last decisions s Means (λ x. IsAnswer) a d read answer
 
--- It is good, and the others are read. `extends` says how an answer by the others is one by all, and `spares` that it is not
--- that this one is bad.
+-- It is good, and the others are read. `extends` says how an answer by the others is one by all, and `spares` that it does
+-- not say that this one is bad.
 pub front_good : {A : Type 0} (s : Source) (sources : List Source) (Means : List ℕ → A → Type 0) (IsNext IsAnswer : List (List ℕ) → Verdict → List ℕ → Type 0) (a : A) (r : Result Decision RunFault)
     → IsRead s.limit s.old s.new Means (Ok a) → Decides sources IsNext r
     → (extends : (text : List ℕ) (rest : List (List ℕ)) (v : Verdict) (report : List ℕ) → Means text a → IsNext rest v report → IsAnswer (text ∷ rest) v report)

@@ -58,7 +58,7 @@ unfolding some_texts
 some_given [] = tt
 some_given (s ∷ sources) = (record { bound = given_few s.limit s.old.bytes; whole = given_whole s.limit s.old.bytes }, some_given sources)
 
--- ---- one input more, in front
+-- ---- one more input, before the others
 
 -- it was not read
 front_gave_up : (s : Source) (sources : List Source) (fault : RunFault) → AreUntouched sources → ReadGivesUp fault s.old s.new → StopsReading (s ∷ sources) fault
@@ -123,8 +123,8 @@ gives_last says s Means IsAnswer a x read answer =
       ended = (λ bad. tt, tt);
     }
 
--- It is good, and the others are read. `extends` says how an answer by the others is one by all, and `spares` that it is not
--- that this one is bad.
+-- It is good, and the others are read. `extends` says how an answer by the others is one by all, and `spares` that it does
+-- not say that this one is bad.
 later_gave_up : (s : Source) (sources : List Source) (fault : RunFault) → HasWorked s.old s.new → StopsReading sources fault → StopsReading (s ∷ sources) fault
 later_gave_up s sources run.ReadFailed worked failed = inr (worked, failed)
 later_gave_up s sources run.WriteFailed worked never = absurd never

@@ -1,4 +1,4 @@
--- Bytes that are no lexicon of some words, from what was found wrong with them.
+-- Bytes that are not a lexicon of some words, by what was found wrong with them.
 use Rattle.std.proofs.Common.{◌≡◌, ℕ, true, false, List, Some, None, Result, Ok, Err, IfOk, ◌++◌, sym, ap, subst, ◌∙◌, ⊎_elim}
 use Rattle.std.proofs.lemmas.Bool.{false≢true}
 use Rattle.arrayvec.specs.ArrayVec.{ArrayVec}
@@ -18,7 +18,7 @@ use Rattle.call_stages.specs.declared.decisions.Decision.{Decision}
 use Rattle.call_stages.specs.Lexicons.{file_fault, IsLexicon, IsFaultOf, IsRefusedPair}
 use Rattle.call_stages.specs.Stages.{IsPairOf}
 
--- ---- a fault says that the bytes are no lexicon of the words
+-- ---- a fault says that the bytes are not a lexicon of the words
 
 missing_differs : (words : List (List ℕ)) (bytes path : List ℕ) → IsMissing (language_of bytes) (is_path words) path → StandsFor (language_of bytes) words → ⊥
 missing_differs words bytes path missing same = false≢true (sym missing.absent ∙ same path ∙ missing.listed)

@@ -1,4 +1,4 @@
--- What the stages come to that read an input.
+-- The results of the stages that read an input.
 use Rattle.std.proofs.Common.{◌≡◌, ◌⊎◌, ℕ, List, Result, Ok, Err, refl, ap, subst, sym, ◌∙◌, ⊎_elim, ◌+◌}
 use Rattle.devices.specs.Devices.{Device, HasWorked}
 use Rattle.devices.specs.Inputs.{IsInput, TakesAtMost}
@@ -29,7 +29,7 @@ pub stopped : {A : Type 0} (limit : ℕ) (old new : Device) (Means : List ℕ �
     → IsRead limit old new Means (Err run.NoMemory)
 stopped limit old new Means worked within = record { taken = tt; worked = tt; gave_up = worked; within = within }
 
--- it was read, and taken for something
+-- it was read, and a meaning was found
 pub taken : {A : Type 0} (limit : ℕ) (old new : Device) (Means : List ℕ → A → Type 0) (given text : List ℕ) (a : A) → IsInput limit old given → text ≡ given → Means text a
     → HasWorked old new → TakesAtMost (limit + 1) old new → IsRead limit old new Means (Ok a)
 taken limit old new Means given text a there shown means worked within =
@@ -40,7 +40,7 @@ taken limit old new Means given text a there shown means worked within =
       within = within;
     }
 
--- its bytes alone
+-- only its bytes
 pub whole : {A : Type 0} (limit : ℕ) (old new : Device) (items : A → List ℕ) (a : A) → IsInput limit old (items a) → HasWorked old new → TakesAtMost (limit + 1) old new
     → IsRead limit old new (λ text bytes. items bytes ≡ text) (Ok a)
 whole limit old new items a there worked within =

@@ -43,8 +43,8 @@ meaning_good bad line view IsAnswer meaning a x rest v report is means answer =
 
 -- ---- texts
 
--- A form of text: the most bytes that one may have, the verdict that it is bad, the line that tells its first fault, what contracts see of what is read, and what
--- a text means.
+-- A form of text: the greatest number of bytes that one may have, the verdict that it is bad, the line that gives its first fault, what contracts see
+-- of what is read, and what a text means.
 pub record Form (A B F : Type 0) : Type 0 where
   pub limit : ℕ
   pub bad : Verdict
@@ -132,7 +132,7 @@ lexicon_good items old new sources words IsAnswer bytes shown p pair r read same
 pub paired_words : (words : List (List ℕ)) (shown : List ℕ) (p : Result Checked Decision) (pair : Checked) → IsPairOf words shown p → p ≡ Ok pair → list_in pair ≡ words
 paired_words words shown p pair agreed is = let good = subst (IsPairOf words shown) is agreed in good.1
 
--- an answer by the file alone
+-- an answer by the file only
 pub file_last : {A : Type 0} (items : A → List ℕ) (old new : Device) (IsAnswer : List ℕ → Verdict → List ℕ → Type 0) (bytes : A) (shown : List ℕ) (d : Decision)
     → IsRead most_file_bytes old new (λ text b. items b ≡ text) (Ok bytes) → shown ≡ items bytes → IsAnswer shown d.verdict d.report.items
     → Decides (lexicon_source old new ∷ []) (ReadsNext (λ text. ReadsNoMore (IsAnswer text))) (Ok d)

@@ -1,4 +1,4 @@
--- What is wrong with an input, as a verdict and its report tell it.
+-- What is wrong with an input, as a verdict and its report give it.
 use Rattle.std.specs.Prelude.{ℕ, Bool, true, false, List, Option, Some, None}
 use Rattle.call_stages.specs.declared.input_faults.InputFault.{InputFault}
 use Rattle.call_stages.specs.declared.input_faults.InputFault.TheVariants as input
@@ -16,7 +16,7 @@ input_verdict (input.Game fault) = verdict.BadRecord
 input_verdict input.Rack = verdict.BadRack
 input_verdict input.Line = verdict.BadLine
 
--- the line that tells what is wrong with it
+-- the line that says what is wrong with it
 abbrev pub input_line : InputFault → List ℕ
 input_line (input.Words fault) = bad_list_line fault
 input_line (input.Lexicon fault) = bad_file_line fault
@@ -39,7 +39,7 @@ is_bad_input verdict.BadRack = true
 is_bad_input verdict.BadRules = true
 is_bad_input verdict.BadLine = true
 
--- the verdict and the report that go with what is wrong with an input, where something is
+-- the verdict and the report that go with what is wrong with an input, if something is
 abbrev pub verdict_with : Option InputFault → Verdict → Verdict
 verdict_with (Some fault) v = input_verdict fault
 verdict_with None v = v

@@ -1,4 +1,4 @@
--- Whether the bytes of a file are the compiled lexicon of a word list, and what is wrong with them else.
+-- Whether the bytes of a file are the compiled lexicon of a word list, a GADDAG, and otherwise what is wrong with them.
 use Rattle.std.specs.Prelude.{◌≡◌, ℕ, List, length, nat_lt, Option, Some, None, Result, Ok, Err, if◌then◌else◌}
 use Rattle.lex_file.specs.declared.faults.FileFault.{FileFault}
 use Rattle.lex_file.specs.declared.faults.FileFault.TheVariants as form
@@ -18,7 +18,7 @@ use Rattle.call_stages.specs.Telling.{IsTold}
 abbrev pub most_lexicon_bytes : ℕ
 most_lexicon_bytes = most_file_bytes
 
--- the first fault of the form of a file; that it has too many bytes is told before all others
+-- the first fault of the form of a file; that it has too many bytes comes before all others
 unfoldable pub file_fault : List ℕ → Option FileFault
 file_fault bytes = if nat_lt most_lexicon_bytes (length bytes) then Some form.Length else fault_of bytes
 
@@ -28,28 +28,28 @@ pub record IsLexicon (words : List (List ℕ)) (bytes : List ℕ) : Type 0 where
   pub form : file_fault bytes ≡ None
   pub agreed : IsAgreed words bytes
 
--- What is wrong with the bytes: their form, or where that has no fault, the first difference of their language and the
--- rotated paths of the words, or where there is none, the number of words.
+-- What is wrong with the bytes: their form; if that has no fault, the first difference between their language and the
+-- rotated paths of the words; and if there is none, the number of words.
 abbrev pub IsFaultOf : (words : List (List ℕ)) → (bytes : List ℕ) → LexiconFault → Type 0
 IsFaultOf words bytes (fault.Form first) = file_fault bytes ≡ Some first
 IsFaultOf words bytes (fault.Missing path) = (file_fault bytes ≡ None) × IsMismatch words bytes (why.Missing path)
 IsFaultOf words bytes (fault.Extra path) = (file_fault bytes ≡ None) × IsMismatch words bytes (why.Extra path)
 IsFaultOf words bytes fault.WordCount = (file_fault bytes ≡ None) × IsMismatch words bytes why.WordCount
 
--- the bytes are no lexicon of the words, and this tells what is wrong with them
+-- the bytes are not a lexicon of the words, and the report says what is wrong with them
 pub record IsBadFile (words : List (List ℕ)) (bytes report : List ℕ) : Type 0 where
   pub unlike : IsLexicon words bytes → ⊥
   pub fault : LexiconFault
   pub fails : IsFaultOf words bytes fault
   pub told : report ≡ bad_file_line fault
 
--- ---- how the functions tell it
+-- ---- how the functions report it
 
--- the verdict that tells a fault
+-- the verdict that names a fault
 abbrev pub IsRefusedFile : LexiconFault → Decision → Type 0
 IsRefusedFile fault d = IsTold verdict.BadFile (bad_file_line fault) d.verdict d.report.items
 
--- the same in place of a list and a lexicon
+-- the same instead of a list and a lexicon
 abbrev pub IsRefusedPair : LexiconFault → Result Checked Decision → Type 0
 IsRefusedPair first (Ok pair) = ⊥
 IsRefusedPair first (Err d) = IsRefusedFile first d

@@ -42,14 +42,14 @@ fault_text game.RackTooBig = codes "RackTooBig"
 fault_text (game.TilesShort k) = codes "TilesShort " ++ kind_byte k ∷ []
 fault_text (game.NoDeal earlier) = codes "NoDeal"
 
--- the line of a fault, missing where it is 0
+-- the line of a fault, missing if it is 0
 abbrev pub line_text : ℕ → List ℕ
 line_text line = if line == 0 then [] else codes " line " ++ decimal line
 
 unfoldable pub illegal_line : ℕ → GameFault → List ℕ
 illegal_line line fault = codes "illegal line " ++ decimal line ++ codes ": " ++ fault_text fault ++ 10 ∷ []
 
--- the line of a game of which no deal was found
+-- the line for a game for which no deal was found
 unfoldable pub unsettled_line : List ℕ
 unsettled_line = codes "unsettled\n"
 
@@ -72,19 +72,19 @@ lexicon_text lexicon.WordCount = codes "WordCount"
 unfoldable pub bad_file_line : LexiconFault → List ℕ
 bad_file_line fault = codes "bad lexicon: " ++ lexicon_text fault ++ 10 ∷ []
 
--- the line that the file which is asked for would have more arcs, or words, than its format can number
+-- the line that says that the file to be made would have more arcs, or words, than its format can number
 unfoldable pub too_many_arcs_line : List ℕ
 too_many_arcs_line = codes "bad lexicon: TooManyArcs\n"
 
--- the line that a rack is none
+-- the line that says that the bytes are not a rack
 unfoldable pub bad_rack_line : List ℕ
 bad_rack_line = codes "bad rack\n"
 
--- the line that no event stands on the line that was asked for, or after it
+-- the line that says that no event is on the given line or after it
 unfoldable pub bad_line_line : List ℕ
 bad_line_line = codes "bad line: no event is on it or after it\n"
 
--- the line that tells the number of the words
+-- the line that gives the number of the words
 unfoldable pub ok_line : ℕ → List ℕ
 ok_line words = codes "ok " ++ decimal words ++ 10 ∷ []
 

@@ -10,7 +10,8 @@ use Rattle.lex_file.specs.Formats.{most_file_bytes}
 use Rattle.call_stages.specs.declared.verdicts.Verdict.{Verdict}
 use Rattle.call_stages.specs.declared.verdicts.Verdict.TheVariants as verdict
 
--- An input of a call: the most bytes that it may have, the verdict that it is bad, and its device before and after the call.
+-- An input of a call: the greatest number of bytes that it may have, the verdict that it is bad, and its device before and
+-- after the call.
 pub record Source : Type 0 where
   pub limit : ℕ
   pub bad : Verdict
@@ -33,22 +34,22 @@ game_source old new = record { limit = most_bytes; bad = verdict.BadRecord; old 
 abbrev pub no_device : Device
 no_device = record { bytes = None; failures = 0; stalls = 0 }
 
--- the rules that are known: where there is no text
+-- the rules that are known: if there is no text
 abbrev pub known_but : {A : Type 0} → (text : Option A) → Rules → Option Rules
 known_but None rules = Some rules
 known_but (Some text) rules = None
 
--- the device of a text, where there is one
+-- the device of a text, if there is one
 abbrev pub device_in : {A : Type 0} → (device : A → Device) → (text : Option A) → Device
 device_in device None = no_device
 device_in device (Some text) = device text
 
--- the rules text, where the rules are not known
+-- the rules text, if the rules are not known
 abbrev pub rules_sources : (known : Option Rules) → (old new : Device) → List Source
 rules_sources (Some rules) old new = []
 rules_sources None old new = rules_source old new ∷ []
 
--- the rules text where the rules are not known, a word list, its lexicon, and what is read behind them
+-- the rules text if the rules are not known, a word list, its lexicon, and what is read after them
 abbrev pub pair_sources : (known : Option Rules) → (rules_old rules_new words_old words_new lexicon_old lexicon_new : Device) → (more : List Source) → List Source
 pair_sources known rules_old rules_new words_old words_new lexicon_old lexicon_new more =
     rules_sources known rules_old rules_new ++ words_source words_old words_new ∷ lexicon_source lexicon_old lexicon_new ∷ more
@@ -80,7 +81,7 @@ abbrev pub AreUntouched : List Source → Type 0
 AreUntouched [] = Unit {0}
 AreUntouched (s ∷ sources) = (s.new ≡ s.old) × AreUntouched sources
 
--- where the verdict is that an input is bad, those behind it are not touched
+-- if the verdict is that an input is bad, those after it are not touched
 abbrev pub EndsAt : Verdict → List Source → Type 0
 EndsAt v [] = Unit {0}
 EndsAt v (s ∷ sources) = (v ≡ s.bad → AreUntouched sources) × EndsAt v sources

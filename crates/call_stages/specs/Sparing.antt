@@ -1,4 +1,4 @@
--- Answers that do not say of an input that it is bad.
+-- Answers that do not say that an input is bad.
 use Rattle.std.proofs.Common.{◌≢◌, ℕ, List, [], ◌∷◌, Result, Ok, Err, sym, ◌∙◌, ⊎_elim}
 use Rattle.gcg_read.specs.declared.records.Record.{Record}
 use Rattle.gcg_read.specs.Records.{record_of}

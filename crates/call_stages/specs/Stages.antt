@@ -1,4 +1,4 @@
--- What the stages come to by which a call reads an input and takes it for what it means.
+-- The results of the stages in which a call reads an input and finds what it means.
 use Rattle.std.specs.Prelude.{◌≡◌, ℕ, ◌+◌, List, Option, Some, None, Result, Ok, Err, IfOk, IfErr, OnOk}
 use Rattle.devices.specs.Devices.{Device, HasFailed, HasWorked}
 use Rattle.devices.specs.Inputs.{IsInput, TakesAtMost}
@@ -27,20 +27,20 @@ ReadGivesUp run.ReadFailed old new = HasFailed old new
 ReadGivesUp run.WriteFailed old new = ⊥
 ReadGivesUp run.NoMemory old new = HasWorked old new
 
--- bytes that an input gives, and what was taken for their meaning
+-- bytes that an input gives, and what they were found to mean
 pub record IsTaken {A : Type 0} (limit : ℕ) (input : Device) (Means : List ℕ → A → Type 0) (taken : A) : Type 0 where
   pub text : List ℕ
   pub given : IsInput limit input text
   pub means : Means text taken
 
--- An input is read to its end, or to one byte past the limit and no further, and comes to this.
+-- An input is read to its end, or to one byte past the limit and no further, with this result.
 pub record IsRead {A : Type 0} (limit : ℕ) (old new : Device) (Means : List ℕ → A → Type 0) (result : Result A RunFault) : Type 0 where
   pub taken : IfOk result (IsTaken limit old Means)
   pub worked : OnOk result (HasWorked old new)
   pub gave_up : IfErr result (λ fault. ReadGivesUp fault old new)
   pub within : TakesAtMost (limit + 1) old new
 
--- What a text means, or the verdict that it is bad, which tells its first fault. `view` is what contracts see of the meaning.
+-- What a text means, or the verdict that it is bad, with its first fault. `view` is what contracts see of the meaning.
 abbrev pub IsMeaning : {A B F : Type 0} → (bad : Verdict) → (line : F → List ℕ) → (view : A → B) → Result B F → Result A Decision → Type 0
 IsMeaning {A} {B} {F} bad line view meaning (Ok meant) = meaning ≡ Ok (view meant)
 IsMeaning {A} {B} {F} bad line view meaning (Err d) = (fault : F) × (meaning ≡ Err fault) × IsTold bad (line fault) d.verdict d.report.items
@@ -59,7 +59,7 @@ abbrev pub AreRead : (known : Option Rules) → (old new : Device) → Result (R
 AreRead (Some rules) old new result = result ≡ Ok (Ok rules)
 AreRead None old new result = IsRead most_text_bytes old new AreRulesOf result
 
--- the words and the bytes, which are a lexicon of them, or the verdict that they are none
+-- the words and the bytes, which are a lexicon of them, or the verdict that they are not
 abbrev pub IsPairOf : (words : List (List ℕ)) → (bytes : List ℕ) → Result Checked Decision → Type 0
 IsPairOf words bytes (Ok pair) = IsLexicon words bytes × (list_in pair ≡ words) × (bytes_of (file_in pair) ≡ bytes)
 IsPairOf words bytes (Err d) = IsToldFile words bytes d.verdict d.report.items

@@ -14,7 +14,7 @@ pub struct Decision {
     pub verdict: Verdict,
     /// The bytes that report it.
     pub report: Vec<u8>,
-    /// What is wrong with an input, exactly where the verdict is that one is bad; then the report is the line that tells it.
+    /// What is wrong with an input, exactly if the verdict is that one is bad; then the report is the line that says so.
     pub fault: Option<InputFault>,
     pub ghost bad: { is_bad_input verdict ≡ is_some fault },
     pub ghost verdict_is: { verdict ≡ verdict_with fault verdict },
@@ -22,7 +22,7 @@ pub struct Decision {
 }
 
 impl Decision {
-    /// The verdict that an input is bad, which tells what is wrong with it.
+    /// The verdict that an input is bad, with the line that says what is wrong with it.
     #[tactic(auto, using(crate::proofs::Refusals::each_is_bad))]
     pub fn refused(alloc: Global, fault: InputFault) -> Result<Decision, AllocError>
         ensures { IfOk result (λ d. IsTold (input_verdict fault) (input_line fault) d.verdict d.report.items) }

@@ -52,7 +52,7 @@ fn ask_by_list<S, W, L: Input, G, Q: Question<S, W, G>>(
     }
 }
 
-/// Reads the words of a list, and then goes on as [`ask_by_list`].
+/// Reads the words of a list, and then continues as [`ask_by_list`].
 fn ask_by_rules<S, W: Input, L: Input, G, Q: Question<S, W, G>>(
     alloc: Global,
     question: &Q,
@@ -84,12 +84,12 @@ fn ask_by_rules<S, W: Input, L: Input, G, Q: Question<S, W, G>>(
     }
 }
 
-/// Reads the rules where they are not known, the words of a list and their lexicon, in this order until one is bad, and asks a
-/// question. Where one is bad, that is the answer, and nothing behind it is read.
+/// Reads the rules if they are not known, the words of a list and their lexicon, in this order until one is bad, and asks a
+/// question. If one is bad, that is the answer, and nothing after it is read.
 ///
 /// # Errors
 ///
-/// Where an input failed, or memory was refused.
+/// If an input failed or memory was refused.
 pub fn ask<S: RulesSource, W: Input, L: Input, G, Q: Question<S, W, G>>(
     alloc: Global,
     question: &Q,

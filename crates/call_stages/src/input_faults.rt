@@ -13,22 +13,22 @@ use lex_list::ListFault;
 use ref_tiles::RulesFault;
 use std::alloc::{AllocError, Global};
 
-/// What is wrong with an input, or with what was asked of one.
+/// What is wrong with an input, or with what was requested of one.
 #[derive(Debug, Drop)]
 pub enum InputFault {
-    /// The word list has this fault first.
+    /// The word list has this as its first fault.
     Words(ListFault),
-    /// The lexicon has this fault first, or is not that of the word list.
+    /// The lexicon has this as its first fault, or is not that of the word list.
     Lexicon(LexiconFault),
-    /// The lexicon that is asked for would have more arcs, or words, than its format can number.
+    /// The lexicon to be made would have more arcs, or words, than its format can number.
     TooManyArcs,
-    /// The rules text has this fault first.
+    /// The rules text has this as its first fault.
     Rules(RulesFault),
-    /// The record has this fault first.
+    /// The record has this as its first fault.
     Game(ReadFault),
     /// The rack is not 1 to 7 of A to Z and `?`.
     Rack,
-    /// The record has no event on the line that was asked for, or after it.
+    /// The record has no event on the given line or after it.
     Line,
 }
 
@@ -46,7 +46,7 @@ pub fn input_verdict(fault: &InputFault) -> Verdict
     }
 }
 
-/// The line that tells what is wrong with an input.
+/// The line that says what is wrong with an input.
 pub fn input_line(alloc: Global, fault: &InputFault) -> Result<Vec<u8>, AllocError>
     ensures { IfOk result (λ text. text.items ≡ input_line fault.now) }
 {

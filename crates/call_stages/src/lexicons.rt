@@ -1,4 +1,4 @@
-//! The stage that takes a word list and the bytes of a lexicon file for a pair.
+//! The stage that makes a pair of a word list and the bytes of a lexicon file, a compiled GADDAG.
 ghost use Rattle.std.specs.Prelude.{◌≡◌, IfOk};
 ghost use Rattle.first_faults.specs.Checks.{Refuses};
 ghost use Rattle.lex_file.specs.Files.{bytes_of};
@@ -20,17 +20,17 @@ use std::alloc::{AllocError, Global};
 /// What is wrong with a lexicon.
 #[derive(Debug, Drop, PartialEq, Eq)]
 pub enum LexiconFault {
-    /// The file has not the form of a lexicon.
+    /// The file does not have the form of a lexicon.
     Form(FileFault),
     /// This rotated path of a listed word is not in the file.
     Missing(Path),
-    /// The file has this string, or one that it begins, and the list has no such path.
+    /// The file has this string, or a string that begins with it, and the list has no such path.
     Extra(Path),
     /// The file states another number of words.
     WordCount,
 }
 
-/// Opens a lexicon file. One that has too many bytes is reported as such before anything else.
+/// Opens a lexicon file. If it has too many bytes, that is reported before anything else.
 #[tactic(auto, unfolding(crate::specs::Lexicons::file_fault))]
 pub fn open_within(bytes: &[u8]) -> Result<LexFile<'_>, FileFault>
     ensures form { Refuses result (file_fault bytes.now) }
@@ -46,7 +46,7 @@ pub fn open_within(bytes: &[u8]) -> Result<LexFile<'_>, FileFault>
 ///
 /// # Errors
 ///
-/// Where the input failed, or memory was refused.
+/// If the input failed or memory was refused.
 #[tactic(auto, using(crate::proofs::Readings::whole, crate::proofs::Readings::failed))]
 pub fn read_lexicon<L: Input>(alloc: Global, lexicon: &mut L) -> Result<Vec<u8>, RunFault>
     requires { HasRoom (L.device lexicon.old) }

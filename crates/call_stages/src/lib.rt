@@ -1,14 +1,14 @@
 //! The stages of a call: it reads its inputs in order until one is bad, decides, and writes the report.
 //!
-//! [`ask`] is the door. It reads rules where they are not known, a word list and its lexicon, and then asks a [`Question`] of them,
-//! which may read more. A question of the game of a record is a [`GameQuestion`]; [`decide_by_pair`] asks it of one game of many.
+//! [`ask`] is the door. It reads rules if they are not known, a word list and its lexicon, and then asks a [`Question`], which
+//! may read more. A question about the game of a record is a [`GameQuestion`]; [`decide_by_pair`] asks it about one game of many.
 //!
-//! The door is made of stages, which other calls can be made of too. [`read_list`], [`read_rules`] and [`read_record`] read an input and
-//! take it for what it means, or give the decision that it is bad. [`read_lexicon`] reads a file, and [`pair_file`] takes it and a list for a
-//! pair. [`finish`] writes what was decided.
+//! The door is made of stages; other calls can be made of these too. [`read_list`], [`read_rules`] and [`read_record`] read an input and give
+//! what it means, or the decision that it is bad. [`read_lexicon`] reads a file, and [`pair_file`] makes a pair of it and a list. [`finish`]
+//! writes what was decided.
 //!
 //! A [`Verdict`] is what the referee answers, a [`Decision`] a verdict with its report, and a [`RunFault`] why there is none. The lines of
-//! reports are here too, but for those of the events of a legal game.
+//! reports are here too, except those of the events of a legal game.
 #![tactic(auto)]
 
 mod decisions;

@@ -1,4 +1,4 @@
-//! The stages that read an input and take it for what it means: a word list, a rules text, a record.
+//! The stages that read an input and give what it means: a word list, a rules text, a record.
 ghost use Rattle.std.specs.Prelude.{◌≡◌, IfOk};
 ghost use Rattle.devices.specs.Devices.{HasRoom};
 ghost use Rattle.ref_tiles.specs.RulesTexts.{most_text_bytes};
@@ -26,7 +26,7 @@ fn bad_list(alloc: Global, fault: &ListFault) -> Result<Decision, AllocError>
     Decision::refused(alloc, InputFault::Words(*fault))
 }
 
-/// The word list of a text, or the verdict that it is none.
+/// The word list of a text, or the verdict that it is not one.
 #[tactic(auto, using(crate::proofs::Readings::no_list))]
 pub fn list_from(alloc: Global, text: &[u8]) -> Result<Result<WordList, Decision>, AllocError>
     ensures { IfOk result (λ read. IsListOf text.now read) }
@@ -47,7 +47,7 @@ pub fn list_from(alloc: Global, text: &[u8]) -> Result<Result<WordList, Decision
 ///
 /// # Errors
 ///
-/// Where the input failed, or memory was refused.
+/// If the input failed or memory was refused.
 pub fn read_list<W: Input>(
     alloc: Global,
     words: &mut W,
@@ -84,7 +84,7 @@ pub fn rules_from(alloc: Global, text: &[u8]) -> Result<Result<Rules, Decision>,
 ///
 /// # Errors
 ///
-/// Where the input failed, or memory was refused.
+/// If the input failed or memory was refused.
 pub fn read_rules<R: Input>(
     alloc: Global,
     rules_text: &mut R,
@@ -118,7 +118,7 @@ pub fn game_from(alloc: Global, text: &[u8]) -> Result<Result<Record, ReadFault>
     Ok(Err(fault))
 }
 
-/// The record of a text, or the verdict that it is none.
+/// The record of a text, or the verdict that it is not one.
 #[tactic(auto, using(crate::proofs::Readings::no_record))]
 pub fn record_from(alloc: Global, text: &[u8]) -> Result<Result<Record, Decision>, AllocError>
     ensures { IfOk result (λ read. IsRecordOf text.now read) }
@@ -136,7 +136,7 @@ pub fn record_from(alloc: Global, text: &[u8]) -> Result<Result<Record, Decision
 ///
 /// # Errors
 ///
-/// Where the input failed, or memory was refused.
+/// If the input failed or memory was refused.
 pub fn read_record<G: Input>(
     alloc: Global,
     game: &mut G,

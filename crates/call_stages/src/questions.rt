@@ -18,7 +18,7 @@ pub trait Answer {
     // What an answer says: a verdict and its report.
     ghost says: { Says Self };
 
-    /// That an input is bad, as a decision says it.
+    /// The answer that an input is bad, by the decision that says so.
     fn bad_input(decision: Decision) -> Self
         ensures verdict { says.verdict result ≡ decision.verdict }
         ensures report { says.report result ≡ decision.report.items };
@@ -47,7 +47,7 @@ pub struct Given<'a, S, W> {
     pub rules: &'a Rules,
     /// The word list with its lexicon.
     pub pair: &'a Checked<'a>,
-    /// What the rules came from.
+    /// The source of the rules.
     pub rules_source: &'a S,
     /// The input that had the words.
     pub words: &'a W,
@@ -55,7 +55,7 @@ pub struct Given<'a, S, W> {
 
 /// A question, which is asked once rules, a word list and its lexicon are read. It may read more, such as a record: `G`.
 pub trait Question<S, W, G> {
-    /// What it is answered with.
+    /// The type of its answers.
     type Answer: Answer;
 
     // What it reads.
@@ -64,7 +64,7 @@ pub trait Question<S, W, G> {
     // Whether that can be read.
     ghost is_ready: { G → Type 0 };
 
-    // What is an answer by rules and the words of a list, on the texts that it reads.
+    // What is an answer by rules and the words of a list, on the texts that the question reads.
     ghost is_answer: { Self → Rules → List (List ℕ) → Self.Answer → (texts : List (List ℕ)) → Verdict → (report : List ℕ) → Type 0 };
 
     /// The answer.
@@ -77,10 +77,10 @@ pub trait Question<S, W, G> {
         requires { is_ready more.old }
         ensures { Gives Self.Answer.says (sources more.old more.new) (is_answer self.now given.now.rules.now (list_in given.now.pair.now)) result };
 
-    // What it reads is not touched as long as it is not asked.
+    // What it reads is not touched before it is asked.
     ghost still: { (more : G) → AreUntouched (sources more more) };
 
-    // No answer is that an input that was read before is bad.
+    // No answer is that an input read earlier is bad.
     ghost later: { (question : Self) (rules : Rules) (words : List (List ℕ)) (x : Self.Answer) (texts : List (List ℕ)) (v : Verdict) (report : List ℕ)
         → is_answer question rules words x texts v report → IsLater v };
 }

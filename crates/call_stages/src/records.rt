@@ -1,4 +1,4 @@
-//! What can be asked of the game of a record.
+//! Questions about the game of a record.
 ghost use Rattle.std.specs.Prelude.{ℕ, List, [], ◌∷◌, IfOk, refl};
 ghost use Rattle.devices.specs.Devices.{HasRoom};
 ghost use Rattle.ref_tiles.specs.declared.rulebook.Rules.{Rules};
@@ -21,7 +21,7 @@ use lex_check::Checked;
 use ref_tiles::Rules;
 use std::alloc::{AllocError, Global};
 
-/// A game of which something is asked: its record, with the rules and the word list and lexicon by which it is judged.
+/// A game that a question is about: its record, with the rules and the word list and lexicon by which it is judged.
 #[derive(Clone, Copy)]
 pub struct AskedGame<'a> {
     /// The rules.
@@ -32,7 +32,7 @@ pub struct AskedGame<'a> {
     pub record: &'a Record,
 }
 
-/// A question of the game of a record, by rules and by a word list with its lexicon. Its answer is a decision.
+/// A question about the game of a record, by rules and by a word list with its lexicon. Its answer is a decision.
 pub trait GameQuestion {
     // What is decided by rules, the words of a list and a record: a verdict and its report.
     ghost is_decided: { Self → Rules → List (List ℕ) → Record → Verdict → List ℕ → Type 0 };
@@ -45,11 +45,11 @@ pub trait GameQuestion {
     ghost own: { (question : Self) (rules : Rules) (words : List (List ℕ)) (game : Record) (v : Verdict) (report : List ℕ) → is_decided question rules words game v report → IsOwn v };
 }
 
-/// Reads the record of a game, and decides a question of it by a word list and its lexicon.
+/// Reads the record of a game, and decides a question about it by a word list and its lexicon.
 ///
 /// # Errors
 ///
-/// Where the input failed, or memory was refused.
+/// If the input failed or memory was refused.
 pub fn decide_by_pair<Q: GameQuestion, G: Input>(
     alloc: Global,
     question: &Q,

@@ -77,7 +77,7 @@ pub fn fault_text(alloc: Global, fault: &GameFault) -> Result<Vec<u8>, AllocErro
     Ok(text)
 }
 
-/// Appends ` line N`, or nothing where the line is 0.
+/// Appends ` line N`, or nothing if the line is 0.
 fn push_line(text: &mut Vec<u8>, line: u32) -> Result<(), AllocError>
     ensures { OnOk result (text.new.items ≡ text.old.items ++ line_text line) }
 {
@@ -109,7 +109,7 @@ pub fn unsettled_line(alloc: Global) -> Result<Vec<u8>, AllocError>
     Vec::from_slice(alloc, b"unsettled\n")
 }
 
-/// What is bad, ` line N`, or nothing where the fault lies on no line, and `: WHY`.
+/// What is bad, ` line N` or nothing if the fault is on no line, and `: WHY`.
 fn bad_input_line(alloc: Global, what: &[u8], line: u32, why: &str) -> Result<Vec<u8>, AllocError>
     ensures { IfOk result (λ text. text.items ≡ what.now ++ line_text line ++ codes ": " ++ why.now ++ 10 ∷ []) }
 {
@@ -121,7 +121,7 @@ fn bad_input_line(alloc: Global, what: &[u8], line: u32, why: &str) -> Result<Ve
     Ok(text)
 }
 
-/// `bad record line N: WHY`, without ` line N` where the fault lies on no line.
+/// `bad record line N: WHY`, without ` line N` if the fault is on no line.
 #[tactic(auto, unfolding(crate::specs::Reports::bad_record_line))]
 pub fn bad_record_line(alloc: Global, fault: &ReadFault) -> Result<Vec<u8>, AllocError>
     ensures { IfOk result (λ text. text.items ≡ bad_record_line fault.now) }
@@ -129,7 +129,7 @@ pub fn bad_record_line(alloc: Global, fault: &ReadFault) -> Result<Vec<u8>, Allo
     bad_input_line(alloc, b"bad record", fault.line, fault.why.name())
 }
 
-/// `bad rules line N: WHY`, without ` line N` where the fault lies on no line.
+/// `bad rules line N: WHY`, without ` line N` if the fault is on no line.
 #[tactic(auto, unfolding(crate::specs::Reports::bad_rules_line))]
 pub fn bad_rules_line(alloc: Global, fault: &RulesFault) -> Result<Vec<u8>, AllocError>
     ensures { IfOk result (λ text. text.items ≡ bad_rules_line fault.now) }
@@ -137,7 +137,7 @@ pub fn bad_rules_line(alloc: Global, fault: &RulesFault) -> Result<Vec<u8>, Allo
     bad_input_line(alloc, b"bad rules", fault.line, fault.why.name())
 }
 
-/// `bad word list line N: WHY`, without ` line N` where the fault lies on no line.
+/// `bad word list line N: WHY`, without ` line N` if the fault is on no line.
 #[tactic(auto, unfolding(crate::specs::Reports::bad_list_line))]
 pub fn bad_list_line(alloc: Global, fault: &ListFault) -> Result<Vec<u8>, AllocError>
     ensures { IfOk result (λ text. text.items ≡ bad_list_line fault.now) }
@@ -178,7 +178,7 @@ pub fn bad_file_line(alloc: Global, fault: &LexiconFault) -> Result<Vec<u8>, All
     Ok(text)
 }
 
-/// The line that a lexicon would have more arcs, or words, than its format can number.
+/// The line that says that a lexicon would have more arcs, or words, than its format can number.
 #[tactic(auto, unfolding(crate::specs::Reports::too_many_arcs_line))]
 pub fn too_many_arcs_line(alloc: Global) -> Result<Vec<u8>, AllocError>
     ensures { IfOk result (λ text. text.items ≡ too_many_arcs_line) }
@@ -194,7 +194,7 @@ pub fn bad_rack_line(alloc: Global) -> Result<Vec<u8>, AllocError>
     Vec::from_slice(alloc, b"bad rack\n")
 }
 
-/// The line that no event stands on the line that was asked for, or after it.
+/// The line that says that no event is on the given line or after it.
 #[tactic(auto, unfolding(crate::specs::Reports::bad_line_line))]
 pub fn bad_line_line(alloc: Global) -> Result<Vec<u8>, AllocError>
     ensures { IfOk result (λ text. text.items ≡ bad_line_line) }

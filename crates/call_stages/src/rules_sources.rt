@@ -14,17 +14,17 @@ use std::alloc::Global;
 
 /// Where the rules of a call come from: they are known, or an input has a text that states them.
 pub trait RulesSource {
-    // The rules, where they are known.
+    // The rules, if they are known.
     ghost known: { Self → Option Rules };
 
-    // The input that has the text, where they are not.
+    // The input that has the text, if they are not.
     ghost text: { Self → Device };
 
     /// The rules, or the decision that the text is bad.
     ///
     /// # Errors
     ///
-    /// Where the input failed, or memory was refused.
+    /// If the input failed or memory was refused.
     fn read(&mut self, alloc: Global) -> Result<Result<Rules, Decision>, RunFault>
         requires { HasRoom (text self.old) }
         ensures { AreRead (known self.old) (text self.old) (text self.new) result };
@@ -50,9 +50,9 @@ impl RulesSource for KnownRules<'_> {
 /// Rules that are known, or the input of a text that states others.
 #[derive(Drop)]
 pub struct RulesInput<R> {
-    /// The rules where there is no text.
+    /// The rules if there is no text.
     pub rules: Rules,
-    /// The input of the text, where there is one.
+    /// The input of the text, if there is one.
     pub text: Option<R>,
 }
 

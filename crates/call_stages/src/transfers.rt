@@ -1,4 +1,4 @@
-//! Whole reads of an input, and whole writes of a report.
+//! Reads of whole inputs, and writes of whole reports.
 ghost use Rattle.std.specs.Prelude.{◌≡◌, ◌+◌, IfOk, IfErr, OnOk, OnErr};
 ghost use Rattle.std.specs.Io.KnownBytes.{Appends};
 ghost use Rattle.devices.specs.Devices.{HasRoom, HasWorked};
@@ -45,7 +45,7 @@ fn send<O: Output>(out: &mut O, decision: &Decision) -> Result<Verdict, RunFault
     }
 }
 
-/// Writes the report of what was decided, and gives its verdict; where nothing was, says why, and writes nothing.
+/// Writes the report of what was decided, and gives its verdict; if nothing was decided, says why, and writes nothing.
 pub fn finish<O: Output>(
     out: &mut O,
     decided: Result<Decision, RunFault>,

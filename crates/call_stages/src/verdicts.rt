@@ -8,11 +8,11 @@ use ref_tiles::Kind;
 pub enum GameFault {
     /// The rules do not allow the event.
     Rule(RuleFault),
-    /// By this line a player has shown more tiles than came to the rack.
+    /// By this line a player has shown more tiles than have come to the rack.
     RackTooBig,
     /// By this line the players have shown more tiles of this kind than the game has.
     TilesShort(Kind),
-    /// No deal of the tiles yields the racks up to and with the event on this line.
+    /// No deal of the tiles yields the racks up to the event on this line, that one included.
     NoDeal {
         /// What is known of the racks before this event.
         earlier: Earlier,
@@ -29,12 +29,12 @@ pub enum Verdict {
     },
     /// Some event is not allowed, or no deal of the tiles yields every rack.
     Illegal {
-        /// The line of the first such event, or by which the racks are too many.
+        /// The line of the first such event, or the line by which the racks are impossible.
         line: u32,
         /// Why.
         fault: GameFault,
     },
-    /// Every event is allowed, and whether some deal yields every rack was not found out.
+    /// Every event is allowed, and it was not found out whether some deal yields every rack.
     Unsettled,
     /// The word list has a fault.
     BadList,
@@ -42,12 +42,12 @@ pub enum Verdict {
     BadFile,
     /// The record has a fault.
     BadRecord,
-    /// What was asked for is done.
+    /// What was requested is done.
     Done,
     /// The rack is not 1 to 7 of A to Z and `?`.
     BadRack,
     /// The rules text has a fault.
     BadRules,
-    /// The record has no event on the line that was asked for, or after it.
+    /// The record has no event on the given line or after it.
     BadLine,
 }

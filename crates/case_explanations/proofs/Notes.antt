@@ -18,7 +18,7 @@ noted rules list events old new added = record { notes = added.notes; behind = a
 no_fault : (why : RuleFault) → Some why ≡ None → ⊥
 no_fault why e = cc
 
--- nothing is noted where an event is refused
+-- nothing is noted if an event is refused
 pub refused : (rules : Rules) (list : List (List ℕ)) (events : List Event) (facts : List Fact) (line : ℕ) (why : RuleFault) → IsFirstRefusal rules list events line why
     → GoOnWithNotes rules list events facts facts
 refused rules list events facts line why first =

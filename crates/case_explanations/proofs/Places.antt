@@ -1,4 +1,4 @@
--- The place of the event that is asked for.
+-- The place of the event of the question.
 use Rattle.std.proofs.Common.{◌≡◌, ℕ, ◌<◌, List, [], ◌∷◌, length, Option, Some, None, sym, subst}
 use Rattle.std.proofs.lemmas.List.Quantifiers.{position-Some}
 use Rattle.ref_tiles.specs.declared.rulebook.Rules.{Rules}
@@ -12,7 +12,7 @@ use Rattle.explanations.specs.declared.explaining.Explanation.{Explanation}
 use Rattle.explanations.specs.Explaining.{ExplainsEvent}
 use Rattle.case_explanations.specs.Explaining.{AreWholeFacts, Explains, IsExplanationAt}
 
--- the place of an event stands within the record
+-- the place of an event is within the record
 pub line_within : (events : List Event) (line place : ℕ) → place_of_line events line ≡ Some place → place < length events
 line_within [] line place is = cc
 line_within (e ∷ events) line place is = (position-Some (is_from line) (e ∷ events) place e is).0

@@ -21,14 +21,14 @@ whole_facts (finding.Legal complete) = fact.Legal ∷ []
 whole_facts (finding.Illegal line why) = []
 whole_facts finding.Unsettled = fact.Unsettled ∷ []
 
--- behind it, of a record whose events the rules allow: its plays that stand with words that are not in the list, and its turns that show no rack
+-- after it, for a record whose events the rules allow: its plays that stand with words that are not in the list, and its turns that show no rack
 abbrev pub NotesAre : Rules → (list : List (List ℕ)) → List Event → Finding → (notes : List Fact) → Type 0
 NotesAre rules list events finding.NoGame notes = notes ≡ []
 NotesAre rules list events (finding.Legal complete) notes = AreAllowed rules list events → AreNotes rules list events notes
 NotesAre rules list events (finding.Illegal line why) notes = notes ≡ []
 NotesAre rules list events finding.Unsettled notes = AreAllowed rules list events → AreNotes rules list events notes
 
--- the same behind other facts
+-- the same after other facts
 pub record GoOnWithNotes (rules : Rules) (list : List (List ℕ)) (events : List Event) (old new : List Fact) : Type 0 where
   pub notes : List Fact
   pub behind : new ≡ old ++ notes
@@ -50,13 +50,13 @@ pub record Explains (rules : Rules) (list : List (List ℕ)) (entry : Entry) (pl
   pub players : x.players.now ≡ entry.record.players
   pub told : ExplainsAt rules list entry place x
 
--- what is explained of an event on a line or behind it; none where no event is there
+-- what is explained of an event on a line or after it; none if there is no event
 abbrev pub IsExplanationAt : Rules → (list : List (List ℕ)) → Entry → (place : Option ℕ) → Option Explanation → Type 0
 IsExplanationAt rules list entry place None = place ≡ None
 IsExplanationAt rules list entry None (Some x) = ⊥
 IsExplanationAt rules list entry (Some place) (Some x) = Explains rules list entry (Some place) x
 
--- What explains an entry: without a line the event that is not allowed, or the record as a whole; with one the first event on it or behind it,
+-- What explains an entry: without a line the event that is not allowed, or the record as a whole; with one the first event on it or after it,
 -- or that there is none.
 abbrev pub IsExplanation : Rules → (list : List (List ℕ)) → Entry → (line : Option ℕ) → Option Explanation → Type 0
 IsExplanation rules list entry None None = ⊥

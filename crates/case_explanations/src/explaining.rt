@@ -23,7 +23,7 @@ fn one_fact(alloc: Global, fact: Fact) -> Result<Vec<Fact>, AllocError>
     Ok(facts)
 }
 
-/// Adds which plays of a record stand with words that are not in the list, and which of its turns show no rack, where the rules allow every
+/// Adds which plays of a record stand with words that are not in the list, and which of its turns show no rack, if the rules allow every
 /// event.
 #[tactic(auto, using(crate::proofs::Notes::noted, crate::proofs::Notes::refused))]
 fn push_all_notes(
@@ -121,9 +121,9 @@ fn explained<'a>(
     explain_event(alloc, rules, list, &entry.record, place, fault)
 }
 
-/// What explains the verdict on a record, or its event on a line or behind it; none where no event is there.
+/// What explains the verdict on a record, or its event on a line or after it; none if there is no event.
 ///
-/// It fails only where memory runs out.
+/// It fails only if memory runs out.
 #[tactic(auto, using(crate::proofs::Places::fault_within, crate::proofs::Places::explains_whole, crate::proofs::Places::explains_at, crate::proofs::Places::asked_none, crate::proofs::Places::asked_some))]
 pub fn explain<'a>(
     alloc: Global,

@@ -1,4 +1,4 @@
-//! How the explanation of a case begins: its verdict line, and the line that is explained as it stands in the file.
+//! How the explanation of a case begins: its verdict line, and the line that is explained, as it is in the file.
 #![tactic(auto)]
 
 mod lines;

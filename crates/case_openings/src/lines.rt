@@ -1,4 +1,4 @@
-//! A line as it stands in the file.
+//! A line as it is in the file.
 ghost use Rattle.std.specs.Prelude.{◌≡◌, ◌++◌, OnOk, codes, decimal};
 ghost use Rattle.case_openings.specs.Openings.{shown_line};
 
@@ -6,7 +6,7 @@ use decimal_text::push_number;
 use game_facts::line_of;
 use std::alloc::AllocError;
 
-/// Appends the number of a line and what stands between it and the line.
+/// Appends the number of a line and what is between it and the line.
 fn push_opening(text: &mut Vec<u8>, line: u32) -> Result<(), AllocError>
     ensures { OnOk result (text.new.items ≡ text.old.items ++ (codes "line " ++ decimal line ++ codes ": ")) }
 {
@@ -16,7 +16,7 @@ fn push_opening(text: &mut Vec<u8>, line: u32) -> Result<(), AllocError>
     Ok(())
 }
 
-/// Appends a line of a record as it stands in the file, behind its number; nothing where the file has fewer lines.
+/// Appends a line of a record as it is in the file, after its number; nothing if the file has fewer lines.
 pub fn push_line(text: &mut Vec<u8>, bytes: &[u8], line: u32) -> Result<(), AllocError>
     ensures { OnOk result (text.new.items ≡ text.old.items ++ shown_line bytes.now line) }
 {

@@ -10,7 +10,7 @@ use game_board::place_of_line;
 use gcg_read::Event;
 use std::alloc::{AllocError, Global};
 
-/// Appends the line of the event at a place, where there is one.
+/// Appends the line of the event at a place, if there is one.
 fn push_event(
     text: &mut Vec<u8>,
     bytes: &[u8],
@@ -38,7 +38,7 @@ pub fn place_of_fault(events: &[Event], finding: &Finding) -> Option<usize>
     }
 }
 
-/// Appends that no event is on the line that was asked for, or after it.
+/// Appends that no event is on the given line or after it.
 #[tactic(auto, unfolding(call_stages::specs::Reports::bad_line_line))]
 fn push_missing(text: &mut Vec<u8>) -> Result<(), AllocError>
     ensures { OnOk result (text.new.items ≡ text.old.items ++ bad_line_line) }
@@ -46,7 +46,7 @@ fn push_missing(text: &mut Vec<u8>) -> Result<(), AllocError>
     text.extend_from_slice(b"bad line: no event is on it or after it\n")
 }
 
-/// Appends the verdict line, and the line of the event at a place, where there is one.
+/// Appends the verdict line, and the line of the event at a place, if there is one.
 fn push_both(
     text: &mut Vec<u8>,
     verdict: &[u8],
@@ -81,7 +81,7 @@ fn push_of_record(
     push_both(text, verdict, bytes, events, Some(place))
 }
 
-/// Appends how the explanation of a case begins: its verdict line, and the line that is explained as it stands in the file.
+/// Appends how the explanation of a case begins: its verdict line, and the line that is explained, as it is in the file.
 pub fn push_opening(
     alloc: Global,
     text: &mut Vec<u8>,

@@ -1,4 +1,4 @@
--- What of a state decides which changes there are.
+-- On which parts of a state the changes depend.
 use Rattle.std.proofs.Common.{◌≡◌, ℕ, ◌+◌, List, ◌++◌, take, drop, slice_get, Option, Some, None, refl, ap, ◌∙◌}
 use Rattle.ref_tiles.specs.declared.tiles.Tile.{Tile}
 use Rattle.ref_tiles.specs.declared.rulebook.Rules.{Rules}
@@ -14,7 +14,7 @@ use Rattle.change_lists.specs.MissingLines.{missing_slips}
 use Rattle.change_lists.specs.Changes.{slips_of_event, slips_by}
 use Rattle.change_lists.specs.Laws.{SlipsAreByBoard}
 
--- what is read of the board
+-- what is read from the board
 board_alone : (rules : Rules) (s t : State) (before behind : List Event) (what : EventKind) → s.board ≡ t.board → board_slips rules s before behind what ≡ board_slips rules t before behind what
 board_alone rules s t before behind (kind.Play at d word) same = ap (λ (b : List (Option Tile)). laying_slips b d at word) same
 board_alone rules s t before behind (kind.LastRack tiles) same = ap (λ (b : List (Option Tile)). rest_for tiles (rest_tiles rules b before behind)) same

@@ -1,5 +1,5 @@
--- Lists of slips as the definitions give them, computed. Squares are numbered row by row from 1A, which is 0: 8E is 109, and 8H, of which
--- row and column are one number, is 112.
+-- Lists of slips as the definitions give them, computed. Squares are numbered row by row from 1A, which is 0: 8E is 109, and 8H,
+-- whose row and column are the same number, is 112.
 use Rattle.std.proofs.Common.{◌≡◌, ℕ, ℤ, pos, negsuc, true, false, List, [], ◌∷◌, length, Some, None, refl}
 use Rattle.std.specs.Prelude.{codes}
 use Rattle.std.specs.List.{filter_map}
@@ -34,14 +34,14 @@ use Rattle.change_lists.specs.MissingLines.{missing_exchanges, missing_penalties
 use Rattle.change_lists.specs.Rests.{rest_tiles}
 use Rattle.change_lists.specs.Changes.{slips_by, changes}
 
--- how many of each kind some letters are
+-- the number of tiles of each kind among some letters
 abbrev tiles : List ℕ → List ℕ
 tiles letters = counted (filter_map kind_of letters)
 
 abbrev word : List ℕ → List Symbol
 word letters = symbols_of letters
 
--- an event on a line: whose, what happened, its score and the total
+-- an event on a line: its player, what happened, its score and the total
 abbrev event_on : ℕ → Seat → EventKind → ℤ → ℤ → Event
 event_on at player what score total = record { line = at; player = player; rack = None; kind = what; score = score; total = total }
 
@@ -62,7 +62,7 @@ beside : Agree (
 unfolding elsewhere interchanged
 beside = refl
 
--- how many there are of a position, of a text, of tiles
+-- the number of slips in a position, in a text, in tiles
 many : Agree (
     (length (position_slips 109), 30)
     ∷ (length (position_slips 112), 29)
@@ -87,7 +87,7 @@ twisted : Agree (
 unfolding twisted_symbols twisted_pair lists_below letter_at
 twisted = refl
 
--- tiles that are laid over a line of which the second and the third square have a tile
+-- tiles laid over a line whose second and third squares have a tile
 laid : Agree (
     (laid_over (false ∷ true ∷ true ∷ false ∷ false ∷ []) (word (codes "AB")), word (codes "A..B"))
     ∷ (laid_over (true ∷ false ∷ true ∷ []) (word (codes "A")), word (codes ".A."))
@@ -96,7 +96,8 @@ laid : Agree (
 unfolding laid_over letter_at
 laid = refl
 
--- a line that should not be there: a pass that repeats the line before it is named so, and only another pass is told from other lines
+-- a line that should not be there: a pass that repeats the line before it is named so, and only a different pass is distinguished
+-- from other lines
 too_many : Agree (
     (extra_line pass None, slip.ExtraPass ∷ [])
     ∷ (extra_line pass (Some (record pass { total = pos 5 })), slip.ExtraPass ∷ [])
@@ -106,7 +107,7 @@ too_many : Agree (
     ∷ [])
 too_many = refl
 
--- a record of one pass: 8 other codes, 2 of any line, and 56 lines that may be missing before it and behind it
+-- a record of one pass: 8 other codes, 2 slips of any line, and 56 lines that may be missing before it and after it
 of_a_pass : length (changes english (pass ∷ [])) ≡ 122
 unfolding changes lists_below slips_by event_slips swapped_lines missing_slips missing_exchanges missing_penalties exchanges other_numbers rest_tiles english english_premiums most_tiles tally empty_board
 of_a_pass = refl

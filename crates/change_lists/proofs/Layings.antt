@@ -9,7 +9,7 @@ use Rattle.ref_board.specs.declared.directions.Dir.{Dir}
 use Rattle.ref_board.specs.Cells.{occupied_on}
 use Rattle.change_lists.specs.Laying.{occupied_from, laid_over}
 
--- a place of a line and those behind it
+-- a place of a line and those after it
 from_here : (board : List (Option Tile)) (d : Dir) (line place : ℕ) → place < 15 → occupied_from board d line place ≡ occupied_on d board line place ∷ occupied_from board d line (place + 1)
 unfolding occupied_from
 from_here board d line place within =
@@ -30,7 +30,7 @@ unfolding laid_over
 over_free board d line place tile tiles within free =
     ap (λ xs. laid_over xs (tile ∷ tiles)) (from_here board d line place within) ∙ ap (λ b. laid_over (b ∷ occupied_from board d line (place + 1)) (tile ∷ tiles)) free
 
--- a free square behind the last tile
+-- a free square after the last tile
 over_none : (board : List (Option Tile)) (d : Dir) (line place : ℕ) → place < 15 → occupied_on d board line place ≡ false → laid_over (occupied_from board d line place) [] ≡ []
 unfolding laid_over
 over_none board d line place within free =
@@ -58,7 +58,7 @@ dot_laid board d line place used tiles old new whole within holds made so_far =
     one_more old new (laid_over (occupied_from board d line (place + 1)) (drop used tiles)) (laid_over (occupied_from board d line place) (drop used tiles)) whole symbol.Dot made
     (over_tile board d line place (drop used tiles) within holds) so_far
 
--- a free square, with a tile that is left
+-- a free square, when a tile is left
 pub tile_laid : (board : List (Option Tile)) (d : Dir) (line place used : ℕ) (tile : Symbol) (tiles old new whole : List Symbol) → place < 15 → occupied_on d board line place ≡ false
     → used < length tiles → tile ≡ get_or tiles used tile → new ≡ old ++ tile ∷ [] → old ++ laid_over (occupied_from board d line place) (drop used tiles) ≡ whole
     → new ++ laid_over (occupied_from board d line (place + 1)) (drop (used + 1) tiles) ≡ whole
@@ -67,7 +67,7 @@ tile_laid board d line place used tile tiles old new whole within free left is m
     one_more old new (laid_over (occupied_from board d line (place + 1)) (drop (used + 1) tiles)) (laid_over (occupied_from board d line place) (drop used tiles)) whole tile made
     (ap (laid_over (occupied_from board d line place)) next ∙ over_free board d line place tile (drop (used + 1) tiles) within free) so_far
 
--- a free square, with no tile that is left
+-- a free square, when no tile is left
 pub all_laid : (board : List (Option Tile)) (d : Dir) (line place used : ℕ) (tiles laid whole : List Symbol) → place < 15 → occupied_on d board line place ≡ false → length tiles ≤ used
     → laid ++ laid_over (occupied_from board d line place) (drop used tiles) ≡ whole → laid ≡ whole
 all_laid board d line place used tiles laid whole within free none so_far =

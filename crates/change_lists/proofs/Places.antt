@@ -1,4 +1,4 @@
--- What stands at a place, as the code reads it.
+-- What is at a place, as the code reads it.
 use Rattle.std.proofs.Common.{◌≡◌, ℕ, ◌+◌, ◌<◌, ◌≤◌, List, [], ◌++◌, length, get_or, slice_get, Option, Some, None, refl, sym, ap, ◌∙◌}
 use Rattle.std.proofs.lemmas.Option.{slice_get-get_or, slice_get_read, slice_get_past}
 use Rattle.std.proofs.lemmas.List.{append-nil}

@@ -28,7 +28,7 @@ off_both counts f g h both =
     let is = both k in
     omega arith)
 
--- where nothing is taken off, the tiles stay
+-- if nothing is taken off, the tiles stay
 off_nothing : (counts : List ℕ) (f : ℕ → ℕ) → length counts ≡ 27 → ((k : ℕ) → f k ≡ 0) → table (λ n. get_or counts n 0 - f n) ≡ counts
 off_nothing counts f long none =
     same_numbers (table (λ n. get_or counts n 0 - f n)) counts (length-table _) long
@@ -54,7 +54,7 @@ pub off_free : (counts : List ℕ) → length counts ≡ 27 → counts ≡ off_b
 unfolding off_board
 off_free counts long = sym (off_nothing counts (λ k. count_by (has_kind k) (None ∷ [])) long (λ k. sum_by-cons (λ (c : Option Tile). cond (has_kind k c) 1 0) None []))
 
--- one less of the number at a place, where there is one
+-- one less of the number at a place, if there is one
 set_less : (counts : List ℕ) (n k : ℕ) → n < length counts → get_or (set counts n (get_or counts n 0 - 1)) k 0 ≡ get_or counts k 0 - cond {A = ℕ} (n == k) 1 0
 set_less counts n k within =
     let less = get_or counts n 0 - 1 in
@@ -70,7 +70,7 @@ set_less counts n k within =
     omega (arith, nought, new))
     (cases_eq n k)
 
--- where there is none
+-- the same if there is none
 set_none : (counts : List ℕ) (n k : ℕ) → get_or counts n 0 ≡ 0 → get_or counts k 0 ≡ get_or counts k 0 - cond {A = ℕ} (n == k) 1 0
 set_none counts n k none =
     ⊎_elim
@@ -80,7 +80,7 @@ set_none counts n k none =
     omega (arith, nought))
     (cases_eq n k)
 
--- one tile less of a kind, of each kind
+-- one fewer tile of a kind, for each kind
 less_at : (counts : List ℕ) (kind : Kind) (b : Bool) → length counts ≡ 27 → nat_lt 0 (count_of counts kind) ≡ b → (k : ℕ)
     → get_or (if b then with_count counts kind (count_of counts kind - 1) else counts) k 0 ≡ get_or counts k 0 - cond {A = ℕ} (number_of kind == k) 1 0
 less_at counts kind true long some k = let small = number_below kind in set_less counts (number_of kind) k (omega (arith, small, long))
@@ -126,7 +126,7 @@ off_no_rack : (counts : List ℕ) → length counts ≡ 27 → off_racks counts 
 unfolding off_racks
 off_no_rack counts long = off_nothing counts (λ k. sum_by (left_at k) []) long (λ k. refl)
 
--- the last racks before a place and behind it
+-- the last racks before a place and after it
 pub off_both_racks : (counts : List ℕ) (before behind : List Event) → off_racks (off_racks counts before) behind ≡ off_racks counts (before ++ behind)
 unfolding off_racks
 off_both_racks counts before behind =

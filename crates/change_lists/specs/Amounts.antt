@@ -1,4 +1,4 @@
--- The amounts that a challenge or a penalty may have, and how many tiles an exchange.
+-- The amounts that a challenge or a penalty may have, and the numbers of tiles that may be exchanged.
 use Rattle.std.specs.Prelude.{ℕ, ℤ, pos, neg_ℤ, ◌*◌, ◌==◌, List, [], ◌∷◌, if◌then◌else◌}
 use Rattle.std.specs.Ordering.{int_eq}
 use Rattle.ref_tiles.specs.declared.rulebook.Rules.{Rules}
@@ -7,15 +7,15 @@ use Rattle.record_changes.specs.declared.slips.Slip.TheVariants as slip
 use Rattle.record_changes.specs.declared.slips.CodeSlip.TheVariants as code
 use Rattle.change_lists.specs.Each.{lists_to}
 
--- the bonus for the challenge of so many words
+-- the bonus for the challenge of a number of words
 abbrev pub bonus_for : Rules → (words : ℕ) → ℤ
 bonus_for rules words = pos (rules.challenge_unit * words)
 
--- the penalty of so many steps, as the score of its line
+-- the penalty of a number of steps, as the score of its line
 abbrev pub penalty_of : Rules → (steps : ℕ) → ℤ
 penalty_of rules steps = neg_ℤ (pos (rules.time_step * steps))
 
--- an amount other than the one that is written
+-- an amount other than the written one
 abbrev pub other_amount : (written : ℤ) → (right : ℤ) → List Slip
 other_amount written right = if int_eq right written then [] else slip.Amount right ∷ []
 
@@ -33,7 +33,7 @@ other_bonuses rules written = lists_to (other_bonus rules written) 8
 unfoldable pub other_penalties : Rules → (written : ℤ) → List Slip
 other_penalties rules written = lists_to (other_penalty rules written) 20
 
--- an exchange of so many tiles, where that is not the number that is written
+-- an exchange of this number of tiles, if that is not the written number
 abbrev pub other_number : (written : ℕ) → (tiles : ℕ) → List Slip
 other_number written tiles = if tiles == written then [] else slip.Number tiles ∷ []
 

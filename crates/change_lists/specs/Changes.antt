@@ -9,7 +9,7 @@ use Rattle.change_lists.specs.Each.{lists_below}
 use Rattle.change_lists.specs.Lines.{event_slips}
 use Rattle.change_lists.specs.MissingLines.{missing_slips}
 
--- what may be wrong with the event at a place, where there is one
+-- what may be wrong with the event at a place, if there is one
 abbrev pub slips_of_event : Rules → State → (events : List Event) → (place : ℕ) → Option Event → List Slip
 slips_of_event rules s events place None = []
 slips_of_event rules s events place (Some e) = event_slips rules s events place e
@@ -25,6 +25,6 @@ change_at place what = record { place = place; slip = what }
 abbrev pub changes_at : Rules → (events : List Event) → (place : ℕ) → List Change
 changes_at rules events place = map (change_at place) (slips_by rules (tally_at rules events place) events place)
 
--- The single changes of a record: those at the place of each event, and behind the last.
+-- The single changes of a record: those at the place of each event, and after the last.
 unfoldable pub changes : Rules → (events : List Event) → List Change
 changes rules events = lists_below (changes_at rules events) (length events + 1)

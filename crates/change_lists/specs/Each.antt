@@ -1,4 +1,4 @@
--- Lists one after the other: for each number below another one or up to it, for each letter, and for each kind of tile.
+-- Lists one after another: for each number below another one or up to it, for each letter, and for each kind of tile.
 use Rattle.std.specs.Prelude.{ℕ, ◌+◌, List, [], Option, Some, None}
 use Rattle.std.specs.List.{flat_map, range_with_len}
 use Rattle.ref_tiles.specs.declared.letters.Letter.{Letter}

@@ -1,4 +1,4 @@
--- Laws: what of a state decides which changes there are, and what it is that tiles are laid over a line.
+-- Laws: on which parts of a state the changes depend, and what it means that tiles are laid over a line.
 use Rattle.std.specs.Prelude.{◌≡◌, ℕ, ◌≤◌, not, Bool, true, List, length, slice_get, Some}
 use Rattle.ref_tiles.specs.declared.symbols.Symbol.{Symbol}
 use Rattle.ref_tiles.specs.declared.rulebook.Rules.{Rules}
@@ -7,21 +7,21 @@ use Rattle.game_turns.specs.Tallies.{State}
 use Rattle.change_lists.specs.Changes.{slips_by}
 use Rattle.change_lists.specs.Laying.{is_tile, tiles_of, laid_over}
 
--- what may be wrong at a place depends on the board there, on the player who is out and on whether the game is complete, and on nothing
--- else of the state: not on the totals that are written
+-- what may be wrong at a place depends on the board there, on the player who is out and on whether the game is complete, and on
+-- nothing else of the state: not on the written totals
 abbrev pub SlipsAreByBoard : Type 0
 SlipsAreByBoard =
     (rules : Rules) (s t : State) (events : List Event) (place : ℕ) → s.board ≡ t.board → s.out ≡ t.out → s.complete ≡ t.complete
     → slips_by rules s events place ≡ slips_by rules t events place
 
--- A text lies over a line, by which of its squares have a tile: its dots are on those and its tiles on the free ones, and the square
--- behind it is free, or there is none.
+-- A text lies over a line, by which of its squares have a tile: its dots are on those and its tiles on the free ones, and the
+-- square after it is free, or there is none.
 pub record LiesOver (occupied : List Bool) (text : List Symbol) : Type 0 where
   pub within : length text ≤ length occupied
   pub each : (k : ℕ) (s : Symbol) (b : Bool) → slice_get text k ≡ Some s → slice_get occupied k ≡ Some b → is_tile s ≡ not b
   pub behind : slice_get occupied (length text) ≡ Some true → ⊥
 
--- where as many tiles find room, the text that they make lies over the line, and has these tiles in their order
+-- if there is room for all tiles, the text that they make lies over the line, and has these tiles in order
 abbrev pub LaidTextsLie : Type 0
 LaidTextsLie =
     (occupied : List Bool) (word : List Symbol) → length (tiles_of (laid_over occupied (tiles_of word))) ≡ length (tiles_of word)

@@ -1,4 +1,4 @@
--- The tiles of a play, laid from its square on over the tiles that are there.
+-- The tiles of a play, laid from its square on over the tiles on the board.
 use Rattle.std.specs.Prelude.{ℕ, ◌-◌, ◌==◌, ◌&&◌, not, Bool, true, false, nat_lt, List, [], ◌∷◌, length, map, Option, if◌then◌else◌}
 use Rattle.std.specs.List.{filter, range_with_len}
 use Rattle.std.specs.Str.{bytes_eq}
@@ -18,7 +18,7 @@ is_tile symbol.Dot = false
 is_tile (symbol.Letter l) = true
 is_tile (symbol.Blank l) = true
 
--- the tiles of a text: its symbols that are no dots
+-- the tiles of a text: its symbols that are not dots
 unfoldable pub tiles_of : (word : List Symbol) → List Symbol
 tiles_of word = filter is_tile word
 
@@ -26,8 +26,8 @@ tiles_of word = filter is_tile word
 unfoldable pub occupied_from : List (Option Tile) → Dir → (line place : ℕ) → List Bool
 occupied_from board d line place = map (occupied_on d board line) (range_with_len place (15 - place))
 
--- The text of tiles that lie on the free squares, one after the other: a dot for each square that has a tile, up to the free square
--- behind the last tile.
+-- The text of tiles that lie on the free squares, one after another: a dot for each square that has a tile, up to the free square
+-- after the last tile.
 unfoldable pub laid_over : (occupied : List Bool) → (tiles : List Symbol) → List Symbol
 laid_over [] tiles = []
 laid_over (true ∷ rest) tiles = symbol.Dot ∷ laid_over rest tiles
@@ -42,13 +42,13 @@ laid_text board d at word = laid_over (occupied_from board d (line_of d at) (pla
 abbrev pub same_text : List Symbol → List Symbol → Bool
 same_text word other = bytes_eq (map byte_of word) (map byte_of other)
 
--- whether a text is one, has as many tiles as another, and is not that one
+-- whether a text is proper, has as many tiles as another, and is not that one
 abbrev pub is_other_laying : (word laid : List Symbol) → Bool
 is_other_laying word laid = nat_lt 0 (length laid) && length (tiles_of laid) == length (tiles_of word) && not (same_text laid word)
 
 abbrev pub laid_as : (word laid : List Symbol) → List Slip
 laid_as word laid = if is_other_laying word laid then slip.Spelling (spelling.Laid laid) ∷ [] else []
 
--- that text, where each tile finds a free square and it is not the text that is written
+-- that text, if each tile finds a free square and it is not the written text
 unfoldable pub laying_slips : List (Option Tile) → Dir → (at : ℕ) → (word : List Symbol) → List Slip
 laying_slips board d at word = laid_as word (laid_text board d at word)

@@ -19,23 +19,23 @@ use Rattle.change_lists.specs.Amounts.{other_bonuses, other_penalties, other_num
 use Rattle.change_lists.specs.Laying.{laying_slips}
 use Rattle.change_lists.specs.Rests.{rest_tiles, rest_for}
 
--- what may be wrong with a play, by its line alone
+-- what may be wrong with a play, judged only by its line
 abbrev pub play_slips : (at : ℕ) → (word : List Symbol) → List Slip
 play_slips at word = position_slips at ++ spelling_slips word
 
--- a pass may be an exchange or a withdrawal
+-- a pass may have been an exchange or a withdrawal
 abbrev pub pass_slips : List Slip
 pass_slips = exchanges ++ slip.Code code.Withdrawal ∷ []
 
--- an exchange of tiles that are not known may be one of another number, or a pass
+-- an exchange of unknown tiles may have been one of another number, or a pass
 abbrev pub unknown_slips : (number : ℕ) → List Slip
 unknown_slips number = other_numbers number ++ slip.Code code.Pass ∷ []
 
--- a withdrawal may be a pass
+-- a withdrawal may have been a pass
 abbrev pub withdrawal_slips : List Slip
 withdrawal_slips = slip.Code code.Pass ∷ []
 
--- what may be wrong with what happened, by the line alone
+-- what may be wrong with what happened, judged only by the line
 abbrev pub kind_slips : Rules → Event → EventKind → List Slip
 kind_slips rules e (kind.Play at dir word) = play_slips at word
 kind_slips rules e kind.Pass = pass_slips
@@ -46,7 +46,7 @@ kind_slips rules e kind.Challenge = other_bonuses rules e.score
 kind_slips rules e kind.Time = other_penalties rules e.score
 kind_slips rules e (kind.LastRack tiles) = tile_slips tiles_of.LastRack tiles
 
--- what may be wrong with it by the board before the line, and by the lines before and behind
+-- what may be wrong with it, judged by the board before the line, and by the lines before and after
 abbrev pub board_slips : Rules → State → (before behind : List Event) → EventKind → List Slip
 board_slips rules s before behind (kind.Play at dir word) = laying_slips s.board dir at word
 board_slips rules s before behind (kind.LastRack tiles) = rest_for tiles (rest_tiles rules s.board before behind)
@@ -64,11 +64,11 @@ abbrev pub slips_of_rack : Option (List ℕ) → List Slip
 slips_of_rack None = []
 slips_of_rack (Some tiles) = other_tiles tiles_of.Rack tiles ++ extra_tiles tiles_of.Rack tiles ++ slip.NoRack ∷ []
 
--- A tile of the stated rack of a turn may be another one or one too many; or the whole rack is wrong.
+-- A tile of the stated rack of a turn may be a different one or one too many; or the whole rack is wrong.
 abbrev pub rack_slips : Event → List Slip
 rack_slips e = if states_rack e.kind then slips_of_rack e.rack else []
 
--- the event before a place, where there is one
+-- the event before a place, if there is one
 abbrev pub event_before : List Event → (place : ℕ) → Option Event
 event_before events place = if place == 0 then None else slice_get events (place - 1)
 
@@ -77,7 +77,7 @@ abbrev pub repeats : Event → Option Event → Bool
 repeats e None = false
 repeats e (Some before) = same_seat e.player before.player && int_eq e.score before.score && int_eq e.total before.total
 
--- a line that should not be there: a pass is told from the others
+-- a line that should not be there: a pass is distinguished from the others
 abbrev pub extra_slip : EventKind → Slip
 extra_slip kind.Pass = slip.ExtraPass
 extra_slip other = slip.Extra
@@ -85,13 +85,13 @@ extra_slip other = slip.Extra
 abbrev pub extra_line : Event → (before : Option Event) → List Slip
 extra_line e before = if repeats e before then slip.Repeated ∷ [] else extra_slip e.kind ∷ []
 
--- A line may be in the place of the next one, and in that of the one after that.
+-- A line may be in the place of the next one, or of the one after that.
 unfoldable pub swapped_lines : (events : List Event) → (place : ℕ) → List Slip
 swapped_lines events place =
     (if nat_lt (place + 1) (length events) then slip.Swapped ∷ [] else [])
     ++ (if nat_lt (place + 2) (length events) then slip.SwappedOver ∷ [] else [])
 
--- Any line may be the other player's, or should not be there, or stands in the place of another.
+-- Any line may be the other player's, or should not be there, or is in the place of another.
 abbrev pub line_slips : (events : List Event) → (place : ℕ) → Event → List Slip
 line_slips events place e = slip.OtherPlayer ∷ extra_line e (event_before events place) ++ swapped_lines events place
 

@@ -30,7 +30,7 @@ missing_penalty rules early player steps = slip.Missing (line.Time player (penal
 unfoldable pub missing_penalties : Rules → (early : Bool) → Seat → List Slip
 missing_penalties rules early player = lists_to (missing_penalty rules early player) 20
 
--- what may be missing of a player
+-- the lines of a player that may be missing
 abbrev pub missing_of : Rules → (early : Bool) → Seat → List Slip
 missing_of rules early player = slip.Missing (line.Pass player) ∷ missing_exchanges player ++ missing_penalties rules early player
 
@@ -41,11 +41,11 @@ missing_bonus rules player words = slip.Missing (line.Challenge player (bonus_fo
 unfoldable pub missing_bonuses : Rules → Seat → List Slip
 missing_bonuses rules player = lists_to (missing_bonus rules player) 8
 
--- what belongs to a play: a withdrawal or a challenge
+-- the lines that may follow a play: a withdrawal or a challenge
 abbrev pub missing_of_play : Rules → Seat → List Slip
 missing_of_play rules player = slip.Missing (line.Withdrawal player) ∷ missing_bonuses rules player
 
--- the same, where the event before is a play
+-- the same, if the event before is a play
 abbrev pub missing_after : Rules → Seat → EventKind → List Slip
 missing_after rules player (kind.Play at dir word) = missing_of_play rules player
 missing_after rules player other = []
@@ -58,8 +58,8 @@ missing_behind rules (Some e) = missing_after rules e.player e.kind
 abbrev pub is_played : Event → Bool
 is_played e = is_turn false None e.kind
 
--- All lines that may be missing before a place, by the state there: of the first player and of the second; behind a play, what
--- belongs to it; and the last rack of the rest.
+-- All lines that may be missing before a place, by the state there: those of the first player and of the second; after a play, the
+-- lines that may follow it; and the last rack of the rest.
 unfoldable pub missing_slips : Rules → State → (events : List Event) → (place : ℕ) → List Slip
 missing_slips rules s events place =
     missing_of rules (list_any is_played (drop place events)) First

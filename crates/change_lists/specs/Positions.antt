@@ -8,11 +8,11 @@ use Rattle.record_changes.specs.declared.slips.Slip.TheVariants as slip
 use Rattle.record_changes.specs.declared.slips.PositionSlip.TheVariants as position
 use Rattle.change_lists.specs.Each.{lists_below}
 
--- whether one of two places is right beside the other
+-- whether two places are next to each other
 abbrev pub are_beside : ℕ → ℕ → Bool
 are_beside place other = place + 1 == other || other + 1 == place
 
--- the square at a place of the line of a direction on which the play begins, where that is another one
+-- the square at a place of the line of a direction on which the play begins, if that is a different one
 unfoldable pub elsewhere : Dir → (at : ℕ) → (place : ℕ) → List Slip
 elsewhere d at place =
     if place == place_of d at then []
@@ -23,10 +23,10 @@ elsewhere d at place =
 unfoldable pub on_line : Dir → (at : ℕ) → List Slip
 on_line d at = lists_below (elsewhere d at) 15
 
--- row and column the other way round, where they are two numbers
+-- row and column interchanged, if they are different numbers
 unfoldable pub interchanged : (at : ℕ) → List Slip
 interchanged at = if at / 15 == at % 15 then [] else slip.Position position.Interchanged ∷ []
 
--- The other direction; each other square of the row and of the column; row and column the other way round.
+-- The other direction; each other square of the row and of the column; row and column interchanged.
 unfoldable pub position_slips : (at : ℕ) → List Slip
 position_slips at = slip.Position position.OtherDirection ∷ on_line Across at ++ on_line Down at ++ interchanged at

@@ -1,4 +1,4 @@
-//! The amounts that a challenge or a penalty may have, and how many tiles an exchange.
+//! The amounts that a challenge or a penalty may have, and the numbers of tiles that may be exchanged.
 ghost use Rattle.std.specs.Prelude.{◌≡◌, ◌++◌, ◌≤◌, OnOk};
 ghost use Rattle.change_lists.specs.Amounts.{bonus_for, penalty_of, other_amount, other_bonus, other_penalty, other_bonuses, other_penalties, other_number, other_numbers, exchange_of, exchanges};
 
@@ -8,16 +8,16 @@ use record_changes::{CodeSlip, Slip};
 use ref_tiles::Rules;
 use std::alloc::AllocError;
 
-/// The most words of a challenge whose bonus is tried.
+/// The maximum number of words of a challenge whose bonus is tried.
 pub(crate) const WORDS: u8 = 8;
 
-/// The most steps of a penalty that is tried.
+/// The maximum number of steps of a penalty that is tried.
 pub(crate) const STEPS: u8 = 20;
 
-/// The most tiles of an exchange.
+/// The maximum number of tiles of an exchange.
 pub(crate) const TILES: u8 = 7;
 
-/// The bonus for the challenge of so many words.
+/// The bonus for the challenge of a number of words.
 pub(crate) fn bonus_for(rules: &Rules, words: u8) -> Points
     requires { words ≤ 8 }
     ensures { result ≡ bonus_for rules.now words }
@@ -26,7 +26,7 @@ pub(crate) fn bonus_for(rules: &Rules, words: u8) -> Points
     Points::new(bonus).unwrap()
 }
 
-/// The penalty of so many steps, as the score of its line.
+/// The penalty of a number of steps, as the score of its line.
 pub(crate) fn penalty_of(rules: &Rules, steps: u8) -> Points
     requires { steps ≤ 20 }
     ensures { result ≡ penalty_of rules.now steps }
@@ -35,7 +35,7 @@ pub(crate) fn penalty_of(rules: &Rules, steps: u8) -> Points
     Points::new(-penalty).unwrap()
 }
 
-/// Adds an amount in the place of another one.
+/// Adds an amount in place of another one.
 fn push_amount(slips: &mut Vec<Slip>, written: Points, right: Points) -> Result<(), AllocError>
     ensures { OnOk result (slips.new.items ≡ slips.old.items ++ other_amount written right) }
 {
@@ -45,7 +45,7 @@ fn push_amount(slips: &mut Vec<Slip>, written: Points, right: Points) -> Result<
     add(slips, Slip::Amount(right))
 }
 
-/// Adds the bonus for so many words, where another one is written.
+/// Adds the bonus for a number of words, if another one is written.
 fn push_bonus(
     slips: &mut Vec<Slip>,
     rules: &Rules,
@@ -73,7 +73,7 @@ pub(crate) fn push_bonuses(
     Ok(())
 }
 
-/// Adds the penalty of so many steps, where another one is written.
+/// Adds the penalty of a number of steps, if another one is written.
 fn push_penalty(
     slips: &mut Vec<Slip>,
     rules: &Rules,
@@ -101,7 +101,7 @@ pub(crate) fn push_penalties(
     Ok(())
 }
 
-/// Adds that so many tiles are exchanged, where another number is written.
+/// Adds an exchange of this number of tiles, if another number is written.
 fn push_number(slips: &mut Vec<Slip>, written: u8, tiles: u8) -> Result<(), AllocError>
     ensures { OnOk result (slips.new.items ≡ slips.old.items ++ other_number written tiles) }
 {
@@ -111,7 +111,7 @@ fn push_number(slips: &mut Vec<Slip>, written: u8, tiles: u8) -> Result<(), Allo
     add(slips, Slip::Number(tiles))
 }
 
-/// Adds that another number of tiles is exchanged, for each.
+/// Adds an exchange of each other number of tiles.
 #[tactic(auto, unfolding(crate::specs::Amounts::other_numbers))]
 pub(crate) fn push_numbers(slips: &mut Vec<Slip>, written: u8) -> Result<(), AllocError>
     ensures { OnOk result (slips.new.items ≡ slips.old.items ++ other_numbers written) }
@@ -122,7 +122,7 @@ pub(crate) fn push_numbers(slips: &mut Vec<Slip>, written: u8) -> Result<(), All
     Ok(())
 }
 
-/// Adds that tiles are exchanged, for each number of them.
+/// Adds an exchange of each number of tiles.
 #[tactic(auto, unfolding(crate::specs::Amounts::exchanges))]
 pub(crate) fn push_exchanges(slips: &mut Vec<Slip>) -> Result<(), AllocError>
     ensures { OnOk result (slips.new.items ≡ slips.old.items ++ exchanges) }

@@ -1,4 +1,4 @@
-//! The tiles of a play, laid from its square on over the tiles that are there.
+//! The tiles of a play, laid from its square on over the tiles on the board.
 ghost use Rattle.std.specs.Prelude.{◌≡◌, ◌<◌, ◌≤◌, ◌++◌, length, map, OnOk};
 ghost use Rattle.ref_tiles.specs.Symbols.{byte_of};
 ghost use Rattle.change_lists.specs.Laying.{is_tile, tiles_of, occupied_from, laid_over, laid_text, same_text, is_other_laying, laid_as, laying_slips};
@@ -11,7 +11,7 @@ use ref_board::{Board, Dir, SIDE, Square};
 use ref_tiles::Symbol;
 use std::alloc::AllocError;
 
-/// Whether a symbol is a tile, and no dot.
+/// Whether a symbol is a tile, and not a dot.
 fn is_tile(symbol: Symbol) -> bool
     ensures { result ≡ is_tile symbol }
 {
@@ -36,7 +36,7 @@ fn tiles_of(word: &[Symbol]) -> ArrayVec<Symbol, SIDE>
     tiles
 }
 
-/// The text of tiles that lie on the free squares of a line from a place on, one after the other.
+/// The text of tiles that lie on the free squares of a line, one after another, from a place on.
 fn laid_over(
     board: &Board,
     dir: Dir,
@@ -96,7 +96,7 @@ fn is_other_laying(word: &[Symbol], laid: &[Symbol]) -> bool
     !laid.is_empty() && tiles_of(laid).len() == tiles_of(word).len() && !same_text(laid, word)
 }
 
-/// Adds a text in the place of another one, where it has the same tiles.
+/// Adds a text in place of another one, if it has the same tiles.
 fn push_laid(slips: &mut Vec<Slip>, word: &[Symbol], laid: &[Symbol]) -> Result<(), AllocError>
     requires word { length word.now ≤ 15 }
     requires laid { length laid.now ≤ 15 }
@@ -111,7 +111,7 @@ fn push_laid(slips: &mut Vec<Slip>, word: &[Symbol], laid: &[Symbol]) -> Result<
     }
 }
 
-/// Adds the text of a play's own tiles from its square on, where it is another one.
+/// Adds the text of a play's own tiles from its square on, if it is a different one.
 #[tactic(auto, unfolding(crate::specs::Laying::laying_slips))]
 pub(crate) fn push_laying(
     slips: &mut Vec<Slip>,

@@ -1,4 +1,5 @@
-//! The single changes of a record, listed: all that may be wrong at a place, by the line, by those before and behind and by the game there.
+//! The single changes of a record, listed: all that may be wrong at a place, by the line, by those before and after it and by the
+//! game there.
 #![tactic(auto)]
 
 mod adding;

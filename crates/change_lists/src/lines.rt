@@ -19,7 +19,7 @@ use ref_board::Square;
 use ref_tiles::{Counts, Rules, Symbol};
 use std::alloc::AllocError;
 
-/// Adds what may be wrong with a play, by its line alone.
+/// Adds what may be wrong with a play, judged only by its line.
 fn push_play(slips: &mut Vec<Slip>, at: Square, word: &[Symbol]) -> Result<(), AllocError>
     ensures { OnOk result (slips.new.items ≡ slips.old.items ++ play_slips at word.now) }
 {
@@ -27,7 +27,7 @@ fn push_play(slips: &mut Vec<Slip>, at: Square, word: &[Symbol]) -> Result<(), A
     push_spellings(slips, word)
 }
 
-/// Adds what a pass may be.
+/// Adds what a pass may have been.
 fn push_pass(slips: &mut Vec<Slip>) -> Result<(), AllocError>
     ensures { OnOk result (slips.new.items ≡ slips.old.items ++ pass_slips) }
 {
@@ -35,7 +35,7 @@ fn push_pass(slips: &mut Vec<Slip>) -> Result<(), AllocError>
     add(slips, Slip::Code(CodeSlip::Withdrawal))
 }
 
-/// Adds what an exchange of tiles may be that are not known.
+/// Adds what an exchange of unknown tiles may have been.
 fn push_unknown(slips: &mut Vec<Slip>, number: u8) -> Result<(), AllocError>
     ensures { OnOk result (slips.new.items ≡ slips.old.items ++ unknown_slips number) }
 {
@@ -43,7 +43,7 @@ fn push_unknown(slips: &mut Vec<Slip>, number: u8) -> Result<(), AllocError>
     add(slips, Slip::Code(CodeSlip::Pass))
 }
 
-/// Adds what may be wrong with what happened, by the line alone.
+/// Adds what may be wrong with what happened, judged only by the line.
 fn push_kind(slips: &mut Vec<Slip>, rules: &Rules, event: &Event) -> Result<(), AllocError>
     ensures { OnOk result (slips.new.items ≡ slips.old.items ++ kind_slips rules.now event.now event.now.kind) }
 {
@@ -59,7 +59,7 @@ fn push_kind(slips: &mut Vec<Slip>, rules: &Rules, event: &Event) -> Result<(), 
     }
 }
 
-/// Adds the rest in the place of the tiles of a last rack.
+/// Adds the rest in place of the tiles of a last rack.
 fn push_rest_for(
     slips: &mut Vec<Slip>,
     rules: &Rules,
@@ -76,7 +76,7 @@ fn push_rest_for(
     push_rest(slips, tiles, &rest)
 }
 
-/// Adds what may be wrong with it by the board before the line, and by the lines before and behind.
+/// Adds what may be wrong with it, judged by the board before the line, and by the lines before and after.
 fn push_by_board(
     slips: &mut Vec<Slip>,
     rules: &Rules,
@@ -134,7 +134,7 @@ fn push_rack(slips: &mut Vec<Slip>, event: &Event) -> Result<(), AllocError>
     }
 }
 
-/// The event before a place, where there is one.
+/// The event before a place, if there is one.
 #[tactic(auto, using(game_turns::proofs::PlaceLaws::copied_get))]
 pub(crate) fn event_before(events: &[Event], place: usize) -> Option<&Event>
     ensures { option_copied result ≡ event_before events.now place }
@@ -185,7 +185,7 @@ fn push_extra(
     }
 }
 
-/// Adds that the line stands in the place of the next one, or of the one after that.
+/// Adds that the line is in the place of the next one, or of the one after that.
 #[tactic(auto, unfolding(crate::specs::Lines::swapped_lines))]
 fn push_swapped(slips: &mut Vec<Slip>, events: &[Event], place: usize) -> Result<(), AllocError>
     requires { place < length events.now }
@@ -216,7 +216,7 @@ fn push_line(
     push_swapped(slips, events, place)
 }
 
-/// Adds all that may be wrong with an event at a place, by the game before it.
+/// Adds all that may be wrong with an event at a place, judged by the game before it.
 #[tactic(auto, unfolding(crate::specs::Lines::event_slips))]
 pub(crate) fn push_event(
     slips: &mut Vec<Slip>,

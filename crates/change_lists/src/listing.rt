@@ -11,7 +11,7 @@ use record_changes::Slip;
 use ref_tiles::Rules;
 use std::alloc::{AllocError, Global};
 
-/// Adds all that may be wrong with the event at a place, where there is one.
+/// Adds all that may be wrong with the event at a place, if there is one.
 #[tactic(auto, using(crate::proofs::Places::of_event, crate::proofs::Places::of_none))]
 fn push_event_at(
     slips: &mut Vec<Slip>,
@@ -30,10 +30,10 @@ fn push_event_at(
     }
 }
 
-/// All that may be wrong at a place of a record, counted from 0, by the game before it: with the event there, where there is
-/// one, and with what is missing before it.
+/// All that may be wrong at a place of a record, counted from 0, by the game before it: with the event there, if there is one, and
+/// with what is missing before it.
 ///
-/// It fails only where memory runs out.
+/// It fails only if memory runs out.
 #[tactic(auto, unfolding(crate::specs::Changes::slips_by))]
 pub fn slips_at(
     alloc: Global,

@@ -15,7 +15,7 @@ use record_changes::{MissingLine, Slip};
 use ref_tiles::Rules;
 use std::alloc::AllocError;
 
-/// Adds that a player exchanges, for each number of tiles.
+/// Adds a missing exchange by a player, for each number of tiles.
 #[tactic(auto, unfolding(crate::specs::MissingLines::missing_exchanges))]
 fn push_exchanges(slips: &mut Vec<Slip>, player: Seat) -> Result<(), AllocError>
     ensures { OnOk result (slips.new.items ≡ slips.old.items ++ missing_exchanges player) }
@@ -30,7 +30,7 @@ fn push_exchanges(slips: &mut Vec<Slip>, player: Seat) -> Result<(), AllocError>
     Ok(())
 }
 
-/// Adds that a player gets a penalty of so many steps.
+/// Adds a missing penalty of a player, of a number of steps.
 fn push_penalty(
     slips: &mut Vec<Slip>,
     rules: &Rules,
@@ -49,7 +49,7 @@ fn push_penalty(
     add(slips, Slip::Missing(line))
 }
 
-/// Adds that a player gets a penalty, for each number of steps.
+/// Adds a missing penalty of a player, for each number of steps.
 #[tactic(auto, unfolding(crate::specs::MissingLines::missing_penalties))]
 fn push_penalties(
     slips: &mut Vec<Slip>,
@@ -65,7 +65,7 @@ fn push_penalties(
     Ok(())
 }
 
-/// Adds what may be missing of a player.
+/// Adds the lines of a player that may be missing.
 fn push_of(
     slips: &mut Vec<Slip>,
     rules: &Rules,
@@ -79,7 +79,7 @@ fn push_of(
     push_penalties(slips, rules, early, player)
 }
 
-/// Adds the bonus for so many words.
+/// Adds the bonus for a number of words.
 fn push_bonus(
     slips: &mut Vec<Slip>,
     rules: &Rules,
@@ -108,7 +108,7 @@ fn push_bonuses(slips: &mut Vec<Slip>, rules: &Rules, player: Seat) -> Result<()
     Ok(())
 }
 
-/// Adds what belongs to a play of a player.
+/// Adds the lines that may follow a play of a player.
 fn push_after_play(slips: &mut Vec<Slip>, rules: &Rules, player: Seat) -> Result<(), AllocError>
     ensures { OnOk result (slips.new.items ≡ slips.old.items ++ missing_of_play rules.now player) }
 {
@@ -116,7 +116,7 @@ fn push_after_play(slips: &mut Vec<Slip>, rules: &Rules, player: Seat) -> Result
     push_bonuses(slips, rules, player)
 }
 
-/// Adds what belongs to the event before, where it is a play.
+/// Adds the lines that may follow the event before, if it is a play.
 fn push_behind(
     slips: &mut Vec<Slip>,
     rules: &Rules,
@@ -140,7 +140,7 @@ fn has_turn(events: &[Event]) -> bool
     events.iter().any(|event| is_turn(&event.kind, None, false))
 }
 
-/// Adds all lines that may be missing before a place, by the game there.
+/// Adds all lines that may be missing before a place, judged by the game there.
 #[tactic(auto, unfolding(crate::specs::MissingLines::missing_slips))]
 pub(crate) fn push_missing(
     slips: &mut Vec<Slip>,

@@ -7,7 +7,7 @@ use record_changes::{PositionSlip, Slip};
 use ref_board::{Dir, SIDE, Square};
 use std::alloc::AllocError;
 
-/// Whether one of two places is right beside the other.
+/// Whether two places are next to each other.
 fn are_beside(place: usize, other: usize) -> bool
     requires place { place < 15 }
     requires other { other < 15 }
@@ -16,7 +16,7 @@ fn are_beside(place: usize, other: usize) -> bool
     place + 1 == other || other + 1 == place
 }
 
-/// Adds the square at a place of the line of a direction on which a play begins, where that is another one.
+/// Adds the square at a place of the line of a direction on which a play begins, if that is a different one.
 #[tactic(auto, unfolding(crate::specs::Positions::elsewhere))]
 fn push_elsewhere(
     slips: &mut Vec<Slip>,
@@ -50,7 +50,7 @@ fn push_on_line(slips: &mut Vec<Slip>, dir: Dir, at: Square) -> Result<(), Alloc
     Ok(())
 }
 
-/// Adds that row and column are the other way round, where they are two numbers.
+/// Adds row and column interchanged, if they are different numbers.
 #[tactic(auto, unfolding(crate::specs::Positions::interchanged))]
 fn push_interchanged(slips: &mut Vec<Slip>, at: Square) -> Result<(), AllocError>
     ensures { OnOk result (slips.new.items ≡ slips.old.items ++ interchanged at) }

@@ -1,4 +1,4 @@
-//! The tiles that are on no line.
+//! The tiles that are not on any line.
 ghost use Rattle.std.specs.Prelude.{◌≡◌, ◌++◌, ◌∷◌, [], OnOk, Some};
 ghost use Rattle.std.specs.Str.{bytes_eq};
 ghost use Rattle.change_lists.specs.Rests.{last_rack, off_board, off_racks, rest_tiles, is_rack, rest_for, rest_of_player, missing_rest};
@@ -46,7 +46,7 @@ fn last_rack(kind: &EventKind) -> Counts
     }
 }
 
-/// Tiles without those of an event, where it is a last rack.
+/// Tiles without those of an event, if it is a last rack.
 #[tactic(auto, using(crate::proofs::RestLaws::off_rack_is))]
 fn off_rack(counts: &Counts, event: &Event) -> Counts
     ensures { result ≡ off_racks counts.now (event.now ∷ []) }
@@ -67,7 +67,7 @@ fn off_racks(counts: &Counts, events: &[Event]) -> Counts
     rest
 }
 
-/// The tiles that are on no line: those of the game without those on the board and those of the last racks before and behind.
+/// The tiles that are not on any line: those of the game without those on the board and those of the last racks before and after.
 #[tactic(auto, using(crate::proofs::RestLaws::off_both_racks), unfolding(crate::specs::Rests::rest_tiles))]
 pub fn rest_tiles(rules: &Rules, board: &Board, before: &[Event], behind: &[Event]) -> Counts
     ensures { result ≡ rest_tiles rules.now board.now before.now behind.now }
@@ -77,7 +77,7 @@ pub fn rest_tiles(rules: &Rules, board: &Board, before: &[Event], behind: &[Even
     off_racks(&rest, behind)
 }
 
-/// Whether so many tiles can be a rack.
+/// Whether these tiles can be a rack, by their number.
 pub fn is_rack(tiles: &Counts) -> bool
     ensures { result ≡ is_rack tiles.now }
 {
@@ -94,7 +94,7 @@ fn same_tiles(tiles: &Counts, others: &Counts) -> bool
     own.as_slice() == numbers.as_slice()
 }
 
-/// Adds the rest in the place of other tiles, where it is a rack.
+/// Adds the rest in place of other tiles, if it is a rack.
 pub(crate) fn push_rest(
     slips: &mut Vec<Slip>,
     written: &Counts,
@@ -109,7 +109,7 @@ pub(crate) fn push_rest(
     }
 }
 
-/// Adds the last rack after the play of a player who is out, where the rest is a rack.
+/// Adds the last rack after the play of a player who is out, if the rest is a rack.
 fn push_rest_of(slips: &mut Vec<Slip>, player: Seat, rest: &Counts) -> Result<(), AllocError>
     ensures { OnOk result (slips.new.items ≡ slips.old.items ++ rest_of_player (Some player) rest.now) }
 {
@@ -123,7 +123,7 @@ fn push_rest_of(slips: &mut Vec<Slip>, player: Seat, rest: &Counts) -> Result<()
     add(slips, Slip::Missing(line))
 }
 
-/// Adds the last rack of the rest, where a player is out and the game is not complete.
+/// Adds the last rack of the rest, if a player is out and the game is not complete.
 pub(crate) fn push_missing_rest(
     slips: &mut Vec<Slip>,
     complete: bool,

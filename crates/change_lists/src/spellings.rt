@@ -8,7 +8,7 @@ use record_changes::{Slip, SpellingSlip};
 use ref_tiles::{Letter, SIDE, Symbol};
 use std::alloc::AllocError;
 
-/// Adds the letter with a number in the place of a dot.
+/// Adds the letter with a number in place of a dot.
 fn push_letter_for_dot(slips: &mut Vec<Slip>, place: usize, number: u8) -> Result<(), AllocError>
     ensures { OnOk result (slips.new.items ≡ slips.old.items ++ for_letter (letter_for_dot place) number) }
 {
@@ -18,7 +18,7 @@ fn push_letter_for_dot(slips: &mut Vec<Slip>, place: usize, number: u8) -> Resul
     }
 }
 
-/// Adds each letter in the place of a dot.
+/// Adds each letter in place of a dot.
 fn push_letters_for_dot(slips: &mut Vec<Slip>, place: usize) -> Result<(), AllocError>
     ensures { OnOk result (slips.new.items ≡ slips.old.items ++ for_letters (letter_for_dot place)) }
 {
@@ -39,7 +39,7 @@ fn relettered(written: Symbol, right: Letter) -> Symbol
     }
 }
 
-/// Adds a letter in the place of another one.
+/// Adds a letter in place of another one.
 fn push_relettered(
     slips: &mut Vec<Slip>,
     place: usize,
@@ -58,7 +58,7 @@ fn push_relettered(
     )
 }
 
-/// Adds the letter with a number in the place of another one.
+/// Adds the letter with a number in place of another one.
 fn push_other_letter(
     slips: &mut Vec<Slip>,
     place: usize,
@@ -73,7 +73,7 @@ fn push_other_letter(
     }
 }
 
-/// Adds each other letter in the place of one.
+/// Adds each other letter in place of one.
 fn push_other_letters(
     slips: &mut Vec<Slip>,
     place: usize,
@@ -87,7 +87,7 @@ fn push_other_letters(
     Ok(())
 }
 
-/// Adds what a tile may be: this one with the same letter, a dot, or one with another letter.
+/// Adds what a tile may have been: this one with the same letter, a dot, or one with another letter.
 fn push_tile(
     slips: &mut Vec<Slip>,
     place: usize,
@@ -104,7 +104,7 @@ fn push_tile(
     push_other_letters(slips, place, written)
 }
 
-/// Adds what a symbol may be.
+/// Adds what a symbol may have been.
 #[tactic(auto, unfolding(crate::specs::Spellings::symbol_slips))]
 fn push_symbol(slips: &mut Vec<Slip>, place: usize, written: Symbol) -> Result<(), AllocError>
     ensures { OnOk result (slips.new.items ≡ slips.old.items ++ symbol_slips place written) }
@@ -116,7 +116,7 @@ fn push_symbol(slips: &mut Vec<Slip>, place: usize, written: Symbol) -> Result<(
     }
 }
 
-/// Adds what the symbol at a place may be.
+/// Adds what the symbol at a place may have been.
 #[tactic(auto, using(crate::proofs::Places::of_symbol))]
 fn push_symbol_at(slips: &mut Vec<Slip>, word: &[Symbol], place: usize) -> Result<(), AllocError>
     requires { place < length word.now }
@@ -125,7 +125,7 @@ fn push_symbol_at(slips: &mut Vec<Slip>, word: &[Symbol], place: usize) -> Resul
     push_symbol(slips, place, word[place])
 }
 
-/// Adds what each symbol may be.
+/// Adds what each symbol may have been.
 #[tactic(auto, unfolding(crate::specs::Spellings::other_symbols))]
 fn push_other_symbols(slips: &mut Vec<Slip>, word: &[Symbol]) -> Result<(), AllocError>
     ensures { OnOk result (slips.new.items ≡ slips.old.items ++ other_symbols word.now) }
@@ -136,7 +136,7 @@ fn push_other_symbols(slips: &mut Vec<Slip>, word: &[Symbol]) -> Result<(), Allo
     Ok(())
 }
 
-/// Adds that a symbol should not be there, for each of so many symbols.
+/// Adds that a symbol should not be there, for each of the first `many` symbols.
 fn push_each_extra(slips: &mut Vec<Slip>, many: usize) -> Result<(), AllocError>
     ensures { OnOk result (slips.new.items ≡ slips.old.items ++ lists_below extra_symbol many) }
 {
@@ -146,7 +146,7 @@ fn push_each_extra(slips: &mut Vec<Slip>, many: usize) -> Result<(), AllocError>
     Ok(())
 }
 
-/// Adds that a symbol should not be there, for each where it is not the only one.
+/// Adds that a symbol should not be there, for each symbol unless it is the only one.
 #[tactic(auto, unfolding(crate::specs::Spellings::extra_symbols))]
 fn push_extra_symbols(slips: &mut Vec<Slip>, word: &[Symbol]) -> Result<(), AllocError>
     ensures { OnOk result (slips.new.items ≡ slips.old.items ++ extra_symbols word.now) }
@@ -211,7 +211,7 @@ fn push_missing_symbols(slips: &mut Vec<Slip>, word: &[Symbol]) -> Result<(), Al
     }
 }
 
-/// Adds that a symbol and the next one are in each other's place, where they differ.
+/// Adds that a symbol and the next one are in each other's place, if they differ.
 #[tactic(auto, unfolding(crate::specs::Spellings::twisted_pair))]
 fn push_two(
     slips: &mut Vec<Slip>,
@@ -240,7 +240,7 @@ fn push_twisted_at(slips: &mut Vec<Slip>, word: &[Symbol], place: usize) -> Resu
     }
 }
 
-/// Adds that two neighbours are in each other's place, for each two.
+/// Adds that two neighbours are in each other's place, for each pair.
 #[tactic(auto, unfolding(crate::specs::Spellings::twisted_symbols))]
 fn push_twisted(slips: &mut Vec<Slip>, word: &[Symbol]) -> Result<(), AllocError>
     ensures { OnOk result (slips.new.items ≡ slips.old.items ++ twisted_symbols word.now) }

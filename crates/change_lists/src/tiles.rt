@@ -15,7 +15,7 @@ fn has(counts: &Counts, tile: Kind) -> bool
     counts.count(tile) > 0
 }
 
-/// Adds the tile with a number in the place of another one.
+/// Adds the tile with a number in place of another one.
 fn push_other_tile(
     slips: &mut Vec<Slip>,
     of: TilesOf,
@@ -33,7 +33,7 @@ fn push_other_tile(
     add(slips, Slip::Tile { of, slip })
 }
 
-/// Adds each other tile in the place of one.
+/// Adds each other tile in place of one.
 fn push_each_other(slips: &mut Vec<Slip>, of: TilesOf, tile: Kind) -> Result<(), AllocError>
     ensures { OnOk result (slips.new.items ≡ slips.old.items ++ for_kinds (other_tile of tile)) }
 {
@@ -43,7 +43,7 @@ fn push_each_other(slips: &mut Vec<Slip>, of: TilesOf, tile: Kind) -> Result<(),
     Ok(())
 }
 
-/// Adds each other tile in the place of the one with a number, where that is there.
+/// Adds each other tile in place of the one with a number, if that is there.
 fn push_other_for(
     slips: &mut Vec<Slip>,
     of: TilesOf,
@@ -61,7 +61,7 @@ fn push_other_for(
     }
 }
 
-/// Adds that a tile is another one, for each that is there.
+/// Adds that a tile is a different one, for each tile that is there.
 #[tactic(auto, unfolding(crate::specs::Tiles::other_tiles))]
 pub(crate) fn push_other_tiles(
     slips: &mut Vec<Slip>,
@@ -76,7 +76,7 @@ pub(crate) fn push_other_tiles(
     Ok(())
 }
 
-/// Adds that the tile with a number should not be there, where it is.
+/// Adds that the tile with a number should not be there, if it is there.
 fn push_extra_tile(
     slips: &mut Vec<Slip>,
     of: TilesOf,
@@ -104,7 +104,7 @@ fn push_each_extra(slips: &mut Vec<Slip>, of: TilesOf, counts: &Counts) -> Resul
     Ok(())
 }
 
-/// Adds that a tile should not be there, for each where it is not the only one.
+/// Adds that a tile should not be there, for each tile unless it is the only one.
 #[tactic(auto, unfolding(crate::specs::Tiles::extra_tiles))]
 pub(crate) fn push_extra_tiles(
     slips: &mut Vec<Slip>,
@@ -141,7 +141,7 @@ fn push_each_missing(slips: &mut Vec<Slip>, of: TilesOf) -> Result<(), AllocErro
     Ok(())
 }
 
-/// Adds that a tile is missing, for each kind, where there are fewer than seven.
+/// Adds that a tile is missing, for each kind, if there are fewer than seven.
 #[tactic(auto, unfolding(crate::specs::Tiles::missing_tiles))]
 fn push_missing_tiles(slips: &mut Vec<Slip>, of: TilesOf, counts: &Counts) -> Result<(), AllocError>
     ensures { OnOk result (slips.new.items ≡ slips.old.items ++ missing_tiles of counts.now) }

@@ -1,6 +1,6 @@
-//! Shows the single changes of records, for a judge who lists them too: `change_probe WORDS RULES RECORD..`. `-` stands for the rules of the
-//! English game. Of each record it goes to the first event that is not allowed, and prints of each change at the places up to there the
-//! place, what it weighs, and the record with the change in the normal form. All of it is printed at the end.
+//! Shows the single changes of records, for a judge that lists them too: `change_probe WORDS RULES RECORD..`. `-` stands for the rules of
+//! the English game. For each record it goes to the first event that is not allowed, and prints for each change at the places up to there
+//! the place, what it weighs, and the record with the change in the normal form. All of it is printed at the end.
 #![tactic(auto)]
 
 ghost use Rattle.std.specs.Prelude.{◌≤◌, length};
@@ -20,7 +20,7 @@ use std::process::ExitCode;
 use std::rt::Runtime;
 use std::{env, fs, io};
 
-/// The most bytes of an input.
+/// The greatest number of bytes of an input.
 const LIMIT: usize = 64 << 20;
 
 fn main(rt: HostRuntime) -> ExitCode {
@@ -30,7 +30,7 @@ fn main(rt: HostRuntime) -> ExitCode {
     ExitCode::from(if is_told && is_printed { 0 } else { 64 })
 }
 
-/// Tells the changes of the records that the arguments name. There is nothing to tell where an input cannot be read.
+/// Prints the changes of the records that the arguments name. It prints nothing if an input cannot be read.
 fn tell_all<R: Runtime + AllocGlobal>(rt: &R, report: &mut Vec<u8>) -> Option<()> {
     let args: Vec<String> = env::args(rt).ok()?.collect(rt.alloc()).ok()?;
     let [_, words, rules, names @ ..] = args.as_slice() else {
@@ -61,7 +61,7 @@ fn rules_of<R: Runtime + AllocGlobal>(rt: &R, name: &str) -> Option<Rules> {
     Rules::read(text.as_slice()).ok()
 }
 
-/// Tells the changes of the record of a text, up to the first event that is not allowed.
+/// Prints the changes of the record of a text, up to the first event that is not allowed.
 fn tell_record(
     alloc: Global,
     rules: &Rules,
@@ -85,7 +85,7 @@ fn tell_record(
     Some(())
 }
 
-/// Tells the changes at a place.
+/// Prints the changes at a place.
 fn tell_place(
     alloc: Global,
     rules: &Rules,

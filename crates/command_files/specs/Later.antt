@@ -1,4 +1,4 @@
--- What is told once all is done is not that an input is bad that was read before.
+-- What is said once all is done is not that an input that was read before is bad.
 use Rattle.std.proofs.Common.{◌≡◌, ℕ, List, [], ◌∷◌, Result, Ok, Err, sym, subst}
 use Rattle.ref_tiles.specs.declared.rulebook.Rules.{Rules}
 use Rattle.call_stages.specs.declared.decisions.Decision.{Decision}

@@ -1,4 +1,4 @@
--- The case of a record is told, once what games are judged by is read.
+-- The case of a record is given, once what games are judged by is read.
 use Rattle.std.specs.Prelude.{ℕ, List, [], Result, Ok, Err}
 use Rattle.ref_tiles.specs.declared.rulebook.Rules.{Rules}
 use Rattle.call_stages.specs.declared.decisions.Decision.{Decision}
@@ -9,7 +9,7 @@ use Rattle.call_stages.specs.Telling.{IsTold}
 use Rattle.engine.specs.declared.explains.Case.{Case}
 use Rattle.engine.specs.Explaining.{IsCaseOf}
 
--- the case of the record is told, and it may be that it is none
+-- the case of the record is given, and the text may not be a record
 abbrev pub IsCaseTold : {T : Type 0} → Rules → (list : List (List ℕ)) → Result T Decision → (texts : List (List ℕ)) → Verdict → List ℕ → Type 0
 IsCaseTold rules list (Ok told) texts v report = ReadsNext (λ text. ReadsNoMore (λ w said. (case : Case) × IsCaseOf rules list text case × IsTold verdict.Done [] w said)) texts v report
 IsCaseTold rules list (Err d) texts v report = ⊥

@@ -1,4 +1,4 @@
-//! What is said on standard error beside a report: what is wrong with a file that is no game.
+//! What is said on standard error besides a report: what is wrong with a file that is not a game.
 
 use crate::sources::shown;
 use file_kinds::{FileKind, has_events};
@@ -17,7 +17,7 @@ pub fn is_record(alloc: Global, game: &Front) -> bool {
     }
 }
 
-/// Says why the record that was read has no game, where it has no event.
+/// Says why the record that was read has no game, if it has no event.
 pub fn advise_no_game<R: Runtime>(rt: &R, name: &str, game: &Front) {
     if let Some(text) = game.whole() {
         if !has_events(text) {
@@ -46,7 +46,7 @@ pub fn advise_bad_record<R: Runtime + AllocGlobal>(rt: &R, name: &str, game: &Fr
     };
 }
 
-/// Appends what a file seems to be, where that is no text of lines.
+/// Appends what a file seems to be, if it is not a text of lines.
 fn push_kind(sentence: &mut Vec<u8>, kind: FileKind) -> Result<(), AllocError> {
     if matches!(kind, FileKind::Other | FileKind::Indented) {
         return Ok(());

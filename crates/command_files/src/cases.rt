@@ -1,8 +1,8 @@
-//! Records that have no game to tell of.
+//! Records that have no game.
 
 use engine::{Case, Finding};
 
-/// What is answered of a record without an event.
+/// The answer about a record without an event.
 pub const NO_GAME: &[u8] = b"no game\n";
 
 /// Whether the text of a case is a record without an event.
@@ -13,7 +13,7 @@ pub fn has_no_event(case: &Case) -> bool {
     }
 }
 
-/// Whether there is a page of a case: its text is a record with an event.
+/// Whether a case has a page: its text is a record with an event.
 pub fn has_page(case: &Case) -> bool {
     case.read.is_ok() && !has_no_event(case)
 }

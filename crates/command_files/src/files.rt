@@ -12,10 +12,10 @@ use std::{fs, io};
 use watching::{Reason, WatchedRead, WatchedWrite};
 use whole_files::OutputFile;
 
-/// What messages name the output that is no file.
+/// The name of standard output in messages.
 pub const STANDARD_OUTPUT: &str = "standard output";
 
-/// What messages name standard error.
+/// The name of standard error in messages.
 pub const STANDARD_ERROR: &str = "standard error";
 
 /// How many bytes of what was written are kept: the line of a fault is shorter.
@@ -38,7 +38,7 @@ pub fn unopened<'a>(name: &'a str, error: &io::Error) -> Trouble<'a> {
     }
 }
 
-/// What is said of an output of this name of which a write failed.
+/// What is said of an output of this name if a write to it failed.
 fn unwritten<'a>(name: &'a str, error: &io::Error) -> Trouble<'a> {
     if error.kind() == io::ErrorKind::OutOfMemory {
         Trouble::NoMemory
@@ -50,7 +50,7 @@ fn unwritten<'a>(name: &'a str, error: &io::Error) -> Trouble<'a> {
 /// An output that a command names: a file that is written whole or not at all, or standard output.
 pub type Outlet<'r, R> = Either<OutputFile<<R as Files>::File>, Printer<'r, R>>;
 
-/// Opens the output of this name: standard output where it is `-`, and else a file.
+/// Opens the output of this name: standard output if it is `-`, and otherwise a file.
 pub fn open_out<'r, 'a, R: Runtime + AllocGlobal>(
     rt: &'r R,
     name: &'a str,
@@ -64,8 +64,8 @@ pub fn open_out<'r, 'a, R: Runtime + AllocGlobal>(
     }
 }
 
-/// Ends the output of this name after a call that came to this: what was written to a file stays where the call came to its end, and
-/// else the file is as it was.
+/// Ends the output of this name after a call with this result: what was written to a file stays if the call finished, and otherwise
+/// the file is as it was.
 pub fn end_out<'a, T: Drop, R: Runtime>(
     rt: &R,
     name: &'a str,
@@ -94,7 +94,7 @@ pub fn watched<R: Runtime + AllocGlobal, W: Write + Drop>(rt: &R, inner: W) -> W
     WatchedWrite::new(rt.alloc(), inner, KEPT)
 }
 
-/// Writes bytes to the output of this name: whole or not at all where it is a file.
+/// Writes bytes to the output of this name: whole or not at all if it is a file.
 pub fn write_out<'a, R: Runtime + AllocGlobal>(
     rt: &R,
     name: &'a str,
@@ -146,7 +146,7 @@ fn write_outlet<'a, R: Runtime + AllocGlobal>(
     end_out(rt, name, out.into_inner(), outcome)
 }
 
-/// How messages name an output.
+/// The name of an output in messages.
 pub fn shown_out(name: &str) -> &str {
     if name == STANDARD_OUTPUT_NAME {
         STANDARD_OUTPUT
@@ -155,7 +155,7 @@ pub fn shown_out(name: &str) -> &str {
     }
 }
 
-/// An input after a call: what messages name it, how often a read of it failed, and why the last of these did.
+/// An input after a call: its name in messages, how many reads of it failed, and why the last of these did.
 #[derive(Clone, Copy)]
 pub struct InputFile<'a> {
     name: &'a str,
@@ -164,7 +164,7 @@ pub struct InputFile<'a> {
 }
 
 impl<'a> InputFile<'a> {
-    /// The input that messages name so, of which so many reads failed.
+    /// The input with this name in messages, of which this many reads failed.
     fn new<F: Read + Drop>(name: &'a str, failures: u64, reader: &WatchedRead<F>) -> InputFile<'a> {
         InputFile {
             name,
@@ -174,7 +174,7 @@ impl<'a> InputFile<'a> {
     }
 }
 
-/// The rules text of this name, where there is one.
+/// The rules text of this name, if there is one.
 pub fn used_rules<'a, F: Read + Drop>(
     name: Option<&'a str>,
     input: &Option<FromRead<WatchedRead<F>>>,
@@ -207,7 +207,7 @@ pub fn used<'a, F: Read + Drop>(name: &'a str, input: &FromRead<WatchedRead<F>>)
     InputFile::new(name, input.failures(), input.inner())
 }
 
-/// An output after a call: what messages name it, and why the last failed write to it failed.
+/// An output after a call: its name in messages, and why the last failed write to it failed.
 #[derive(Clone, Copy)]
 pub struct UsedOutput<'a> {
     name: &'a str,
@@ -221,7 +221,7 @@ impl<'a> UsedOutput<'a> {
         reason: Reason::Unknown,
     };
 
-    /// The output that messages name so.
+    /// The output with this name in messages.
     pub fn new<W: Write + Drop>(name: &'a str, writer: &WatchedWrite<W>) -> UsedOutput<'a> {
         UsedOutput {
             name,
@@ -230,7 +230,7 @@ impl<'a> UsedOutput<'a> {
     }
 }
 
-/// Why a call gave up. Where an input failed, it is the first of these that has a failure; else the output did.
+/// Why a call gave up. If an input failed, it is the first of these that has a failure; otherwise the output did.
 pub fn given_up<'a>(fault: RunFault, inputs: &[InputFile<'a>], out: UsedOutput<'a>) -> Trouble<'a> {
     match inputs.iter().find(|input| input.failures > 0) {
         Some(input) => Trouble::of(fault, input.name, input.reason),
@@ -238,7 +238,7 @@ pub fn given_up<'a>(fault: RunFault, inputs: &[InputFile<'a>], out: UsedOutput<'
     }
 }
 
-/// What a call came to that wrote to this output, and read these inputs.
+/// The result of a call that wrote to this output and read these inputs.
 pub fn verdict_of<'a>(
     outcome: Result<Verdict, RunFault>,
     inputs: &[InputFile<'a>],

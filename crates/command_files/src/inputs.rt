@@ -30,7 +30,7 @@ pub type LexiconFile<F> = FromRead<WatchedRead<F>>;
 /// What was read of these inputs.
 pub type GivenFiles<'a, F, S> = Given<'a, RulesFile<F>, FromRead<Words<S>>>;
 
-/// How the program ends after a question that told its answer, or the decision that an input is bad.
+/// How the program ends after a question that wrote its answer, or the decision that an input is bad.
 pub type Told<'a> = Result<Result<Exit, Trouble<'a>>, Decision>;
 
 /// The open inputs that games are judged by.
@@ -66,7 +66,7 @@ impl<F: Read + Drop, S: Read + Drop> Inputs<F, S> {
     }
 }
 
-/// The first bytes of a rules text, where there is one.
+/// The first bytes of a rules text, if there is one.
 pub fn rules_front<F: Read + Drop>(rules: &RulesFile<F>) -> &[u8] {
     match &rules.text {
         Some(text) => text.inner().front().bytes(),
@@ -86,7 +86,7 @@ pub fn known_words<'a, S: Read + Drop>(
     }
 }
 
-/// Opens a rules text, where one is named.
+/// Opens a rules text, if one is named.
 pub fn open_rules<'a, R: Runtime + AllocGlobal>(
     rt: &R,
     name: Option<&'a str>,
@@ -117,8 +117,8 @@ pub fn open_lexicon<'a, R: Runtime + AllocGlobal>(
     Ok(FromRead::new(file))
 }
 
-/// Opens the rules text where there is one, the word list and the lexicon, in this order. The bytes of the rules text and of the
-/// word list are digested where that is asked for.
+/// Opens the rules text if there is one, the word list and the lexicon, in this order. The bytes of the rules text and of the
+/// word list are digested on request.
 pub fn open_inputs<'a, R: Runtime + AllocGlobal>(
     rt: &R,
     rules: Option<&'a str>,
@@ -141,11 +141,11 @@ pub fn open_inputs<'a, R: Runtime + AllocGlobal>(
 pub struct Digests {
     /// That of the bytes of the word list.
     pub list: [u8; 32],
-    /// That of the rules text, where there is one.
+    /// That of the rules text, if there is one.
     pub rules: Option<[u8; 32]>,
 }
 
-/// The digests of these inputs, which were opened so that they are digested.
+/// The digests of these inputs, which must have been opened with digests.
 pub fn digests_of<F: Read + Drop, S: Read + Drop>(
     given: &GivenFiles<'_, F, S>,
 ) -> Result<Digests, AllocError> {
@@ -160,7 +160,7 @@ pub fn digests_of<F: Read + Drop, S: Read + Drop>(
     })
 }
 
-/// Tells that one of these inputs is bad, beside an output of this name where there is one.
+/// Says that one of these inputs is bad, next to what goes to an output of this name, if there is one.
 pub fn refuse<'a, R: Runtime + AllocGlobal>(
     rt: &R,
     out: Option<&str>,
@@ -182,7 +182,7 @@ pub fn write<'a, R: Runtime + AllocGlobal>(rt: &R, bytes: &[u8]) -> Result<(), T
     }
 }
 
-/// Writes bytes to standard output, or to standard error where a command writes to an output of this name that is standard output itself.
+/// Writes bytes to standard output, or to standard error if a command writes to an output of this name that is standard output itself.
 pub fn write_beside<'a, R: Runtime + AllocGlobal>(
     rt: &R,
     out: Option<&str>,

@@ -1,6 +1,6 @@
 //! The files of a command: how they are opened, read and written, and what is said of the one that failed.
 //!
-//! An input keeps why a read of it failed, and the bytes that tell what it is. An output is written whole or not at all.
+//! An input keeps why a read of it failed, and the bytes that show what it is. An output is written whole or not at all.
 #![tactic(auto)]
 
 mod advice;

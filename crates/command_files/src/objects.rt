@@ -1,4 +1,4 @@
-//! Objects that every command may write: that an input is bad, and what kept the program from its end.
+//! Objects that every command may write: that an input is bad, and why the program could not finish.
 
 use crate::inputs::write;
 use crate::sources::shown;
@@ -8,7 +8,7 @@ use exit_statuses::{Exit, Trouble};
 use std::alloc::{AllocError, Global};
 use std::rt::Runtime;
 
-/// Tells that an input is bad, as a JSON object.
+/// Writes that an input is bad, as a JSON object.
 pub fn refuse_in_json<'a, R: Runtime + AllocGlobal>(
     rt: &R,
     decision: &Decision,
@@ -21,7 +21,7 @@ pub fn refuse_in_json<'a, R: Runtime + AllocGlobal>(
     Ok(Exit::from(decision.verdict))
 }
 
-/// The object of what kept the program from its end.
+/// The object that says why the program could not finish.
 fn trouble_text(alloc: Global, trouble: &Trouble<'_>) -> Result<Vec<u8>, AllocError> {
     let mut text = Vec::new(alloc);
     match trouble {
@@ -39,14 +39,14 @@ fn trouble_text(alloc: Global, trouble: &Trouble<'_>) -> Result<Vec<u8>, AllocEr
     Ok(text)
 }
 
-/// Tells what kept the program from its end, as a JSON object, where standard output takes it. Standard error tells it too.
+/// Writes why the program could not finish, as a JSON object, if standard output takes it. Standard error says it too.
 fn tell_trouble<R: Runtime + AllocGlobal>(rt: &R, trouble: &Trouble<'_>) {
     if let Ok(text) = trouble_text(rt.alloc(), trouble) {
         let _ = write(rt, text.as_slice());
     }
 }
 
-/// What a command came to that tells its answer as a JSON object; what kept it from its end is told so too.
+/// The result of a command that writes its answer as a JSON object; why it could not finish is written so too.
 pub fn told_in_json<'a, R: Runtime + AllocGlobal>(
     rt: &R,
     outcome: Result<Exit, Trouble<'a>>,

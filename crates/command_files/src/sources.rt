@@ -21,7 +21,7 @@ const WORDS_FRONT: usize = 64;
 /// A file, or standard input.
 pub type Source<R> = Either<<R as Files>::File, <R as io::Input>::Reader>;
 
-/// Opens the file of this name to be read, or standard input where it is `-`.
+/// Opens the file of this name to be read, or standard input if it is `-`.
 pub fn open_source<'a, R: Runtime>(rt: &R, name: &'a str) -> Result<Source<R>, Trouble<'a>> {
     if name == STANDARD_INPUT {
         return Ok(Either::Right(rt.reader()));
@@ -29,7 +29,7 @@ pub fn open_source<'a, R: Runtime>(rt: &R, name: &'a str) -> Result<Source<R>, T
     Ok(Either::Left(open(rt, name)?))
 }
 
-/// A reader, which digests its bytes where that is asked for.
+/// A reader, which may digest its bytes.
 pub type Digested<F> = Either<F, Digesting<F>>;
 
 /// A reader that digests its bytes, or as it is.
@@ -41,7 +41,7 @@ pub fn digested<F: Read + Drop>(reader: F, digests: bool) -> Digested<F> {
     }
 }
 
-/// The SHA-256 of the bytes that a reader handed out, where it digests them.
+/// The SHA-256 of the bytes that a reader gave out, if it digests them.
 pub fn digest_of<F: Read + Drop>(reader: &Digested<F>) -> Result<Option<[u8; 32]>, AllocError> {
     match reader {
         Either::Left(_) => Ok(None),
@@ -58,7 +58,7 @@ pub type ListLines<S> = Either<Seen<S>, FirstFields<Seen<S>>>;
 /// A word list, or the lines of it that are words.
 pub type Words<S> = Either<ListLines<S>, WordLines<ListLines<S>>>;
 
-/// Opens a word list to be read, whose bytes are digested where that is asked for.
+/// Opens a word list to be read, whose bytes are digested on request.
 pub fn open_words<'a, R: Runtime + AllocGlobal>(
     rt: &R,
     words: WordsFile<'a>,
@@ -88,7 +88,7 @@ pub fn sheet_of<S: Read + Drop>(alloc: Global, source: S) -> SheetFile<S>
     FromRead::new(WatchedRead::new(alloc, source, gcg_read::MAX_BYTES + 1))
 }
 
-/// Opens a record, or standard input where its name is `-`.
+/// Opens a record, or standard input if its name is `-`.
 pub fn open_sheet<'a, R: Runtime + AllocGlobal>(
     rt: &R,
     name: &'a str,
@@ -110,7 +110,7 @@ pub fn seen_words<S: Read + Drop>(words: &FromRead<Words<S>>) -> &Seen<S> {
     }
 }
 
-/// Says which lines of a word list were passed over, where any were.
+/// Says which lines of a word list were passed over, if any were.
 pub fn tell_others<R: Runtime + AllocGlobal, S: Read + Drop>(
     rt: &R,
     name: &str,
@@ -131,7 +131,7 @@ pub fn tell_others<R: Runtime + AllocGlobal, S: Read + Drop>(
     }
 }
 
-/// How messages name a file or standard input.
+/// The name of a file or of standard input in messages.
 pub fn shown(name: &str) -> &str {
     if name == STANDARD_INPUT {
         "standard input"

@@ -1,7 +1,7 @@
-//! Measures cross-sets: `cross_bench LEXICON RECORD`. It prints, on the board in the middle of a game, the times of cross-sets made
-//! afresh, and of a copy of them brought up to plays of 1 to 7 tiles, once for the play and tile by tile; and for each play of
-//! the record, on its own board, how many tiles it has, and the times of bringing a copy up once and of making cross-sets afresh.
-//! The sums of some points stand beside, so that no round is left out.
+//! Measures cross-sets: `cross_bench LEXICON RECORD`. It prints, on the board in the middle of a game, the times of cross-sets
+//! computed anew, and of a copy of them updated for plays of 1 to 7 tiles, once for the play and tile by tile; and for each play of
+//! the record, on its own board, how many tiles it has, and the times of updating a copy once and of computing cross-sets anew. The
+//! sums of some points are printed too, so that no round is optimized away.
 #![tactic(auto)]
 
 use devices::{FromRead, read_within};
@@ -38,19 +38,19 @@ const ROWS: [&[u8]; 15] = [
 /// Where the text of the plays begins: row 12, column D, below the I of PILE.
 const START: (usize, usize) = (11, 3);
 
-/// The letters of the longest of these plays; each other one is a front of it. Three of them lie below other tiles.
+/// The letters of the longest of these plays; each other one is a prefix of it. Three of them are below other tiles.
 const RETAINS: &[u8] = b"RETAINS";
 
 /// How many tiles these plays have.
 const SIZES: [usize; 6] = [1, 2, 3, 4, 5, 7];
 
-/// The most bytes of a file.
+/// The greatest number of bytes of a file.
 const LIMIT: usize = 64 << 20;
 
-/// How often cross-sets are made afresh.
+/// How many times cross-sets are computed anew.
 const MADE: u32 = 2_000;
 
-/// How often they are brought up to a play.
+/// How many times they are updated for a play.
 const KEPT: u32 = 20_000;
 
 fn main(rt: HostRuntime) -> ExitCode {
@@ -60,7 +60,7 @@ fn main(rt: HostRuntime) -> ExitCode {
     }
 }
 
-/// Measures all. There is nothing to tell where the lexicon or the record cannot be read.
+/// Measures all. It prints nothing if the lexicon or the record cannot be read.
 fn measure<R: Runtime + AllocGlobal + CpuClock>(rt: &R) -> Option<()> {
     let game = file_named(rt, 2)?;
     let record = read(rt.alloc(), game.as_slice()).ok()?;
@@ -82,7 +82,7 @@ fn file_named<R: Runtime + AllocGlobal>(rt: &R, argument: usize) -> Option<Vec<u
     read_within(rt.alloc(), &mut input, LIMIT).ok()
 }
 
-/// A board on which plays are measured, the lexicon, the rules, and the cross-sets of the board, made afresh.
+/// A board on which plays are measured, the lexicon, the rules, and the cross-sets of the board, computed anew.
 #[derive(Drop)]
 struct Site<'a> {
     rules: Rules,
@@ -153,7 +153,7 @@ fn measure_copy<R: Runtime + CpuClock>(rt: &R, site: &Site<'_>) -> Option<()> {
     tell(rt, "copy alone", start, KEPT, points)
 }
 
-/// Measures cross-sets that are brought up once for a play, and those made afresh of the board with it.
+/// Measures cross-sets that are updated once for a play, and those computed anew for the board with it.
 fn measure_play<R: Runtime + CpuClock>(rt: &R, site: &Site<'_>, play: &Play) -> Option<()> {
     println!(rt; "tiles: {}", play.tiles.len()).ok()?;
     let start = rt.process_cpu_time().ok()?;
@@ -164,14 +164,14 @@ fn measure_play<R: Runtime + CpuClock>(rt: &R, site: &Site<'_>, play: &Play) -> 
     tell(rt, "after_play", start, KEPT, points)
 }
 
-/// Measures cross-sets that are brought up tile by tile.
+/// Measures cross-sets that are updated tile by tile.
 fn measure_puts<R: Runtime + CpuClock>(rt: &R, site: &Site<'_>, play: &Play) -> Option<()> {
     let start = rt.process_cpu_time().ok()?;
     let points = put_points(site, play);
     tell(rt, "after_put of each", start, KEPT, points)
 }
 
-/// Tells the time of one round since the start of so many.
+/// Prints the time of one of `rounds` rounds since the start.
 fn tell<R: Runtime + CpuClock>(
     rt: &R,
     what: &str,
@@ -184,7 +184,7 @@ fn tell<R: Runtime + CpuClock>(
     println!(rt; "{what}: {round} ns ({points})").ok()
 }
 
-/// The points beside row 13, of cross-sets made afresh of the board with a play.
+/// The points beside row 13, by cross-sets computed anew for the board with a play.
 fn made_points(site: &Site<'_>, play: &Play) -> u16 {
     let after = with_play(&site.board, play);
     let mut points: u16 = 0;
@@ -195,7 +195,7 @@ fn made_points(site: &Site<'_>, play: &Play) -> u16 {
     points
 }
 
-/// The points beside row 13, of cross-sets brought up once for a play.
+/// The points beside row 13, by cross-sets updated once for a play.
 fn kept_points(site: &Site<'_>, play: &Play) -> u16 {
     let mut points: u16 = 0;
     for _ in 0..KEPT {
@@ -206,7 +206,7 @@ fn kept_points(site: &Site<'_>, play: &Play) -> u16 {
     points
 }
 
-/// The points beside row 13, of cross-sets brought up tile by tile.
+/// The points beside row 13, by cross-sets updated tile by tile.
 fn put_points(site: &Site<'_>, play: &Play) -> u16 {
     let mut points: u16 = 0;
     for _ in 0..KEPT {
@@ -215,7 +215,7 @@ fn put_points(site: &Site<'_>, play: &Play) -> u16 {
     points
 }
 
-/// The cross-sets after the tiles of a play were put one by one.
+/// The cross-sets after the tiles of a play are put one by one.
 fn after_puts(site: &Site<'_>, play: &Play) -> Cross {
     let mut board = site.board;
     let mut cross = site.made;
@@ -248,7 +248,7 @@ fn middle() -> Board {
     board
 }
 
-/// Puts a tile where none lies.
+/// Puts a tile on an empty square.
 fn put(board: &mut Board, square: Square, tile: Tile) {
     if board.at(square).is_none() {
         board.put(square, tile);

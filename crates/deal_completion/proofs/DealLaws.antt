@@ -1,4 +1,4 @@
--- What a step makes of the bag and the racks: nothing is lost.
+-- What a step does to the bag and the racks: nothing is lost.
 use Rattle.std.proofs.Common.{◌≡◌, ℕ, zero, suc, ◌+◌, ◌-◌, ◌<◌, ◌≤◌, Bool, true, false, List, [], ◌∷◌, ◌++◌, get_or, length, sum, Option, Some, None, refl, sym, ap, ◌∙◌, append_assoc, arith, ⊎_elim, leb, if◌then◌else◌}
 use Rattle.std.specs.List.{list_all, range_with_len}
 use Rattle.std.specs.Option.{option_map}
@@ -41,7 +41,7 @@ unfolding kinds
 within_test tiles others within k below =
     leb-true (get_or tiles k 0) (get_or others k 0) (each_of_range (λ j. leb (get_or tiles j 0) (get_or others j 0)) 0 27 k within (omega arith) (omega arith))
 
--- what a turn uses is on the rack, where the moment is met
+-- what a turn uses is on the rack, if the moment is met
 used_there : (shown used rack : List ℕ) → is_within (greater shown used) rack ≡ true → (k : ℕ) → k < 27 → get_or used k 0 ≤ get_or rack k 0
 used_there shown used rack met k below =
     let there = within_test (greater shown used) rack met k below in
@@ -113,7 +113,7 @@ draw_keeps seat number steps h long =
     draws_by seat h (drawn seat number steps h)
     (pick_of (want_list seat steps (rack_of h.racks seat)) (want_list (other_seat seat) steps (rack_of h.racks (other_seat seat))) h.bag number long)
 
--- tiles go off the rack first
+-- tiles leave the rack first
 off_draws : (seat : Seat) (tiles : List ℕ) (number : ℕ) (steps : List Step) (h : Hands) → length h.bag ≡ 27
     → ((k : ℕ) → k < 27 → get_or tiles k 0 ≤ get_or (rack_of h.racks seat) k 0)
     → (k : ℕ) → k < 27 → let after = draw seat number steps (take_off seat tiles h) in
@@ -139,7 +139,7 @@ sized_waiting : (c : Course) (seat : Seat) (n : ℕ) → (with_size c seat n).wa
 sized_waiting c First n = refl
 sized_waiting c Second n = refl
 
--- how many tiles of a kind wait
+-- the number of tiles of a kind that wait
 abbrev waiting_at : Racks → ℕ → ℕ
 waiting_at racks k = get_or racks.first k 0 + get_or racks.second k 0
 
@@ -231,7 +231,7 @@ chosen_there seat number steps rack long k below =
     let all = is.whole k below in
     omega arith
 
--- what a turn throws is on the rack, where the moment is met
+-- what a turn throws is on the rack, if the moment is met
 thrown_there : (seat : Seat) (shown : List ℕ) (what : Motion) (steps : List Step) (racks : Racks) → length (rack_of racks seat) ≡ 27
     → is_met seat (act.Turns shown what) racks ≡ true → (k : ℕ) → k < 27
     → get_or (throws seat (act.Turns shown what) steps racks) k 0 ≤ get_or (rack_of racks seat) k 0
@@ -301,7 +301,7 @@ second_room rules seat steps long small k below =
     let few = small k below in
     omega arith
 
--- ---- a deal on its way
+-- ---- a deal under way
 
 other_twice : (seat : Seat) (racks : Racks) → rack_of racks (other_seat (other_seat seat)) ≡ rack_of racks seat
 other_twice First racks = refl
@@ -341,7 +341,7 @@ dealing_starts rules steps run long =
       goes_on = map_same (dealt_from steps (start rules steps));
     }
 
--- the deal from a step on, where its moment is met or not
+-- the deal from a step on, if its moment is met or not
 dealt_if : (s : Step) (rest : List Step) (h : Hands) (met : Bool) → Option (List Held)
 dealt_if s rest h met =
     if met then option_map (λ more. held_at s rest h.racks ∷ more) (dealt_from rest (acted s.player s.act (throws s.player s.act rest h.racks) rest h))

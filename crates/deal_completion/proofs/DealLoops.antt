@@ -42,7 +42,7 @@ kinds_more steps i s within is here before later =
 pub kinds_all : (steps : List Step) (i : ℕ) → length steps ≤ i → (HaveKinds (drop i steps) → HaveKinds steps) → HaveKinds steps
 kinds_all steps i past before = before (subst HaveKinds (sym (drop_all i steps past)) tt)
 
--- ---- the deal on its way
+-- ---- the deal under way
 
 pub dealing_here : (rules : Rules) (all : List Step) (i : ℕ) (s : Step) (rest : List Step) (h : Hands) (so_far : List Held) → i < length all → s ≡ get_or all i s
     → rest ≡ drop (i + 1) all → IsDealing rules all (drop i all) h so_far → IsDealing rules all (s ∷ rest) h so_far

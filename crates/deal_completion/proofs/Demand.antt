@@ -73,7 +73,7 @@ length-lacking asked have =
     (λ k h. length-replicate (get_or asked k 0 - get_or have k 0) k)
 
 -- ---- the closed form of want lists
--- of each kind the most that is asked for at a later moment, with what leaves the rack before it
+-- for each kind, the most that is asked for at a later moment, plus what leaves the rack before it
 abbrev pub demand : Seat → List Step → ℕ → ℕ
 demand seat [] k = 0
 demand seat (s ∷ steps) k = max (get_or (asked_or_none (needed seat s)) k 0) (get_or (left_in seat s) k 0 + demand seat steps k)
@@ -87,7 +87,7 @@ pub known_front : (seat : Seat) (xs ys : List Step) → IsKnownThroughout seat (
 known_front seat [] ys known = tt
 known_front seat (x ∷ xs) ys known = (known.0, known_front seat xs ys known.1)
 
--- what a moment adds to a want list, and what is had behind it
+-- what a moment adds to a want list, and what is had after it
 wanted_step : (o : Option (List ℕ)) (gone have left : List ℕ) (d k : ℕ) → k < 27 → get_or gone k 0 ≤ get_or have k 0 → get_or left k 0 ≤ get_or (asked_or_none o) k 0
     → (get_or (with_gone gone o) k 0 - get_or have k 0) + ((get_or (joined gone left) k 0 + d) - get_or (greater have (with_gone gone o)) k 0)
     ≡ (get_or gone k 0 + max (get_or (asked_or_none o) k 0) (get_or left k 0 + d)) - get_or have k 0
@@ -115,7 +115,7 @@ had_step (Some tiles) gone have left k h le less =
     let b = get-greater have (joined gone tiles) k h in
     omega arith
 
--- a want list where no epoch ends
+-- a want list if no epoch ends
 wanted_on : (seat : Seat) (s : Step) (steps : List Step) (gone have : List ℕ) → ends_epoch seat s ≡ false
     → wanted seat (s ∷ steps) gone have
     ≡ lacking (with_gone gone (needed seat s)) have ++ wanted seat steps (joined gone (left_in seat s)) (greater have (with_gone gone (needed seat s)))
@@ -123,7 +123,7 @@ wanted_on seat s steps gone have known =
     ap (λ (b : Bool). lacking (with_gone gone (needed seat s)) have
     ++ (if b then [] else wanted seat steps (joined gone (left_in seat s)) (greater have (with_gone gone (needed seat s))))) known
 
--- The closed form: a kind is wanted as often as the later moments ask for it, less what the player has.
+-- The closed form: a kind is wanted as often as the later moments ask for it, minus what the player has.
 pub often-wanted : (seat : Seat) (steps : List Step) (gone have : List ℕ) (k : ℕ) → IsKnownThroughout seat steps → k < 27 → get_or gone k 0 ≤ get_or have k 0
     → often k (wanted seat steps gone have) ≡ (get_or gone k 0 + demand seat steps k) - get_or have k 0
 often-wanted seat [] gone have k known h le = omega arith
@@ -143,7 +143,7 @@ pub sum_of_none : (xs : List ℕ) → sum_by (λ k. 0) xs ≡ 0
 sum_of_none [] = refl
 sum_of_none (x ∷ xs) = let e = sum_by-cons (λ (k : ℕ). 0) x xs in let f = sum_of_none xs in omega arith
 
--- how many tiles are wanted
+-- the number of tiles that are wanted
 abbrev pub shortage : (demand : ℕ → ℕ) (rack : List ℕ) → ℕ
 shortage demand rack = sum_by (λ k. demand k - get_or rack k 0) kinds
 

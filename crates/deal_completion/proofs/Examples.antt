@@ -1,5 +1,5 @@
--- Bounds and deals of small games as the definitions give them, computed. A game is given by its steps, worked by hand
--- from its record; the deals were worked by hand from the rule.
+-- Bounds and deals of small games as the definitions give them, computed. A game is given by its steps, worked out by hand from its
+-- record; the deals were worked out by hand from the rule.
 use Rattle.std.proofs.Common.{◌≡◌, ℕ, false, List, [], ◌∷◌, replicate, Some, None, refl, lit<}
 use Rattle.std.specs.Prelude.{codes}
 use Rattle.std.specs.List.{filter_map}
@@ -26,7 +26,7 @@ use Rattle.deal_completion.specs.Completion.{lacking, with_one, pick, draw, exch
 use Rattle.deal_completion.proofs.DealStates.{IsDealtFitting}
 use Rattle.deal_completion.proofs.PlainDeals.{plain_games_are_dealt}
 
--- how many of each kind some letters are
+-- the number of tiles of each kind among some letters
 abbrev tiles : List ℕ → List ℕ
 tiles letters = counts_of (filter_map kind_of letters)
 
@@ -34,7 +34,7 @@ tiles letters = counts_of (filter_map kind_of letters)
 abbrev turn : ℕ → Seat → (shown : List ℕ) → Motion → (board : List ℕ) → (bag : ℕ) → Step
 turn n player shown what board bag = record (line n player (act.Turns shown what)) { board = board; bag = bag }
 
--- what both players hold, where nothing is thrown
+-- what both players hold, if nothing is thrown
 abbrev hold : (first second : List ℕ) → Held
 hold first second = record { racks = record { first = first; second = second }; thrown = no_tiles }
 
@@ -63,7 +63,7 @@ short_of_t : first_bound short (retains ∷ last_rack (tiles (codes "ADEORTT")) 
 unfolding english short most_tiles letter_at no_tiles counts_of kinds joined without greater bound_at
 short_of_t = refl
 
--- The law that there is a deal, and that it fits, speaks of this game.
+-- The law that there is a deal, and that it fits, applies to this game.
 ended_is_run : IsRun short ended
 unfolding english short most_tiles letter_at no_tiles counts_of kinds joined without greater
 ended_is_run = (
@@ -109,7 +109,7 @@ exchanged_is_bounded : first_bound english exchanged ≡ None
 unfolding english most_tiles letter_at no_tiles counts_of kinds joined without greater bound_at
 exchanged_is_bounded = refl
 
--- The first player keeps two tiles of those that the rack has, and draws S and X.
+-- The first player keeps two of the tiles on the rack, and draws S and X.
 exchanged_is_dealt : dealt english exchanged
     ≡ Some (record (hold (tiles (codes "AAAAAEI")) (tiles (codes "AAAABQU"))) { thrown = tiles (codes "AAAEI") }
     ∷ hold (tiles (codes "AABCCSX")) (tiles (codes "AAAABQU")) ∷ hold (tiles (codes "AABCCSX")) (tiles (codes "AAAABQU")) ∷ [])
@@ -161,7 +161,7 @@ taken_back_fits =
 
 -- ---- who draws first
 
--- The player of the first turn: the second player here, who gets the A's that nobody asks for.
+-- The player of the first turn draws first: the second player here, who gets the A's that nobody asks for.
 second_opens : dealt english
     (record (turn 1 First (tiles (codes "Z")) motion.Keeps no_tiles 86) { counted = false }
     ∷ turn 2 Second (tiles (codes "Q")) motion.Keeps no_tiles 86 ∷ [])
@@ -194,7 +194,7 @@ three_blanks_are_not_dealt : dealt english three_blanks ≡ None
 unfolding english most_tiles letter_at no_tiles counts_of kinds joined without greater lacking with_one pick draw exchange chosen start dealt
 three_blanks_are_not_dealt = refl
 
--- The bounds allow it, and the one Q cannot be drawn before it goes back.
+-- The bounds allow it, but the only Q cannot be drawn before it goes back.
 abbrev same_q : List Step
 same_q =
     turn 1 First (tiles (codes "Q")) (motion.Throws (tiles (codes "Q"))) no_tiles 86

@@ -30,7 +30,7 @@ drawn_by (motion.ThrowsUnknown n) = n
 abbrev pub drawn_at : Act → ℕ
 drawn_at what = of_turn 0 drawn_by what
 
--- how many tiles a player draws at a step, and at steps
+-- the number of tiles that a player draws at a step, and at steps
 abbrev pub drawn_in : Seat → Step → ℕ
 drawn_in seat s = if is_by seat s then drawn_at s.act else 0
 
@@ -42,12 +42,12 @@ to_come-append : (seat : Seat) (xs ys : List Step) → to_come seat (xs ++ ys) �
 to_come-append seat [] ys = omega arith
 to_come-append seat (x ∷ xs) ys = let e = to_come-append seat xs ys in omega arith
 
--- how many tiles are missing of what is asked for
+-- the number of tiles that are missing of what is asked for
 abbrev pub missing : (asked : ℕ → ℕ) → (rack : List ℕ) → ℕ
 missing asked rack = sum_by (λ k. asked k - get_or rack k 0) kinds
 
--- What the moments up to each one ask for is on the rack or comes with the draws before that one: some that are due now,
--- and those of the steps.
+-- What the moments up to each one ask for is on the rack or comes with the draws before that one: those that are due now, and those
+-- of the steps.
 pub record IsOnTime (seat : Seat) (steps : List Step) (rack : List ℕ) (due : ℕ) : Type 0 where
   pub on_time : (before : List Step) (s : Step) (after : List Step) (tiles : List ℕ) → steps ≡ before ++ s ∷ after → needed seat s ≡ Some tiles
       → missing (demand seat (before ++ s ∷ [])) rack ≤ due + to_come seat before
@@ -78,7 +78,7 @@ on_time_after seat s steps rack on there = record {
 
 -- ---- tiles are drawn
 
--- the steps up to a moment, and those behind it
+-- the steps up to a moment, and those after it
 parted : (before : List Step) (s : Step) (after : List Step) → before ++ s ∷ after ≡ (before ++ s ∷ []) ++ after
 parted before s after = sym (append_assoc before (s ∷ []) after)
 
@@ -100,7 +100,7 @@ length_want seat steps rack known =
     ∙ sum_kinds_same (λ k. (get_or no_tiles k 0 + demand seat steps k) - get_or rack k 0) (λ k. demand seat steps k - get_or rack k 0)
     (λ k h. let z = get-no_tiles k h in omega arith)
 
--- what is asked for beside the rack and what was drawn
+-- what is asked for beyond the rack and what was drawn
 pub on_time_drawn : (seat : Seat) (steps : List Step) (rack reserved bag : List ℕ) (number due : ℕ) (q : Pick) → IsKnownThroughout seat steps
     → IsOnTime seat steps rack (number + due) → Picks (want_list seat steps rack) reserved bag number q
     → IsOnTime seat steps (joined rack q.taken) due
@@ -122,7 +122,7 @@ on_time_drawn seat steps rack reserved bag number due q known on picks = record 
 
 -- ---- the last moment
 
--- A step that asks for some tiles, and what lies before and behind it.
+-- A step that asks for some tiles, and what comes before and after it.
 pub record IsMoment (Asks : Step → List ℕ → Type 0) (steps : List Step) : Type 0 where
   pub before : List Step
   pub step : Step
@@ -174,7 +174,7 @@ last_moment seat (s ∷ steps) = elim (last_moment seat steps) [
   ]
 ]
 
--- what is missing in all comes with the draws to come
+-- all that is missing comes with the draws to come
 pub missing_comes : (seat : Seat) (steps : List Step) (rack : List ℕ) (due : ℕ) → IsOnTime seat steps rack due → missing (demand seat steps) rack ≤ due + to_come seat steps
 missing_comes seat steps rack due on = elim (last_moment seat steps) [
   | inl nothing ↦
@@ -193,11 +193,11 @@ missing_comes seat steps rack due on = elim (last_moment seat steps) [
 
 -- ---- the bag has what both want
 
--- of each kind the bag has what a player with this rack and the other with that one still want
+-- for each kind the bag has what a player with this rack and the other with that one still want
 pub record IsCovered (mine others : ℕ → ℕ) (rack other_rack bag : List ℕ) : Type 0 where
   pub covered : (k : ℕ) → k < 27 → (mine k - get_or rack k 0) + (others k - get_or other_rack k 0) ≤ get_or bag k 0
 
--- what a pick for a player asks of the bag
+-- what a pick for a player requires of the bag
 pub covers_pick : (seat other : Seat) (steps : List Step) (rack other_rack bag : List ℕ) → IsKnownThroughout seat steps → IsKnownThroughout other steps
     → IsCovered (demand seat steps) (demand other steps) rack other_rack bag
     → (k : ℕ) → k < 27 → often k (want_list seat steps rack) + often k (want_list other steps other_rack) ≤ get_or bag k 0
@@ -207,7 +207,7 @@ covers_pick seat other steps rack other_rack bag known other_known is k h =
     let c = is.covered k h in
     omega arith
 
--- and there are tiles enough
+-- and there are enough tiles
 pub room_for_pick : (other : Seat) (steps : List Step) (other_rack bag : List ℕ) (number due : ℕ) → IsKnownThroughout other steps
     → IsOnTime other steps other_rack due → due + to_come other steps + number ≤ sum bag
     → sum_by (λ k. often k (want_list other steps other_rack)) kinds + number ≤ sum bag

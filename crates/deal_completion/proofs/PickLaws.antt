@@ -99,7 +99,7 @@ with_one_of tiles p j is h there =
 
 -- ---- the tiles of a list
 
--- the tile of a list that stands first
+-- the first tile of a list
 first_listed : (list : List ℕ) (j number : ℕ) (p : Pick) → sum p.taken < number → 0 < get_or p.left j 0
     → pick_listed (j ∷ list) number p ≡ pick_listed list number (with_one p j)
 first_listed list j number p few there =
@@ -110,7 +110,7 @@ full_listed : (list : List ℕ) (j number : ℕ) (p : Pick) → number ≤ sum p
 full_listed list j number p full =
     ap (λ (b : Bool). pick_listed list number (if b && ltb 0 (get_or p.left j 0) then with_one p j else p)) (le-ltb (sum p.taken) number full)
 
--- Of a list that is there in full the first tiles are taken, as many as are asked for.
+-- If all of a list is there, its first tiles are taken, as many as are requested.
 pub record Takes (list tiles : List ℕ) (number : ℕ) (p q : Pick) : Type 0 where
   pub is_of : IsOf tiles q
   pub took : (k : ℕ) → k < 27 → get_or q.taken k 0 ≡ get_or p.taken k 0 + often k (take (number - sum p.taken) list)
@@ -178,7 +178,7 @@ picks_listed (j ∷ list) tiles number p are is there = elim (cases_lt (sum p.ta
 
 -- ---- other tiles
 
--- so many more tiles are taken, and those that are reserved are left
+-- a number of further tiles are taken, and those that are reserved are left
 pub record Fills (tiles reserved : List ℕ) (number : ℕ) (p q : Pick) : Type 0 where
   pub is_of : IsOf tiles q
   pub more : sum q.taken ≡ sum p.taken + number
@@ -194,7 +194,7 @@ sum_left tiles p is long =
     let e = sum_kinds_same (λ k. get_or p.taken k 0 + get_or p.left k 0) (λ k. get_or tiles k 0) is.whole in
     omega arith
 
--- a find over a range: what it gives passes, and where it gives nothing all fail
+-- a find over a range: what it gives passes, and if it gives nothing, all fail
 pub find_range : (test : ℕ → Bool) (a n : ℕ)
     → ((find test (range_with_len a n) ≡ None) × ((k : ℕ) → a ≤ k → k < a + n → test k ≡ false))
     ⊎ ((k : ℕ) × (find test (range_with_len a n) ≡ Some k) × (k < a + n) × (test k ≡ true))
@@ -219,7 +219,7 @@ find_range test a (suc n) = elim (cases_Bool (test a)) [
 abbrev spare_test : (reserved left : List ℕ) → ℕ → Bool
 spare_test reserved left k = ltb (often k reserved) (get_or left k 0)
 
--- where there are more tiles than are reserved, one is spare
+-- if there are more tiles than are reserved, one is spare
 some_spare : (reserved left : List ℕ) → length left ≡ 27 → sum_by (λ k. often k reserved) kinds < sum left
     → (k : ℕ) × (next_kind reserved left ≡ Some k) × (k < 27) × (often k reserved < get_or left k 0)
 unfolding kinds
@@ -285,7 +285,7 @@ tick_sum j a (suc n) =
       ],
     )
 
--- no more tiles of all kinds than there are
+-- there are at most as many tiles of all kinds as there are tiles
 kinds_most : (ys : List ℕ) → sum_by (λ k. often k ys) kinds ≤ length ys
 unfolding kinds
 kinds_most [] = omega (arith, sum_of_none kinds)
@@ -296,14 +296,14 @@ kinds_most (y ∷ ys) =
     let rest = kinds_most ys in
     omega arith
 
--- What a pick gives: so many tiles, of a list first, and of the others none that is reserved.
+-- What a pick gives: the requested number of tiles, those of a list first, and no reserved one among the others.
 pub record Picks (list reserved tiles : List ℕ) (number : ℕ) (q : Pick) : Type 0 where
   pub is_of : IsOf tiles q
   pub all : sum q.taken ≡ number
   pub spare : (k : ℕ) → k < 27 → (often k list - get_or q.taken k 0) + often k reserved ≤ get_or q.left k 0
   pub front : (xs rest : List ℕ) → list ≡ xs ++ rest → sum_by (λ k. often k xs - get_or q.taken k 0) kinds ≤ length xs - number
 
--- a part of a list is no more than all of it
+-- a part of a list has no more of a kind than all of it
 often_take : (k n : ℕ) (list : List ℕ) → often k (take n list) ≤ often k list
 often_take k n list = sum_by-take-le (λ (j : ℕ). cond {A = ℕ} (j == k) 1 0) list n
 

@@ -38,7 +38,7 @@ times_more times list i kind long within here below are k k_below =
     omega arith)
     (cases_eq kind k)
 
--- what is no kind is not counted
+-- what is not a kind is not counted
 pub times_stay : (times list : List ℕ) (i kind : ℕ) → i < length list → get_or list i 0 ≡ kind → 27 ≤ kind → AreTimes times (take i list)
     → AreTimes times (take (i + 1) list)
 times_stay times list i kind within here past are k k_below =
@@ -130,7 +130,7 @@ spare_is_more reserved (suc more) p =
     ap (λ (o : Option ℕ). pick_spare (times_of reserved) more (with_next p o)) (spare_is_next reserved p.left)
     ∙ spare_is_more reserved more (with_next p (next_kind reserved p.left))
 
--- so many more tiles, one by one
+-- further tiles, one by one
 pub spare_more : (times : List ℕ) (more i : ℕ) (p q : Pick) → i < more → pick_spare times (more - i) p ≡ q
     → pick_spare times (more - (i + 1)) (with_next p (next_spare times p.left)) ≡ q
 spare_more times more i p q below e =

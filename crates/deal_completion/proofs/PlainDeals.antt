@@ -321,7 +321,7 @@ sum_either b = ap sum (either_same b no_tiles) ∙ sum-no_tiles
 abbrev all_of : Course → Seat → ℕ
 all_of c seat = size_in c seat + sum (rack_of c.waiting seat)
 
--- What leaves a rack and what is then there is what was there and what is drawn.
+-- What leaves a rack plus what is then there is what was there plus what is drawn.
 step_sized : (seat player : Seat) (what : Act) (c : Course) → MayAct c player what → swaps what ≡ false
     → sum (if same_seat player seat then of_act left_by what else no_tiles) + all_of (act_course c player what) seat
     ≡ all_of c seat + (if same_seat player seat then drawn_at what else 0)
@@ -398,7 +398,7 @@ run_is_sized rules seat steps run plain are = record {
 two_racks : (rules : Rules) → 14 ≤ sum rules.counts
 two_racks rules = leb-true 14 (sum rules.counts) (and_parts (leb 14 (sum rules.counts)) (leb (sum rules.counts) most_tiles) rules.tiles_in_limits).0
 
--- what the player who draws first gets, and what the other gets then
+-- what the player who draws first gets, and what the other then gets
 abbrev first_pick : Rules → (seat other : Seat) → List Step → Pick
 first_pick rules seat other steps = pick (want_list seat steps no_tiles) (want_list other steps no_tiles) 7 rules.counts
 
@@ -406,7 +406,7 @@ abbrev second_pick : Rules → (seat other : Seat) → List Step → Pick
 second_pick rules seat other steps =
     pick (want_list other steps no_tiles) (want_list seat steps (joined no_tiles (first_pick rules seat other steps).taken)) 7 (first_pick rules seat other steps).left
 
--- Both players have seven tiles, all comes in time, and the bag has what both want.
+-- Both players have seven tiles, everything comes in time, and the bag has what both want.
 record StartsWell (rules : Rules) (seat other : Seat) (steps : List Step) (own others bag : List ℕ) : Type 0 where
   own_size : sum own ≡ 7
   others_size : sum others ≡ 7
@@ -443,11 +443,11 @@ starts_well rules seat other steps long plain on other_on covered room =
       covered = covered_swapped (demand other steps) (demand seat steps) (joined no_tiles two.taken) own two.left second.covered;
     }
 
--- beside none that wait
+-- together with no tiles that wait
 beside_none : (rack : List ℕ) (k : ℕ) → k < 27 → get_or (joined rack no_tiles) k 0 ≡ get_or rack k 0
 beside_none rack k h = sym (with_none rack no_tiles refl k h)
 
--- racks and a bag beside which nothing waits
+-- racks and a bag when nothing waits
 ready_from : (rules : Rules) (steps : List Step) (first second bag : List ℕ) → sum first ≡ 7 → sum second ≡ 7 → sum bag + 14 ≡ sum rules.counts
     → IsOnTime First steps first 0 → IsOnTime Second steps second 0 → IsCovered (demand First steps) (demand Second steps) first second bag
     → IsReady (first_course rules) steps (record { bag = bag; racks = record { first = first; second = second } })

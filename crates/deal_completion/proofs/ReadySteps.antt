@@ -66,7 +66,7 @@ are_wanted seat (s ∷ steps) gone have =
 
 -- ---- sums
 
--- tiles that are on a rack of no more tiles are all of it
+-- tiles on a rack that has no more tiles are all of it
 pub all_there : (tiles rack : List ℕ) → length tiles ≡ 27 → length rack ≡ 27 → sum tiles ≡ sum rack → ((k : ℕ) → k < 27 → get_or tiles k 0 ≤ get_or rack k 0)
     → (k : ℕ) → k < 27 → get_or rack k 0 ≤ get_or tiles k 0
 all_there tiles rack long rack_long same le k h =
@@ -94,7 +94,7 @@ contained tiles rack long le k = elim (cases_lt k 27) [
   | inr past ↦ let e = get_or_past tiles k 0 (omega arith) in omega arith
 ]
 
--- what tells whether tiles are contained in others is the test
+-- the answer to whether tiles are contained in others is the test
 pub fits_within : (b : Bool) (tiles others : List ℕ) → length tiles ≡ 27 → IsTrue b ↔ IsContainedIn tiles others → b ≡ is_within tiles others
 fits_within b tiles others long fits = by b refl (is_within tiles others) refl
   where
@@ -103,7 +103,7 @@ fits_within b tiles others long fits = by b refl (is_within tiles others) refl
     by false e true f = fits.1 (contained tiles others long (within_test tiles others f)) ∙ sym f
     by false e false f = e ∙ sym f
 
--- what a turn shows and what it uses is on the rack, where the moment is met
+-- what a turn shows and what it uses is on the rack, if the moment is met
 pub shown_there : (shown used rack : List ℕ) → is_within (greater shown used) rack ≡ true → (k : ℕ) → k < 27
     → (get_or shown k 0 ≤ get_or rack k 0) × (get_or used k 0 ≤ get_or rack k 0)
 shown_there shown used rack met k h =
@@ -113,7 +113,7 @@ shown_there shown used rack met k h =
 
 -- ---- racks with the same numbers
 
--- on time with another rack of the same numbers
+-- being on time, with another rack of the same numbers
 pub on_time_same : (seat : Seat) (steps : List Step) (rack new : List ℕ) (due : ℕ) → IsOnTime seat steps rack due → ((k : ℕ) → k < 27 → get_or new k 0 ≡ get_or rack k 0) → IsOnTime seat steps new due
 on_time_same seat steps rack new due on same = record {
   on_time = λ before s after tiles parts asks.
@@ -263,8 +263,8 @@ ready_moved c new rest h after ready first second bag same_bag first_same second
 
 -- ---- a play that stands
 
--- What a play that stands leaves behind, where its player draws these: the rack and the bag have their sizes, what is asked
--- for comes in time, and the bag has it.
+-- What a play that stands leaves, if its player draws these: the rack and the bag have their sizes, what is asked for comes in
+-- time, and the bag has it.
 record IsDrawn (seat other : Seat) (rest : List Step) (rack waiting other_rack other_waiting bag used : List ℕ) (number : ℕ) (q : Pick) : Type 0 where
   pub size : sum (joined (without rack used) q.taken) ≡ sum rack - sum used + number
   pub left : sum q.left ≡ sum bag - number
@@ -390,7 +390,7 @@ back_ready rules Second used c rest h ready whole waiting long =
     (same_none h.racks.first c.waiting.first (ap (λ (w : Racks). w.first) waiting))
     (back_moved h.racks.second used c.waiting.second (ap (λ (w : Racks). w.second) waiting))
 
--- ---- every step keeps ready
+-- ---- every step keeps the bag and the racks ready
 
 -- what leaves, what is drawn and what is asked for at a step, by its player and its act
 pub left_is : (seat : Seat) (s : Step) (player : Seat) (what : Act) → s.player ≡ player → s.act ≡ what

@@ -1,4 +1,4 @@
--- Where no bound is exceeded in a game without exchanges, all comes in time from the start, and the game has the tiles.
+-- If no bound is exceeded in a game without exchanges, everything comes in time from the start, and the game has the tiles.
 use Rattle.std.proofs.Common.{◌≡◌, ◌<◌, ◌≤◌, ℕ, ◌+◌, ◌-◌, max, Bool, true, false, ltb, List, [], ◌∷◌, ◌++◌, get_or, sum, length, Option, Some, None, refl, sym, ap, ◌∙◌, subst, inl, inr, ◌⊎◌, arith}
 use Rattle.std.specs.Prelude.{if◌then◌else◌}
 use Rattle.std.specs.Option.{option_map, option_or}
@@ -35,7 +35,7 @@ pub past_with-append : (xs ys past : List Step) → past_with (xs ++ ys) past �
 past_with-append [] ys past = refl
 past_with-append (x ∷ xs) ys past = past_with-append xs ys (x ∷ past)
 
--- what the moments have shown behind a step of the same epoch
+-- what the moments have shown after a step of the same epoch
 low_on : (seat : Seat) (s : Step) (past : List Step) → ends_epoch seat s ≡ false → low seat (s ∷ past) ≡ low_at seat s past
 low_on seat s past known = ap (λ (b : Bool). if b then no_tiles else low_at seat s past) known
 
@@ -153,12 +153,12 @@ shown_at seat before s after k known h =
     ∙ ap (λ (past : List Step). get_or (low seat past) k 0) (sym (past_with-append before (s ∷ []) []))
     ∙ low_at_start seat (before ++ s ∷ []) k at.1 h
 
--- The sizes of a player's racks: seven tiles and those drawn, less those that left.
+-- The sizes of a player's racks: seven tiles plus those drawn, minus those that left.
 pub record IsSized (seat : Seat) (steps : List Step) : Type 0 where
   pub sized : (before : List Step) (s : Step) (after : List Step) (tiles : List ℕ) → steps ≡ before ++ s ∷ after → needed seat s ≡ Some tiles
       → sum (gone seat (past_with before [])) + size_of s seat ≡ 7 + to_come seat before
 
--- from the start all comes in time
+-- from the start everything comes in time
 pub on_time_at_start : (rules : Rules) (seat : Seat) (steps : List Step) → first_bound rules steps ≡ None → IsKnownThroughout seat steps → IsSized seat steps
     → IsOnTime seat steps no_tiles 7
 on_time_at_start rules seat steps none known sizes = record {
@@ -206,7 +206,7 @@ pub record IsLastOfBoth (steps : List Step) : Type 0 where
 abbrev AskNothing : List Step → Type 0
 AskNothing steps = (k : ℕ) → k < 27 → (demand First steps k ≡ 0) × (demand Second steps k ≡ 0)
 
--- a step behind which nothing is asked for is the last moment of both, where it is one
+-- a step after which nothing is asked for is the last moment of both, if it is one
 last_here : (s : Step) (steps : List Step) (tiles : List ℕ) → EitherNeeds s tiles → AskNothing steps → IsLastOfBoth (s ∷ steps)
 last_here s steps tiles asks nothing = record {
   moment = moment_here EitherNeeds s steps tiles asks;
@@ -214,7 +214,7 @@ last_here s steps tiles asks nothing = record {
   second_before = λ k h. let n = (nothing k h).1 in omega arith;
 }
 
--- where a moment is no player's, it asks for nothing
+-- if a moment does not belong to the player, it asks for nothing
 asks_none : (seat : Seat) (s : Step) (steps : List Step) (k : ℕ) → k < 27 → needed seat s ≡ None → demand seat steps k ≡ 0 → demand seat (s ∷ steps) k ≡ 0
 asks_none seat s steps k h none rest =
     let e = ap (λ (o : Option (List ℕ)). get_or (asked_or_none o) k 0) none in
@@ -276,7 +276,7 @@ plain_front : (xs ys : List Step) → IsPlain (xs ++ ys) → IsPlain xs
 plain_front [] ys plain = tt
 plain_front (x ∷ xs) ys plain = (plain.0, plain_front xs ys plain.1)
 
--- what a player has at the least is what is asked for
+-- what a player has at least is what is asked for
 held_most : (seat : Seat) (before : List Step) (s : Step) (after : List Step) (k : ℕ) → IsPlain (before ++ s ∷ after) → k < 27
     → demand seat (before ++ s ∷ []) k ≤ get_or (held seat s (past_with before [])) k 0
 held_most seat before s after k plain h =

@@ -33,7 +33,7 @@ pub lacking_is : (asked have : List ℕ) → lacks_from (λ k. get_or asked k 0 
 unfolding lacking kinds
 lacking_is asked have = refl
 
--- only how many are lacking counts
+-- only the number of lacking tiles matters
 pub lacking_same : (asked have other_asked other_have : List ℕ)
     → ((k : ℕ) → k < 27 → get_or asked k 0 - get_or have k 0 ≡ get_or other_asked k 0 - get_or other_have k 0)
     → lacking asked have ≡ lacking other_asked other_have
@@ -74,12 +74,12 @@ lack_all f xs ys k past e =
 
 -- ---- the walk
 
--- the tiles that a moment asks for; none where it asks nothing
+-- the tiles that a moment asks for; none if it asks for nothing
 abbrev pub asked_or_none : Option (List ℕ) → List ℕ
 asked_or_none None = no_tiles
 asked_or_none (Some tiles) = tiles
 
--- what is left of a rack after a step, where all that it asks for was there
+-- what is left of a rack after a step, if all that it asks for was there
 abbrev pub rest_after : Seat → Step → List ℕ → List ℕ
 rest_after seat s rest = without (greater rest (asked_or_none (needed seat s))) (left_in seat s)
 
@@ -166,7 +166,7 @@ want_list_by seat steps rack long =
     wanted_is_by seat steps no_tiles rack rack
     (joined_is rack rack no_tiles long (λ k below. let none = get-no_tiles k below in omega arith))
 
--- a step more
+-- one more step
 pub want_more : (seat : Seat) (s : Step) (steps : List Step) (rest xs ys : List ℕ) → ends_epoch seat s ≡ false → xs ++ wanted_by seat (s ∷ steps) rest ≡ ys
     → (xs ++ lacking (asked_or_none (needed seat s)) rest) ++ wanted_by seat steps (rest_after seat s rest) ≡ ys
 want_more seat s steps rest xs ys goes_on e =
@@ -182,7 +182,7 @@ want_last seat s steps rest xs ys ends e =
     ∙ ap (λ (b : Bool). xs ++ (lacking (asked_or_none (needed seat s)) rest ++ (if b then [] else wanted_by seat steps (rest_after seat s rest)))) (sym ends)
     ∙ e
 
--- A step that asks a player nothing changes nothing for the player.
+-- A step that asks a player for nothing changes nothing for the player.
 pub none_ends : (seat player : Seat) (what : Act) → needed_of seat player what ≡ None → (same_seat player seat && throws_unknown what) ≡ false
 none_ends seat player (act.Turns shown what) none =
     elim (same_seat player seat) as (λ b. ((if b then Some (greater shown (used_by what)) else None) ≡ None) → (b && throws_unknown (act.Turns shown what)) ≡ false)
@@ -217,7 +217,7 @@ want_at seat steps i s rest xs ys within is e =
     let parts : drop i steps ≡ s ∷ drop (i + 1) steps = drop_more steps i s within ∙ ap (λ (x : Step). x ∷ drop (i + 1) steps) (sym is) in
     sym (ap (λ (zs : List Step). xs ++ wanted_by seat zs rest) parts) ∙ e
 
--- it asks for tiles, and the list goes on
+-- it asks for tiles, and the list continues
 pub asked_more : (seat : Seat) (s : Step) (steps : List Step) (asked rest new xs zs ys : List ℕ) → needed seat s ≡ Some asked → ends_epoch seat s ≡ false
     → zs ≡ xs ++ lacking asked rest → new ≡ without (greater rest asked) (left_in seat s) → xs ++ wanted_by seat (s ∷ steps) rest ≡ ys
     → zs ++ wanted_by seat steps new ≡ ys

@@ -22,17 +22,17 @@ use Rattle.deal_completion.specs.declared.hands.Hands.{Hands}
 
 -- ---- want lists
 
--- the kinds of which there are more in the first than in the second, each as often as that is so, in their order
+-- the kinds of which there are more in the first than in the second, each as often as the difference, in order
 unfoldable pub lacking : (asked have : List ℕ) → List ℕ
 lacking asked have = flat_map (λ k. replicate (slice_index asked k - slice_index have k) k) kinds
 
--- what a moment asks for, with what left the rack before it; else nothing
+-- what a moment asks for, plus what left the rack before it; otherwise nothing
 abbrev pub with_gone : (gone : List ℕ) → Option (List ℕ) → List ℕ
 with_gone gone None = no_tiles
 with_gone gone (Some tiles) = joined gone tiles
 
--- The want list of a player: what the later moments ask for and what leaves the rack before them, as far as that exceeds
--- what the player has, the rack and the list so far. It ends with the player's next exchange of unknown tiles.
+-- The want list of a player: what the later moments ask for, plus what leaves the rack before them, as far as that exceeds what the
+-- player has, the rack and the list so far. It ends with the player's next exchange of unknown tiles.
 abbrev pub wanted : Seat → List Step → (gone have : List ℕ) → List ℕ
 wanted seat [] gone have = []
 wanted seat (s ∷ steps) gone have =
@@ -51,13 +51,13 @@ unfoldable pub with_one : Pick → ℕ → Pick
 with_one p k =
     record { taken = slice_set p.taken k (slice_index p.taken k + 1); left = slice_set p.left k (slice_index p.left k - 1) }
 
--- The tiles of a list are taken in order, each if it is there, until there are so many.
+-- The tiles of a list are taken in order, each if it is there, until `number` are taken.
 abbrev pub pick_listed : (list : List ℕ) (number : ℕ) → Pick → Pick
 pick_listed [] number p = p
 pick_listed (k ∷ list) number p =
     pick_listed list number (if nat_lt (sum p.taken) number && nat_lt 0 (slice_index p.left k) then with_one p k else p)
 
--- the first kind of which more is left than the reserved list has, else the first kind that is left
+-- the first kind of which more are left than the reserved list has, otherwise the first kind that is left
 abbrev pub next_kind : (reserved left : List ℕ) → Option ℕ
 next_kind reserved left =
     option_or (find (λ k. nat_lt (count_by (λ j. j == k) reserved) (slice_index left k)) kinds)
@@ -67,7 +67,7 @@ abbrev pub with_next : Pick → Option ℕ → Pick
 with_next p None = p
 with_next p (Some k) = with_one p k
 
--- so many more tiles
+-- `more` further tiles
 abbrev pub pick_more : (reserved : List ℕ) (more : ℕ) → Pick → Pick
 pick_more reserved zero p = p
 pick_more reserved (suc more) p = pick_more reserved more (with_next p (next_kind reserved p.left))
@@ -105,7 +105,7 @@ back_to_bag tiles h = record h { bag = joined h.bag tiles }
 unfoldable pub exchange : Seat → (thrown : List ℕ) → List Step → Hands → Hands
 exchange seat thrown steps h = back_to_bag thrown (draw seat (sum thrown) steps (take_off seat thrown h))
 
--- the tiles that a player throws who throws so many: not those that an empty rack would want first
+-- the tiles that a player throws when only their number is known: not those that an empty rack would want first
 unfoldable pub chosen : Seat → (number : ℕ) → List Step → (rack : List ℕ) → List ℕ
 chosen seat number steps rack = (pick (want_list seat steps no_tiles) [] (sum rack - number) rack).left
 
@@ -125,7 +125,7 @@ throws seat (act.TakesBack used) steps racks = no_tiles
 throws seat (act.Ends holder tiles) steps racks = no_tiles
 throws seat act.Rests steps racks = no_tiles
 
--- what a turn makes of the hands
+-- what a turn does to the hands
 abbrev pub turned : Seat → Motion → (thrown : List ℕ) → List Step → Hands → Hands
 turned seat motion.Keeps thrown steps h = h
 turned seat (motion.Lays used drawn) thrown steps h = draw seat drawn steps (take_off seat used h)
@@ -133,7 +133,7 @@ turned seat (motion.Tries used) thrown steps h = take_off seat used h
 turned seat (motion.Throws tiles) thrown steps h = exchange seat thrown steps h
 turned seat (motion.ThrowsUnknown n) thrown steps h = exchange seat thrown steps h
 
--- what an act makes of the hands
+-- what an act does to the hands
 abbrev pub acted : Seat → Act → (thrown : List ℕ) → List Step → Hands → Hands
 acted seat (act.Turns shown what) thrown steps h = turned seat what thrown steps h
 acted seat (act.TakesBack used) thrown steps h = put_on seat used h
@@ -144,7 +144,7 @@ acted seat act.Rests thrown steps h = h
 abbrev pub is_within : List ℕ → List ℕ → Bool
 is_within tiles others = list_all (λ k. nat_le (slice_index tiles k) (slice_index others k)) kinds
 
--- whether a rack has what a moment shows, and no more where it is a last rack
+-- whether a rack has what a moment shows, and no more if it is a last rack
 abbrev pub is_met : Seat → Act → Racks → Bool
 is_met seat (act.Turns shown what) racks = is_within (greater shown (used_by what)) (rack_of racks seat)
 is_met seat (act.TakesBack used) racks = true
@@ -154,7 +154,7 @@ is_met seat act.Rests racks = true
 abbrev pub held_at : Step → List Step → Racks → Held
 held_at s steps racks = record { racks = racks; thrown = throws s.player s.act steps racks }
 
--- the deal of steps from these hands; none where a moment is not met
+-- the deal of steps from these hands; none if a moment is not met
 abbrev pub dealt_from : List Step → Hands → Option (List Held)
 dealt_from [] h = Some []
 dealt_from (s ∷ steps) h =

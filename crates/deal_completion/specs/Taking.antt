@@ -1,4 +1,4 @@
--- How the code takes tiles and moves them: by how often each kind is reserved, and where the numbers have room.
+-- How the code takes tiles and moves them: by how often each kind is reserved, and with room for the numbers.
 use Rattle.std.specs.Prelude.{ℕ, zero, suc, ◌+◌, ◌<◌, ◌≤◌, ◌==◌, nat_lt, List, count_by, find, slice_index, Option}
 use Rattle.std.specs.Option.{option_or}
 use Rattle.gcg_read.specs.declared.events.Seat.{Seat}
@@ -14,21 +14,21 @@ use Rattle.deal_completion.specs.Completion.{with_next}
 unfoldable pub times_of : List ℕ → List ℕ
 times_of list = table (λ k. count_by (λ j. j == k) list)
 
--- the first kind of which more is left than is reserved, else the first kind that is left
+-- the first kind of which more are left than are reserved, otherwise the first kind that is left
 abbrev pub next_spare : (times left : List ℕ) → Option ℕ
 next_spare times left =
     option_or (find (λ k. nat_lt (slice_index times k) (slice_index left k)) kinds) (find (λ k. nat_lt 0 (slice_index left k)) kinds)
 
--- so many more tiles
+-- `more` further tiles
 abbrev pub pick_spare : (times : List ℕ) (more : ℕ) → Pick → Pick
 pick_spare times zero p = p
 pick_spare times (suc more) p = pick_spare times more (with_next p (next_spare times p.left))
 
--- of each kind there is room for all
+-- there is room for all tiles of each kind
 abbrev pub HasRoomIn : Pick → Type 0
 HasRoomIn p = (k : ℕ) → k < 27 → slice_index p.taken k + slice_index p.left k < 256
 
--- of each kind there is room for a player's tiles and those of the bag together
+-- for each kind there is room for a player's tiles and those of the bag together
 abbrev pub HasRoomToDraw : Seat → Hands → Type 0
 HasRoomToDraw seat h = (k : ℕ) → k < 27 → slice_index (rack_of h.racks seat) k + slice_index h.bag k < 256
 

@@ -41,7 +41,7 @@ fn throws(alloc: Global, step: &Step, steps: &[Step], racks: &Racks) -> Result<C
     }
 }
 
-/// What a turn makes of the hands.
+/// What a turn does to the hands.
 #[tactic(auto, using(crate::proofs::DealLaws::off_room))]
 fn turned(
     alloc: Global,
@@ -65,7 +65,7 @@ fn turned(
     }
 }
 
-/// What a step makes of the hands.
+/// What a step does to the hands.
 fn acted(
     alloc: Global,
     step: &Step,
@@ -92,7 +92,7 @@ fn is_within(tiles: &Counts, others: &Counts) -> bool
     tiles.fits(others)
 }
 
-/// Whether a rack has what a moment shows, and no more where it is a last rack.
+/// Whether a rack has what a moment shows, and no more if it is a last rack.
 fn is_met(step: &Step, racks: &Racks) -> bool
     ensures { result ≡ is_met step.now.player step.now.act racks.now }
 {
@@ -146,7 +146,7 @@ fn step_has_kinds(step: &Step)
     }
 }
 
-/// Makes a step of a deal. Where its moment is not met, the answer is no.
+/// Makes a step of a deal. If its moment is not met, the answer is no.
 fn deal_step(
     alloc: Global,
     step: &Step,
@@ -198,11 +198,10 @@ fn deal_of(alloc: Global, rules: &Rules, steps: &[Step]) -> Result<Option<Deal>,
     Ok(Some(Deal::of(held)))
 }
 
-/// The deal that the steps of a game are tried with: by the fixed rule, which gives each player what the lines will
-/// ask for. Where a line asks for a tile that is not on the rack then, there is none. It fails only where memory runs
-/// out.
+/// The deal with which the steps of a game are tried: by the fixed rule, which gives each player what the lines will ask for. If a
+/// line asks for a tile that is then not on the rack, there is no deal. It fails only if memory runs out.
 ///
-/// Where no step is an exchange and no bound is exceeded, there is a deal, and it fits.
+/// If no step is an exchange and no bound is exceeded, there is a deal, and it fits.
 #[tactic(auto, using(crate::proofs::PlainDeals::plain_answer))]
 pub fn complete_steps(
     alloc: Global,

@@ -1,4 +1,4 @@
-//! Draws from the bag, and what a player throws whose tiles are not known.
+//! Draws from the bag, and what a player throws when the tiles are not known.
 ghost use Rattle.std.specs.Prelude.{◌≡◌, IfOk};
 ghost use Rattle.deal_completion.specs.Completion.{draw, exchange, chosen};
 ghost use Rattle.deal_completion.specs.Taking.{HasRoomToDraw, MayThrow};
@@ -11,7 +11,7 @@ use gcg_read::Seat;
 use ref_tiles::Counts;
 use std::alloc::{AllocError, Global};
 
-/// A player draws so many tiles before the steps to come.
+/// A player draws a number of tiles before the steps to come.
 #[tactic(auto, using(crate::proofs::DealLaws::drawn_room), unfolding(crate::specs::Completion::draw))]
 pub fn draw(
     alloc: Global,
@@ -56,7 +56,7 @@ pub fn exchange(
     })
 }
 
-/// The tiles that a player throws who throws so many, before the steps to come.
+/// The tiles that a player throws when the line states only their number, before the steps to come.
 #[tactic(auto, unfolding(crate::specs::Completion::chosen))]
 pub fn chosen(
     alloc: Global,

@@ -40,7 +40,7 @@ impl Hands {
         }
     }
 
-    /// The hands with tiles off a player's rack.
+    /// The hands with tiles taken off a player's rack.
     pub fn without_tiles(&self, seat: Seat, tiles: &Counts) -> Hands
         ensures { result ≡ take_off seat tiles.now self.now }
     {

@@ -1,4 +1,4 @@
-//! Tiles that are taken from others: those of a list first, and then such as are not reserved.
+//! Tiles that are taken from others: those of a list first, and then tiles that are not reserved.
 ghost use Rattle.std.specs.Prelude.{◌≡◌, ℕ, ◌+◌, ◌-◌, ◌<◌, ◌≤◌, nat_lt, sum, find, slice_index, slice_set, IfSome};
 ghost use Rattle.deal_steps.specs.Piles.{kinds};
 ghost use Rattle.deal_completion.specs.Completion.{with_one, with_next, pick_listed, pick};
@@ -43,7 +43,7 @@ fn one_more(tiles: &Counts, kind: usize) -> Counts
     Counts::of(numbers)
 }
 
-/// One tile of a kind less.
+/// One fewer tile of a kind.
 fn one_less(tiles: &Counts, kind: usize) -> Counts
     requires kind { kind < 27 }
     requires there { 0 < slice_index tiles.now kind }
@@ -54,7 +54,7 @@ fn one_less(tiles: &Counts, kind: usize) -> Counts
     Counts::of(numbers)
 }
 
-/// The first kind of which more is left than is reserved.
+/// The first kind of which more are left than are reserved.
 #[tactic(auto, using(crate::proofs::PickLoops::find_past, crate::proofs::PickLoops::find_here, crate::proofs::PickLoops::find_end), unfolding(deal_steps::specs::Piles::kinds))]
 fn first_spare(times: &[usize; KINDS], left: &Counts) -> Option<usize>
     ensures first { result ≡ find (λ k. nat_lt (slice_index times.now k) (slice_index left.now k)) kinds }
@@ -86,7 +86,7 @@ fn first_left(left: &Counts) -> Option<usize>
     None
 }
 
-/// The first kind of which more is left than is reserved, else the first kind that is left.
+/// The first kind of which more are left than are reserved, otherwise the first kind that is left.
 fn next_spare(times: &[usize; KINDS], left: &Counts) -> Option<usize>
     ensures next { result ≡ next_spare times.now left.now }
     ensures below { IfSome result (λ k. k < 27) }
@@ -99,7 +99,7 @@ fn next_spare(times: &[usize; KINDS], left: &Counts) -> Option<usize>
 }
 
 impl Pick {
-    /// One more tile of a kind is taken.
+    /// Takes one more tile of a kind.
     #[tactic(auto, using(crate::proofs::PickLoops::one_room), unfolding(crate::specs::Completion::with_one))]
     fn take_one(&mut self, kind: usize)
         requires kind { kind < 27 }
@@ -113,7 +113,7 @@ impl Pick {
         self.left = one_less(&self.left, kind);
     }
 
-    /// The tiles of a list are taken in order, each if it is there, until there are so many.
+    /// Takes the tiles of a list in order, each if it is there, up to a number of tiles.
     fn take_listed(&mut self, list: &[u8], number: usize)
         requires room { HasRoomIn self.old }
         ensures taken { self.new ≡ pick_listed list.now number self.old }
@@ -133,7 +133,7 @@ impl Pick {
         }
     }
 
-    /// One more tile is taken that is not reserved, as long as there are any.
+    /// Takes one more tile that is not reserved, as long as there are any.
     fn take_next(&mut self, times: &[usize; KINDS])
         requires room { HasRoomIn self.old }
         ensures taken { self.new ≡ with_next self.old (next_spare times.now self.old.left) }
@@ -144,7 +144,7 @@ impl Pick {
         }
     }
 
-    /// So many more tiles are taken.
+    /// Takes a number of further tiles.
     fn take_more(&mut self, times: &[usize; KINDS], more: usize)
         requires room { HasRoomIn self.old }
         ensures taken { self.new ≡ pick_spare times.now more self.old }
@@ -156,7 +156,7 @@ impl Pick {
     }
 }
 
-/// So many tiles are taken from others: those of a list first, and then such as are not reserved.
+/// Takes a number of tiles from others: those of a list first, and then tiles that are not reserved.
 #[tactic(auto, unfolding(crate::specs::Completion::pick))]
 pub fn pick_tiles(list: &[u8], reserved: &[u8], number: usize, tiles: &Counts) -> Pick
     ensures { result ≡ pick list.now reserved.now number tiles.now }

@@ -1,4 +1,4 @@
-//! What a player's later lines ask for, beside what the player has.
+//! What a player's later lines ask for beyond what the player has.
 ghost use Rattle.std.specs.Prelude.{◌≡◌, ◌++◌, replicate, OnOk, IfOk};
 ghost use Rattle.deal_steps.specs.Steps.{needed, left_by, left_in, ends_epoch};
 ghost use Rattle.deal_completion.specs.Completion.{lacking, want_list};
@@ -8,7 +8,7 @@ use gcg_read::{Seat, same_seat};
 use ref_tiles::{Counts, KINDS};
 use std::alloc::{AllocError, Global};
 
-/// What a player's rack must have at a step, where it is a moment of that player.
+/// What a player's rack must have at a step, if it is a moment of that player.
 fn needed(seat: Seat, step: &Step) -> Option<Counts>
     ensures { result ≡ needed seat step.now }
 {
@@ -52,7 +52,7 @@ fn left_in(seat: Seat, step: &Step) -> Counts
     }
 }
 
-/// Whether a player throws tiles that are not known.
+/// Whether a player throws unknown tiles.
 fn ends_epoch(seat: Seat, step: &Step) -> bool
     ensures { result ≡ ends_epoch seat step.now }
 {
@@ -65,7 +65,7 @@ fn ends_epoch(seat: Seat, step: &Step) -> bool
     }
 }
 
-/// Puts a kind behind a list so many times.
+/// Appends a kind to a list a number of times.
 #[tactic(auto, using(crate::proofs::WantLaws::push_more, crate::proofs::WantLaws::push_all))]
 fn push_times(list: &mut Vec<u8>, kind: u8, number: u8) -> Result<(), AllocError>
     ensures { OnOk result (list.new.items ≡ list.old.items ++ replicate number kind) }
@@ -76,7 +76,7 @@ fn push_times(list: &mut Vec<u8>, kind: u8, number: u8) -> Result<(), AllocError
     Ok(())
 }
 
-/// Puts the kinds behind a list of which there are more in the first than in the second.
+/// Appends to a list the kinds of which there are more in the first than in the second.
 fn push_lacking(list: &mut Vec<u8>, asked: &Counts, have: &Counts) -> Result<(), AllocError>
     ensures { OnOk result (list.new.items ≡ list.old.items ++ lacking asked.now have.now) }
 {

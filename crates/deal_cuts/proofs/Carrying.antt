@@ -1,4 +1,4 @@
--- What is inside before a step is inside before the next, but for what gets out.
+-- What is inside before a step is inside before the next, except for what gets out.
 use Rattle.std.proofs.Common.{◌≡◌, ℕ, ◌+◌, ◌-◌, ◌≤◌, min, ◌&&◌, not, Bool, true, false, List, length, refl, arith}
 use Rattle.ref_tiles.specs.declared.rulebook.Rules.{Rules}
 use Rattle.gcg_read.specs.declared.events.Seat.{Seat}
@@ -17,7 +17,7 @@ use Rattle.deal_cuts.proofs.Parts.{counting_in, counting_beside, whole, bag_is, 
 use Rattle.deal_cuts.proofs.RackFlows.{Passes, drawn_in, rack_law, drawn_law}
 use Rattle.deal_cuts.proofs.Moving.{Moved, BothMoved, both_moved, strays, strays_number, known_there}
 
--- what is thrown without being known
+-- the tiles that are thrown without being known
 abbrev stray : Seat → Step → Held → List ℕ
 stray seat s held = strays seat s.player s.act held.thrown
 
@@ -70,7 +70,7 @@ unfolding where_so
 bag_after true board board_after one two bag after one_after two_after stray1 stray2 left1 left2 back1 back2 drawn1 drawn2 counts before next_sum follows gone1 gone2 is1 is2 = omega arith
 bag_after false board board_after one two bag after one_after two_after stray1 stray2 left1 left2 back1 back2 drawn1 drawn2 counts before next_sum follows gone1 gone2 is1 is2 = omega arith
 
--- What is inside is carried on.
+-- What is inside is carried over.
 pub carries_on : (chosen : List Bool) (s next : Step) (from to : Places) (inside : ℕ) → length s.board ≡ 27 → BoardFollows chosen s next
     → Carries chosen s next from to inside (carried_to chosen s next from to inside)
 unfolding inside_of carried_to BoardFollows flow_of

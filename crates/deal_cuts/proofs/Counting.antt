@@ -1,4 +1,4 @@
--- The least and the most that is inside before a step.
+-- The least and the greatest number that is inside before a step.
 use Rattle.std.proofs.Common.{◌≡◌, inl, inr, ℕ, ◌+◌, ◌-◌, ◌≤◌, not, Bool, true, false, List, length, arith}
 use Rattle.ref_tiles.specs.declared.rulebook.Rules.{Rules}
 use Rattle.gcg_read.specs.declared.events.Seat.TheVariants.{First, Second}
@@ -10,7 +10,7 @@ use Rattle.deal_cuts.specs.Flowing.{known_at, at_least, IsOver}
 use Rattle.deal_cuts.proofs.Parts.{counting_in, counting_beside, whole, bag_is, bag_size}
 use Rattle.deal_cuts.proofs.Moving.{known_there}
 
--- a place that is inside has no more than its size, and one that is outside has no more either
+-- a place has no more than its size, whether it is inside or outside
 inside_by : (bag first second : Bool) (there one two beside_bag beside_one beside_two whole laid out_bag out_one out_two : ℕ)
     → laid + one + two + there ≡ whole → there + beside_bag ≡ out_bag → one + beside_one ≡ out_one → two + beside_two ≡ out_two
     → whole - laid - (where_so (not bag) out_bag + where_so (not first) out_one + where_so (not second) out_two)
@@ -57,7 +57,7 @@ room_by false true false there one two bb b1 b2 ob o1 o2 k1 k2 inside bag first 
 room_by false false true there one two bb b1 b2 ob o1 o2 k1 k2 inside bag first second has has2 below = omega arith
 room_by false false false there one two bb b1 b2 ob o1 o2 k1 k2 inside bag first second has has2 below = omega arith
 
--- all that is inside, on the board and known to be outside is in the game
+-- all tiles that are inside, on the board or known to be outside are in the game
 shown_by : (bag first second : Bool) (there one two whole laid known_one known_two inside : ℕ)
     → laid + one + two + there ≡ whole → known_one ≤ one → known_two ≤ two
     → inside ≤ where_so bag there + where_so first one + where_so second two
@@ -72,7 +72,7 @@ shown_by false true false there one two whole laid k1 k2 inside sums has has2 be
 shown_by false false true there one two whole laid k1 k2 inside sums has has2 below = omega arith
 shown_by false false false there one two whole laid k1 k2 inside sums has has2 below = omega arith
 
--- where more are inside than can be, none are
+-- if more are inside than there can be, there is no deal
 pub over_is_too_many : (chosen : List Bool) (places : Places) (rules : Rules) (s : Step) (inside : ℕ) → length rules.counts ≡ 27 → length s.board ≡ 27
     → IsOver chosen places rules s inside → AreTooMany chosen places rules s inside
 unfolding inside_of
@@ -117,7 +117,7 @@ pub least_is : (chosen : List Bool) (places : Places) (rules : Rules) (s : Step)
 unfolding at_least
 least_is chosen places rules s all laid one two three unlaid is is2 is3 is4 is5 is6 is7 = cc
 
--- what is inside, or known of a rack
+-- what is inside, or known about a rack
 pub beside_is : (chosen : List Bool) (so : Bool) (tiles known : List ℕ) {number counted : ℕ} → known ≡ tiles → number ≡ number_beside chosen known → counted ≡ where_so so number
     → counted ≡ where_so so (number_beside chosen tiles)
 beside_is chosen so tiles known is is2 is3 = cc

@@ -22,7 +22,7 @@ tiles letters = map (λ k. count_by (λ letter. letter == k) letters) (range_wit
 abbrev chosen : List ℕ → List Bool
 chosen letters = map (λ k. list_any (λ letter. letter == k) letters) (range_with_len 65 27)
 
--- a player shows some tiles with the whole set but two racks in the bag
+-- a player shows some tiles; all tiles except two racks are in the bag
 abbrev line : Seat → List ℕ → Motion → Step
 line player shown what =
     record { line = 1; player = player; counted = true; act = act.Turns (tiles shown) what; board = no_tiles; first = 7; second = 7; bag = 86 }
@@ -44,7 +44,7 @@ at_start : at_least (chosen (codes "BCDFGHJ")) all_places english swaps ≡ 16
 unfolding at_least english english_premiums kinds where_so number_in no_tiles
 at_start = refl
 
--- the first player throws none of them, and draws one at the most
+-- the first player throws none of them, and draws at most one
 swapped : carried_to (chosen (codes "BCDFGHJ")) swaps passes all_places but_first 16 ≡ 15
 unfolding carried_to flow_of others_of strays_of gained_by lost_by kinds where_so number_in number_beside no_tiles greater
 swapped = refl

@@ -1,4 +1,4 @@
--- Where racks fit the steps of a game, the first of them fit the first steps.
+-- If racks fit the steps of a game, the first of them fit the first steps.
 use Rattle.std.proofs.Common.{ℕ, zero, suc, List, [], ◌∷◌, take}
 use Rattle.ref_tiles.specs.declared.rulebook.Rules.{Rules}
 use Rattle.deal_steps.specs.declared.steps.Step.{Step}
@@ -6,7 +6,7 @@ use Rattle.deal_steps.specs.declared.deals.Held.{Held}
 use Rattle.deal_steps.specs.Fitting.{FollowsTo}
 use Rattle.deal_cuts.specs.Laws.{FrontsFit, FrontsDecide}
 
--- a front of what follows follows
+-- a front of racks that follow follows
 follows_front : (rules : Rules) (s : Step) (held : Held) (rest : List Held) (n : ℕ) → FollowsTo rules s held rest → FollowsTo rules s held (take n rest)
 follows_front rules s held rest zero follows = tt
 follows_front rules s held [] (suc n) follows = tt

@@ -1,5 +1,5 @@
--- What moves at a step, in every deal that fits: the known tiles that leave a rack, those that are thrown without being
--- known, those that come back from the board, and those that are drawn.
+-- What moves at a step, in every deal that fits: the known tiles that leave a rack, those that are thrown without being known,
+-- those that come back from the board, and those that are drawn.
 use Rattle.std.proofs.Common.{◌≡◌, ℕ, ◌+◌, ◌<◌, ◌≤◌, Bool, cond, List, length, get_or, refl, ap, ◌∙◌, arith}
 use Rattle.ref_tiles.specs.Counting.{no_tiles}
 use Rattle.gcg_read.specs.Players.{other_seat, same_seat}
@@ -149,7 +149,7 @@ drawn_by n counting bag rack new left thrown back moves =
     (λ k small. let zero_there = get-no_tiles k small in let here = moves.drawn k small in omega (arith, zero_there, here)) in
     omega (arith, none, drawn)
 
--- and what is drawn to one rack where the other stays
+-- and what is drawn to one rack if the other stays
 drawn_beside : (n : List ℕ → ℕ) → IsCounting n → (bag rack new left thrown back other next : List ℕ) → Moves bag rack new left thrown back → next ≡ other
     → n new + n left + n thrown + (n next + n no_tiles + n no_tiles) ≤ n rack + n back + (n other + n no_tiles) + n bag
 drawn_beside n counting bag rack new left thrown back other next moves same =
@@ -216,7 +216,7 @@ strays_number chosen First Second what held allows long long2 = none_in chosen
 strays_number chosen Second First what held allows long long2 = none_in chosen
 strays_number chosen Second Second what held allows long long2 = strays_are chosen Second what held allows long2
 
--- ---- what is known of a rack
+-- ---- what is known about a rack
 
 number_less : (n : List ℕ → ℕ) → IsCounting n → (tiles rack : List ℕ) → ((k : ℕ) → k < 27 → get_or tiles k 0 ≤ get_or rack k 0) → n tiles ≤ n rack
 number_less n counting tiles rack less =

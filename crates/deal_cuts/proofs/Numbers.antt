@@ -1,4 +1,4 @@
--- Numbers that count only where something is so.
+-- Numbers that count only if a condition holds.
 use Rattle.std.proofs.Common.{◌≡◌, ℕ, ◌+◌, ◌-◌, ◌≤◌, ◌&&◌, not, Bool, true, false, refl, arith}
 use Rattle.deal_cuts.specs.Cutting.{where_so}
 
@@ -17,7 +17,7 @@ unfolding where_so
 where_so-le true m n below = below
 where_so-le false m n below = omega arith
 
--- four numbers are no more than four others
+-- four numbers together are at most four others
 pub where_so-sums : (so : Bool) (a b c d e f g h : ℕ) → a + b + c + d ≤ e + f + g + h
     → where_so so a + where_so so b + where_so so c + where_so so d ≤ where_so so e + where_so so f + where_so so g + where_so so h
 unfolding where_so

@@ -76,7 +76,7 @@ both_are chosen tiles =
 pub whole : (chosen : List Bool) (tiles : List ℕ) → length tiles ≡ 27 → number_in chosen tiles + number_beside chosen tiles ≡ sum tiles
 whole chosen tiles long = both_are chosen tiles ∙ sym (sum_is tiles long)
 
--- a list whose numbers past a place are none
+-- a list whose numbers past a place are all 0
 none_past : (xs : List ℕ) → ((j : ℕ) → get_or xs j 0 ≡ 0) → sum xs ≡ 0
 none_past [] none = refl
 none_past (x ∷ xs) none = let rest = none_past xs (λ j. none (suc j)) in
@@ -140,7 +140,7 @@ bag_size chosen rules s racks long long2 adds =
     let sizes = adds.bag in
     omega (arith, one, two, all, laid, first, second, sizes)
 
--- ---- of the first kinds
+-- ---- the first kinds
 
 pub in_first : (chosen : List Bool) (tiles : List ℕ) → ℕ → ℕ
 in_first chosen tiles i = sum_by (λ k. where_so (get_or chosen k false) (get_or tiles k 0)) (range_with_len 0 i)
@@ -184,7 +184,7 @@ more_beside chosen tiles i =
     let here : f (0 + i) ≡ f i = ap f (omega arith) in
     rw (add-one i) (omega (arith, more, here))
 
--- one kind more, which is chosen or not
+-- one more kind, which is chosen or not
 pub chosen_in : (chosen : List Bool) (tiles : List ℕ) (i : ℕ) → get_or chosen i false ≡ true → in_first chosen tiles (i + 1) ≡ in_first chosen tiles i + get_or tiles i 0
 unfolding where_so
 chosen_in chosen tiles i is = more_in chosen tiles i ∙ rw is refl

@@ -4,8 +4,8 @@ use Rattle.deal_cuts.specs.declared.flows.Flow.{Flow}
 use Rattle.deal_cuts.specs.Cutting.{where_so}
 use Rattle.deal_cuts.specs.Flowing.{others_of, strays_of, gained_by, lost_by}
 
--- The tiles of a rack before a step and before the next, those that were thrown without being known, and those that came
--- back from the board: so many of the chosen kinds, and so many of others.
+-- The tiles of a rack before a step and before the next, those that were thrown without being known, and those that came back from
+-- the board: the numbers of chosen kinds and of others.
 pub record Passes (f : Flow) (rack beside new new_beside thrown thrown_beside back_beside : ℕ) : Type 0 where
   pub size : rack + beside ≡ f.size
   pub known : f.known_in ≤ rack
@@ -17,7 +17,7 @@ pub record Passes (f : Flow) (rack beside new new_beside thrown thrown_beside ba
   pub unknown : thrown + thrown_beside ≡ f.unknown
   pub drawn : f.drawn + (f.size + f.back_in + back_beside) ≡ new + new_beside + f.left_in + f.left_beside + f.unknown
 
--- how many tiles of the chosen kinds are drawn
+-- the number of tiles of the chosen kinds that are drawn
 abbrev pub drawn_in : Flow → (rack new thrown : ℕ) → ℕ
 drawn_in f rack new thrown = new + f.left_in + thrown - (rack + f.back_in)
 
@@ -43,7 +43,7 @@ rack_law f false false true false rack beside new new_beside thrown thrown_besid
 rack_law f false false false true rack beside new new_beside thrown thrown_beside back_beside p = omega arith
 rack_law f false false false false rack beside new new_beside thrown thrown_beside back_beside p = omega arith
 
--- Of two racks: the tiles of the chosen kinds that are drawn are in the bag, and the others that are drawn are.
+-- For two racks: the tiles of the chosen kinds that are drawn are in the bag, and so are the others that are drawn.
 pub drawn_law : (f g : Flow) (one one_beside new new_beside thrown thrown_beside back_beside two two_beside new2 new2_beside thrown2 thrown2_beside back2_beside bag bag_beside size : ℕ)
     → Passes f one one_beside new new_beside thrown thrown_beside back_beside
     → Passes g two two_beside new2 new2_beside thrown2 thrown2_beside back2_beside

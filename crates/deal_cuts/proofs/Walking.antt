@@ -1,4 +1,4 @@
--- From step to step: so many tiles are inside before each, in every deal that fits.
+-- From step to step: the least number of tiles inside before each, in every deal that fits.
 use Rattle.std.proofs.Common.{◌≡◌, ℕ, zero, suc, add-one, ◌+◌, ◌<◌, ◌≤◌, Bool, false, List, [], ◌∷◌, length, get_or, take, drop, drop-cons, sym, ap, subst, ◌∙◌, arith}
 use Rattle.std.proofs.lemmas.List.{drop-drop}
 use Rattle.std.proofs.Math.ListN.{drop_of_length-le}
@@ -10,20 +10,20 @@ use Rattle.deal_cuts.specs.declared.cuts.Places.{Places}
 use Rattle.deal_cuts.specs.Cutting.{HasNoDeal, inside_of, AreInside, Carries, AreTooMany}
 use Rattle.deal_cuts.specs.Flowing.{AreSmall, BoardFollows, at_least, carried_to, IsOver, IsShown, IsCut}
 
--- what stands for places past the end of a list
+-- the places past the end of a list
 abbrev pub no_places : Places
 no_places = record { bag = false; first = false; second = false }
 
 -- ---- the head of three lists
 
--- so many are inside before the first step
+-- at least `inside` tiles are inside before the first step
 HasHead : (chosen : List Bool) → Rules → (inside : ℕ) → List Step → List Places → List Held → Type 0
 HasHead chosen rules inside [] places deal = Unit {0}
 HasHead chosen rules inside (s ∷ steps) [] deal = Unit {0}
 HasHead chosen rules inside (s ∷ steps) (here ∷ places) [] = Unit {0}
 HasHead chosen rules inside (s ∷ steps) (here ∷ places) (held ∷ rest) = inside ≤ inside_of chosen here rules s held.racks
 
--- so many are inside before the step at a place, in every deal that fits
+-- at least this many are inside before the step at a place, in every deal that fits
 pub IsReached : (chosen : List Bool) → Rules → (inside : ℕ) → List Step → List Places → ℕ → Type 0
 IsReached chosen rules inside steps places i =
     (deal : List Held) → Fits rules steps deal → HasHead chosen rules inside (drop i steps) (drop i places) (drop i deal)
@@ -64,7 +64,7 @@ reached_at_start chosen rules inside steps places s here there there2 is is2 lea
     let fits_here : Fits rules (s ∷ drop (0 + 1) steps) (drop 0 deal) = subst (λ (xs : List Step). Fits rules xs (drop 0 deal)) one (fits_from rules steps deal 0 fits) in
     rw one (rw two (head_starts chosen rules inside s (drop (0 + 1) steps) here (drop (0 + 1) places) least (drop 0 deal) fits_here))
 
--- ---- a step more
+-- ---- one more step
 
 head_more : (chosen : List Bool) (rules : Rules) (inside after : ℕ) (s next : Step) (steps : List Step) (from to : Places) (places : List Places)
     → length rules.counts ≡ 27 → Carries chosen s next from to inside after
@@ -152,7 +152,7 @@ over_at_end rules chosen inside steps places i s here long long2 is is2 shown =
     let two_left : drop i places ≡ here ∷ [] = two ∙ ap (λ (ys : List Places). here ∷ ys) past2 in
     subst (λ (xs : List Step). IsShown chosen rules inside xs (here ∷ [])) one_left (subst (λ (ys : List Places). IsShown chosen rules inside (drop i steps) ys) two_left shown)
 
--- a cut looks at no more steps than it has places
+-- a cut depends on no more steps than it has places
 shown_in_front : (rules : Rules) (chosen : List Bool) (inside : ℕ) (steps : List Step) (places : List Places) → IsShown chosen rules inside steps places
     → IsShown chosen rules inside (take (length places) steps) places
 shown_in_front rules chosen inside [] [] shown = absurd shown
@@ -169,7 +169,7 @@ cut_in_front rules chosen (s ∷ steps) [] cut = absurd cut
 cut_in_front rules chosen (s ∷ steps) (here ∷ places) cut =
     (cut.0, shown_in_front rules chosen (at_least chosen here rules s) (s ∷ steps) (here ∷ places) cut.1)
 
--- and there are no fewer steps
+-- and there are at least as many steps
 shown_length : (rules : Rules) (chosen : List Bool) (inside : ℕ) (steps : List Step) (places : List Places) → IsShown chosen rules inside steps places → length places ≤ length steps
 shown_length rules chosen inside [] [] shown = absurd shown
 shown_length rules chosen inside [] (here ∷ places) shown = absurd shown

@@ -1,4 +1,4 @@
--- What a step does with the tiles of a rack, by numbers of tiles of chosen kinds, and the least that stays in given places.
+-- What a step does with the tiles of a rack, by numbers of tiles of chosen kinds, and the least number that stays in given places.
 use Rattle.std.specs.Prelude.{◌≡◌, ◌⊎◌, ℕ, ◌+◌, ◌-◌, ◌<◌, ◌≤◌, min, ◌&&◌, not, Bool, true, false, List, [], ◌∷◌, Option, Some, None, if◌then◌else◌}
 use Rattle.ref_tiles.specs.declared.rulebook.Rules.{Rules}
 use Rattle.ref_tiles.specs.Counting.{no_tiles}
@@ -46,7 +46,7 @@ unknown_by (motion.ThrowsUnknown n) = n
 abbrev pub unknown_of : Act → ℕ
 unknown_of what = of_turn 0 unknown_by what
 
--- how many tiles that are not known are thrown off a rack at a step
+-- the number of unknown tiles that are thrown off a rack at a step
 abbrev pub unknown_at : Seat → Step → ℕ
 unknown_at seat s = if is_by seat s then unknown_of s.act else 0
 
@@ -67,32 +67,32 @@ flow_of chosen seat s next =
           - (size_of s seat + number_in chosen (coming seat s) + number_beside chosen (coming seat s));
     }
 
--- the tiles of a rack but those that are known to leave it
+-- the tiles of a rack, except those that are known to leave it
 unfoldable pub others_of : Flow → ℕ
 others_of f = f.size - (f.left_in + f.left_beside)
 
--- how many of these come to be outside, where rack and bag are inside afterwards or not
+-- the number of these that get outside, by whether rack and bag are inside afterwards
 unfoldable pub strays_of : Flow → (stays bag : Bool) → ℕ
 strays_of f stays bag = where_so (not stays) (others_of f - f.unknown) + where_so (not bag) f.unknown
 
--- so many tiles at least come in by a rack that was inside or not
+-- the least number of tiles that come in by a rack, by whether it was inside
 unfoldable pub gained_by : Flow → (was stays bag : Bool) → ℕ
 gained_by f was stays bag =
     where_so (not was) (f.known_in - f.left_in - strays_of f stays bag) + where_so (f.to_bag && bag) f.left_in + where_so stays f.back_in
 
--- so many at most get out
+-- the greatest number that get out
 unfoldable pub lost_by : Flow → (bag_was was stays bag : Bool) → ℕ
 lost_by f bag_was was stays bag =
     where_so was (f.left_in + min (strays_of f stays bag) (others_of f - (f.known_beside - f.left_beside)))
     + where_so (bag_was && not stays) f.drawn
 
--- the board before the next step is as this step leaves it, in the number of tiles of the chosen kinds
+-- the board before the next step is as this step leaves it, counting tiles of the chosen kinds
 unfoldable pub BoardFollows : (chosen : List Bool) → (s next : Step) → Type 0
 BoardFollows chosen s next =
     number_in chosen next.board + ((flow_of chosen First s next).back_in + (flow_of chosen Second s next).back_in)
     ≡ number_in chosen s.board + where_so (not (swaps s.act)) ((flow_of chosen First s next).left_in + (flow_of chosen Second s next).left_in)
 
--- so many are inside at least before the next step, where so many are before a step; no more than 2^32 are counted
+-- the least number inside before the next step, given a least number before a step; no more than 2^32 are counted
 unfoldable pub carried_to : (chosen : List Bool) → (s next : Step) → (from to : Places) → (inside : ℕ) → ℕ
 carried_to chosen s next from to inside =
     min
@@ -102,14 +102,14 @@ carried_to chosen s next from to inside =
     + where_so (from.bag && not to.bag) (s.bag - ((flow_of chosen First s next).drawn + (flow_of chosen Second s next).drawn))))
     4294967296
 
--- so many are inside at least before a step: all but those on the board, and the sizes of the places outside
+-- the least number inside before a step: all except those on the board, and the sizes of the places outside
 unfoldable pub at_least : (chosen : List Bool) → Places → Rules → Step → ℕ
 at_least chosen places rules s =
     number_in chosen rules.counts - number_in chosen s.board
     - (where_so (not places.bag) s.bag + where_so (not places.first) s.first + where_so (not places.second) s.second)
 
--- More are inside than can be: more than the sizes, less the known tiles of other kinds; or more than all tiles of the
--- chosen kinds, less those on the board and the known ones outside.
+-- More are inside than there can be: more than the sizes, minus the known tiles of other kinds; or more than all tiles of the
+-- chosen kinds, minus those on the board and the known ones outside.
 abbrev pub IsOver : (chosen : List Bool) → Places → Rules → Step → (inside : ℕ) → Type 0
 IsOver chosen places rules s inside =
     (where_so places.bag s.bag + where_so places.first s.first + where_so places.second s.second
@@ -134,7 +134,7 @@ pub record IsSmall (f : Flow) : Type 0 where
   pub back : f.back_in ≤ 6885
   pub drawn : f.drawn < 262144
 
--- where so many are inside before the first step, more than can be are inside before the last that has places
+-- if `inside` tiles are inside before the first step, there are more than there can be before the last that has places
 abbrev pub IsShown : (chosen : List Bool) → Rules → (inside : ℕ) → List Step → List Places → Type 0
 IsShown chosen rules inside steps [] = ⊥
 IsShown chosen rules inside [] (here ∷ places) = ⊥
@@ -144,7 +144,7 @@ IsShown chosen rules inside (s ∷ next ∷ steps) (here ∷ to ∷ places) =
     AreSmall s × AreSmall next × BoardFollows chosen s next
     × IsShown chosen rules (carried_to chosen s next here to inside) (next ∷ steps) (to ∷ places)
 
--- the places show that more tiles of the chosen kinds are there than can be
+-- the places show that there are more tiles of the chosen kinds than there can be
 abbrev pub IsCut : Rules → List Step → (chosen : List Bool) → List Places → Type 0
 IsCut rules [] chosen places = ⊥
 IsCut rules (s ∷ steps) chosen [] = ⊥

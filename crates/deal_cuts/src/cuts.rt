@@ -1,7 +1,7 @@
 //! Cuts.
 use ref_tiles::KINDS;
 
-/// Some of the three places where tiles can be that are in play.
+/// Some of the three places where tiles in play can be.
 #[derive(Clone, Copy, Debug)]
 pub struct Places {
     /// Whether the bag is one of them.
@@ -17,7 +17,7 @@ pub struct Places {
 pub struct Cut {
     /// The kinds of tiles that are counted, A to Z and then blanks.
     pub kinds: [bool; KINDS],
-    /// The places where they are counted: before the first step, before the second and so on, up to a step before which
-    /// more of them are there than can be.
+    /// The places where they are counted: before the first step, before the second and so on, up to a step before which there are
+    /// more of them than there can be.
     pub places: Vec<Places>,
 }

@@ -12,23 +12,23 @@ use ref_tiles::KINDS;
 /// What passes through a rack from before a step to before the next, by numbers of tiles.
 #[derive(Clone, Copy)]
 pub struct Flow {
-    /// How many tiles are on the rack.
+    /// The number of tiles on the rack.
     pub size: usize,
-    /// How many of them are known to be of the chosen kinds,
+    /// The number of them that are known to be of the chosen kinds,
     pub known_in: usize,
-    /// and how many to be of others.
+    /// and the number known to be of others.
     pub known_beside: usize,
-    /// How many tiles of the chosen kinds are known to leave it,
+    /// The number of tiles of the chosen kinds that are known to leave it,
     pub left_in: usize,
-    /// and how many of others.
+    /// and the number of others.
     pub left_beside: usize,
-    /// Whether these go to the bag, and not to the board.
+    /// Whether these go to the bag and not to the board.
     pub to_bag: bool,
-    /// How many tiles that are not known are thrown to the bag.
+    /// The number of unknown tiles that are thrown to the bag.
     pub unknown: usize,
-    /// How many tiles of the chosen kinds come back from the board.
+    /// The number of tiles of the chosen kinds that come back from the board.
     pub back_in: usize,
-    /// How many tiles are drawn from the bag.
+    /// The number of tiles that are drawn from the bag.
     pub drawn: usize,
 }
 
@@ -74,7 +74,7 @@ pub fn flow_of(chosen: &[bool; KINDS], seat: Seat, step: &Step, next: &Step) -> 
     }
 }
 
-/// The tiles of a rack but those that are known to leave it.
+/// The tiles of a rack, except those that are known to leave it.
 #[tactic(auto, unfolding(crate::specs::Flowing::others_of))]
 fn others_of(flow: &Flow) -> usize
     requires { IsSmall flow.now }
@@ -84,7 +84,7 @@ fn others_of(flow: &Flow) -> usize
     flow.size.saturating_sub(flow.left_in + flow.left_beside)
 }
 
-/// How many of these come to be outside, where rack and bag are inside afterwards or not.
+/// The number of these that get outside, by whether rack and bag are inside afterwards.
 #[tactic(auto, unfolding(crate::specs::Flowing::strays_of))]
 fn strays_of(flow: &Flow, stays: bool, bag: bool) -> usize
     requires { IsSmall flow.now }
@@ -95,7 +95,7 @@ fn strays_of(flow: &Flow, stays: bool, bag: bool) -> usize
     where_so(!stays, kept) + where_so(!bag, flow.unknown)
 }
 
-/// So many tiles at least come in by a rack that was inside or not.
+/// The least number of tiles that come in by a rack, by whether it was inside.
 #[tactic(auto, unfolding(crate::specs::Flowing::gained_by))]
 pub fn gained_by(flow: &Flow, was: bool, stays: bool, bag: bool) -> usize
     requires { IsSmall flow.now }
@@ -109,7 +109,7 @@ pub fn gained_by(flow: &Flow, was: bool, stays: bool, bag: bool) -> usize
         + where_so(stays, flow.back_in)
 }
 
-/// So many at most get out.
+/// The greatest number that get out.
 #[tactic(auto, unfolding(crate::specs::Flowing::lost_by))]
 pub fn lost_by(flow: &Flow, bag_was: bool, was: bool, stays: bool, bag: bool) -> usize
     requires { IsSmall flow.now }
@@ -122,7 +122,7 @@ pub fn lost_by(flow: &Flow, bag_was: bool, was: bool, stays: bool, bag: bool) ->
     where_so(was, lost) + where_out(bag_was, stays, flow.drawn)
 }
 
-/// Whether the board before the next step is as a step leaves it, in the number of tiles of the chosen kinds.
+/// Whether the board before the next step is as a step leaves it, counting tiles of the chosen kinds.
 #[tactic(auto, unfolding(crate::specs::Flowing::BoardFollows))]
 pub fn board_follows(
     chosen: &[bool; KINDS],

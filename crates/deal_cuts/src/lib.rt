@@ -1,8 +1,8 @@
 //! A proof that no racks fit the steps of a game, and its check.
 //!
-//! A cut chooses kinds of tiles, and before each of the first steps some of the three places where tiles can be that are
-//! in play: the bag and both racks. By the sizes of the places, the tiles that the lines show and those that move, there
-//! must be so many tiles of these kinds in these places; where that is more than can be, there is no deal.
+//! A cut chooses kinds of tiles, and before each of the first steps some of the three places where tiles in play can be: the bag
+//! and both racks. The sizes of the places, the tiles that the lines show and those that move give a least number of tiles of these
+//! kinds in these places; if that is more than there can be, there is no deal.
 #![tactic(auto)]
 
 mod cuts;

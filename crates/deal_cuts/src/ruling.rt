@@ -11,10 +11,10 @@ use deal_steps::Step;
 use gcg_read::Seat;
 use ref_tiles::{KINDS, Rules};
 
-/// No more tiles are counted.
+/// The greatest number of tiles that is counted.
 const MOST: usize = 4_294_967_296;
 
-/// So many tiles of the chosen kinds are in the places before a step at least.
+/// The least number of tiles of the chosen kinds in the places before a step.
 fn at_least(chosen: &[bool; KINDS], places: &Places, rules: &Rules, step: &Step) -> usize
     ensures inside { AreInside chosen.now places.now rules.now step.now result }
     ensures is { AreSmall step.now → result ≡ at_least chosen.now places.now rules.now step.now }
@@ -31,7 +31,7 @@ fn at_least(chosen: &[bool; KINDS], places: &Places, rules: &Rules, step: &Step)
     all.saturating_sub(laid).saturating_sub(outside)
 }
 
-/// So many are in some places before the next step at least, where so many are in others before a step.
+/// The least number in some places before the next step, given a least number in others before a step.
 fn carried(
     chosen: &[bool; KINDS],
     step: &Step,
@@ -63,7 +63,7 @@ fn carried(
     (inside + gained).saturating_sub(out).min(MOST)
 }
 
-/// Whether more are in the places before a step than can be.
+/// Whether more are in the places before a step than there can be.
 fn are_too_many(
     chosen: &[bool; KINDS],
     places: &Places,
@@ -95,7 +95,7 @@ fn are_too_many(
     room < taken || all < shown
 }
 
-/// Whether more tiles of the chosen kinds are somewhere than can be, where the cut has places before each step.
+/// Whether more tiles of the chosen kinds are somewhere than there can be, by the places of the cut before each step.
 fn shows_too_many(rules: &Rules, steps: &[Step], cut: &Cut) -> bool
     requires same { length steps.now ≡ vec_len cut.now.places }
     ensures none { result ≡ true → HasNoDeal rules.now steps.now }
@@ -123,7 +123,7 @@ fn shows_too_many(rules: &Rules, steps: &[Step], cut: &Cut) -> bool
 
 /// Whether a cut proves that no racks fit the steps of a game.
 ///
-/// A cut has places before each of the first steps, and it looks at no more of them: so no racks fit these already.
+/// A cut has places before each of the first steps, and depends only on these steps: so no racks fit even these.
 pub fn rules_out(rules: &Rules, steps: &[Step], cut: &Cut) -> bool
     ensures front { result ≡ true → HasNoDeal rules.now (take (vec_len cut.now.places) steps.now) }
     ensures whole { result ≡ true → HasNoDeal rules.now steps.now }

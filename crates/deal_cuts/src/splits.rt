@@ -4,7 +4,7 @@ ghost use Rattle.deal_cuts.specs.Cutting.{where_so, number_in, number_beside};
 
 use ref_tiles::{Counts, KINDS};
 
-/// How many tiles are of the chosen kinds, and how many are not.
+/// The number of tiles of the chosen kinds, and the number of others.
 #[derive(Clone, Copy)]
 pub struct Split {
     /// Those of the chosen kinds.
@@ -13,7 +13,7 @@ pub struct Split {
     pub beside: usize,
 }
 
-/// A number that counts only where something is so.
+/// A number that counts only if a condition holds.
 #[tactic(auto, unfolding(crate::specs::Cutting::where_so))]
 pub fn where_so(so: bool, number: usize) -> usize
     ensures is { result ≡ where_so so number }
@@ -22,7 +22,7 @@ pub fn where_so(so: bool, number: usize) -> usize
     if so { number } else { 0 }
 }
 
-/// A number that counts only where something was inside and is not.
+/// A number that counts only if something was inside and no longer is.
 #[tactic(auto, unfolding(crate::specs::Cutting::where_so))]
 pub fn where_out(was: bool, stays: bool, number: usize) -> usize
     ensures is { result ≡ where_so (was && not stays) number }
@@ -31,7 +31,7 @@ pub fn where_out(was: bool, stays: bool, number: usize) -> usize
     if stays { 0 } else { where_so(was, number) }
 }
 
-/// How many of some tiles are of the chosen kinds, and how many are not.
+/// The number of some tiles that are of the chosen kinds, and the number that are not.
 #[tactic(auto, using(crate::proofs::Parts::none_first, crate::proofs::Parts::none_beside, crate::proofs::Parts::chosen_in, crate::proofs::Parts::chosen_beside, crate::proofs::Parts::other_in, crate::proofs::Parts::other_beside, crate::proofs::Parts::all_in, crate::proofs::Parts::all_beside))]
 pub fn split_by(chosen: &[bool; KINDS], tiles: &Counts) -> Split
     ensures within { result.within ≡ number_in chosen.now tiles.now }

@@ -1,4 +1,4 @@
-//! What a step tells of the tiles of a rack.
+//! What a step says about the tiles of a rack.
 ghost use Rattle.std.specs.Prelude.{◌≡◌};
 ghost use Rattle.deal_steps.specs.Steps.{swaps};
 ghost use Rattle.deal_cuts.specs.Flowing.{known_at, leaving, coming, unknown_at};
@@ -40,7 +40,7 @@ pub fn coming(seat: Seat, step: &Step) -> Counts
     }
 }
 
-/// How many tiles that are not known are thrown off a rack at a step.
+/// The number of unknown tiles that are thrown off a rack at a step.
 pub fn unknown_at(seat: Seat, step: &Step) -> usize
     ensures { result ≡ unknown_at seat step.now }
 {

@@ -1,4 +1,4 @@
--- What holds of the first steps of a front holds of the first steps.
+-- What holds for the first steps of a front holds for the first steps.
 use Rattle.std.proofs.Common.{◌≡◌, ℕ, ◌≤◌, List, length, take, ap, ◌∙◌, subst, arith}
 use Rattle.std.proofs.lemmas.List.{take-take, length-take}
 use Rattle.ref_tiles.specs.declared.rulebook.Rules.{Rules}
@@ -22,6 +22,6 @@ ends_in_front rules steps front m n is ends =
       none = subst (λ (xs : List Step). HasNoDeal rules xs) fronts ends.none;
     }
 
--- racks that fit a front are known of the first so many steps
+-- racks that fit a front are known for that number of first steps
 pub deals_in_front : (rules : Rules) (steps front : List Step) (n : ℕ) (deal : List Held) → front ≡ take n steps → Fits rules front deal → IsKnownOf rules steps n known.Dealt
 deals_in_front rules steps front n deal is fit = record { racks = deal; fit = subst (λ (xs : List Step). Fits rules xs deal) is fit }

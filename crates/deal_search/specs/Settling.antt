@@ -10,7 +10,7 @@ use Rattle.deal_search.specs.declared.settling.Earlier.TheVariants as known
 use Rattle.deal_search.specs.declared.settling.Settling.{Settling}
 use Rattle.deal_search.specs.declared.settling.Settling.TheVariants as settling
 
--- no racks fit the first so many steps, which are one at least
+-- no racks fit the first `n` steps, which are at least one
 pub record EndsDeals (rules : Rules) (steps : List Step) (n : ℕ) : Type 0 where
   pub some : 0 < n
   pub within : n ≤ length steps
@@ -21,17 +21,17 @@ pub record HaveDeal (rules : Rules) (steps : List Step) : Type 0 where
   pub racks : List Held
   pub fit : Fits rules steps racks
 
--- what is known of the first so many steps: that some racks fit them, or nothing
+-- what is known about the first steps: that some racks fit them, or nothing
 abbrev pub IsKnownOf : Rules → List Step → ℕ → Earlier → Type 0
 IsKnownOf rules steps n known.Dealt = HaveDeal rules (take n steps)
 IsKnownOf rules steps n known.Unsettled = Unit {0}
 
--- No racks fit the first so many steps, and of these without the last one this is known.
+-- No racks fit the first `n` steps, and this is known about these without the last one.
 pub record IsCut (rules : Rules) (steps : List Step) (n : ℕ) (earlier : Earlier) : Type 0 where
   pub ends : EndsDeals rules steps n
   pub known : IsKnownOf rules steps (n - 1) earlier
 
--- A deal fits; or a cut shows that no racks fit the first steps, and some fit those before the last of them, where that is told.
+-- A deal fits; or a cut shows that no racks fit the first steps, and some fit those before the last of them, if the answer says so.
 abbrev pub IsSettled : Rules → List Step → Settling → Type 0
 IsSettled rules steps (settling.Dealt deal) = Fits rules steps deal
 IsSettled rules steps (settling.NoDeal cut earlier) = IsCut rules steps (vec_len cut.places) earlier

@@ -1,8 +1,8 @@
-//! The ways that tiles take.
+//! The ways of tiles through a game.
 use crate::piles::{Pile, minus, number_of, plus, sum_of};
 use ref_tiles::KINDS;
 
-/// How many kinds are lacking.
+/// The number of kinds that are lacking.
 fn lacking_in(spare: &Pile) -> u32 {
     let mut lacking = 0u32;
     for number in spare {
@@ -22,29 +22,29 @@ pub enum Other {
     Any,
 }
 
-/// A way that tiles take from a place to the next.
+/// A way of tiles from a place to the next.
 #[derive(Clone, Copy)]
 pub struct Arc {
     /// The node that it leaves.
     pub from: usize,
     /// The node that it enters.
     pub to: usize,
-    /// How many tiles take it.
+    /// The number of tiles that take it.
     pub size: i32,
-    /// How many of them are not asked for.
+    /// The number of them that are not asked for.
     pub loose: i32,
-    /// What it costs that one more tile is lacking here.
+    /// The cost of lacking one more tile here.
     pub weight: u32,
-    /// How many kinds are lacking.
+    /// The number of kinds that are lacking.
     lacking: u32,
-    /// Of each kind, how many tiles are asked for.
+    /// The number of tiles of each kind that are asked for.
     pub need: Pile,
-    /// Of each kind, how many tiles more than these take it. Below 0 tiles are lacking.
+    /// The number of tiles of each kind that take it beyond those. Below 0, tiles are lacking.
     pub spare: Pile,
 }
 
 impl Arc {
-    /// The arc from node to node that these tiles take.
+    /// The arc between two nodes that these tiles take.
     pub fn new(from: usize, to: usize, tiles: &Pile, need: &Pile) -> Arc {
         let size = sum_of(tiles);
         let spare = minus(tiles, need);
@@ -78,7 +78,7 @@ impl Arc {
         None
     }
 
-    /// How many tiles there are to spare of another kind or of all but one.
+    /// The number of tiles to spare of another kind, or of all kinds but one.
     fn spare_of(&self, kind: usize, other: Other) -> i32 {
         match other {
             Other::Kind(other) => number_of(&self.spare, other),
@@ -86,7 +86,7 @@ impl Arc {
         }
     }
 
-    /// What it costs to give up a tile of which so many are to spare, if that may be.
+    /// The cost of giving up a tile when this number is to spare, if that is allowed.
     fn cost(&self, spare: i32) -> Option<u32> {
         if spare > 0 {
             Some(0)
@@ -97,18 +97,17 @@ impl Arc {
         }
     }
 
-    /// What it costs that one tile more of a kind takes the arc, and another less.
+    /// The cost of one more tile of a kind taking the arc, and one fewer of another.
     pub fn cost_along(&self, kind: usize, other: Other) -> Option<u32> {
         self.cost(self.spare_of(kind, other))
     }
 
-    /// What it costs that one tile less of a kind takes the arc, and another more.
+    /// The cost of one fewer tile of a kind taking the arc, and one more of another.
     pub fn cost_against(&self, kind: usize) -> Option<u32> {
         self.cost(number_of(&self.spare, kind))
     }
 
-    /// Lets one tile more of a kind take the arc, and one of another less. Where that one is lacking now, the arc is
-    /// dearer from now on.
+    /// Lets one more tile of a kind take the arc, and one fewer of another. If that one is now lacking, the arc costs more from now on.
     pub fn swap(&mut self, more: usize, less: usize) {
         if more < KINDS && less < KINDS {
             self.spare[more] = self.spare[more].wrapping_add(1);

@@ -1,4 +1,4 @@
-//! Proofs that there is no deal, from what can be reached at little cost.
+//! Proofs that there is no deal, from the nodes that can be reached at little cost.
 use crate::nets::{Net, asked_node, bag_node, rack_node};
 use crate::paths::{FAR, Reach, cost_of};
 use crate::piles::{Pile, minus, plus};
@@ -6,10 +6,10 @@ use deal_cuts::{Cut, Places};
 use ref_tiles::KINDS;
 use std::alloc::{AllocError, Global};
 
-/// How many levels of cost are looked at.
+/// The number of levels of cost that are tried.
 const LEVELS: usize = 8;
 
-/// Of each kind, by how many tiles more must be in some places than may leave them, and how many may leave of any kind.
+/// For each kind, how many more tiles must be in some places than may leave them; and how many tiles of any kind may leave.
 #[derive(Drop)]
 struct Excess {
     own: Pile,
@@ -42,7 +42,7 @@ fn level_above(reach: &[Reach], cost: u32) -> u32 {
 }
 
 impl Excess {
-    /// What is there at the start, and must be there at the end.
+    /// What is there at the start and must be there at the end.
     fn new(net: &Net, near: &Near<'_>) -> Excess {
         let mut own = [0; KINDS];
         if near.has(bag_node(0)) {
@@ -54,7 +54,7 @@ impl Excess {
         Excess { own, room: 0 }
     }
 
-    /// The known tiles that leave racks go off, and those of exchanges come back.
+    /// Subtracts the known tiles that leave racks, and adds those of exchanges back.
     fn count_moves(&mut self, net: &Net, near: &Near<'_>) {
         for place in 0..net.moves.len() {
             let turn = &net.moves[place];
@@ -67,7 +67,7 @@ impl Excess {
         }
     }
 
-    /// What is asked for on an arc comes in or goes out, and with it may go what is not asked for.
+    /// Counts what is asked for on an arc as it comes in or goes out; what is not asked for may go with it.
     fn count_arcs(&mut self, net: &Net, near: &Near<'_>) {
         for arc in &net.arcs {
             let from = near.has(arc.from);
@@ -82,7 +82,7 @@ impl Excess {
         }
     }
 
-    /// Whether some kinds have more than there is room for: those of which there are too many.
+    /// Whether some kinds have more tiles than there is room for: those of which there are too many.
     fn is_too_much(&self) -> bool {
         let mut sum = 0i32;
         for number in &self.own {
@@ -101,7 +101,7 @@ impl Excess {
     }
 }
 
-/// The cut of some kinds and nodes: before each step, which of the bag and the racks are among the nodes.
+/// The cut of some kinds and nodes: which of the bag and the racks are among the nodes before each step.
 fn cut_of(
     alloc: Global,
     net: &Net,
@@ -121,7 +121,7 @@ fn cut_of(
     Ok(Cut { kinds, places })
 }
 
-/// A cut by the nodes that are reached at less than some cost, where more tiles of some kinds must be there than can.
+/// A cut by the nodes that are reached at less than some cost, if more tiles of some kinds must be there than there can be.
 fn cut_at(alloc: Global, net: &Net, near: &Near<'_>) -> Result<Option<Cut>, AllocError> {
     let mut excess = Excess::new(net, near);
     excess.count_moves(net, near);
@@ -133,7 +133,7 @@ fn cut_at(alloc: Global, net: &Net, near: &Near<'_>) -> Result<Option<Cut>, Allo
     Ok(Some(cut))
 }
 
-/// The first cut by the nearest nodes, up to those that are reached as the goal is.
+/// The first cut by the nearest nodes, up to those that are reached at the cost of the goal.
 pub fn cut_below(
     alloc: Global,
     net: &Net,

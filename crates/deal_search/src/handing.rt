@@ -23,7 +23,7 @@ fn tiles_on(arcs: &[Arc], place: usize, which: usize) -> Pile {
     }
 }
 
-/// The rack of a player after a move: what it keeps and what is drawn.
+/// The rack of a player after a move: what it keeps plus what is drawn.
 fn rack_after(arcs: &[Arc], place: usize) -> Counts {
     counts_of(&plus(&tiles_on(arcs, place, KEEP), &tiles_on(arcs, place, DRAW)))
 }
@@ -37,7 +37,7 @@ fn thrown_by(arcs: &[Arc], turn: &Move, place: usize) -> Counts {
     }
 }
 
-/// What the players hold at a step. Where a play is taken back, its tiles are on the board and not on the rack.
+/// What the players hold at a step. If a play is taken back, its tiles are on the board and not on the rack.
 fn racks_at(step: &Step, racks: &Racks) -> Racks {
     match &step.act {
         Act::TakesBack(used) => {

@@ -1,4 +1,4 @@
-//! Swaps along cheapest ways, until no arc lacks a tile or a cut is found.
+//! Swaps along the cheapest ways, until no arc lacks a tile or a cut is found.
 use crate::arcs::{Arc, Other};
 use crate::cutting::cut_below;
 use crate::nets::Net;
@@ -9,7 +9,7 @@ use deal_steps::Step;
 use ref_tiles::{KINDS, Rules};
 use std::alloc::{AllocError, Global};
 
-/// What became of a net.
+/// The outcome for a net.
 #[derive(Drop)]
 pub enum Mended {
     /// No arc lacks a tile.
@@ -20,7 +20,7 @@ pub enum Mended {
     Open,
 }
 
-/// A kind that may be given up, and what that costs.
+/// A kind that may be given up, and its cost.
 #[derive(Clone, Copy)]
 struct Choice {
     kind: usize,
@@ -62,7 +62,7 @@ fn can_spare(arcs: &[Arc], index: usize, kind: usize) -> bool {
     }
 }
 
-/// The kind that costs least to give up: the first that costs nothing, else the cheapest.
+/// The kind that costs least to give up: the first that costs nothing, otherwise the cheapest.
 fn choose(arcs: &[Arc], quest: &Quest, reach: &mut Vec<Reach>, budget: &mut usize) -> Choice {
     let mut best = Choice { kind: 0, cost: FAR };
     for kind in 0..KINDS {
@@ -122,15 +122,15 @@ fn no_ways(alloc: Global, nodes: usize) -> Result<Vec<Reach>, AllocError> {
     Ok(reach)
 }
 
-/// What the mending of the net of a game works with.
+/// What mending the net of a game works with.
 #[derive(Drop)]
 struct Mending<'a> {
     alloc: Global,
     rules: &'a Rules,
     steps: &'a [Step],
-    /// The ways to all nodes that were looked for last.
+    /// The latest ways to all nodes.
     reach: Vec<Reach>,
-    /// How many looks at an arc are left.
+    /// The number of visits of arcs that are left.
     budget: usize,
 }
 
@@ -159,7 +159,7 @@ impl<'a> Mending<'a> {
         self.cut_by(net, quest)
     }
 
-    /// Mends one lack. The answer is what became of the net, where that is known.
+    /// Mends one lack. The answer is the outcome for the net, if it is known.
     fn mend_one(&mut self, net: &mut Net) -> Result<Option<Mended>, AllocError> {
         let Some(quest) = first_lack(&net.arcs) else {
             return Ok(Some(Mended::Whole));
@@ -181,7 +181,7 @@ impl<'a> Mending<'a> {
     }
 }
 
-/// Mends a net, within a budget of looks at an arc.
+/// Mends a net, within a budget of visits of arcs.
 pub fn mend(
     alloc: Global,
     rules: &Rules,

@@ -1,4 +1,4 @@
-//! What each step does with tiles, as far as a deal has to know it.
+//! What each step does with tiles, as far as a deal needs it.
 use crate::piles::{Pile, pile_of, sum_of};
 use deal_steps::{Act, Motion, Step, greater, opener, used_by};
 use gcg_read::Seat;
@@ -8,23 +8,23 @@ use std::alloc::{AllocError, Global};
 /// A step of one player: what the rack must have, what leaves it, and what comes.
 #[derive(Clone, Copy)]
 pub struct Move {
-    /// Whose rack it is.
+    /// The player whose rack it is.
     pub seat: Seat,
     /// The tiles that must be on the rack.
     pub need: Pile,
     /// The known tiles that leave it.
     pub leave: Pile,
-    /// Whether these go to the bag, and not to the board.
+    /// Whether these go to the bag and not to the board.
     pub to_bag: bool,
-    /// How many tiles that are not known are thrown to the bag.
+    /// The number of unknown tiles that are thrown to the bag.
     pub throws: i32,
-    /// How many tiles are drawn.
+    /// The number of tiles that are drawn.
     pub draws: i32,
     /// The place of the next move of the same player, or the number of all moves.
     pub next: usize,
     /// The place of the first player's next move from this one on, or the number of all moves,
     pub first: usize,
-    /// and that of the second player's.
+    /// and that of the second player.
     pub second: usize,
 }
 
@@ -34,7 +34,7 @@ fn tiles(number: usize) -> i32 {
 }
 
 impl Move {
-    /// A move that asks for nothing and draws so many tiles.
+    /// A move that asks for nothing and draws a number of tiles.
     fn drawing(seat: Seat, draws: i32) -> Move {
         Move {
             seat,
@@ -86,7 +86,7 @@ impl Move {
     }
 }
 
-/// How many tiles a player draws before the first step.
+/// The number of tiles that a player draws before the first step.
 fn opening(seat: Seat, steps: &[Step]) -> i32 {
     match steps.first() {
         Some(step) => tiles(step.size_of(seat)),
@@ -94,7 +94,7 @@ fn opening(seat: Seat, steps: &[Step]) -> i32 {
     }
 }
 
-/// The moves of the steps behind the two draws that open the game, with no order among them yet.
+/// The moves of the steps after the two draws that open the game, not yet linked.
 fn listed(alloc: Global, steps: &[Step]) -> Result<Vec<Move>, AllocError> {
     let first = opener(steps);
     let second = first.other();
@@ -107,7 +107,7 @@ fn listed(alloc: Global, steps: &[Step]) -> Result<Vec<Move>, AllocError> {
     Ok(moves)
 }
 
-/// Tells each move which one is next, for its player and for both.
+/// Links each move to the next ones, of its player and of both.
 fn chain(moves: &mut [Move]) {
     let count = moves.len();
     let mut first = count;

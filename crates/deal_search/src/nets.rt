@@ -1,8 +1,8 @@
-//! The whole way of all tiles through a game, as a net of nodes and arcs.
+//! The ways of all tiles through a whole game, as a net of nodes and arcs.
 //!
-//! Each move has three nodes: the bag before it, the player's rack before it is asked for tiles, and the same rack
-//! after that. One node more is the end. Five arcs go from each move: what stays in the bag, what is drawn from it, the
-//! rack through what is asked, what the rack keeps, and what it throws without its being known.
+//! Each move has three nodes: the bag before it, the player's rack before it is asked for tiles, and the same rack after that. One
+//! more node is the end. Five arcs leave each move: what stays in the bag, what is drawn from it, the rack with what is asked for,
+//! what the rack keeps, and what it throws without being known.
 use crate::arcs::Arc;
 use crate::moves::{Move, all_tiles, moves_of};
 use crate::picking::{drawn, thrown};
@@ -12,7 +12,7 @@ use gcg_read::Seat;
 use ref_tiles::{KINDS, Rules};
 use std::alloc::{AllocError, Global};
 
-/// How many arcs go from each move.
+/// The number of arcs that leave each move.
 pub const ARCS: usize = 5;
 
 /// The bag before a move.
@@ -20,7 +20,7 @@ pub fn bag_node(place: usize) -> usize {
     place.saturating_mul(3)
 }
 
-/// A rack before the own move at a place, or the end.
+/// A rack before its player's move at a place, or the end.
 pub fn rack_node(place: usize, moves: usize) -> usize {
     if place < moves {
         place.saturating_mul(3).saturating_add(1)
@@ -34,7 +34,7 @@ pub fn asked_node(place: usize) -> usize {
     place.saturating_mul(3).saturating_add(2)
 }
 
-/// The moves of a game, and the ways that its tiles take.
+/// The moves of a game, and the ways of its tiles.
 #[derive(Drop)]
 pub struct Net {
     /// The moves, two for the draws that open the game, and one for each step.
@@ -47,7 +47,7 @@ pub struct Net {
     pub left: Pile,
 }
 
-/// Where the tiles are while they are dealt out.
+/// Where the tiles are while they are dealt.
 #[derive(Drop)]
 struct Table {
     bag: Pile,
@@ -64,7 +64,7 @@ impl Table {
         }
     }
 
-    /// Gives a player another rack.
+    /// Sets the rack of a player.
     fn set(&mut self, seat: Seat, rack: Pile) {
         match seat {
             Seat::First => self.first = rack,
@@ -112,7 +112,7 @@ fn make_move(
 }
 
 impl Net {
-    /// The net of a game. At first each draw takes what the player's lines to come ask for.
+    /// The net of a game. Each draw first takes what the player's lines to come ask for.
     pub fn new(alloc: Global, rules: &Rules, steps: &[Step]) -> Result<Net, AllocError> {
         let moves = moves_of(alloc, steps)?;
         let mut arcs = Vec::new(alloc);
@@ -134,7 +134,7 @@ impl Net {
         })
     }
 
-    /// How many nodes there are.
+    /// The number of nodes.
     pub fn nodes(&self) -> usize {
         bag_node(self.moves.len()).saturating_add(1)
     }

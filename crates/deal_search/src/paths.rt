@@ -1,20 +1,20 @@
-//! The cheapest ways to hand a tile on.
+//! The cheapest ways to pass a tile on.
 use crate::arcs::{Arc, Other};
 
-/// What a node costs that cannot be reached.
+/// The cost of a node that cannot be reached.
 pub const FAR: u32 = u32::MAX;
 
-/// How often the arcs are gone over.
+/// The number of passes over the arcs.
 const SWEEPS: usize = 24;
 
 /// How a node is reached.
 #[derive(Clone, Copy)]
 pub struct Reach {
-    /// What it costs.
+    /// The cost.
     pub cost: u32,
     /// The arc by which it is reached,
     pub arc: usize,
-    /// and whether from where the arc leaves.
+    /// and whether it is reached from the node that the arc leaves.
     pub along: bool,
 }
 
@@ -23,9 +23,9 @@ pub struct Reach {
 pub struct Quest {
     /// The arc.
     pub arc: usize,
-    /// The node where a tile of the kind is too many, once the arc has one more.
+    /// The node that has one tile of the kind too many once the arc has one more.
     pub start: usize,
-    /// The node where one is lacking then.
+    /// The node that then lacks one.
     pub goal: usize,
     /// The kind.
     pub kind: usize,
@@ -33,7 +33,7 @@ pub struct Quest {
     pub other: Other,
 }
 
-/// What it costs to reach a node.
+/// The cost of reaching a node.
 pub fn cost_of(reach: &[Reach], node: usize) -> u32 {
     match reach.get(node) {
         Some(by) => by.cost,
@@ -41,7 +41,7 @@ pub fn cost_of(reach: &[Reach], node: usize) -> u32 {
     }
 }
 
-/// No node is reached but the start.
+/// Marks all nodes but the start as unreached.
 fn clear(reach: &mut Vec<Reach>, start: usize) {
     for node in 0..reach.len() {
         let cost = if node == start { 0 } else { FAR };
@@ -53,7 +53,7 @@ fn clear(reach: &mut Vec<Reach>, start: usize) {
     }
 }
 
-/// Reaches a node from another, where that is cheaper.
+/// Reaches a node from another, if that is cheaper.
 fn relax(reach: &mut Vec<Reach>, from: usize, to: usize, by: Reach) -> bool {
     let base = cost_of(reach, from);
     let cost = base.saturating_add(by.cost);
@@ -68,7 +68,7 @@ fn relax(reach: &mut Vec<Reach>, from: usize, to: usize, by: Reach) -> bool {
     false
 }
 
-/// Reaches the two nodes of an arc from each other, where that is cheaper.
+/// Reaches the two nodes of an arc from each other, if that is cheaper.
 fn relax_arc(arc: &Arc, index: usize, quest: &Quest, reach: &mut Vec<Reach>) -> bool {
     let mut changed = false;
     if let Some(cost) = arc.cost_along(quest.kind, quest.other) {
@@ -92,7 +92,7 @@ fn relax_arc(arc: &Arc, index: usize, quest: &Quest, reach: &mut Vec<Reach>) -> 
     changed
 }
 
-/// Goes over all arcs once, from the first or from the last. The answer is whether a node became cheaper.
+/// Passes over all arcs once, from the first or from the last. The answer is whether a node became cheaper.
 fn sweep(arcs: &[Arc], quest: &Quest, forward: bool, reach: &mut Vec<Reach>) -> bool {
     let mut changed = false;
     for number in 0..arcs.len() {
@@ -108,7 +108,7 @@ fn sweep(arcs: &[Arc], quest: &Quest, forward: bool, reach: &mut Vec<Reach>) -> 
     changed
 }
 
-/// Finds what it costs to reach each node, as far as the arcs are gone over. The answer is no where the budget is spent.
+/// Finds the cost of each node, as far as the passes over the arcs reach. The answer is no if the budget is spent.
 pub fn find_paths(arcs: &[Arc], quest: &Quest, reach: &mut Vec<Reach>, budget: &mut usize) -> bool {
     clear(reach, quest.start);
     for number in 0..SWEEPS {

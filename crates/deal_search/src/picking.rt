@@ -1,5 +1,4 @@
-//! Which tiles a player draws or throws at first: what the player's lines to come ask for, and then those of which there
-//! are most.
+//! Which tiles a player draws or throws at first: what the player's lines to come ask for, and then those of which there are most.
 use crate::moves::Move;
 use crate::piles::{Pile, minus, most_of, sum_of};
 use ref_tiles::KINDS;
@@ -9,16 +8,16 @@ use ref_tiles::KINDS;
 struct Taker {
     /// What the player has.
     have: Pile,
-    /// What there is to take.
+    /// The tiles that can be taken.
     there: Pile,
     /// What was taken.
     taken: Pile,
-    /// How many tiles are still to be taken.
+    /// The number of tiles still to be taken.
     left: i32,
 }
 
 impl Taker {
-    /// A player who has tiles and takes so many of others.
+    /// A player who has tiles and takes a number of others.
     fn new(have: &Pile, there: &Pile, left: i32) -> Taker {
         Taker {
             have: *have,
@@ -28,7 +27,7 @@ impl Taker {
         }
     }
 
-    /// Takes tiles of a kind, as many as are wanted, there, and to be taken.
+    /// Takes tiles of a kind: as many as are wanted, available, and still to be taken.
     fn take(&mut self, kind: usize, wanted: i32) {
         if kind < KINDS {
             let number = wanted.min(self.there[kind]).min(self.left).max(0);
@@ -38,7 +37,7 @@ impl Taker {
         }
     }
 
-    /// Takes what is needed and not had; it counts as had from now on, whether it is there or not.
+    /// Takes what is needed and the player does not have; it counts as held from now on, whether it could be taken or not.
     fn take_need(&mut self, need: &Pile) {
         for kind in 0..KINDS {
             let lack = need[kind].wrapping_sub(self.have[kind]);
@@ -49,7 +48,7 @@ impl Taker {
         }
     }
 
-    /// Takes what the player's moves from a place on need, up to the next throw of tiles that are not known.
+    /// Takes what the player's moves from a place on need, up to the next throw of unknown tiles.
     fn take_wanted(&mut self, moves: &[Move], first: usize) {
         let mut place = first;
         for _ in 0..moves.len() {
@@ -66,7 +65,7 @@ impl Taker {
         }
     }
 
-    /// Takes the rest, each time of the kind of which there are most.
+    /// Takes the rest, each time from the kind of which there are most.
     fn take_most(&mut self) {
         for _ in 0..self.left {
             let kind = most_of(&self.there);
@@ -78,7 +77,7 @@ impl Taker {
     }
 }
 
-/// The tiles that a player draws from the bag, before the own move at a place.
+/// The tiles that a player draws from the bag before the player's move at a place.
 pub fn drawn(moves: &[Move], place: usize, rack: &Pile, bag: &Pile, number: i32) -> Pile {
     let mut taker = Taker::new(rack, bag, number);
     taker.take_wanted(moves, place);
@@ -86,7 +85,7 @@ pub fn drawn(moves: &[Move], place: usize, rack: &Pile, bag: &Pile, number: i32)
     taker.taken
 }
 
-/// The tiles that a player throws, before the own move at a place: none that it needs, if others are there.
+/// The tiles that a player throws before the player's move at a place: none that are needed, if there are others.
 pub fn thrown(moves: &[Move], place: usize, rack: &Pile, number: i32) -> Pile {
     let keeps = sum_of(rack).wrapping_sub(number);
     let mut keeper = Taker::new(&[0; KINDS], rack, keeps);

@@ -1,7 +1,7 @@
-//! Tiles by kind, in numbers that may fall below 0 while a deal is sought.
+//! Tiles by kind, in numbers that may fall below 0 while the search runs.
 use ref_tiles::{Counts, KINDS};
 
-/// So many tiles of each kind.
+/// A number of tiles of each kind.
 pub type Pile = [i32; KINDS];
 
 /// The pile of some tiles.
@@ -14,7 +14,7 @@ pub fn pile_of(tiles: &Counts) -> Pile {
     pile
 }
 
-/// The tiles of a pile, where no number is below 0.
+/// The tiles of a pile, if no number is below 0.
 pub fn counts_of(pile: &Pile) -> Counts {
     let mut numbers = [0; KINDS];
     for kind in 0..KINDS {
@@ -23,7 +23,7 @@ pub fn counts_of(pile: &Pile) -> Counts {
     Counts::of(numbers)
 }
 
-/// How many tiles there are of a kind.
+/// The number of tiles of a kind.
 pub fn number_of(pile: &Pile, kind: usize) -> i32 {
     match pile.get(kind) {
         Some(number) => *number,
@@ -31,7 +31,7 @@ pub fn number_of(pile: &Pile, kind: usize) -> i32 {
     }
 }
 
-/// How many tiles there are.
+/// The number of tiles.
 pub fn sum_of(pile: &Pile) -> i32 {
     let mut sum = 0i32;
     for number in pile {
@@ -40,7 +40,7 @@ pub fn sum_of(pile: &Pile) -> i32 {
     sum
 }
 
-/// Both together.
+/// Both piles together.
 pub fn plus(pile: &Pile, more: &Pile) -> Pile {
     let mut sums = *pile;
     for kind in 0..KINDS {
@@ -49,7 +49,7 @@ pub fn plus(pile: &Pile, more: &Pile) -> Pile {
     sums
 }
 
-/// The first without the second.
+/// The first pile without the second.
 pub fn minus(pile: &Pile, less: &Pile) -> Pile {
     let mut rest = *pile;
     for kind in 0..KINDS {
@@ -58,7 +58,7 @@ pub fn minus(pile: &Pile, less: &Pile) -> Pile {
     rest
 }
 
-/// The kind of which there are most, the first of them.
+/// The kind of which there are most; if several tie, the first of them.
 pub fn most_of(pile: &Pile) -> usize {
     let mut most = 0;
     for kind in 0..KINDS {

@@ -12,33 +12,33 @@ use deal_steps::{Deal, Step, fits};
 use ref_tiles::Rules;
 use std::alloc::{AllocError, Global};
 
-/// What is known of the steps before the last one of those for which there is no deal.
+/// What is known about the steps without a deal except the last of them.
 #[derive(Clone, Copy, Debug, PartialEq, Eq)]
 pub enum Earlier {
     /// Some racks fit them.
     Dealt,
-    /// Nothing: they were not looked at, or neither a deal nor a cut was found for them within the budget.
+    /// Nothing: they were not tried, or neither a deal nor a cut was found for them within the budget.
     Unsettled,
 }
 
-/// What is known of the deals of a game.
+/// What is known about the deals of a game.
 #[derive(Debug, Drop)]
 pub enum Settling {
     /// This deal fits.
     Dealt(Deal),
-    /// No racks fit the steps for which the cut has places, and so there is no deal for the game.
+    /// No racks fit the steps for which the cut has places, so there is no deal for the game.
     NoDeal {
-        /// What shows it.
+        /// The proof.
         cut: Cut,
-        /// What is known of these steps without the last one.
+        /// What is known about these steps without the last one.
         earlier: Earlier,
     },
     /// Neither was found within the budget.
     Unknown,
 }
 
-/// How many looks at an arc are enough for so many steps, of games that were really dealt and of small ones that were
-/// not.
+/// The number of visits of arcs that is enough for a number of steps, measured on games that were really dealt and on small ones
+/// that were not.
 fn budget_for(steps: usize) -> usize {
     let moves = steps.saturating_add(2);
     let square = moves.saturating_mul(moves);
@@ -47,7 +47,7 @@ fn budget_for(steps: usize) -> usize {
         .saturating_add(square.saturating_mul(30))
 }
 
-/// Whether a cut has places before so many steps at the most, and shows that no racks fit them.
+/// Whether a cut has places before at most `count` steps, and shows that no racks fit them.
 fn is_shown(rules: &Rules, steps: &[Step], cut: &Cut) -> bool
     ensures { result ≡ true → EndsDeals rules.now steps.now (vec_len cut.now.places) }
 {
@@ -76,8 +76,8 @@ fn seek(alloc: Global, rules: &Rules, steps: &[Step], budget: usize) -> Result<S
     }
 }
 
-/// What is known of the fronts of some steps: no racks fit as many first steps as the cut has places, and of so many other ones,
-/// which are fewer, this is known.
+/// What is known about the fronts of some steps: no racks fit as many first steps as the cut has places, and this is known about a
+/// smaller number of them.
 #[derive(Drop)]
 struct Fronts {
     cut: Cut,
@@ -86,7 +86,7 @@ struct Fronts {
 }
 
 impl Fronts {
-    /// Looks for a deal of so many first steps, or for a cut.
+    /// Looks for a deal of a number of first steps, or for a cut.
     #[tactic(auto, using(crate::proofs::Fronts::ends_in_front, crate::proofs::Fronts::deals_in_front))]
     fn look(
         &mut self,
@@ -111,7 +111,7 @@ impl Fronts {
         Ok(())
     }
 
-    /// Keeps what is known of so many first steps.
+    /// Keeps what is known about a number of first steps.
     fn keep(&mut self, count: usize, earlier: Earlier)
         ensures { self.new ≡ record self.old { low = count; earlier = earlier } }
     {
@@ -119,7 +119,7 @@ impl Fronts {
         self.earlier = earlier;
     }
 
-    /// The answer: where all but the last of the steps without a deal were looked at, what is known of them is told.
+    /// The answer: if all but the last of the steps without a deal were tried, it says what is known about them.
     fn answer(self) -> Settling
         requires ends { 0 < vec_len self.cut.places }
         ensures { result ≡ settling.NoDeal self.cut (if vec_len self.cut.places == self.low + 1 then self.earlier else known.Unsettled) }
@@ -136,7 +136,7 @@ impl Fronts {
     }
 }
 
-/// The first steps for which a cut is found, where one was found for all. They are sought by halves.
+/// The first steps for which a cut is found, if one was found for all. They are found by binary search.
 fn first_cut(
     alloc: Global,
     rules: &Rules,
@@ -163,10 +163,10 @@ fn first_cut(
     Ok(fronts.answer())
 }
 
-/// Settles whether racks fit the steps of a game, within a budget of looks for each search.
+/// Settles whether racks fit the steps of a game, within a budget of visits for each search.
 ///
-/// Where they do not, the cut is for the first steps for which one is found, and the answer tells whether racks fit the steps
-/// before the last of them. It fails only where memory runs out.
+/// If they do not, the cut is for the first steps for which one is found, and the answer says whether racks fit the steps before
+/// the last of them. It fails only if memory runs out.
 pub fn settle_within(
     alloc: Global,
     rules: &Rules,
@@ -182,7 +182,7 @@ pub fn settle_within(
     }
 }
 
-/// Settles whether racks fit the steps of a game. It fails only where memory runs out.
+/// Settles whether racks fit the steps of a game. It fails only if memory runs out.
 pub fn settle(alloc: Global, rules: &Rules, steps: &[Step]) -> Result<Settling, AllocError>
     ensures { IfOk result (IsSettled rules.now steps.now) }
 {

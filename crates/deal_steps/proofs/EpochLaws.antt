@@ -26,7 +26,7 @@ gone_is_sum seat (s ∷ past) k below = by (ends_epoch seat s) (gone_is_sum seat
         let sums = sum_by-cons (λ t. get_or (left_in seat t) k 0) s (since seat past) in
         omega (arith, before, both, sums)
 
--- the steps of earlier epochs are nothing to it
+-- the steps of earlier epochs do not matter for it
 gone_since : (seat : Seat) (past : List Step) → gone seat (since seat past) ≡ gone seat past
 gone_since seat [] = refl
 gone_since seat (s ∷ past) = by (ends_epoch seat s) refl (gone_since seat past)
@@ -81,7 +81,7 @@ pub low_is_most : LowIsMost
 low_is_most seat past k below shown shows =
     rw shows.is (most_at seat past k below shows.later shows.moment shows.earlier shows.tiles shows.splits shows.needs)
 
--- a number is none, or a moment shows so many
+-- a number is 0, or a moment shows that many
 IsReached : Seat → List Step → ℕ → (number : ℕ) → Type 0
 IsReached seat past k number = (number ≡ 0) ⊎ ((shown : List ℕ) × Shows seat past shown × (get_or shown k 0 ≡ number))
 

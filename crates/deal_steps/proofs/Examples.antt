@@ -26,11 +26,11 @@ short = record english {
   tiles_in_limits = refl;
 }
 
--- how many of each kind some letters are; a blank is written [
+-- the number of tiles of each kind among some letters; a blank is written [
 abbrev tiles : List ℕ → List ℕ
 tiles letters = map (λ k. count_by (λ letter. letter == k) letters) (range_with_len 65 27)
 
--- what a line does where both racks are full; what is on the board and in the bag is nothing to the bounds
+-- a line with both racks full; what is on the board and in the bag does not matter for the bounds
 abbrev pub line : ℕ → Seat → Act → Step
 line n player what = record { line = n; player = player; counted = true; act = what; board = no_tiles; first = 7; second = 7; bag = 86 }
 
@@ -101,7 +101,7 @@ another_tile = refl
 
 -- ---- epochs
 
--- an exchange of unknown tiles: what was shown before it says nothing of the rack after it
+-- an exchange of unknown tiles: what was shown before it says nothing about the rack after it
 new_tiles : first_bound english (line 1 First (act.Turns (tiles (codes "AEI")) (motion.ThrowsUnknown 5)) ∷ pass 2 Second (codes "QU") ∷ pass 3 First (codes "SX") ∷ []) ≡ None
 unfolding short english english_premiums kinds joined without greater no_tiles letter_at bound_at
 new_tiles = refl

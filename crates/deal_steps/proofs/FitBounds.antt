@@ -1,4 +1,4 @@
--- Where racks fit, no bound is exceeded: what must be on a rack is on it.
+-- If racks fit, no bound is exceeded: what must be on a rack is on it.
 use Rattle.std.proofs.Common.{◌≡◌, ℕ, ◌+◌, ◌<◌, ◌≤◌, List, [], ◌∷◌, length, get_or, sum, None, refl, sym, ap, ◌∙◌, arith}
 use Rattle.std.proofs.lemmas.Bool.{le-ltb}
 use Rattle.ref_tiles.specs.Counting.{no_tiles, IsContainedIn}
@@ -31,7 +31,7 @@ pub record IsHad (c : Course) (known : Known) (racks : Racks) : Type 0 where
 
 -- ---- a moment
 
--- the tiles that a line states and those that it uses are on the rack, and so all that is known of it
+-- the tiles that a line states and those that it uses are on the rack, and so is all that is known about it
 raised_is_had : (known shown used rack waiting : List ℕ) (k : ℕ) → k < 27 → get_or known k 0 ≤ get_or rack k 0 + get_or waiting k 0
     → IsContainedIn shown rack → IsContainedIn used rack
     → get_or (greater known (greater shown used)) k 0 ≤ get_or rack k 0 + get_or waiting k 0
@@ -49,7 +49,7 @@ last_is_had known tiles rack waiting k below had is =
     let same = ap (λ (xs : List ℕ). get_or xs k 0) is in
     omega (arith, had, more, same)
 
--- what a moment shows is had
+-- what a moment shows is there
 shown_is_had : (c : Course) (player : Seat) (what : Act) (known : Known) (held : Held) → IsHad c known held.racks → AllowsAct player what held
     → IsHad c (shown_by player what known) held.racks
 shown_is_had c First (act.Turns shown what) known held had allows =
@@ -79,7 +79,7 @@ shown_is_had c player (act.Ends Second tiles) known held had allows =
     }
 shown_is_had c player act.Rests known held had allows = had
 
--- a rack has at least as many tiles as are known of it
+-- a rack has at least as many tiles as are known about it
 fewer_known : (known rack waiting : List ℕ) → length known ≡ 27 → length rack ≡ 27
     → ((k : ℕ) → k < 27 → get_or known k 0 ≤ get_or rack k 0 + get_or waiting k 0) → waiting ≡ no_tiles → sum known ≤ sum rack
 fewer_known known rack waiting long long2 had none =
@@ -92,7 +92,7 @@ fewer_known known rack waiting long long2 had none =
     omega (arith, here, waits, zero_there)) in
     omega (arith, one, two, both)
 
--- the tiles on the board and all that is known of the racks are in the game
+-- the tiles on the board and all that is known about the racks are in the game
 known_within : (rules : Rules) (c : Course) (s : Step) (known : Known) (racks : Racks) → IsOnCourse c s → AddsUp rules s racks → IsHad c known racks
     → (k : ℕ) → k < 27 → get_or known.laid k 0 + get_or known.first k 0 + get_or known.second k 0 ≤ get_or rules.counts k 0
 known_within rules c s known racks on adds had k below =
@@ -105,7 +105,7 @@ known_within rules c s known racks on adds had k below =
     let two = had.second k below in
     omega (arith, whole, board, parts, waits, laid, one, two)
 
--- where as much as is known of a rack fits on it, no bound is exceeded
+-- if all that is known about a rack fits on it, no bound is exceeded
 fitting_exceeds_none : (rules : Rules) (c : Course) (s : Step) (seat : Seat) (known : Known) (racks : Racks) → IsOnCourse c s → AddsUp rules s racks → IsHad c known racks
     → sum (known_of known seat) ≤ size_of s seat → excess_of rules seat s known ≡ None
 unfolding excess_of
@@ -114,7 +114,7 @@ fitting_exceeds_none rules c s seat known racks on adds had fewer =
     let short = no_short rules known (known_within rules c s known racks on adds had) in
     rw fits (rw short refl)
 
--- and so where what is known is had, and nothing waits
+-- and so if what is known is there, and nothing waits
 none_exceeded : (rules : Rules) (c : Course) (s : Step) (seat : Seat) (known : Known) (racks : Racks) → IsOnCourse c s → AddsUp rules s racks → IsHad c known racks
     → length known.first ≡ 27 → length known.second ≡ 27 → c.waiting ≡ none_waiting → excess_of rules seat s known ≡ None
 none_exceeded rules c s First known racks on adds had long long2 none =
@@ -256,7 +256,7 @@ had_after bag c Second act.Rests known held next had may allows acts stays = sam
 
 -- ---- step by step
 
--- what is known is had by the first racks, where there are any
+-- what is known is on the first racks, if there are any
 abbrev IsHadFirst : Course → Known → List Held → Type 0
 IsHadFirst c known [] = Unit {0}
 IsHadFirst c known (held ∷ rest) = IsHad c known held.racks
@@ -295,7 +295,7 @@ had_at_start rules (held ∷ rest) =
       laid = refl;
     }
 
--- The law: where racks fit, no bound is exceeded.
+-- The law: if racks fit, no bound is exceeded.
 pub no_bound_where_racks_fit : (rules : Rules) (steps : List Step) (deal : List Held) → IsRun rules steps → Fits rules steps deal → first_bound rules steps ≡ None
 no_bound_where_racks_fit rules steps deal run fits =
     no_bound_after rules (first_course rules) [] nothing_known steps deal run fits known_at_start (had_at_start rules deal)

@@ -69,7 +69,7 @@ tiles_stay low known gone tiles e =
 pub new_epoch : no_tiles ≡ joined no_tiles no_tiles
 new_epoch = joined_is no_tiles no_tiles no_tiles length-no_tiles (λ k below. let none = get-no_tiles k below in omega (arith, none))
 
--- the tiles of a moment that none leaves yet
+-- the tiles of a moment, none of which leaves yet
 pub tiles_raised : (low known gone tiles : List ℕ) → low ≡ joined known gone → greater low (joined gone tiles) ≡ joined (greater known tiles) gone
 tiles_raised low known gone tiles e =
     joined_is (greater low (joined gone tiles)) (greater known tiles) gone (length-greater low (joined gone tiles)) (λ k below.
@@ -83,7 +83,7 @@ tiles_raised low known gone tiles e =
 pub used_is_shown : (shown used : List ℕ) (k : ℕ) → k < 27 → get_or used k 0 ≤ get_or (greater shown used) k 0
 used_is_shown shown used k below = let most = get-greater shown used k below in omega (arith, most)
 
--- ---- what is known of a player, step by step
+-- ---- what is known about a player, step by step
 
 -- a player's tiles after a change of one player's
 set_known : (known : Known) (seat : Seat) (tiles : List ℕ) → known_of (with_known known seat tiles) seat ≡ tiles
@@ -132,7 +132,7 @@ not_own seat shown what low gone known e =
     let other = other_seat seat in
     rw (other_turn seat what (raised_by other shown known), kept_known known seat (greater (known_of known other) shown)) (nothing_new low (known_of known seat) gone e)
 
--- no turn, whoever makes it
+-- an act that is not a turn, whoever makes it
 no_turn : (own : Bool) (low known gone : List ℕ) → low ≡ joined known (joined gone no_tiles)
     → (if own && false then no_tiles else low) ≡ joined known (if own && false then no_tiles else joined gone (if own then no_tiles else no_tiles))
 no_turn true low known gone e = e
@@ -281,7 +281,7 @@ epoch_step seat player what earlier gone laid thrown k below e = by (same_seat p
     by true (act.Ends holder tiles) = even_stays earlier gone laid thrown k below e
     by true act.Rests = even_stays earlier gone laid thrown k below e
 
--- what a player laid before the present epoch, and what left the rack in it, are all that was laid and what was thrown in it
+-- what a player laid before the present epoch, plus what left the rack in it, is all that was laid plus what was thrown in it
 pub in_epoch : (seat : Seat) (past : List Step) (k : ℕ) → k < 27 → get_or (laid_earlier seat past) k 0 + get_or (gone seat past) k 0 ≡ get_or (laid seat past) k 0 + get_or (thrown seat past) k 0
 in_epoch seat [] k below = refl
 in_epoch seat (s ∷ past) k below =
@@ -339,7 +339,7 @@ moved_second_long player (act.TakesBack used) known e = e
 moved_second_long player (act.Ends holder tiles) known e = e
 moved_second_long player act.Rests known e = e
 
--- what is shown changes nothing on the board
+-- what is shown does not change the board
 pub shown_laid : (player : Seat) (what : Act) (known : Known) → (shown_by player what known).laid ≡ known.laid
 shown_laid First (act.Turns shown what) known = refl
 shown_laid Second (act.Turns shown what) known = refl
@@ -381,7 +381,7 @@ find_none_is p a (suc n) none =
     let more = find_none_is p (a + 1) n (λ k below. none k (omega arith)) in
     rw here more
 
--- the first kind with a property is found, where no kind before it has it
+-- the first kind with a property is found, if no kind before it has it
 find_at : (p : ℕ → Bool) (a n k : ℕ) → a ≤ k → k < a + n → ((j : ℕ) → a ≤ j → j < k → p j ≡ false) → p k ≡ true → find p (range_with_len a n) ≡ Some k
 find_at p a zero k after before none is = absurd (omega arith)
 find_at p a (suc n) k after before none is =
@@ -395,7 +395,7 @@ find_at p a (suc n) k after before none is =
 
 -- ---- the bounds at a moment
 
--- a player's rack is too small for what is known of it exactly where it is for what the moments have shown
+-- a player's rack is too small for what is known about it exactly when it is too small for what the moments have shown
 size_test : (low known gone : List ℕ) (size : ℕ) → low ≡ joined known gone → length known ≡ 27 → length gone ≡ 27
     → nat_lt size (sum known) ≡ nat_lt (sum gone + size) (sum low)
 size_test low known gone size e long long2 =
@@ -580,7 +580,7 @@ pub known_of_nothing : (first second laid : List ℕ) → first ≡ no_tiles →
 unfolding nothing_known
 known_of_nothing first second laid is is2 is3 = rw is (rw is2 (rw is3 known_at_start))
 
--- what is known behind a step that was taken
+-- what is known after a step that was taken
 pub room_taken : (rules : Rules) (s : Step) (known now : Known) → length rules.counts ≡ 27 → now ≡ shown_by s.player s.act known
     → excess rules s s.act now ≡ None → HasRoom s.act now.laid
 room_taken rules s known now long is none = rw is (room rules s known long (rw is at none))

@@ -19,7 +19,7 @@ pub get-table : (f : ℕ → ℕ) (k : ℕ) → k < 27 → get_or (table f) k 0 
 unfolding kinds
 get-table f k below = get_or-map-range_with_len f 0 27 k k 0 below (omega arith)
 
--- lists with the same numbers are the same
+-- lists with the same numbers are equal
 pub same_numbers : (xs ys : List ℕ) → length xs ≡ 27 → length ys ≡ 27 → ((k : ℕ) → k < 27 → get_or xs k 0 ≡ get_or ys k 0) → xs ≡ ys
 same_numbers xs ys long long2 same =
     same_number_lists xs ys (long ∙ sym long2) (λ k below. same k (rw (sym long) below))
@@ -152,7 +152,7 @@ pub part_of_kinds : (f : ℕ → ℕ) (k : ℕ) → k < 27 → f k ≤ sum_by f 
 unfolding kinds
 part_of_kinds f k below = range_part f 0 27 k (omega arith) below
 
--- no sum, no part
+-- if the sum is 0, so is each part
 pub zero_kinds : (f : ℕ → ℕ) → sum_by f kinds ≡ 0 → (k : ℕ) → k < 27 → f k ≡ 0
 zero_kinds f none k below = let part = part_of_kinds f k below in omega (arith, none, part)
 

@@ -1,4 +1,4 @@
--- Racks that are filled up again: what was drawn, by what goes off and what is new.
+-- Racks that are filled up again: what was drawn, by what left and what is new.
 use Rattle.std.proofs.Common.{◌≡◌, ℕ, ◌+◌, ◌<◌, ◌≤◌, List, length, get_or, sum, sym, ap, ◌∙◌, inl, inr, arith}
 use Rattle.std.proofs.lemmas.Bool.{cases_lt}
 use Rattle.std.proofs.lemmas.List.{get_or_past}
@@ -6,7 +6,7 @@ use Rattle.deal_steps.specs.Piles.{joined, without}
 use Rattle.deal_steps.specs.Fitting.{IsRefilled}
 use Rattle.deal_steps.proofs.PileLaws.{get-joined, get-without, length-joined, length-without, same_numbers, sum-joined, sum-without}
 
--- of each kind what is gone from the rack went off it, and what is new was in the bag
+-- for each kind, what is gone from the rack left it, and what is new was in the bag
 abbrev pub ComeFromBag : (bag off rack new : List ℕ) → Type 0
 ComeFromBag bag off rack new =
     (k : ℕ) → k < 27 → (get_or rack k 0 ≤ get_or new k 0 + get_or off k 0) × (get_or new k 0 + get_or off k 0 ≤ get_or rack k 0 + get_or bag k 0)
@@ -49,7 +49,7 @@ drawn_there bag off rack new comes k = elim (cases_lt k 27) [
       omega (arith, none)
 ]
 
--- what was drawn is what is new and what went off, without what was on the rack
+-- what was drawn is what is new plus what left, minus what was on the rack
 pub refilled_from : (bag : List ℕ) (number : ℕ) (off rack new : List ℕ) → length off ≡ 27 → length rack ≡ 27 → length new ≡ 27
     → sum new + sum off ≡ sum rack + number → ComeFromBag bag off rack new → IsRefilled bag number off rack new
 refilled_from bag number off rack new off_long rack_long new_long sums comes = record {

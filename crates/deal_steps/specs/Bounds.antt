@@ -1,5 +1,4 @@
--- The bounds of a deal: what the lines have shown of the racks so far. A past is the list of the steps before a place,
--- the latest first.
+-- The bounds of a deal: what the lines have shown about the racks so far. A past is the list of the steps before a place, the latest first.
 use Rattle.std.specs.Prelude.{ℕ, ◌+◌, nat_lt, Bool, List, [], ◌∷◌, sum, slice_index, Option, Some, None, if◌then◌else◌}
 use Rattle.std.specs.List.{find}
 use Rattle.std.specs.Option.{option_map, option_or}
@@ -22,13 +21,13 @@ gone seat [] = no_tiles
 gone seat (s ∷ past) =
     if ends_epoch seat s then no_tiles else joined (gone seat past) (left_in seat s)
 
--- what a moment shows beside what left the rack before it
+-- what a moment shows, plus what left the rack before it
 abbrev pub raised : (gone low : List ℕ) → Option (List ℕ) → List ℕ
 raised gone low None = low
 raised gone low (Some tiles) = greater low (joined gone tiles)
 
--- Of each kind the greatest number that a moment of the present epoch shows: what left the rack before it, and what the
--- rack must have then.
+-- The greatest number of each kind that a moment of the present epoch shows: what left the rack before it, plus what the rack must
+-- then have.
 abbrev pub low : Seat → (past : List Step) → List ℕ
 low seat [] = no_tiles
 low seat (s ∷ past) = if ends_epoch seat s then no_tiles else raised (gone seat past) (low seat past) (needed seat s)
@@ -53,7 +52,7 @@ thrown seat [] = no_tiles
 thrown seat (s ∷ past) =
     if ends_epoch seat s then no_tiles else joined (thrown seat past) (thrown_in seat s)
 
--- what a player has at the least, on the board and on the rack, at a step
+-- what a player has at least, on the board and on the rack, at a step
 abbrev pub held : Seat → Step → (past : List Step) → List ℕ
 held seat s past = without (joined (laid_earlier seat past) (low_at seat s past)) (thrown seat past)
 
@@ -61,7 +60,7 @@ held seat s past = without (joined (laid_earlier seat past) (low_at seat s past)
 abbrev pub is_too_big : Seat → Step → (past : List Step) → Bool
 is_too_big seat s past = nat_lt (sum (gone seat past) + size_of s seat) (sum (low_at seat s past))
 
--- the first kind of which the players have shown more tiles than there are
+-- the first kind of which the players have shown more tiles than the game has
 abbrev pub short_kind : Rules → Seat → Step → (past : List Step) → Option ℕ
 short_kind rules seat s past =
     find (λ k. nat_lt (slice_index rules.counts k) (slice_index (held seat s past) k + slice_index (held (other_seat seat) s past) k)) kinds
@@ -78,11 +77,11 @@ bound_for rules s past (act.TakesBack used) = None
 bound_for rules s past (act.Ends holder tiles) = bound_of rules holder s past
 bound_for rules s past act.Rests = None
 
--- the first bound that a step exceeds, where it is a moment
+-- the first bound that a step exceeds, if it is a moment
 unfoldable pub bound_at : Rules → Step → (past : List Step) → Option DealBound
 bound_at rules s past = bound_for rules s past s.act
 
--- the first bound that the steps behind a past exceed
+-- the first bound that the steps after a past exceed
 abbrev pub first_bound_after : Rules → (past : List Step) → List Step → Option DealBound
 first_bound_after rules past [] = None
 first_bound_after rules past (s ∷ steps) = option_or (bound_at rules s past) (first_bound_after rules (s ∷ past) steps)

@@ -19,7 +19,7 @@ use Rattle.deal_steps.specs.Steps.{used_by, of_seat}
 abbrev pub rack_of : Racks → Seat → List ℕ
 rack_of racks seat = of_seat seat racks.first racks.second
 
--- the racks with another one for a player
+-- the racks with another rack for a player
 abbrev pub with_rack : Racks → Seat → List ℕ → Racks
 with_rack racks First rack = record racks { first = rack }
 with_rack racks Second rack = record racks { second = rack }
@@ -33,7 +33,7 @@ abbrev pub IsWithinSet : Rules → (board : List ℕ) → Racks → Type 0
 IsWithinSet rules board racks =
     (k : ℕ) → k < 27 → slice_index board k + slice_index racks.first k + slice_index racks.second k ≤ slice_index rules.counts k
 
--- Of each kind the game has the tiles on the board and on both racks; the racks and the bag have the sizes of the tally.
+-- For each kind the game has the tiles on the board and on both racks; the racks and the bag have the sizes of the tally.
 pub record AddsUp (rules : Rules) (s : Step) (racks : Racks) : Type 0 where
   pub within : IsWithinSet rules s.board racks
   pub first_kinds : length racks.first ≡ 27
@@ -42,7 +42,7 @@ pub record AddsUp (rules : Rules) (s : Step) (racks : Racks) : Type 0 where
   pub second : sum racks.second ≡ s.second
   pub bag : sum rules.counts ≡ sum s.board + sum racks.first + sum racks.second + s.bag
 
--- an exchange throws its tiles, or as many as it tells; nothing else throws
+-- an exchange throws its tiles, or the number that it states; nothing else throws
 abbrev pub IsThrownBy : Motion → List ℕ → Type 0
 IsThrownBy motion.Keeps thrown = thrown ≡ no_tiles
 IsThrownBy (motion.Lays used drawn) thrown = thrown ≡ no_tiles
@@ -57,7 +57,7 @@ pub record HasTurn (shown : List ℕ) (what : Motion) (thrown rack : List ℕ) :
   pub has_thrown : IsContainedIn thrown rack
   pub throws : IsThrownBy what thrown
 
--- what an act asks of the racks before it, and of what is thrown
+-- what an act requires of the racks before it, and of what is thrown
 abbrev pub AllowsAct : (player : Seat) → Act → Held → Type 0
 AllowsAct player (act.Turns shown what) held = HasTurn shown what held.thrown (rack_of held.racks player)
 AllowsAct player (act.TakesBack used) held = held.thrown ≡ no_tiles
@@ -69,8 +69,8 @@ pub record FitsAt (rules : Rules) (s : Step) (held : Held) : Type 0 where
   pub adds_up : AddsUp rules s held.racks
   pub allows : AllowsAct s.player s.act held
 
--- Tiles go off a rack, and so many are drawn to it from the bag: the tiles that went off and those on the new rack are the tiles
--- that were on the rack and those that were drawn.
+-- Tiles leave a rack, and `number` tiles are drawn to it from the bag: the tiles that left and those on the new rack are the tiles
+-- that were on the rack plus those that were drawn.
 pub record IsRefilled (bag : List ℕ) (number : ℕ) (off rack new : List ℕ) : Type 0 where
   pub drawn : List ℕ
   pub kinds : length drawn ≡ 27
@@ -78,11 +78,11 @@ pub record IsRefilled (bag : List ℕ) (number : ℕ) (off rack new : List ℕ) 
   pub as_asked : sum drawn ≡ number
   pub makes : (k : ℕ) → k < 27 → slice_index new k + slice_index off k ≡ slice_index rack k + slice_index drawn k
 
--- other tiles than these stay
+-- these tiles leave, and all others stay
 abbrev pub IsLess : (off rack new : List ℕ) → Type 0
 IsLess off rack new = (k : ℕ) → k < 27 → slice_index new k + slice_index off k ≡ slice_index rack k
 
--- what a turn makes of its player's rack
+-- what a turn does to its player's rack
 abbrev pub TurnsTo : (bag : List ℕ) → Motion → (thrown rack new : List ℕ) → Type 0
 TurnsTo bag motion.Keeps thrown rack new = new ≡ rack
 TurnsTo bag (motion.Lays used drawn) thrown rack new = IsRefilled bag drawn used rack new
@@ -90,7 +90,7 @@ TurnsTo bag (motion.Tries used) thrown rack new = IsLess used rack new
 TurnsTo bag (motion.Throws tiles) thrown rack new = IsRefilled bag (sum thrown) thrown rack new
 TurnsTo bag (motion.ThrowsUnknown n) thrown rack new = IsRefilled bag (sum thrown) thrown rack new
 
--- what an act makes of its player's rack
+-- what an act does to its player's rack
 abbrev pub ActsTo : (bag : List ℕ) → Act → (thrown rack new : List ℕ) → Type 0
 ActsTo bag (act.Turns shown what) thrown rack new = TurnsTo bag what thrown rack new
 ActsTo bag (act.TakesBack used) thrown rack new = IsLess used new rack

@@ -1,5 +1,5 @@
--- The bounds by what must be on the racks now. A player must have the tiles that the moments of the present epoch show,
--- less those that left since.
+-- The bounds by what must be on the racks now. A player must have the tiles that the moments of the present epoch show, minus those
+-- that left since.
 use Rattle.std.specs.Prelude.{◌≡◌, ℕ, ◌+◌, ◌<◌, nat_lt, List, sum, length, reverse, take, slice_get, slice_index, Option, Some, None, if◌then◌else◌}
 use Rattle.std.specs.List.{find}
 use Rattle.std.specs.Option.{option_map}
@@ -30,7 +30,7 @@ with_known known Second tiles = record known { second = tiles }
 abbrev pub raised_by : Seat → List ℕ → Known → Known
 raised_by seat tiles known = with_known known seat (greater (known_of known seat) tiles)
 
--- What is known behind a past.
+-- What is known after a past.
 pub record IsKnown (past : List Step) (known : Known) : Type 0 where
   pub first : low First past ≡ joined known.first (gone First past)
   pub second : low Second past ≡ joined known.second (gone Second past)
@@ -38,7 +38,7 @@ pub record IsKnown (past : List Step) (known : Known) : Type 0 where
   pub first_long : length known.first ≡ 27
   pub second_long : length known.second ≡ 27
 
--- What is shown at a step behind a past: with what left the racks before, what the moments show up to that of the step itself.
+-- What is shown at a step after a past: what left the racks before, plus what the moments show up to that of the step itself.
 pub record IsShown (s : Step) (past : List Step) (known : Known) : Type 0 where
   pub first : low_at First s past ≡ joined known.first (gone First past)
   pub second : low_at Second s past ≡ joined known.second (gone Second past)
@@ -52,12 +52,12 @@ pub record IsShownAt (steps : List Step) (place : ℕ) (known : Known) : Type 0 
   pub there : slice_get steps place ≡ Some step
   pub shown : IsShown step (reverse (take place steps)) known
 
--- the first kind of which more is known than there is
+-- the first kind of which more is known than the game has
 abbrev pub short_of : Rules → Known → Option ℕ
 short_of rules known =
     find (λ k. nat_lt (slice_index rules.counts k) (slice_index known.laid k + slice_index known.first k + slice_index known.second k)) kinds
 
--- the bound that what is known of a player exceeds
+-- the bound that what is known about a player exceeds
 unfoldable pub excess_of : Rules → Seat → Step → Known → Option DealBound
 excess_of rules seat s known =
     if nat_lt (size_of s seat) (sum (known_of known seat)) then Some (fault.RackTooBig s.line)

@@ -10,14 +10,14 @@ kinds = range_with_len 0 27
 abbrev pub table : (ℕ → ℕ) → List ℕ
 table f = map f kinds
 
--- both together
+-- both piles together
 unfoldable pub joined : List ℕ → List ℕ → List ℕ
 joined tiles others = table (λ k. slice_index tiles k + slice_index others k)
 
--- the first without the others, as far as they go
+-- the first pile without the others; 0 of a kind if there are fewer
 unfoldable pub without : List ℕ → List ℕ → List ℕ
 without tiles others = table (λ k. slice_index tiles k - slice_index others k)
 
--- of each kind the greater number
+-- the greater number of each kind
 unfoldable pub greater : List ℕ → List ℕ → List ℕ
 greater tiles others = table (λ k. max (slice_index tiles k) (slice_index others k))

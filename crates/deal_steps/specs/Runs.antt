@@ -1,4 +1,4 @@
--- What the steps of a record that passed keep to: sizes, the board, and the play that is about to be taken back.
+-- What the steps of a record that passed respect: sizes, the board, and the play that is about to be taken back.
 use Rattle.std.specs.Prelude.{◌≡◌, ℕ, ◌+◌, ◌-◌, ◌≤◌, min, List, [], ◌∷◌, sum, length}
 use Rattle.ref_tiles.specs.declared.rulebook.Rules.{Rules}
 use Rattle.ref_tiles.specs.Counting.{no_tiles}
@@ -35,7 +35,7 @@ abbrev pub with_size : Course → Seat → ℕ → Course
 with_size c First n = record c { first = n }
 with_size c Second n = record c { second = n }
 
--- what a turn keeps to
+-- what a turn respects
 abbrev pub MayTurn : Course → Seat → Motion → Type 0
 MayTurn c seat motion.Keeps = Unit {0}
 MayTurn c seat (motion.Lays used drawn) = (drawn ≡ min (sum used) c.bag) × (sum used ≤ size_in c seat)

@@ -11,7 +11,7 @@ use Rattle.deal_steps.specs.declared.steps.Act.TheVariants as act
 use Rattle.deal_steps.specs.declared.steps.Step.{Step}
 use Rattle.deal_steps.specs.Piles.{greater}
 
--- the tiles that a turn uses, where they are known
+-- the tiles that a turn uses, if they are known
 abbrev pub used_by : Motion → List ℕ
 used_by (motion.Lays used drawn) = used
 used_by (motion.Tries used) = used
@@ -23,7 +23,7 @@ abbrev pub laid_by : Motion → List ℕ
 laid_by (motion.Lays used drawn) = used
 laid_by other = no_tiles
 
--- the tiles of an exchange, where they are known
+-- the tiles of an exchange, if they are known
 abbrev pub thrown_by : Motion → List ℕ
 thrown_by (motion.Throws tiles) = tiles
 thrown_by other = no_tiles
@@ -47,7 +47,7 @@ abbrev pub is_unknown : Motion → Bool
 is_unknown (motion.ThrowsUnknown n) = true
 is_unknown other = false
 
--- what an act comes to where only turns come to anything, and every other act to nothing
+-- the value of a turn; any other act has the value `nothing`
 abbrev pub of_turn : {A : Type 0} → (nothing : A) → (Motion → A) → Act → A
 of_turn nothing f (act.Turns shown what) = f what
 of_turn nothing f (act.TakesBack used) = nothing
@@ -82,27 +82,27 @@ left_in seat s = if is_by seat s then of_act left_by s.act else no_tiles
 abbrev pub ends_epoch : Seat → Step → Bool
 ends_epoch seat s = is_by seat s && throws_unknown s.act
 
--- What a moment shows of a rack: of each kind the greater of the stated number and the used one, or the last rack.
+-- What a moment shows about a rack: for each kind the greater of the stated number and the used one, or the last rack.
 abbrev pub needed_of : Seat → (player : Seat) → Act → Option (List ℕ)
 needed_of seat player (act.Turns shown what) = if same_seat player seat then Some (greater shown (used_by what)) else None
 needed_of seat player (act.TakesBack used) = None
 needed_of seat player (act.Ends holder tiles) = if same_seat holder seat then Some tiles else None
 needed_of seat player act.Rests = None
 
--- what a player's rack must have at a step, where it is a moment of that player
+-- what a player's rack must have at a step, if it is a moment of that player
 abbrev pub needed : Seat → Step → Option (List ℕ)
 needed seat s = needed_of seat s.player s.act
 
--- what one player has, of what the first and the second have
+-- the first or the second of two values, by the player
 abbrev pub of_seat : {A : Type 0} → Seat → (first second : A) → A
 of_seat First first second = first
 of_seat Second first second = second
 
--- how many tiles a player has before a step
+-- the number of tiles that a player has before a step
 abbrev pub size_of : Step → Seat → ℕ
 size_of s seat = of_seat seat s.first s.second
 
--- who draws first: the player of the first turn, else the first player
+-- who draws first: the player of the first turn, otherwise the first player
 abbrev pub opener : List Step → Seat
 opener [] = First
 opener (s ∷ steps) = if s.counted then s.player else opener steps

@@ -1,4 +1,4 @@
-//! The first bound that the steps of a game exceed, and what they show of the racks.
+//! The first bound that the steps of a game exceed, and what they show about the racks.
 ghost use Rattle.std.specs.Prelude.{◌≡◌, ◌⊎◌, ◌≤◌, Some, None, IfOk, OnOk, IfErr, IfSome, IsSome, length, take, reverse};
 ghost use Rattle.deal_steps.specs.Bounds.{first_bound};
 ghost use Rattle.deal_steps.specs.Knowing.{IsKnown, IsShownAt};
@@ -8,7 +8,7 @@ use crate::known::Known;
 use crate::steps::Step;
 use ref_tiles::Rules;
 
-/// What is known of the racks behind the steps of a game, or the first bound that they exceed.
+/// What is known about the racks after the steps of a game, or the first bound that they exceed.
 fn known_behind(rules: &Rules, steps: &[Step]) -> Result<Known, DealBound>
     ensures fault { IfErr result (λ fault. first_bound rules.now steps.now ≡ Some fault) }
     ensures none { OnOk result (first_bound rules.now steps.now ≡ None) }
@@ -25,17 +25,17 @@ fn known_behind(rules: &Rules, steps: &[Step]) -> Result<Known, DealBound>
 
 /// The first bound that the steps of a game exceed.
 ///
-/// A player's moments are the turns and the last rack. By a moment a rack has too many tiles where what the moments
-/// so far show needs more than came to it, and a kind is short where the players together have shown more of it than
-/// the game has. Both are necessary: where racks fit, neither comes ([`law_of_fitting`](crate::law_of_fitting)).
+/// A player's moments are the turns and the last rack. At a moment a rack is too big if what the moments so far show needs more
+/// tiles than came to it, and a kind is short if the players together have shown more of it than the game has. Both checks are
+/// necessary: if racks fit, neither fails ([`law_of_fitting`](crate::law_of_fitting)).
 pub fn first_bound(rules: &Rules, steps: &[Step]) -> Option<DealBound>
     ensures { result ≡ first_bound rules.now steps.now }
 {
     known_behind(rules, steps).err()
 }
 
-/// What the steps of a game show of the racks at one of them, by its place from 0: what each player must have on the rack, and the
-/// tiles of the plays that stand. None where an earlier step exceeds a bound, and behind the last step.
+/// What the steps of a game show about the racks at one of them, by its place from 0: what each player must have on the rack, and
+/// the tiles of the plays that stand. None if an earlier step exceeds a bound, or after the last step.
 #[tactic(auto, using(crate::proofs::KnownLaws::shown_taken))]
 pub fn shown_at(rules: &Rules, steps: &[Step], place: usize) -> Option<Known>
     ensures shown { IfSome result (IsShownAt steps.now place) }

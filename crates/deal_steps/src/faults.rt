@@ -2,7 +2,7 @@
 
 use ref_tiles::Kind;
 
-/// A bound that the racks of a record exceed: so none can be dealt for it.
+/// A bound that the racks of a record exceed, so no racks can be dealt for it.
 #[derive(Clone, Copy, Debug, PartialEq, Eq)]
 pub enum DealBound {
     /// By this line a player has shown more tiles than came to the rack.

@@ -20,7 +20,7 @@ impl Racks {
         }
     }
 
-    /// The racks with another one for a player.
+    /// The racks with another rack for a player.
     pub fn with_rack(&self, seat: Seat, rack: Counts) -> Racks
         ensures { result ≡ with_rack self.now seat rack }
     {
@@ -63,7 +63,7 @@ fn make_up(whole: usize, board: usize, first: usize, second: usize, bag: usize) 
         && bag == whole - board - first - second
 }
 
-/// Whether the tiles add up to those of the game, in the sizes of the step.
+/// Whether the tiles add up to those of the game, with the sizes of the step.
 fn adds_up(rules: &Rules, step: &Step, racks: &Racks) -> bool
     ensures { IsTrue result ↔ AddsUp rules.now step.now racks.now }
 {
@@ -77,7 +77,7 @@ fn adds_up(rules: &Rules, step: &Step, racks: &Racks) -> bool
         && are_in_set(rules, &step.board, racks)
 }
 
-/// The tiles that a turn uses, where they are known.
+/// The tiles that a turn uses, if they are known.
 pub fn used_by(motion: &Motion) -> Counts
     ensures { result ≡ used_by motion.now }
 {
@@ -139,7 +139,7 @@ fn tiles_in_bag(rules: &Rules, step: &Step, racks: &Racks) -> Counts
     without(&others, &racks.second)
 }
 
-/// Whether tiles go off a rack, and so many of the bag come to it.
+/// Whether tiles leave a rack, and the given number of tiles come to it from the bag.
 fn is_refilled(bag: &Counts, number: usize, off: &Counts, rack: &Counts, new: &Counts) -> bool
     ensures { IsTrue result ↔ IsRefilled bag.now number off.now rack.now new.now }
 {
@@ -148,7 +148,7 @@ fn is_refilled(bag: &Counts, number: usize, off: &Counts, rack: &Counts, new: &C
     are_drawn(before, off.total(), number, after) && come_from_bag(bag, off, rack, new)
 }
 
-/// Whether so many tiles are left of some where some go off and others are drawn.
+/// Whether this number of tiles is left if some leave and others are drawn.
 fn are_drawn(before: usize, off: usize, drawn: usize, after: usize) -> bool
     ensures { IsTrue result ↔ (after + off ≡ before + drawn) }
 {
@@ -159,7 +159,7 @@ fn are_drawn(before: usize, off: usize, drawn: usize, after: usize) -> bool
     }
 }
 
-/// Whether tiles go off a rack, and tiles of the bag come to it.
+/// Whether tiles leave a rack, and tiles come to it from the bag.
 fn come_from_bag(bag: &Counts, off: &Counts, rack: &Counts, new: &Counts) -> bool
     ensures { IsTrue result ↔ ((k : ℕ) → k < 27 → (slice_index rack.now k ≤ slice_index new.now k + slice_index off.now k)
         × (slice_index new.now k + slice_index off.now k ≤ slice_index rack.now k + slice_index bag.now k)) }
@@ -178,7 +178,7 @@ fn come_from_bag(bag: &Counts, off: &Counts, rack: &Counts, new: &Counts) -> boo
     true
 }
 
-/// Whether tiles went off a rack, and no other.
+/// Whether these tiles left a rack, and no others.
 fn is_less(off: &Counts, rack: &Counts, new: &Counts) -> bool
     ensures { IsTrue result ↔ IsLess off.now rack.now new.now }
 {
@@ -193,7 +193,7 @@ fn is_less(off: &Counts, rack: &Counts, new: &Counts) -> bool
     true
 }
 
-/// Whether a turn makes the new rack of a rack.
+/// Whether a turn turns a rack into the new rack.
 fn turns_to(bag: &Counts, motion: &Motion, thrown: &Counts, rack: &Counts, new: &Counts) -> bool
     ensures { IsTrue result ↔ TurnsTo bag.now motion.now thrown.now rack.now new.now }
 {
@@ -207,7 +207,7 @@ fn turns_to(bag: &Counts, motion: &Motion, thrown: &Counts, rack: &Counts, new: 
     }
 }
 
-/// Whether an act makes the new rack of a rack.
+/// Whether an act turns a rack into the new rack.
 fn acts_to(bag: &Counts, act: &Act, thrown: &Counts, rack: &Counts, new: &Counts) -> bool
     ensures { IsTrue result ↔ ActsTo bag.now act.now thrown.now rack.now new.now }
 {
@@ -218,7 +218,7 @@ fn acts_to(bag: &Counts, act: &Act, thrown: &Counts, rack: &Counts, new: &Counts
     }
 }
 
-/// Whether a step makes the racks before it those before the next.
+/// Whether a step turns the racks before it into those before the next.
 pub fn follows(rules: &Rules, step: &Step, held: &Held, next: &Racks) -> bool
     ensures { IsTrue result ↔ Follows rules.now step.now held.now next.now }
 {
@@ -234,7 +234,7 @@ pub fn follows(rules: &Rules, step: &Step, held: &Held, next: &Racks) -> bool
     ) && next.of(other) == held.racks.of(other)
 }
 
-/// Whether the racks before the next step follow; behind the last step there are none.
+/// Whether the racks before the next step follow; after the last step there are none.
 pub fn follows_to(rules: &Rules, step: &Step, held: &Held, rest: &[Held]) -> bool
     ensures { IsTrue result ↔ FollowsTo rules.now step.now held.now rest.now }
 {

@@ -1,4 +1,4 @@
-//! What must be on the racks now, kept step by step. In it the bounds are looked up with no number past a byte.
+//! What must be on the racks now, kept step by step. It finds the bounds with no number larger than a byte.
 ghost use Rattle.std.specs.Prelude.{◌≡◌, ◌<◌, List, [], ◌∷◌, None, IfSome};
 ghost use Rattle.deal_steps.specs.declared.steps.Step.{Step};
 ghost use Rattle.deal_steps.specs.Bounds.{bound_at};
@@ -11,7 +11,7 @@ use crate::steps::{Act, Motion, Step};
 use gcg_read::Seat;
 use ref_tiles::{Counts, KINDS, Kind, Rules};
 
-/// What the lines so far show of the racks.
+/// What the lines so far show about the racks.
 #[derive(Clone, Copy)]
 pub struct Known {
     /// Tiles that the first player must have now.
@@ -44,7 +44,7 @@ impl Known {
         }
     }
 
-    /// Gives a player other tiles.
+    /// Sets the tiles of a player.
     fn set(&mut self, seat: Seat, tiles: Counts)
         ensures { self.new ≡ with_known self.old seat tiles }
     {
@@ -54,7 +54,7 @@ impl Known {
         }
     }
 
-    /// A player has these tiles.
+    /// Records that a player has these tiles.
     fn raise(&mut self, seat: Seat, tiles: &Counts)
         ensures { self.new ≡ raised_by seat tiles.now self.old }
     {
@@ -62,7 +62,7 @@ impl Known {
         self.set(seat, raised);
     }
 
-    /// The first kind of which more is known than there is.
+    /// The first kind of which more is known than the game has.
     #[tactic(auto, using(crate::proofs::KnownLaws::first_found, crate::proofs::KnownLaws::no_short))]
     fn short_kind(&self, rules: &Rules) -> Option<usize>
         ensures first { result ≡ short_of rules.now self.now }
@@ -81,7 +81,7 @@ impl Known {
         None
     }
 
-    /// The bound that what is known of a player exceeds at a step.
+    /// The bound that what is known about a player exceeds at a step.
     #[tactic(auto, unfolding(crate::specs::Knowing::excess_of))]
     fn excess_of(&self, rules: &Rules, seat: Seat, step: &Step) -> Option<DealBound>
         ensures { result ≡ excess_of rules.now seat step.now self.now }
@@ -99,7 +99,7 @@ impl Known {
         }
     }
 
-    /// What the step shows is known.
+    /// Records what the step shows.
     pub(crate) fn show(&mut self, step: &Step)
         ensures { self.new ≡ shown_by step.now.player step.now.act self.old }
     {
@@ -125,7 +125,7 @@ impl Known {
         }
     }
 
-    /// A turn is made: its tiles leave the rack.
+    /// Makes a turn: its tiles leave the rack.
     fn turn(&mut self, seat: Seat, motion: &Motion)
         requires { HasRoomFor motion.now self.old.laid }
         ensures { self.new ≡ turned_by seat motion.now self.old }
@@ -145,7 +145,7 @@ impl Known {
         }
     }
 
-    /// The step is made.
+    /// Makes the step.
     fn settle(&mut self, step: &Step)
         requires { HasRoom step.now.act self.old.laid }
         ensures { self.new ≡ moved_by step.now.player step.now.act self.old }
@@ -155,7 +155,7 @@ impl Known {
         }
     }
 
-    /// Takes a step: the bound that it exceeds, or what is known behind it.
+    /// Takes a step: the bound that it exceeds, or what is known after it.
     pub fn take(&mut self, rules: &Rules, step: &Step) -> Option<DealBound>
         ensures told { (past : List Step) → IsKnown past self.old → result ≡ bound_at rules.now step.now past }
         ensures known { (past : List Step) → IsKnown past self.old → result ≡ None → IsKnown (step.now ∷ past) self.new }

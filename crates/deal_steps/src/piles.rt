@@ -1,10 +1,10 @@
-//! Tiles by kind: both together, the first without the others, and of each kind the greater number.
+//! Tiles by kind: both piles together, the first without the others, and the greater number of each kind.
 ghost use Rattle.std.specs.Prelude.{◌≡◌, ◌+◌, ◌<◌, ℕ, slice_index};
 ghost use Rattle.deal_steps.specs.Piles.{joined, without, greater};
 
 use ref_tiles::{Counts, KINDS};
 
-/// Both together, of which there are few enough.
+/// Both piles together; each kind must be few enough to be counted.
 #[tactic(auto, using(crate::proofs::PileLaws::joined_is))]
 pub fn joined(tiles: &Counts, others: &Counts) -> Counts
     requires { (k : ℕ) → k < 27 → slice_index tiles.now k + slice_index others.now k < 256 }
@@ -18,7 +18,7 @@ pub fn joined(tiles: &Counts, others: &Counts) -> Counts
     Counts::of(numbers)
 }
 
-/// The first without the others, as far as they go.
+/// The first pile without the others; 0 of a kind if there are fewer.
 #[tactic(auto, using(crate::proofs::PileLaws::without_is))]
 pub fn without(tiles: &Counts, others: &Counts) -> Counts
     ensures { result ≡ without tiles.now others.now }
@@ -31,7 +31,7 @@ pub fn without(tiles: &Counts, others: &Counts) -> Counts
     Counts::of(numbers)
 }
 
-/// Of each kind the greater number.
+/// The greater number of each kind.
 #[tactic(auto, using(crate::proofs::PileLaws::greater_is))]
 pub fn greater(tiles: &Counts, others: &Counts) -> Counts
     ensures { result ≡ greater tiles.now others.now }

@@ -1,4 +1,4 @@
-//! The steps of a game: what each event is to the racks.
+//! The steps of a game: what each event means for the racks.
 ghost use Rattle.std.specs.Prelude.{◌≡◌};
 ghost use Rattle.deal_steps.specs.Steps.{size_of, opener};
 
@@ -10,22 +10,22 @@ use ref_tiles::Counts;
 pub enum Motion {
     /// The rack stays.
     Keeps,
-    /// A play that stands puts tiles on the board, and the player draws so many.
+    /// A play that stands puts tiles on the board, and the player draws a number of tiles.
     Lays {
         /// The tiles of the play.
         used: Counts,
-        /// How many tiles the player draws.
+        /// The number of tiles that the player draws.
         drawn: usize,
     },
     /// A play that does not stand puts tiles on the board, and nothing is drawn.
     Tries(Counts),
-    /// An exchange throws these tiles, and as many are drawn.
+    /// An exchange throws these tiles, and the same number is drawn.
     Throws(Counts),
-    /// An exchange throws so many tiles that are not known, and as many are drawn.
+    /// An exchange throws this number of unknown tiles, and the same number is drawn.
     ThrowsUnknown(usize),
 }
 
-/// What an event is to the racks.
+/// What an event means for the racks.
 #[derive(Clone, Copy, Debug)]
 pub enum Act {
     /// A turn, whose line states some tiles of its player.
@@ -39,12 +39,12 @@ pub enum Act {
     TakesBack(Counts),
     /// A last rack, which is all that its holder has.
     Ends {
-        /// Whose rack it is.
+        /// The player whose rack it is.
         holder: Seat,
         /// The tiles of the rack.
         tiles: Counts,
     },
-    /// The racks are not told and stay.
+    /// The event says nothing about the racks, and they stay.
     Rests,
 }
 
@@ -57,20 +57,20 @@ pub struct Step {
     pub player: Seat,
     /// Whether it counts as a turn.
     pub counted: bool,
-    /// What it is to the racks.
+    /// What it means for the racks.
     pub act: Act,
     /// The tiles on the board before it.
     pub board: Counts,
-    /// How many tiles the first player has before it.
+    /// The number of tiles that the first player has before it.
     pub first: usize,
-    /// How many tiles the second player has before it.
+    /// The number of tiles that the second player has before it.
     pub second: usize,
-    /// How many tiles the bag has before it.
+    /// The number of tiles that the bag has before it.
     pub bag: usize,
 }
 
 impl Step {
-    /// How many tiles a player has before the step.
+    /// The number of tiles that a player has before the step.
     pub fn size_of(&self, seat: Seat) -> usize
         ensures { result ≡ size_of self.now seat }
     {
@@ -81,7 +81,7 @@ impl Step {
     }
 }
 
-/// Who draws first: the player of the first turn, and the first player where there is none.
+/// Who draws first: the player of the first turn, or the first player if there is none.
 #[tactic(auto, using(crate::proofs::OpenerLaws::opener_here, crate::proofs::OpenerLaws::opener_later))]
 pub fn opener(steps: &[Step]) -> Seat
     ensures { result ≡ opener steps.now }

@@ -1,6 +1,6 @@
 //! Tests of the crates of deals.
 //!
-//! They stand here, and not in the crates that they test, since a crate with tests of its own is proved twice.
+//! They are here, and not in the crates that they test, since a crate with tests of its own is proved twice.
 #![tactic(auto)]
 
 #[cfg(test)]

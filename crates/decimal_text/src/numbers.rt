@@ -1,11 +1,11 @@
-//! A number at the end of a text.
+//! A number appended to a text.
 ghost use Rattle.std.specs.Prelude.{◌≡◌, ◌++◌, OnOk, OnErr};
 
 use itoa::{Buffer, Integer};
 use std::alloc::AllocError;
 
-/// Appends a number in decimal: its digits, with no zero in front of them, behind a `-` where it is below 0. Where memory runs
-/// out the text stays as it was.
+/// Appends a number in decimal: its digits without leading zeros, after a `-` if it is below 0. If memory runs out, the text stays
+/// as it was.
 pub fn push_number<I: Integer>(text: &mut Vec<u8>, number: I) -> Result<(), AllocError>
     ensures written { OnOk result (text.new.items ≡ text.old.items ++ I.text number) }
     ensures kept { OnErr result (text.new.items ≡ text.old.items) }

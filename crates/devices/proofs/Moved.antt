@@ -34,7 +34,7 @@ whole_at_end (Some x) (Some y) bytes most p e h =
     let all : x ≡ bytes = p ∙ ap (λ l. bytes ++ l) e ∙ append-nil bytes in
     sym (ap (take most) all ∙ take_all most bytes h)
 
--- an input that gave so many bytes gave its first ones
+-- an input that gave `most` bytes gave its first ones
 pub whole_at_limit : (a b : Option (List ℕ)) (bytes : List ℕ) (most : ℕ) → Consumes a b bytes → length bytes ≡ most
     → IfSome a (λ all. bytes ≡ take most all)
 whole_at_limit None b bytes most p h = tt

@@ -1,9 +1,9 @@
 -- What is known of a device that bytes come from or go to.
 use Rattle.std.specs.Prelude.{◌≡◌, ℕ, ◌+◌, ◌-◌, ◌%◌, ◌^◌, ◌<◌, List, Option}
 
--- A device: its bytes where they are known (of an input those that are left, of an output those that it took so
--- far), how often it has failed, and how often an output took no byte of a write that had some. The last count
--- goes round at 2 ^ 64, the count of failures never does.
+-- A device: its bytes if they are known (for an input those that are left, for an output those that it took so far),
+-- how many times it has failed, and how many times an output took no byte of a write of one or more. The last count
+-- wraps at 2 ^ 64, the count of failures never does.
 pub record Device : Type 0 where
   pub bytes : Option (List ℕ)
   pub failures : ℕ
@@ -23,7 +23,7 @@ pub record HasWorked (old new : Device) : Type 0 where
   pub failures : new.failures ≡ old.failures
   pub stalls : new.stalls ≡ old.stalls
 
--- the device took no byte of one write that had some, and did not fail
+-- the device took no byte of one write of one or more, and did not fail
 pub record HasStalled (old new : Device) : Type 0 where
   pub failures : new.failures ≡ old.failures
   pub stalls : new.stalls ≡ (old.stalls + 1) % 2 ^ 64

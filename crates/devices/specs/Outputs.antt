@@ -5,7 +5,7 @@ use Rattle.devices.specs.Devices.{Device, HasFailed, HasWorked, HasStalled}
 use Rattle.devices.specs.declared.failing.WriteGaveUp.{WriteGaveUp}
 use Rattle.devices.specs.declared.failing.WriteGaveUp.TheVariants.{TookNone, Failed}
 
--- The counts of an output after a write of `len` bytes of which it took n: it stalled where it took none of some.
+-- The counts of an output after a write of `len` bytes of which it took n: it stalled if it took none of one or more.
 pub record Takes (n len : ℕ) (old new : Device) : Type 0 where
   pub some : 0 < n → HasWorked old new
   pub none : n ≡ 0 → 0 < len → HasStalled old new
@@ -17,13 +17,13 @@ pub record Writes {E : Type 0} (old new : Device) (result : Result ℕ E) (buf :
   pub bytes : WriteAppends old.bytes new.bytes result buf
   pub count : MatchResult result (λ n. Takes n (length buf) old new) (λ _. HasFailed old new)
 
--- a front of the bytes went out, and not all of them
+-- a prefix of the bytes was written, and not all of them
 pub record SendsFront (old new : Device) (bytes : List ℕ) : Type 0 where
   pub sent : ℕ
   pub short : sent < length bytes
   pub front : Appends old.bytes new.bytes (take sent bytes)
 
--- whether the output failed or took no byte, by the reason for which a whole write gave up
+-- whether the output failed or took no byte, by the reason why a whole write gave up
 abbrev pub WriteStops : WriteGaveUp → Device → Device → Type 0
 WriteStops TookNone old new = HasStalled old new
 WriteStops Failed old new = HasFailed old new

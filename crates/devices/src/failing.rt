@@ -4,12 +4,12 @@ ghost use Rattle.std.specs.Prelude.{◌≡◌};
 use std::alloc::AllocError;
 use thiserror::Error;
 
-/// A device failed: a read or a write of it did not come about.
+/// A device failed: a read or a write did not succeed.
 #[derive(Clone, Copy, Debug, PartialEq, Eq, Error)]
 #[error("device failed")]
 pub struct DeviceFailed;
 
-/// Why reading an input whole gave up.
+/// Why reading a whole input gave up.
 #[derive(Clone, Copy, Debug, PartialEq, Eq, Error)]
 pub enum ReadGaveUp {
     /// Memory for the bytes was refused.
@@ -42,10 +42,10 @@ impl From<AllocError> for ReadGaveUp {
     }
 }
 
-/// Why writing bytes whole gave up.
+/// Why writing all bytes gave up.
 #[derive(Clone, Copy, Debug, PartialEq, Eq, Error)]
 pub enum WriteGaveUp {
-    /// The output took no byte of a write that had some.
+    /// The output took no byte of a write of one or more.
     #[error("write took no byte")]
     TookNone,
     /// The output failed.

@@ -1,4 +1,4 @@
-//! A reader of std's as an input.
+//! A reader of std as an input.
 ghost use Rattle.std.specs.Prelude.{◌≡◌};
 ghost use Rattle.devices.specs.Devices.{Device, HasRoom};
 
@@ -6,7 +6,7 @@ use crate::failing::DeviceFailed;
 use crate::inputs::Input;
 use std::io::{ErrorKind, Read};
 
-/// A reader of std as an input. A read that a signal interrupts is asked for again, and is no failure.
+/// A reader of std as an input. A read that a signal interrupts is repeated, and is not a failure.
 #[derive(Drop)]
 pub struct FromRead<R> {
     inner: R,
@@ -23,7 +23,7 @@ impl<R: Read + Drop> FromRead<R> {
         FromRead { inner, failures: 0 }
     }
 
-    /// How often a read has failed.
+    /// How many reads have failed.
     pub fn failures(&self) -> u64
         ensures { result ≡ (⟦<FromRead<R> as Input>⟧.device self.now).failures }
     {
@@ -37,7 +37,7 @@ impl<R: Read + Drop> FromRead<R> {
         &self.inner
     }
 
-    /// The reader, with what is left of it.
+    /// The reader, with what it has not read.
     pub fn into_inner(self) -> R
         ensures { R.remaining result ≡ (⟦<FromRead<R> as Input>⟧.device self).bytes }
     {

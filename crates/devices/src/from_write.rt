@@ -1,4 +1,4 @@
-//! A writer of std's as an output.
+//! A writer of std as an output.
 ghost use Rattle.std.specs.Prelude.{◌≡◌};
 ghost use Rattle.devices.specs.Devices.{Device, HasRoom};
 
@@ -6,7 +6,7 @@ use crate::failing::DeviceFailed;
 use crate::outputs::Output;
 use std::io::{ErrorKind, Write};
 
-/// A writer of std as an output. A write that a signal interrupts is asked for again, and is no failure.
+/// A writer of std as an output. A write that a signal interrupts is repeated, and is not a failure.
 #[derive(Drop)]
 pub struct FromWrite<W> {
     inner: W,
@@ -29,14 +29,14 @@ impl<W: Write + Drop> FromWrite<W> {
         }
     }
 
-    /// How often a write has failed.
+    /// How many writes have failed.
     pub fn failures(&self) -> u64
         ensures { result ≡ (⟦<FromWrite<W> as Output>⟧.device self.now).failures }
     {
         self.failures
     }
 
-    /// Counts a write of so many bytes that took none of some.
+    /// Counts a write of `len` bytes, one or more, that took none.
     fn count_stall(&mut self, taken: usize, len: usize)
         ensures counts { Takes taken len (⟦<FromWrite<W> as Output>⟧.device self.old) (⟦<FromWrite<W> as Output>⟧.device self.new) }
         ensures same { W.contents self.new.inner ≡ W.contents self.old.inner }
@@ -46,7 +46,7 @@ impl<W: Write + Drop> FromWrite<W> {
         }
     }
 
-    /// The writer, with what it took.
+    /// The writer, with what was written to it.
     pub fn into_inner(self) -> W
         ensures { W.contents result ≡ (⟦<FromWrite<W> as Output>⟧.device self).bytes }
     {

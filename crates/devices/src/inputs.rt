@@ -1,4 +1,4 @@
-//! Inputs, and reading one whole, within a limit.
+//! Inputs, and reading a whole one within a limit.
 ghost use Rattle.std.specs.Prelude.{◌≡◌, ◌++◌, ◌+◌, ◌≤◌, ◌<◌, length, take, IfOk, MatchResult};
 ghost use Rattle.std.specs.Io.KnownBytes.{Consumes, IsAtEnd};
 ghost use Rattle.devices.specs.Devices.{Device, HasRoom, HasWorked};
@@ -7,32 +7,32 @@ ghost use Rattle.devices.specs.Inputs.{Reads, IsInput, TakesAtMost, ReadStops};
 use crate::failing::{DeviceFailed, ReadGaveUp};
 use std::alloc::Global;
 
-/// How many bytes one read asks for at most.
+/// The greatest number of bytes that one read asks for.
 const CHUNK: usize = 65536;
 
-/// Where bytes come from. It counts its failures.
+/// A source of bytes. It counts its failures.
 pub trait Input {
-    /// The bytes that are left, where they are known, and how often a read has failed.
+    /// The bytes that are left, if they are known, and how many reads have failed.
     ghost device: { Self → Device };
 
-    /// Reads the next bytes into the front of the buffer, and gives how many they are: none only at the end of the
-    /// input or where the buffer is empty.
+    /// Reads the next bytes into the front of the buffer, and gives how many they are: 0 only at the end of the input
+    /// or if the buffer is empty.
     ///
     /// # Errors
     ///
-    /// Where the read did not come about. It then took none of the bytes that are known, and counts as one failure.
+    /// If the read failed. It then took none of the bytes that are known, and counts as one failure.
     fn read(&mut self, buf: &mut [u8]) -> Result<usize, DeviceFailed>
         requires { HasRoom (device self.old) }
         ensures { Reads (device self.old) (device self.new) result buf.new };
 }
 
-/// Reads an input to its end, or to one byte past the limit and not further, so that an input longer than the limit
-/// is told by the length of what it gave.
+/// Reads an input to its end, or to one byte past the limit and not further, so that the length of what it gives shows
+/// whether the input is longer than the limit.
 ///
 /// # Errors
 ///
-/// `Failed` where a read failed: the input is not called again after it. `NoMemory` where memory for the bytes was
-/// refused. Either way the bytes that were read are lost.
+/// `Failed` if a read failed: the input is not called again after it. `NoMemory` if memory for the bytes was refused.
+/// Either way the bytes that were read are lost.
 pub fn read_within<I: Input>(
     alloc: Global,
     input: &mut I,
@@ -56,7 +56,7 @@ pub fn read_within<I: Input>(
     Ok(bytes)
 }
 
-/// How many bytes a read asks for where so many are left up to the limit: at most one past it.
+/// How many bytes a read asks for if `left` bytes are left up to the limit: at most one past it.
 fn most_of_read(left: usize) -> usize
     ensures some { 0 < result }
     ensures few { result ≤ left + 1 }
@@ -65,7 +65,7 @@ fn most_of_read(left: usize) -> usize
     left.min(CHUNK - 1) + 1
 }
 
-/// Appends what one read into the buffer gives, and tells how many bytes they are.
+/// Appends what one read into the buffer gives, and returns how many bytes they are.
 fn read_more<I: Input>(
     input: &mut I,
     buf: &mut [u8],

@@ -1,4 +1,4 @@
-//! Outputs, and writing bytes whole.
+//! Outputs, and writing all of some bytes.
 ghost use Rattle.std.specs.Prelude.{◌≡◌, OnOk, OnErr, MatchResult};
 ghost use Rattle.std.specs.Io.KnownBytes.{Appends};
 ghost use Rattle.devices.specs.Devices.{Device, HasRoom, HasWorked};
@@ -6,9 +6,9 @@ ghost use Rattle.devices.specs.Outputs.{Writes, SendsFront, WriteStops};
 
 use crate::failing::{DeviceFailed, WriteGaveUp};
 
-/// Where bytes go to. It counts its failures, and the writes of which it took no byte.
+/// A sink of bytes. It counts its failures, and the writes that took no byte.
 pub trait Output {
-    /// The bytes that were taken, where they are known, how often a write has failed, and how often one of some
+    /// The bytes that were taken, if they are known, how many writes have failed, and how many writes of one or more
     /// bytes took none.
     ghost device: { Self → Device };
 
@@ -16,18 +16,18 @@ pub trait Output {
     ///
     /// # Errors
     ///
-    /// Where the write did not come about. It then took no byte, and counts as one failure.
+    /// If the write failed. It then took no byte, and counts as one failure.
     fn write(&mut self, buf: &[u8]) -> Result<usize, DeviceFailed>
         requires { HasRoom (device self.old) }
         ensures { Writes (device self.old) (device self.new) result buf.now };
 }
 
-/// Writes all of the bytes in their order, by several writes where the output takes fewer.
+/// Writes all of the bytes in their order, by several writes if the output takes fewer.
 ///
 /// # Errors
 ///
-/// `Failed` where a write failed, `TookNone` where one took no byte: the output is not called again after it. Either
-/// way a front of the bytes went out.
+/// `Failed` if a write failed, `TookNone` if one took no byte: the output is not called again after it. Either way a
+/// prefix of the bytes was written.
 #[tactic(auto, using(crate::proofs::Moved::sent_more, crate::proofs::Moved::worked_more))]
 pub fn write_whole<O: Output>(output: &mut O, bytes: &[u8]) -> Result<(), WriteGaveUp>
     requires { HasRoom (O.device output.old) }

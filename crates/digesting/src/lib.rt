@@ -1,4 +1,4 @@
-//! A reader that knows the SHA-256 of what it handed out.
+//! A reader that knows the SHA-256 of what it gave out.
 #![tactic(auto)]
 
 mod reading;

@@ -1,4 +1,4 @@
-//! A reader that digests what it hands out.
+//! A reader that digests what it gives out.
 ghost use Rattle.std.specs.Prelude.{◌≡◌, [], ◌++◌, ℕ, List, take, IfOk, OnErr};
 ghost use Rattle.std.specs.Io.{ReadsAtMost};
 ghost use Rattle.std.specs.Io.KnownBytes.{ReadConsumes};
@@ -9,7 +9,7 @@ use sha2::{Digest, Sha256};
 use std::alloc::AllocError;
 use std::io::{self, Read};
 
-/// A reader that hands out the bytes of another one, and digests them on the way.
+/// A reader that gives the bytes of another one, and digests them on the way.
 #[derive(Drop)]
 pub struct Digesting<R> {
     inner: R,
@@ -17,7 +17,7 @@ pub struct Digesting<R> {
 }
 
 impl<R: Read + Drop> Digesting<R> {
-    /// A reader of what `inner` has. Nothing was handed out yet.
+    /// A reader of what `inner` has. Nothing was given out yet.
     pub fn new(inner: R) -> Digesting<R>
         ensures reads { ⟦<Digesting<R> as Read>⟧.remaining result ≡ R.remaining inner }
         ensures none { HasHandedOut result.hasher [] }
@@ -28,7 +28,7 @@ impl<R: Read + Drop> Digesting<R> {
         }
     }
 
-    /// The SHA-256 of the bytes that were handed out so far, as FIPS 180-4 has it.
+    /// The SHA-256, as in FIPS 180-4, of the bytes that were given out so far.
     pub fn digest(&self) -> Result<[u8; 32], AllocError>
         ensures { IfOk result (λ digest. (bytes : List ℕ) → HasHandedOut self.now.hasher bytes → digest ≡ sha256 bytes) }
     {

@@ -1,4 +1,4 @@
--- Answers of a conversion, by what the opening of its file and the conversion came to.
+-- Answers of a conversion, by the results of opening its file and of converting it.
 use Rattle.std.proofs.Common.{◌≡◌, ◌⊎◌, ℕ, ◌<◌, List, Result, Ok, Err, IfOk, Some, None, refl, subst, ◌∙◌, ⊎_elim, inl, inr}
 use Rattle.lex_file.specs.declared.faults.FileFault.{FileFault}
 use Rattle.lex_file.specs.declared.formats.Format.{Format}

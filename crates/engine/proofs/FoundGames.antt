@@ -52,7 +52,7 @@ unknown passed words has allowed found = (has, left_open passed words allowed fo
 
 -- ---- refusals
 
--- where an event stands, there are events
+-- if there is an event, there are events
 has_events : (r : Record) (place : ℕ) (event : Event) → slice_get r.events place ≡ Some event → HasEvents r
 has_events r place event stands = λ none. let both : slice_get [] place ≡ Some event = subst (λ (events : List Event). slice_get events place ≡ Some event) none stands in cc
 

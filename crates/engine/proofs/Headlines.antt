@@ -51,7 +51,7 @@ use Rattle.engine.specs.Headlines.{Texts, in_order, IsBestPrinted, IsLegalGame, 
 use Rattle.engine.specs.JudgingLaws.{legal_own}
 use Rattle.engine.specs.VerdictLaws.{illegal_own}
 
--- a value of which something holds
+-- a value for which something holds
 pub some_of : {T : Type 0} (o : Option T) (P : T → Type 0) → IsSomeAnd o P → (x : T) × P x
 some_of None P h = absurd h
 some_of (Some x) P h = (x, h)
@@ -89,7 +89,7 @@ best_printed rules list board rack told (Some given) best is =
       is ∙ ap (λ n. codes " best " ++ notation_text (notation_of board given.tiles) ++ 32 ∷ signed_decimal n) score,
     )
 
--- what a full rack is told
+-- what is said of a full rack
 by_rack : (rules : Rules) (list : List (List ℕ)) (board : List (Option Tile)) (rack told : List ℕ) (full : Option (List ℕ)) → full ≡ Some rack → TellsByRack rules list board full told
     → IsBestPrinted rules list board rack told
 by_rack rules list board rack told full is tells =
@@ -162,7 +162,7 @@ legal_answer rules words r complete report is =
 
 -- ---- legal
 
--- a game that is told to be legal, by its inputs
+-- a game that is reported as legal, by its inputs
 legal_game : LexiconsAreExact → (rules : Rules) (texts : Texts) (complete : Bool) (report : List ℕ) (words : List (List ℕ)) (game : Record) → list_of texts.words ≡ Ok words
     → IsLexicon words texts.lexicon → record_of texts.game ≡ Ok game → IsGame rules words game.events → IsToldLegal rules words game (verdict.Legal complete) report
     → IsLegalGame rules texts complete report
@@ -199,7 +199,7 @@ legal_is exact rules texts complete report decided =
     legal_game exact rules texts complete report on.words on.game on.listed on.paired on.recorded
     (game_of rules on.words on.game (verdict.Legal complete) report is) is.told
 
--- the same of a settled verdict
+-- the same for a settled verdict
 
 settled_answer : (rules : Rules) (words : List (List ℕ)) (r : Record) (complete : Bool) (report : List ℕ) → IsSettled rules words r (verdict.Legal complete) report
     → IsSettledLegal rules words r (verdict.Legal complete) report
@@ -311,7 +311,7 @@ no_game rules words r line fault report is game =
     rest)
     is
 
--- the words and the record of a game, where they are given twice
+-- the words and the record of a game, if they are given twice
 same_game : (IsAnswer : (words : List (List ℕ)) → Record → Verdict → List ℕ → Type 0) (texts : Texts) (v : Verdict) (report : List ℕ) (words : List (List ℕ)) (game : Record) → IsOwn v
     → ReadsGame IsAnswer (in_order texts) v report → list_of texts.words ≡ Ok words → record_of texts.game ≡ Ok game → IsAnswer words game v report
 same_game IsAnswer texts v report words game own decided listed recorded =
@@ -324,7 +324,7 @@ pub illegal_is : IllegalMeansNoGame
 illegal_is rules texts line fault report decided words game listed recorded is =
     no_game rules words game line fault report (same_game (IsJudged rules) texts (verdict.Illegal line fault) report words game (illegal_own line fault) decided listed recorded) is
 
--- the same of a settled verdict
+-- the same for a settled verdict
 
 settled_no_game : FrontsDecide → (rules : Rules) (words : List (List ℕ)) (r : Record) (line : ℕ) (fault : GameFault) (report : List ℕ) → IsSettled rules words r (verdict.Illegal line fault) report
     → IsGame rules words r.events → ⊥

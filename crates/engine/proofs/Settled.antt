@@ -68,11 +68,11 @@ tried_open passed b bounded fails same plain =
       exchanged = λ none. let both : false ≡ true = sym fails ∙ plain none in cc;
     }
 
--- a fault tells the first bound that is exceeded, which both a trial and a finding tell
+-- a fault gives the first bound that is exceeded, which both a trial and a finding give
 pub tried_past : (passed : Passed) (why : DealFault) (bound : DealBound) → IsFaultOf passed why → bound_told why ≡ Some bound → bound_in passed ≡ Some bound
 tried_past passed why bound fault told = subst (λ (o : Option DealBound). IfSome o (λ b. bound_in passed ≡ Some b)) told fault
 
--- where the deal of the rule fits, some deal does
+-- if the deal of the rule fits, some deal does
 pub dealt_found : (passed : Passed) → AreTried passed trial.Dealt → AreFound passed rack.Dealt
 dealt_found passed is =
     let deal = some_of (dealt (rules_in passed) (steps_of (rules_in passed) (record_in passed).events)) (Fits (rules_in passed) (steps_of (rules_in passed) (record_in passed).events)) is in

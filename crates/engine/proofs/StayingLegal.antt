@@ -1,4 +1,4 @@
--- What is legal by the deal of the rule is legal where a deal is searched for.
+-- What is legal by the deal of the rule is legal if a deal is searched for.
 use Rattle.std.proofs.Common.{◌≡◌, ◌+◌, ℕ, Bool, List, sym, ◌∙◌, ◌⊎◌, ⊎_elim}
 use Rattle.ref_tiles.specs.declared.rulebook.Rules.{Rules}
 use Rattle.gcg_read.specs.declared.records.Record.{Record}

@@ -28,13 +28,13 @@ pub topped_refused : (rules : Rules) (words : List (List ℕ)) (rack : List ℕ)
     → IsTold (verdict.Illegal line (game.Rule why)) (illegal_line line (game.Rule why)) v report → IsToppedOn rules words rack r v report
 topped_refused rules words rack r line why v report first told = inr (record { line = line; why = why; first = first; told = told })
 
--- ---- a rack that is none
+-- ---- bytes that are not a rack
 
 pub no_rack : {A : Type 0} (meant given : Option A) → given ≡ meant → ((rack : A) → given ≡ Some rack → ⊥) → meant ≡ None
 no_rack meant None same none = sym same
 no_rack meant (Some rack) same none = absurd (none rack refl)
 
--- it is told, and no input is touched
+-- the report says so, and no input is touched
 none_decided : {A : Type 0} (sources : List Source) (IsAnswer : A → List (List ℕ) → Verdict → List ℕ → Type 0) (rack : Option A) (decided : Result Decision RunFault)
     → rack ≡ None → AreUntouched sources → IfOk decided (λ d. IsTold verdict.BadRack bad_rack_line d.verdict d.report.items) → IfErr decided (λ fault. fault ≡ run.NoMemory)
     → Decides sources (ByRack IsAnswer rack) decided
@@ -48,7 +48,7 @@ pub runs_without : {A : Type 0} (sources : List Source) (IsAnswer : A → List (
 runs_without sources IsAnswer rack old new result none still refuses =
     runs (none_decided sources IsAnswer rack refuses.decided none still refuses.told refuses.memory) refuses.sent
 
--- ---- one that is some
+-- ---- bytes that are a rack
 
 pub runs_by_rack : {A : Type 0} (sources : List Source) (IsAnswer : A → List (List ℕ) → Verdict → List ℕ → Type 0) (rack : Option A) (tiles : A) (old new : Device)
     (result : Result Verdict RunFault) → rack ≡ Some tiles → IsRun sources (IsAnswer tiles) old new result → IsRun sources (ByRack IsAnswer rack) old new result

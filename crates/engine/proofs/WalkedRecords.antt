@@ -1,4 +1,4 @@
--- What a walk over a record tells of it.
+-- What a walk over a record says of it.
 use Rattle.std.proofs.Common.{◌≡◌, ℕ, suc, ◌+◌, ◌<◌, Bool, not, List, length, get_or, Option, Some, None, refl, sym, ap, ◌∙◌, subst, arith}
 use Rattle.std.specs.Prelude.{if◌then◌else◌, Result, Ok, Err}
 use Rattle.std.proofs.lemmas.Option.{slice_get_read}
@@ -30,7 +30,7 @@ first_of rules words events refused refusal told is = subst (IsToldRefusal rules
 pub complete_at_end : (rules : Rules) (events : List Event) (s : State) (complete : Bool) → complete ≡ s.complete → s ≡ tally_at rules events (length events) → complete ≡ is_finished rules events
 complete_at_end rules events s complete told state = told ∙ ap (λ (x : State). x.complete) state
 
--- one row more is counted
+-- one more row is counted
 pub unlisted_more : (rules : Rules) (words : List (List ℕ)) (events : List Event) (rows : List Row) (place : ℕ) (row : Row) (so_far n : ℕ) → HaveRows rules words events rows → place < length rows
     → row ≡ get_or rows place row → so_far ≡ unlisted_to rules words events place → n ≡ (if not row.listed then 1 else 0) → so_far + n ≡ unlisted_to rules words events (place + 1)
 unlisted_more rules words events rows place row so_far n have within read same is =

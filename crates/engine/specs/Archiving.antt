@@ -34,7 +34,7 @@ IsFaulty rules list events line game.RackTooBig = Exceeds rules list events (dea
 IsFaulty rules list events line (game.TilesShort kind) = Exceeds rules list events (deal.TilesShort line kind)
 IsFaulty rules list events line (game.NoDeal earlier) = HasNoDealBy rules list events line earlier
 
--- some event stands in a record
+-- a record has an event
 abbrev pub HasEvents : Record → Type 0
 HasEvents r = r.events ≡ [] → ⊥
 
@@ -58,7 +58,7 @@ unlisted_to rules list events (suc many) = unlisted_to rules list events many + 
 unfoldable pub unlisted_plays : Rules → (list : List (List ℕ)) → List Event → ℕ
 unlisted_plays rules list events = unlisted_to rules list events (length events)
 
--- how many plays stand with such a word, where every event is allowed
+-- how many plays stand with such a word, if every event is allowed
 abbrev pub AreUnlisted : Rules → (list : List (List ℕ)) → List Event → Option ℕ → Type 0
 AreUnlisted rules list events (Some plays) = AreAllowed rules list events × (plays ≡ unlisted_plays rules list events)
 AreUnlisted rules list events None = AreAllowed rules list events → ⊥
@@ -75,8 +75,8 @@ IsEntryOf rules list text (Err fault) = record_of text ≡ Err fault
 
 -- ---- laws
 
--- That a game is illegal means that the record is no game; without an exchange a game is settled; and what is legal by the deal
--- of the rule is found legal.
+-- If a finding is illegal, the record is not a game; without an exchange a game is settled; and what is legal by the deal of the
+-- rule is found legal.
 pub record FindingsDecide : Type 0 where
   pub illegal : (rules : Rules) (list : List (List ℕ)) (r : Record) (line : ℕ) (fault : GameFault) → IsFinding rules list r (finding.Illegal line fault) → IsGame rules list r.events → ⊥
   pub settled : (rules : Rules) (list : List (List ℕ)) (r : Record) → IsFinding rules list r finding.Unsettled → HaveNoExchange r.events → ⊥

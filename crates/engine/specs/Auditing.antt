@@ -11,7 +11,7 @@ use Rattle.engine.specs.Archiving.{IsEntry}
 use Rattle.call_stages.specs.Stages.{IsRecordOf}
 
 -- what an audit says of a record as it is written: the entry is of a record with the same players, and with the events of the
--- record, corrected as far as they can be; and the wrong numbers are told
+-- record, corrected as far as they can be; and the wrong numbers are given
 pub record IsAudit (rules : Rules) (list : List (List ℕ)) (written : Record) (a : Audit) : Type 0 where
   pub players : a.entry.record.players ≡ written.players
   pub audited : IsAudited rules list written.events a.entry.record.events a.wrong.items
@@ -25,7 +25,7 @@ pub record IsAuditOfRecord (rules : Rules) (list : List (List ℕ)) (text : List
   pub audit : IsAudit rules list written a
   pub points : HavePoints a.entry.record.events
 
--- or the verdict that tells its first fault
+-- or the verdict that names its first fault
 abbrev pub IsAuditOf : Rules → (list : List (List ℕ)) → (text : List ℕ) → Result Audit Decision → Type 0
 IsAuditOf rules list text (Ok a) = IsAuditOfRecord rules list text a
 IsAuditOf rules list text (Err d) = IsRecordOf text (Err d)

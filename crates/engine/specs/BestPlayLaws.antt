@@ -1,4 +1,4 @@
--- The answers of asking for the best plays after a record are not that an input is bad.
+-- No answer about the best plays after a record is that an input is bad.
 use Rattle.std.proofs.Common.{ℕ, List, ⊎_elim}
 use Rattle.ref_tiles.specs.declared.rulebook.Rules.{Rules}
 use Rattle.gcg_read.specs.declared.records.Record.{Record}

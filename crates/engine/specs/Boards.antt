@@ -1,4 +1,4 @@
--- What asking for the board of a record answers.
+-- The answers about the board of a record.
 use Rattle.std.specs.Prelude.{◌≡◌, ℕ, List, length, Option, Some, None}
 use Rattle.ref_tiles.specs.declared.rulebook.Rules.{Rules}
 use Rattle.ref_play.specs.declared.faults.PlayFault.{PlayFault}
@@ -13,12 +13,12 @@ use Rattle.call_stages.specs.Reading.{ReadsNoMore, ReadsRecord, ReadsRules}
 use Rattle.call_stages.specs.Reports.{bad_line_line}
 use Rattle.call_stages.specs.Telling.{IsTold}
 
--- the place that is asked for: that of the first event on a line or behind it; without a line, behind the last event
+-- the place that is given: that of the first event on a line or after it; without a line, after the last event
 abbrev pub place_asked : List Event → (before : Option ℕ) → Option ℕ
 place_asked events None = Some (length events)
 place_asked events (Some line) = place_of_line events line
 
--- It is done, and the board is told to which the plays before a place are laid, as far as they can be.
+-- It is done, and the text shows the board on which the plays before a place are laid, as far as they can be.
 pub record IsShown (rules : Rules) (r : Record) (asked : ℕ) (v : Verdict) (report : List ℕ) : Type 0 where
   pub verdict_is : v ≡ verdict.Done
   pub end : ℕ
@@ -26,12 +26,12 @@ pub record IsShown (rules : Rules) (r : Record) (asked : ℕ) (v : Verdict) (rep
   pub laid : AreLaid r.events asked end why
   pub shown : report ≡ board_text rules r end why
 
--- the same where there is such a place; else that there is none
+-- the same if there is such a place; otherwise that there is none
 abbrev pub IsShownAt : Rules → Record → (asked : Option ℕ) → Verdict → List ℕ → Type 0
 IsShownAt rules r None v report = IsTold verdict.BadLine bad_line_line v report
 IsShownAt rules r (Some asked) v report = IsShown rules r asked v report
 
--- What is answered on the bytes of a record. Nothing is asked of its events but that their plays can be laid.
+-- What is answered on the bytes of a record. Its events need only be plays that can be laid.
 abbrev pub IsBoarded : Rules → (before : Option ℕ) → (texts : List (List ℕ)) → Verdict → List ℕ → Type 0
 IsBoarded rules before = ReadsRecord (λ r. ReadsNoMore (IsShownAt rules r (place_asked r.events before)))
 

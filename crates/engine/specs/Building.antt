@@ -1,4 +1,4 @@
--- What building the lexicon file of a word list answers.
+-- The answers about building the lexicon file of a word list.
 use Rattle.std.specs.Prelude.{◌≡◌, ◌⊎◌, ℕ, List}
 use Rattle.lex_build.specs.Builds.{IsBuiltOf, HasManyLabels}
 use Rattle.call_stages.specs.declared.verdicts.Verdict.{Verdict}
@@ -12,7 +12,7 @@ pub record IsNewFile (words : List (List ℕ)) (v : Verdict) (bytes : List ℕ) 
   pub verdict_is : v ≡ verdict.Done
   pub built : IsBuiltOf words bytes
 
--- the rotated paths of the words have more labels than a file has arcs, and that is told
+-- the rotated paths of the words have more labels than a file has arcs, and the report says so
 pub record IsTooLarge (words : List (List ℕ)) (v : Verdict) (report : List ℕ) : Type 0 where
   pub many : HasManyLabels words
   pub told : IsTold verdict.BadFile too_many_arcs_line v report

@@ -1,4 +1,4 @@
--- What checking a lexicon file by a word list answers.
+-- The answers about checking a lexicon file by a word list.
 use Rattle.std.specs.Prelude.{ℕ, List, length}
 use Rattle.call_stages.specs.declared.verdicts.Verdict.{Verdict}
 use Rattle.call_stages.specs.declared.verdicts.Verdict.TheVariants as verdict
@@ -7,6 +7,6 @@ use Rattle.call_stages.specs.Reports.{ok_line}
 use Rattle.call_stages.specs.Telling.{IsTold}
 
 -- What is answered on the bytes of a word list and of a lexicon file: that it is done and the number of the words, exactly
--- where the words are a list and the file is its lexicon; else the line of the first fault.
+-- if the words are a list and the file is its lexicon; otherwise the line of the first fault.
 abbrev pub IsChecked : (texts : List (List ℕ)) → Verdict → List ℕ → Type 0
 IsChecked = ReadsList (λ words. ReadsLexicon words (ReadsNoMore (IsTold verdict.Done (ok_line (length words)))))

@@ -1,4 +1,4 @@
--- What converting a compiled lexicon file into a format answers.
+-- The answers about converting a compiled lexicon file into a format.
 use Rattle.std.specs.Prelude.{◌≡◌, ◌⊎◌, ℕ, ◌<◌, List, [], ◌∷◌, Some, None}
 use Rattle.lex_file.specs.declared.faults.FileFault.{FileFault}
 use Rattle.lex_file.specs.declared.formats.Format.{Format}
@@ -19,13 +19,13 @@ pub record IsNewFormat (format : Format) (lexicon : List ℕ) (v : Verdict) (byt
   pub form : file_fault lexicon ≡ None
   pub converted : IsConverted format lexicon bytes
 
--- the file has not the form of a lexicon, and its first fault is told
+-- the file does not have the form of a lexicon, and the report gives its first fault
 pub record IsMalformed (lexicon : List ℕ) (v : Verdict) (report : List ℕ) : Type 0 where
   pub first : FileFault
   pub fails : file_fault lexicon ≡ Some first
   pub told : IsTold verdict.BadFile (bad_file_line (fault.Form first)) v report
 
--- the file has the form of a lexicon, its nodes take more words than the format can number, and that is told
+-- the file has the form of a lexicon, its nodes take more words than the format can number, and the report says so
 pub record IsPastLimit (format : Format) (lexicon : List ℕ) (v : Verdict) (report : List ℕ) : Type 0 where
   pub form : file_fault lexicon ≡ None
   pub many : limit_of format < words_in_format format lexicon
@@ -34,8 +34,8 @@ pub record IsPastLimit (format : Format) (lexicon : List ℕ) (v : Verdict) (rep
 abbrev pub IsConvertedBy : Format → (lexicon : List ℕ) → Verdict → List ℕ → Type 0
 IsConvertedBy format lexicon v report = IsNewFormat format lexicon v report ⊎ IsMalformed lexicon v report ⊎ IsPastLimit format lexicon v report
 
--- What is answered on the bytes of a lexicon file: that it is done and the converted file, exactly where the file has the form
--- of a lexicon and its nodes fit the format; else the line of a fault, of the form, or that there are too many arcs.
+-- What is answered on the bytes of a lexicon file: that it is done and the converted file, exactly if the file has the form of
+-- a lexicon and its nodes fit the format; otherwise the line of a fault: of the form, or that there are too many arcs.
 abbrev pub IsConvertedFile : Format → (texts : List (List ℕ)) → Verdict → List ℕ → Type 0
 IsConvertedFile format = ReadsNext (λ lexicon. ReadsNoMore (IsConvertedBy format lexicon))
 

@@ -20,14 +20,14 @@ verdict_in (finding.Legal complete) = verdict.Legal complete
 verdict_in (finding.Illegal line fault) = verdict.Illegal line fault
 verdict_in finding.Unsettled = verdict.Unsettled
 
--- the line that tells it
+-- the line that gives it
 abbrev pub finding_line : Finding → List ℕ
 finding_line finding.NoGame = legal_line false
 finding_line (finding.Legal complete) = legal_line complete
 finding_line (finding.Illegal line fault) = illegal_line line fault
 finding_line finding.Unsettled = unsettled_line
 
--- the same of a record that was read, or of a text that is none
+-- the same for a record that was read, or for a text that is not one
 abbrev pub case_verdict : Result Entry ReadFault → Verdict
 case_verdict (Ok entry) = verdict_in entry.finding
 case_verdict (Err fault) = verdict.BadRecord
@@ -36,7 +36,7 @@ abbrev pub case_line : Result Entry ReadFault → List ℕ
 case_line (Ok entry) = finding_line entry.finding
 case_line (Err fault) = bad_record_line fault
 
--- a walk over the events of the record of an entry; none where there is no record
+-- a walk over the events of the record of an entry; none if there is no record
 abbrev pub IsWalkFor : Rules → (list : List (List ℕ)) → Result Entry ReadFault → Option Walk → Type 0
 IsWalkFor rules list (Ok entry) (Some walk) = IsWalkOf rules list entry.record.events walk
 IsWalkFor rules list (Ok entry) None = ⊥

@@ -33,8 +33,8 @@ use Rattle.call_stages.specs.Reports.{legal_line}
 use Rattle.call_stages.specs.Sources.{Source, AreGiven}
 use Rattle.engine.specs.Verdicts.{IsGame}
 
--- What is printed of a full rack: a play that is legal, with words of the list and tiles of the rack, and that none such
--- outscores; or that there is no such play.
+-- What is printed for a full rack: a play that is legal, with words of the list and tiles of the rack, and that no such
+-- play outscores; or that there is no such play.
 abbrev pub IsBestPrinted : Rules → (list : List (List ℕ)) → (board : List (Option Tile)) → (rack : List ℕ) → (told : List ℕ) → Type 0
 IsBestPrinted rules list board rack told =
     ((ps : List Placed) × IsCandidate list board rack ps
@@ -73,7 +73,7 @@ pub record IsLegalGame (rules : Rules) (texts : Texts) (complete : Bool) (report
   pub dealt : Fits rules (steps_of rules game.events) racks
   -- Every event is allowed: every play, exchange, withdrawal, bonus and running total is what the rules give.
   pub allowed : AreAllowed rules list game.events
-  -- It is complete exactly where it is finished, and the report has a line for each event.
+  -- It is complete exactly if it is finished, and the report has a line for each event.
   pub ended : complete ≡ is_finished rules game.events
   pub told : List (List ℕ)
   pub lines : length told ≡ length game.events
@@ -82,13 +82,13 @@ pub record IsLegalGame (rules : Rules) (texts : Texts) (complete : Bool) (report
   pub best : (place : ℕ) (e : Event) (rack : List ℕ) → IsFullTurn rules game.events place e rack
       → IsBestPrinted rules list (tally_at rules game.events place).board rack (slice_index_or told place [])
 
--- where this is answered on the texts, the verdict that a game is legal, with its report, means that
+-- if this is answered on the texts, the verdict that a game is legal, with its report, means that
 abbrev pub MeansLegal : (IsAnswer : Rules → (texts : List (List ℕ)) → Verdict → (report : List ℕ) → Type 0) → Type 0
 MeansLegal IsAnswer =
     (rules : Rules) (texts : Texts) (complete : Bool) (report : List ℕ) → IsAnswer rules (in_order texts) (verdict.Legal complete) report
     → IsLegalGame rules texts complete report
 
--- where this is answered on the texts, the verdict that a game is illegal means that the record is no game by the words of the list
+-- if this is answered on the texts, the verdict that a game is illegal means that the record is not a game by the words of the list
 abbrev pub MeansNoGame : (IsAnswer : Rules → (texts : List (List ℕ)) → Verdict → (report : List ℕ) → Type 0) → Type 0
 MeansNoGame IsAnswer =
     (rules : Rules) (texts : Texts) (line : ℕ) (fault : GameFault) (report : List ℕ) → IsAnswer rules (in_order texts) (verdict.Illegal line fault) report
@@ -100,8 +100,8 @@ LegalMeansLegal = MeansLegal IsDecided
 abbrev pub IllegalMeansNoGame : Type 0
 IllegalMeansNoGame = MeansNoGame IsDecided
 
--- Of a record without an exchange the verdict is legal exactly where it is a game, once its inputs are good: a list, its
--- lexicon, and a record.
+-- For a record without an exchange the verdict is legal exactly if it is a game, provided that its inputs are good: a
+-- list, its lexicon, and a record.
 abbrev pub PlainGamesAreDecided : Type 0
 PlainGamesAreDecided =
     (rules : Rules) (texts : Texts) (v : Verdict) (report : List ℕ) → IsDecided rules (in_order texts) v report
@@ -115,7 +115,7 @@ LegalMeansLegalByText =
     (stated : List ℕ) (texts : Texts) (complete : Bool) (report : List ℕ) → IsDecidedByText (stated ∷ in_order texts) (verdict.Legal complete) report
     → (rules : Rules) × (meaning_of stated ≡ Ok (parts_of rules)) × IsLegalGame rules texts complete report
 
--- the inputs give a legal game, and its report went out
+-- the inputs give a legal game, and its report was written
 pub record IsLegalRun (rules : Rules) (sources : List Source) (complete : Bool) (out_old out_new : Device) : Type 0 where
   pub texts : Texts
   pub given : AreGiven sources (in_order texts)

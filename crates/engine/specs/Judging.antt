@@ -15,36 +15,36 @@ use Rattle.engine.specs.LegalReports.{IsLegalReport}
 use Rattle.call_stages.specs.Telling.{IsTold}
 use Rattle.engine.specs.Verdicts.{IsDealt, Exceeds, IsUnsettled}
 
--- that a game is legal is told: the verdict says whether it has ended, and the report has a line for each event
+-- the report of a legal game: the verdict says whether it has ended, and the report has a line for each event
 pub record IsToldLegal (rules : Rules) (words : List (List ℕ)) (r : Record) (v : Verdict) (report : List ℕ) : Type 0 where
   pub verdict_is : v ≡ verdict.Legal (is_finished rules r.events)
   pub told : IsLegalReport rules words (is_finished rules r.events) r report
 
--- every event is allowed, the rule of completion gives a deal that fits, and that the game is legal is told
+-- every event is allowed, the rule of completion gives a deal that fits, and the report is that of a legal game
 pub record IsLegal (rules : Rules) (words : List (List ℕ)) (r : Record) (v : Verdict) (report : List ℕ) : Type 0 where
   pub allowed : AreAllowed rules words r.events
   pub is_dealt : IsDealt rules r.events
   pub told : IsToldLegal rules words r v report
 
--- the first event that is not allowed, its line and its first failing check are told
+-- the report gives the first event that is not allowed: its line and its first failing check
 pub record IsRefused (rules : Rules) (words : List (List ℕ)) (r : Record) (v : Verdict) (report : List ℕ) : Type 0 where
   pub line : ℕ
   pub why : RuleFault
   pub first : IsFirstRefusal rules words r.events line why
   pub told : IsTold (verdict.Illegal line (game.Rule why)) (illegal_line line (game.Rule why)) v report
 
--- that a bound is exceeded is told
+-- the report that a bound is exceeded
 abbrev pub IsToldBound : DealBound → Verdict → List ℕ → Type 0
 IsToldBound (deal.RackTooBig line) v report = IsTold (verdict.Illegal line game.RackTooBig) (illegal_line line game.RackTooBig) v report
 IsToldBound (deal.TilesShort line kind) v report = IsTold (verdict.Illegal line (game.TilesShort kind)) (illegal_line line (game.TilesShort kind)) v report
 
--- every event is allowed, and the first bound that is exceeded is told
+-- every event is allowed, and the report gives the first bound that is exceeded
 pub record IsPastBound (rules : Rules) (words : List (List ℕ)) (r : Record) (v : Verdict) (report : List ℕ) : Type 0 where
   pub bound : DealBound
   pub exceeded : Exceeds rules words r.events bound
   pub told : IsToldBound bound v report
 
--- neither a deal nor a bound was found, and that is told
+-- neither a deal nor an exceeded bound was found, and the report says so
 pub record IsLeftOpen (rules : Rules) (words : List (List ℕ)) (r : Record) (v : Verdict) (report : List ℕ) : Type 0 where
   pub unsettled : IsUnsettled rules words r.events
   pub told : IsTold verdict.Unsettled unsettled_line v report

@@ -1,4 +1,4 @@
--- The answers of judging a game are not that an input is bad.
+-- No answer of judging a game is that an input is bad.
 use Rattle.std.proofs.Common.{◌⊎◌, ℕ, Bool, List, ⊎_elim}
 use Rattle.ref_tiles.specs.declared.rulebook.Rules.{Rules}
 use Rattle.gcg_read.specs.declared.records.Record.{Record}

@@ -17,7 +17,7 @@ pub record HasDeal (passed : Passed) : Type 0 where
   pub racks : List Held
   pub fits : FitsRecord passed racks
 
--- no bound is exceeded, but the rule of completion gives no deal that fits, and that only where tiles were exchanged
+-- no bound is exceeded, but the rule of completion gives no deal that fits, and that only if tiles were exchanged
 pub record IsUndealtByRule (passed : Passed) : Type 0 where
   pub bounded : IsBounded passed
   pub undealt : IsDealt (rules_in passed) (record_in passed).events → ⊥
@@ -30,7 +30,7 @@ AreTried passed (trial.PastBound bound) = bound_in passed ≡ Some bound
 AreTried passed trial.Open = IsUndealtByRule passed
 
 -- A deal fits, or a bound is exceeded, or no racks fit the steps up to a line; or neither a deal nor a proof that there is none
--- was found, and that only where the deal of the rule does not fit and tiles were exchanged.
+-- was found, and that only if the deal of the rule does not fit and tiles were exchanged.
 abbrev pub AreFound : Passed → RackFinding → Type 0
 AreFound passed rack.Dealt = HasDeal passed
 AreFound passed (rack.PastBound bound) = bound_in passed ≡ Some bound

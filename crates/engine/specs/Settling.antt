@@ -15,26 +15,27 @@ use Rattle.call_stages.specs.Reports.{illegal_line}
 use Rattle.call_stages.specs.Telling.{IsTold}
 use Rattle.engine.specs.Verdicts.{IsGame, HasNoDealBy}
 
--- the record is a game, and that it is legal is told
+-- the record is a game, and the report is that of a legal game
 pub record IsSettledLegal (rules : Rules) (words : List (List ℕ)) (r : Record) (v : Verdict) (report : List ℕ) : Type 0 where
   pub game : IsGame rules words r.events
   pub told : IsToldLegal rules words r v report
 
--- no racks fit the steps up to and with the event on a line, and of those before it this is known, and that is told
+-- no racks fit the steps up to the event on a line, that one included, and this is known of the steps before it, and
+-- the report says so
 pub record IsUndealt (rules : Rules) (words : List (List ℕ)) (r : Record) (v : Verdict) (report : List ℕ) : Type 0 where
   pub line : ℕ
   pub earlier : Earlier
   pub ends : HasNoDealBy rules words r.events line earlier
   pub told : IsTold (verdict.Illegal line (game.NoDeal earlier)) (illegal_line line (game.NoDeal earlier)) v report
 
--- What is answered on a record, by the words of a list. A record is left open only where the deal of the rule does not fit, and
--- no bound is exceeded.
+-- What is answered on a record, by the words of a list. A record is left open only if the deal of the rule does not fit and no
+-- bound is exceeded.
 abbrev pub IsSettled : Rules → (words : List (List ℕ)) → Record → Verdict → (report : List ℕ) → Type 0
 IsSettled rules words r v report =
     IsSettledLegal rules words r v report ⊎ IsRefused rules words r v report ⊎ IsPastBound rules words r v report ⊎ IsUndealt rules words r v report
     ⊎ IsLeftOpen rules words r v report
 
--- the same by the deal of the rule of completion alone, or by a search
+-- the same only by the deal of the rule of completion, or by a search
 abbrev pub IsJudgedBy : Judging → Rules → (words : List (List ℕ)) → Record → Verdict → (report : List ℕ) → Type 0
 IsJudgedBy judging.ByRule rules words r v report = IsJudged rules words r v report
 IsJudgedBy judging.BySearch rules words r v report = IsSettled rules words r v report
@@ -53,12 +54,12 @@ IsSettledByText = ReadsRules IsSettledBy
 abbrev pub SettledLegalMeansLegal : Type 0
 SettledLegalMeansLegal = MeansLegal IsSettledBy
 
--- what is legal by the deal of the rule is legal where a deal is searched for
+-- what is legal by the deal of the rule is legal if a deal is searched for
 abbrev pub LegalStaysLegal : Type 0
 LegalStaysLegal =
     (rules : Rules) (words : List (List ℕ)) (r : Record) (complete : Bool) (report : List ℕ) → IsJudged rules words r (verdict.Legal complete) report
     → (v : Verdict) (settled : List ℕ) → IsSettled rules words r v settled → v ≡ verdict.Legal complete
 
--- that it is illegal means that the record is no game by the words of the list
+-- that it is illegal means that the record is not a game by the words of the list
 abbrev pub SettledIllegalMeansNoGame : Type 0
 SettledIllegalMeansNoGame = MeansNoGame IsSettledBy

@@ -1,4 +1,4 @@
--- What asking for the best plays before a line of a record answers.
+-- The answers about the best plays before a line of a record.
 use Rattle.std.specs.Prelude.{◌≡◌, ◌⊎◌, ℕ, List, Option, Some, None, slice_get}
 use Rattle.std.specs.Option.{option_map}
 use Rattle.ref_tiles.specs.declared.rulebook.Rules.{Rules}
@@ -18,45 +18,45 @@ use Rattle.call_stages.specs.Reports.{bad_rack_line, bad_line_line, illegal_line
 use Rattle.call_stages.specs.Telling.{IsTold}
 use Rattle.engine.specs.Topping.{ByRack}
 
--- the rack of an event, where it shows one
+-- the rack of an event, if it shows one
 abbrev pub shown_rack : Option Event → Option (List ℕ)
 shown_rack None = None
 shown_rack (Some e) = e.rack
 
--- the rack that is asked about: the one that is given, and without one that of the event at the place
+-- the rack of the question: the one that is given, and without one that of the event at the place
 abbrev pub rack_asked : (given : Option (List ℕ)) → Option Event → Option (List ℕ)
 rack_asked (Some rack) e = Some rack
 rack_asked None e = shown_rack e
 
--- the rules allow each event before a place, and the best so many candidates by a rack on the board there are told
+-- the rules allow each event before a place, and the report has the best `number` candidates by a rack on the board there
 pub record AreToldBefore (number : ℕ) (rules : Rules) (words : List (List ℕ)) (rack : List ℕ) (r : Record) (place : ℕ) (v : Verdict) (report : List ℕ) : Type 0 where
   pub verdict_is : v ≡ verdict.Done
   pub allowed : AreAllowedTo rules words r.events place
   pub told : TellsFirst number rules words (tally_at rules r.events place).board rack report
 
--- the first event that is not allowed stands before a place, and is told
+-- the first event that is not allowed is before a place, and the report gives it
 pub record IsToldRefusal (rules : Rules) (words : List (List ℕ)) (r : Record) (place : ℕ) (v : Verdict) (report : List ℕ) : Type 0 where
   pub line : ℕ
   pub why : RuleFault
   pub refused : IsRefusedBefore rules words r.events place line why
   pub told : IsTold (verdict.Illegal line (game.Rule why)) (illegal_line line (game.Rule why)) v report
 
--- what is answered of a place by the rack that is asked about, where there is one; else that there is none
+-- what is answered for a place by the rack of the question, if there is one; otherwise that there is none
 abbrev pub ByRackAsked : (number : ℕ) → Rules → (words : List (List ℕ)) → Record → (place : ℕ) → (rack : Option (List ℕ)) → Verdict → List ℕ → Type 0
 ByRackAsked number rules words r place None v report = IsTold verdict.BadRack bad_rack_line v report
 ByRackAsked number rules words r place (Some rack) v report = AreToldBefore number rules words rack r place v report ⊎ IsToldRefusal rules words r place v report
 
--- what is answered of the place that is asked for, where there is one; else that there is no such line
+-- what is answered for the place of the question, if there is one; otherwise that there is no such line
 abbrev pub ByPlaceAsked : (number : ℕ) → Rules → (words : List (List ℕ)) → Record → (given : Option (List ℕ)) → (place : Option ℕ) → Verdict → List ℕ → Type 0
 ByPlaceAsked number rules words r given None v report = IsTold verdict.BadLine bad_line_line v report
 ByPlaceAsked number rules words r given (Some place) v report = ByRackAsked number rules words r place (rack_asked given (slice_get r.events place)) v report
 
--- What is answered on a record: that there is no such line; else that there is no rack; else the first event before the line that
--- is not allowed, or the best plays. Nothing is asked of the events on the line and behind it.
+-- What is answered on a record: that there is no such line; otherwise that there is no rack; otherwise the first event before the
+-- line that is not allowed, or the best plays. The events on the line and after it are not judged.
 abbrev pub IsToppedBefore : (number : ℕ) → (before : Option ℕ) → Rules → (words : List (List ℕ)) → (given : Option (List ℕ)) → Record → Verdict → List ℕ → Type 0
 IsToppedBefore number before rules words given r v report = ByPlaceAsked number rules words r given (place_asked r.events before) v report
 
--- the rack that the bytes of an argument mean, where there is the argument
+-- the rack that the bytes of an argument mean, if there is the argument
 abbrev pub given_rack : (bytes : Option (List ℕ)) → Option (Option (List ℕ))
 given_rack None = Some None
 given_rack (Some bytes) = option_map Some (rack_of bytes)
@@ -65,8 +65,8 @@ given_rack (Some bytes) = option_map Some (rack_of bytes)
 abbrev pub IsToppedBeforeBy : (number : ℕ) → (before : Option ℕ) → Rules → (given : Option (List ℕ)) → (texts : List (List ℕ)) → Verdict → List ℕ → Type 0
 IsToppedBeforeBy number before rules given = ReadsList (λ words. ReadsLexicon words (ReadsRecord (λ r. ReadsNoMore (IsToppedBefore number before rules words given r))))
 
--- What is answered by the bytes of a rack, or without them: that they are none, exactly where they are not 1 to 7 of A to Z and
--- '?', and that before any input is looked at.
+-- What is answered by the bytes of a rack, or without them: that they are not a rack, exactly if they are not 1 to 7 of A to
+-- Z and '?', and that before any input is looked at.
 abbrev pub AreTopped : (number : ℕ) → (before : Option ℕ) → Rules → (bytes : Option (List ℕ)) → (texts : List (List ℕ)) → Verdict → List ℕ → Type 0
 AreTopped number before rules bytes = ByRack (IsToppedBeforeBy number before rules) (given_rack bytes)
 

@@ -1,4 +1,4 @@
--- What more than one question needs to show that its answers are not that an input is bad.
+-- What more than one question needs to show that none of its answers is that an input is bad.
 use Rattle.std.proofs.Common.{◌≡◌, ℕ, List, sym, subst}
 use Rattle.ref_tiles.specs.declared.rulebook.Rules.{Rules}
 use Rattle.gcg_read.specs.declared.records.Record.{Record}

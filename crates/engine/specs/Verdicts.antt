@@ -31,16 +31,16 @@ pub record Exceeds (rules : Rules) (list : List (List ℕ)) (events : List Event
 abbrev pub IsDealt : Rules → List Event → Type 0
 IsDealt rules events = IsSomeAnd (dealt rules (steps_of rules events)) (Fits rules (steps_of rules events))
 
--- Every event is allowed and no bound is exceeded, but the rule of completion gives no deal that fits. That is so of
--- records with an exchange alone.
+-- Every event is allowed and no bound is exceeded, but the rule of completion gives no deal that fits. That happens
+-- only for records with an exchange.
 pub record IsUnsettled (rules : Rules) (list : List (List ℕ)) (events : List Event) : Type 0 where
   pub allowed : AreAllowed rules list events
   pub bounded : first_bound rules (steps_of rules events) ≡ None
   pub undealt : IsDealt rules events → ⊥
   pub exchanged : HaveNoExchange events → ⊥
 
--- Every event is allowed and no bound is exceeded, but no racks fit the steps up to and with the event on a line: so no deal fits.
--- Of the steps before it this is known: that some racks fit them, or nothing.
+-- Every event is allowed and no bound is exceeded, but no racks fit the steps up to the event on a line, that one included: so no
+-- deal fits. This is known of the steps before it: that some racks fit them, or nothing.
 pub record HasNoDealBy (rules : Rules) (list : List (List ℕ)) (events : List Event) (line : ℕ) (earlier : Earlier) : Type 0 where
   pub allowed : AreAllowed rules list events
   pub bounded : first_bound rules (steps_of rules events) ≡ None

@@ -9,17 +9,17 @@ use Rattle.engine.specs.declared.entries.Entry.{Entry}
 use Rattle.engine.specs.declared.entries.Walked.{Walked}
 use Rattle.engine.specs.Archiving.{IsEntry}
 
--- of the record that a text means, or its first fault
+-- for the record that a text means, or its first fault
 abbrev pub IsWalkedFrom : Rules → (list : List (List ℕ)) → (text : List ℕ) → Result Walked ReadFault → Type 0
 IsWalkedFrom rules list text (Ok w) = (record_of text ≡ Ok w.entry.record) × IsEntry rules list w.entry × IsWalkOf rules list w.entry.record.events w.walk
 IsWalkedFrom rules list text (Err fault) = record_of text ≡ Err fault
 
--- the entry alone, or the fault
+-- only the entry, or the fault
 abbrev pub read_of : Result Walked ReadFault → Result Entry ReadFault
 read_of (Ok w) = Ok w.entry
 read_of (Err fault) = Err fault
 
--- the walk alone, where there is one
+-- only the walk, if there is one
 abbrev pub walk_of : Result Walked ReadFault → Option Walk
 walk_of (Ok w) = Some w.walk
 walk_of (Err fault) = None

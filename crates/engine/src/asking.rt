@@ -1,4 +1,4 @@
-//! A question of the game of a record, by the bytes of its inputs.
+//! A question about the game of a record, by the bytes of its inputs.
 ghost use Rattle.std.specs.Prelude.{◌∷◌, []};
 ghost use Rattle.devices.specs.Devices.{HasRoom};
 ghost use Rattle.call_stages.specs.Reading.{ReadsNoMore, ReadsRecord, ReadsPair};
@@ -9,15 +9,15 @@ use call_stages::{GameQuestion, RulesSource, RunFault, Verdict, ask, finish};
 use devices::{Input, Output};
 use std::alloc::Global;
 
-/// Decides a question of the game of a record, and writes the report.
+/// Decides a question about the game of a record, and writes the report.
 ///
-/// The rules are read where they are not known, then the words, the lexicon and the record, until one is bad. The report is made in
+/// The rules are read if they are not known, then the words, the lexicon and the record, until one is bad. The report is made in
 /// memory before the first write.
 ///
 /// # Errors
 ///
-/// `ReadFailed` and `WriteFailed` come only where that device failed, or a write took no byte; `NoMemory` where memory
-/// was refused. After `WriteFailed` a front of the report went out, after the other two nothing.
+/// `ReadFailed` and `WriteFailed` come only if that device failed, or a write took no byte; `NoMemory` if memory
+/// was refused. After `WriteFailed` a prefix of the report was written, after the other two nothing.
 pub fn run_question<S: RulesSource, W: Input, L: Input, G: Input, O: Output, Q: GameQuestion>(
     alloc: Global,
     question: &Q,

@@ -57,7 +57,7 @@ fn audit_record(
     })
 }
 
-/// The audit of the record of a text, which it keeps, or the verdict that it is none.
+/// The audit of the record of a text, which it keeps, or the verdict that it is not a record.
 fn audit_from(
     alloc: Global,
     rules: &Rules,
@@ -75,15 +75,15 @@ fn audit_from(
     Ok(Ok(audit))
 }
 
-/// Reads the record of a game, corrects its scores and totals as far as the rules allow its events, and settles what comes of
-/// it: which numbers are wrong, and the entry of the corrected record, as [`archive_entry`](crate::archive_entry) gives it. Or
-/// the verdict that names the first fault of the record.
+/// Reads the record of a game, corrects its scores and totals as far as the rules allow its events, and settles the result:
+/// which numbers are wrong, and the entry of the corrected record, as [`archive_entry`](crate::archive_entry) gives it. Or the
+/// verdict that names the first fault of the record.
 ///
 /// The input is read to its end, or to one byte past 1 MiB and no further.
 ///
 /// # Errors
 ///
-/// `ReadFailed` comes only where the input failed; `NoMemory` where memory was refused.
+/// `ReadFailed` comes only if the input failed; `NoMemory` if memory was refused.
 pub fn audit_sheet<G: Input>(
     alloc: Global,
     rules: &Rules,

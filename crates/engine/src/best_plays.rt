@@ -13,7 +13,7 @@ use lex_check::Checked;
 use ref_tiles::Counts;
 use std::alloc::{AllocError, Global};
 
-/// The best plays by a rack on the board after a record of which every event is allowed.
+/// The best plays by a rack on the board after a record in which every event is allowed.
 #[tactic(auto, using(crate::proofs::Toppings::topped))]
 fn tell_top(
     alloc: Global,

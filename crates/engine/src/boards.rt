@@ -15,14 +15,14 @@ use gcg_read::{Event, Record};
 use ref_tiles::Rules;
 use std::alloc::{AllocError, Global};
 
-/// The verdict that no event stands on the line or behind it.
+/// The verdict that no event is on the line or after it.
 pub(crate) fn bad_line(alloc: Global) -> Result<Decision, AllocError>
     ensures { IfOk result (λ d. IsTold verdict.BadLine reports.bad_line_line d.verdict d.report.items) }
 {
     Decision::refused(alloc, InputFault::Line)
 }
 
-/// The place that is asked for: that of a line, or behind the last event.
+/// The place of a line, or the end of the events.
 pub(crate) fn place_asked(events: &[Event], before: Option<u32>) -> Option<usize>
     ensures place { result ≡ place_asked events.now before }
     ensures within { IfSome result (λ place. place ≤ length events.now) }
@@ -53,7 +53,7 @@ pub fn show_board(
     })
 }
 
-/// The board before a line of a record, or behind its last event.
+/// The board before a line of a record, or after its last event.
 fn tell_board(
     alloc: Global,
     rules: &Rules,
@@ -85,19 +85,19 @@ fn decide_board<G: Input>(
     Ok(tell_board(alloc, rules, &record, before)?)
 }
 
-/// Writes the board of a record before the first event on a line or behind it, or without a line behind the last event, as a
-/// text of lines of 80 bytes at the most.
+/// Writes the board of a record before the first event on a line or after it, or without a line after the last event, as a
+/// text of lines of at most 80 bytes.
 ///
 /// The record is read to its end, or to one byte past 1 MiB and no further. Its plays are laid one after the other, up to that
-/// event or to the first play whose text or placement has a fault; nothing else is asked of the events. The text says which
-/// board it is, each square by the tile that it has or by its premium, both players with the last totals that are written for
-/// them, the rack of the line, and the tiles that are not on the board. Where no event stands on the line or behind it, the
-/// verdict is `BadLine`. What is written is made in memory before the first write.
+/// event or to the first play whose text or placement has a fault; no other rule is checked. The text says which board it is,
+/// each square by the tile that it has or by its premium, both players with the last totals that are written for them, the
+/// rack of the line, and the tiles that are not on the board. If no event is on the line or after it, the verdict is
+/// `BadLine`. What is written is made in memory before the first write.
 ///
 /// # Errors
 ///
-/// `ReadFailed` and `WriteFailed` come only where that device failed, or a write took no byte; `NoMemory` where memory
-/// was refused. After `WriteFailed` a front of the text went out, after the other two nothing.
+/// `ReadFailed` and `WriteFailed` come only if that device failed, or a write took no byte; `NoMemory` if memory
+/// was refused. After `WriteFailed` a prefix of the text was written, after the other two nothing.
 pub fn run_board<G: Input, O: Output>(
     alloc: Global,
     game: &mut G,
@@ -115,13 +115,13 @@ pub fn run_board<G: Input, O: Output>(
 
 /// Writes the board of a record as [`run_board`] does, by the rules that a text states.
 ///
-/// The rules text is read before the record, as [`run_ruled`](crate::run_ruled) reads it; where it gives no rules, that is the
+/// The rules text is read before the record, as [`run_ruled`](crate::run_ruled) reads it; if it gives no rules, that is the
 /// verdict, and the record is not read.
 ///
 /// # Errors
 ///
-/// `ReadFailed` and `WriteFailed` come only where that device failed, or a write took no byte; `NoMemory` where memory
-/// was refused. After `WriteFailed` a front of the text went out, after the other two nothing.
+/// `ReadFailed` and `WriteFailed` come only if that device failed, or a write took no byte; `NoMemory` if memory
+/// was refused. After `WriteFailed` a prefix of the text was written, after the other two nothing.
 pub fn run_board_ruled<R: Input, G: Input, O: Output>(
     alloc: Global,
     rules_text: &mut R,

@@ -1,4 +1,4 @@
-//! The lexicon of a word list, by the bytes of its input.
+//! The lexicon of a word list, a GADDAG, by the bytes of its input.
 ghost use Rattle.std.specs.Prelude.{◌∷◌, [], IfOk};
 ghost use Rattle.devices.specs.Devices.{HasRoom};
 ghost use Rattle.call_stages.specs.declared.verdicts.Verdict.TheVariants as verdict;
@@ -14,7 +14,7 @@ use lex_build::{BuildFault, build};
 use lex_list::WordList;
 use std::alloc::{AllocError, Global};
 
-/// The verdict that the file which is asked for would have more arcs, or words, than its format can number.
+/// The verdict that the file to be made would have more arcs, or words, than its format can number.
 pub(crate) fn too_many_arcs(alloc: Global) -> Result<Decision, AllocError>
     ensures { IfOk result (λ d. IsTold verdict.BadFile reports.too_many_arcs_line d.verdict d.report.items) }
 {
@@ -49,15 +49,15 @@ fn decide_lexicon<W: Input>(alloc: Global, words: &mut W) -> Result<Decision, Ru
     Ok(build_list(alloc, &list)?)
 }
 
-/// Builds the lexicon of a word list, and writes the bytes of its file, or the line of a fault.
+/// Builds the lexicon of a word list, a GADDAG, and writes the bytes of its file, or the line of a fault.
 ///
 /// The words are read to their end, or to one byte past 16 MiB and no further. What is written is made in memory before
 /// the first write.
 ///
 /// # Errors
 ///
-/// `ReadFailed` and `WriteFailed` come only where that device failed, or a write took no byte; `NoMemory` where memory
-/// was refused. After `WriteFailed` a front of the bytes went out, after the other two nothing.
+/// `ReadFailed` and `WriteFailed` come only if that device failed, or a write took no byte; `NoMemory` if memory
+/// was refused. After `WriteFailed` a prefix of the bytes was written, after the other two nothing.
 pub fn run_build<W: Input, O: Output>(
     alloc: Global,
     words: &mut W,

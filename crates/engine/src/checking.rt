@@ -30,7 +30,7 @@ fn tell_number(alloc: Global, pair: &Checked<'_>) -> Result<Decision, AllocError
     })
 }
 
-/// The number of words of a list, where the bytes of a file are its lexicon; else what is wrong with them.
+/// The number of words of a list, if the bytes of a file are its lexicon; otherwise what is wrong with them.
 fn check_bytes(alloc: Global, list: &WordList, bytes: &[u8]) -> Result<Decision, AllocError>
     ensures { IfOk result (λ d. ByLexicon list.now (ReadsNoMore (IsTold verdict.Done (reports.ok_line (length list.now)))) bytes.now [] d.verdict d.report.items) }
 {
@@ -57,13 +57,13 @@ fn decide_file<L: Input>(
 /// Checks that a file is the lexicon of a word list, and writes the number of words, or the line of the first fault.
 ///
 /// The words are read before the lexicon, each to its end, or to one byte past its limit of 16 MiB or 268,435,468 bytes
-/// and no further; where the words are no list, the lexicon is not read. A lexicon over its limit has a wrong length,
+/// and no further; if the words are not a list, the lexicon is not read. A lexicon over its limit has a wrong length,
 /// whatever its bytes are. What is written is made in memory before the first write.
 ///
 /// # Errors
 ///
-/// `ReadFailed` and `WriteFailed` come only where that device failed, or a write took no byte; `NoMemory` where memory
-/// was refused. After `WriteFailed` a front of the text went out, after the other two nothing.
+/// `ReadFailed` and `WriteFailed` come only if that device failed, or a write took no byte; `NoMemory` if memory
+/// was refused. After `WriteFailed` a prefix of the text was written, after the other two nothing.
 pub fn run_check<W: Input, L: Input, O: Output>(
     alloc: Global,
     words: &mut W,

@@ -14,7 +14,7 @@ use lex_build::{BuildFault, convert};
 use lex_file::Format;
 use std::alloc::{AllocError, Global};
 
-/// The compiled lexicon of these bytes in a format, or the verdict that there is none.
+/// The compiled lexicon of these bytes in a format, or the verdict that they are not one.
 #[tactic(auto, using(crate::proofs::ConvertedFiles::converted, crate::proofs::ConvertedFiles::malformed, crate::proofs::ConvertedFiles::past_limit))]
 fn convert_bytes(alloc: Global, bytes: &[u8], format: Format) -> Result<Decision, AllocError>
     ensures { IfOk result (λ d. IsConvertedBy format bytes.now d.verdict d.report.items) }
@@ -49,14 +49,14 @@ fn decide_conversion<L: Input>(
 
 /// Converts a compiled lexicon into a format, and writes the bytes of the file, or the line of a fault.
 ///
-/// No word list is asked for: the file has the language of the one that was read, whichever that is. The lexicon is read
-/// to its end, or to one byte past its limit of 268,435,468 bytes and no further; one over its limit has a wrong length,
+/// No word list is needed: the file has the language of the one that was read, whichever that is. The lexicon is read to
+/// its end, or to one byte past its limit of 268,435,468 bytes and no further; one over its limit has a wrong length,
 /// whatever its bytes are. What is written is made in memory before the first write.
 ///
 /// # Errors
 ///
-/// `ReadFailed` and `WriteFailed` come only where that device failed, or a write took no byte; `NoMemory` where memory
-/// was refused. After `WriteFailed` a front of the bytes went out, after the other two nothing.
+/// `ReadFailed` and `WriteFailed` come only if that device failed, or a write took no byte; `NoMemory` if memory
+/// was refused. After `WriteFailed` a prefix of the bytes was written, after the other two nothing.
 pub fn run_convert<L: Input, O: Output>(
     alloc: Global,
     lexicon: &mut L,

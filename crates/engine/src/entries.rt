@@ -34,7 +34,7 @@ pub struct Entry {
     pub record: Record,
     /// What is found of it.
     pub finding: Finding,
-    /// How many of its plays stand with a word that is not in the list; none where some event is not allowed.
+    /// How many of its plays stand with a word that is not in the list; none if some event is not allowed.
     pub unlisted: Option<usize>,
 }
 
@@ -77,7 +77,7 @@ fn find_passed(alloc: Global, passed: &Passed<'_>) -> Result<Finding, AllocError
     }
 }
 
-/// What is found of a record, and how many of its plays stand with a word that is not in the list, where every event is allowed.
+/// What is found of a record, and how many of its plays stand with a word that is not in the list, if every event is allowed.
 #[derive(Drop)]
 pub(crate) struct Found {
     pub finding: Finding,
@@ -98,7 +98,7 @@ fn faulty(line: u32, fault: RuleFault) -> Found
     }
 }
 
-/// What is found of a record of which every event is allowed, by its rows.
+/// What is found of a record in which every event is allowed, by its rows.
 fn allowed(alloc: Global, passed: &Passed<'_>, rows: &[Row]) -> Result<Found, AllocError>
     requires allowed { AreAllowed (rules_in passed.now) (list_in passed.now) (record_in passed.now).events }
     requires rows { HaveRows (rules_in passed.now) (list_in passed.now) (record_in passed.now).events rows.now }
@@ -113,7 +113,7 @@ fn allowed(alloc: Global, passed: &Passed<'_>, rows: &[Row]) -> Result<Found, Al
     })
 }
 
-/// What is found of a record, by its first refusal; where there is none, by a walk that went through it.
+/// What is found of a record, by its first refusal; if there is none, by a walk that went through it.
 #[tactic(auto, using(crate::proofs::FoundGames::not_allowed, crate::proofs::FoundGames::refused))]
 pub(crate) fn find(
     alloc: Global,
@@ -208,7 +208,7 @@ fn entry_from(
 ///
 /// # Errors
 ///
-/// `ReadFailed` comes only where the input failed; `NoMemory` where memory was refused.
+/// `ReadFailed` comes only if the input failed; `NoMemory` if memory was refused.
 pub fn archive_entry<G: Input>(
     alloc: Global,
     rules: &Rules,

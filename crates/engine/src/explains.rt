@@ -26,7 +26,7 @@ pub struct Case {
     pub text: Vec<u8>,
     /// The entry of the record that they mean, or their first fault.
     pub read: Result<Entry, ReadFault>,
-    /// The walk over the events of the record, where they mean one.
+    /// The walk over the events of the record, if they mean one.
     pub walk: Option<Walk>,
 }
 
@@ -80,7 +80,7 @@ pub fn finding_line(alloc: Global, finding: &Finding) -> Result<Vec<u8>, AllocEr
     }
 }
 
-/// The verdict on a case: the settled one on its record, or that it is none.
+/// The verdict on a case: the settled one on its record, or that the text is not a record.
 pub fn case_verdict(case: &Case) -> Verdict
     ensures { result ≡ case_verdict case.now.read }
 {
@@ -90,7 +90,7 @@ pub fn case_verdict(case: &Case) -> Verdict
     }
 }
 
-/// The line that tells the verdict on a case.
+/// The line that gives the verdict on a case.
 pub fn case_line(alloc: Global, case: &Case) -> Result<Vec<u8>, AllocError>
     ensures { IfOk result (λ text. text.items ≡ case_line case.now.read) }
 {
@@ -107,7 +107,7 @@ pub fn case_line(alloc: Global, case: &Case) -> Result<Vec<u8>, AllocError>
 ///
 /// # Errors
 ///
-/// `ReadFailed` comes only where the input failed; `NoMemory` where memory was refused.
+/// `ReadFailed` comes only if the input failed; `NoMemory` if memory was refused.
 pub fn open_case<G: Input>(
     alloc: Global,
     rules: &Rules,

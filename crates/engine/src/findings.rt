@@ -14,7 +14,7 @@ pub enum Finding {
     },
     /// Some event is not allowed, or no deal of the tiles yields every rack.
     Illegal {
-        /// The line of the first such event, or up to which the racks cannot be.
+        /// The line of the first such event, or the line up to which the racks are impossible.
         line: u32,
         /// Why.
         fault: GameFault,

@@ -66,7 +66,7 @@ fn past_bound(alloc: Global, bound: &DealBound) -> Result<Decision, AllocError>
     }
 }
 
-/// The verdict on a record of which every event is allowed, by the deal of the rule of completion alone.
+/// The verdict on a record in which every event is allowed, only by the deal of the rule of completion.
 #[tactic(auto, using(crate::proofs::Settled::judged_dealt, crate::proofs::Settled::judged_past, crate::proofs::Settled::judged_open))]
 fn judge_by_rule(
     alloc: Global,
@@ -105,7 +105,7 @@ fn judge_by_search(
     }
 }
 
-/// The verdict on a record of which every event is allowed.
+/// The verdict on a record in which every event is allowed.
 fn judge_passed(
     alloc: Global,
     passed: &Passed<'_>,
@@ -136,10 +136,10 @@ fn judge_record(
     }
 }
 
-/// Whether the game is legal, and the best play of each turn where it is.
+/// Whether the game is legal, and if so the best play of each turn.
 #[derive(Clone, Copy, Debug)]
 pub enum Judging {
-    /// By the deal of the rule of completion alone.
+    /// Only by the deal of the rule of completion.
     ByRule,
     /// By any deal that a search finds, or by a proof that there is none.
     BySearch,

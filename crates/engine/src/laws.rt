@@ -30,27 +30,27 @@ pub fn law_of_ruled_games()
     law_of_lexicons();
 }
 
-/// What the verdict illegal of [`run`](crate::run) means: the record is no game by the words of the list. Some event of it is not
+/// What the verdict illegal of [`run`](crate::run) means: the record is not a game by the words of the list. Some event of it is not
 /// allowed, or no deal of the tile set yields every rack.
 pub fn law_of_illegal()
     ensures { IllegalMeansNoGame }
 {}
 
-/// Of a record without an exchange the verdict of [`run`](crate::run) is legal exactly where it is a game, once the words are a
-/// list, the file is its lexicon, and the text is a record.
+/// For a record without an exchange the verdict of [`run`](crate::run) is legal exactly if it is a game, provided that the
+/// words are a list, the file is its lexicon, and the text is a record.
 pub fn law_of_plain_games()
     ensures { PlainGamesAreDecided }
 {}
 
-/// What the verdict legal of [`run_settled`](crate::run_settled) means: what it means of [`run`](crate::run), whichever deal was
-/// found.
+/// What the verdict legal of [`run_settled`](crate::run_settled) means: the same as that of [`run`](crate::run), whichever deal
+/// was found.
 pub fn law_of_settled_games()
     ensures { SettledLegalMeansLegal }
 {
     law_of_lexicons();
 }
 
-/// What the verdict illegal of [`run_settled`](crate::run_settled) means: the record is no game by the words of the list.
+/// What the verdict illegal of [`run_settled`](crate::run_settled) means: the record is not a game by the words of the list.
 pub fn law_of_undealt_games()
     ensures { SettledIllegalMeansNoGame }
 {
@@ -65,8 +65,9 @@ pub fn law_of_legal_games()
     law_of_fronts();
 }
 
-/// What an entry of an archive means where it says illegal: the record is no game by the words of the list. Of a record without
-/// an exchange it never says unsettled; and of a record with an event that [`run`](crate::run) finds legal it says so too.
+/// What an entry of an archive means if it says illegal: the record is not a game by the words of the list. For a record without
+/// an exchange it never says unsettled; and for a record with an event that [`run`](crate::run) finds legal, the entry says legal
+/// too.
 #[tactic(auto, using(crate::proofs::FoundGames::findings_decide))]
 pub fn law_of_findings()
     ensures { FindingsDecide }

@@ -1,16 +1,17 @@
 //! The engine of the referee: it reads its inputs, judges the game by the rules, and writes the report.
 //!
 //! [`run`], [`run_build`], [`run_check`], [`run_convert`], [`run_top`], [`run_top_before`], [`run_tidy`] and [`run_board`] are the calls that the
-//! program makes, and [`run_ruled`], [`run_top_ruled`], [`run_top_before_ruled`] and [`run_board_ruled`] where it is given a rules text; [`run_settled`] and [`run_settled_ruled`] search for a deal. The contract of [`run`] is the theorem of the whole, from the
-//! bytes of the inputs to the bytes of the output.
+//! program makes, or [`run_ruled`], [`run_top_ruled`], [`run_top_before_ruled`] and [`run_board_ruled`] if it is given a rules text; [`run_settled`]
+//! and [`run_settled_ruled`] search for a deal. The contract of [`run`] is the theorem of the whole, from the bytes of the inputs to the bytes of the
+//! output.
 //!
-//! They are made of stages, which are in `call_stages`, and which other calls can be made of too. [`ask`] is the door: it reads rules, a word
-//! list and its lexicon, and then asks a [`Question`] of them. [`run_question`] asks a [`GameQuestion`], and writes what is decided: [`Judging`],
-//! [`BestPlays`] and [`TurnPlays`] are such. [`decide_by_pair`] asks it of one game of many by the same pair.
+//! They are made of stages, which are in `call_stages`; other calls can be made of these too. [`ask`] is the door: it reads rules, a word
+//! list and its lexicon, and then asks a [`Question`]. [`run_question`] asks a [`GameQuestion`], and writes what is decided: [`Judging`],
+//! [`BestPlays`] and [`TurnPlays`] are such questions. [`decide_by_pair`] asks one about one game of many by the same pair.
 //!
 //! An answer on a record is made of stages too. [`play_through`] goes from a record and a list to what passed, or to the first event that
-//! is not allowed; [`try_racks`] and [`settle_racks`] go from what passed to what is found of its racks, by the deal of the rule of
-//! completion alone and by a search; and [`legal_report`] goes from what passed to its report.
+//! is not allowed; [`try_racks`] goes from what passed to what is found of its racks only by the deal of the rule of completion, and
+//! [`settle_racks`] to what is found by a search too; and [`legal_report`] goes from what passed to its report.
 #![tactic(auto)]
 
 mod asking;

@@ -9,7 +9,7 @@ use game_deal::{DealBound, Earlier, Needs, Settled, bounds, complete, exceeded_b
 use game_turns::Passed;
 use std::alloc::{AllocError, Global};
 
-/// What the bounds and the deal of the rule of completion tell of the racks of a record that passed.
+/// What the bounds and the deal of the rule of completion say of the racks of a record that passed.
 #[derive(Clone, Copy, Debug, PartialEq, Eq)]
 pub enum RackTrial {
     /// The deal yields every rack.
@@ -20,14 +20,14 @@ pub enum RackTrial {
     Open,
 }
 
-/// What is found of the racks of a record that passed, where a search is made too.
+/// What is found of the racks of a record that passed, if a search is made too.
 #[derive(Clone, Copy, Debug, PartialEq, Eq)]
 pub enum RackFinding {
     /// Some deal of the tiles yields every rack.
     Dealt,
     /// The first bound that the racks exceed: so no deal yields them.
     PastBound(DealBound),
-    /// No deal of the tiles yields the racks up to and with the event on this line.
+    /// No deal of the tiles yields the racks up to the event on this line, that one included.
     NoDeal {
         /// The line, counted from 1.
         line: u32,
@@ -51,7 +51,7 @@ fn is_dealt(alloc: Global, needs: &Needs<'_>) -> Result<bool, AllocError>
     }
 }
 
-/// What the deal of the rule of completion tells of racks that exceed no bound.
+/// What the deal of the rule of completion says of racks that exceed no bound.
 #[tactic(auto, using(crate::proofs::Settled::tried_dealt, crate::proofs::Settled::tried_open))]
 fn try_needs(alloc: Global, needs: &Needs<'_>) -> Result<RackTrial, AllocError>
     ensures { IfOk result (AreTried (passed_of needs.now)) }
@@ -63,10 +63,10 @@ fn try_needs(alloc: Global, needs: &Needs<'_>) -> Result<RackTrial, AllocError>
     }
 }
 
-/// What the bounds and the deal of the rule of completion tell of the racks of a record that passed. Of a record without an
+/// What the bounds and the deal of the rule of completion say of the racks of a record that passed. For a record without an
 /// exchange it is never `Open`.
 ///
-/// It fails only where memory runs out.
+/// It fails only if memory runs out.
 #[tactic(auto, using(crate::proofs::Settled::tried_past))]
 pub fn try_racks(alloc: Global, passed: &Passed<'_>) -> Result<RackTrial, AllocError>
     ensures { IfOk result (AreTried passed.now) }
@@ -77,7 +77,7 @@ pub fn try_racks(alloc: Global, passed: &Passed<'_>) -> Result<RackTrial, AllocE
     }
 }
 
-/// What a search finds of racks that exceed no bound, and that the deal of the rule does not yield.
+/// What a search finds for racks that exceed no bound, and that the deal of the rule does not yield.
 #[tactic(auto, using(crate::proofs::Settled::found_deal))]
 fn search_racks(alloc: Global, needs: &Needs<'_>) -> Result<RackFinding, AllocError>
     requires { IsUndealtByRule (passed_of needs.now) }
@@ -90,7 +90,7 @@ fn search_racks(alloc: Global, needs: &Needs<'_>) -> Result<RackFinding, AllocEr
     }
 }
 
-/// What the deal of the rule of completion, and where it does not fit a search, find of racks that exceed no bound.
+/// What is found of racks that exceed no bound by the deal of the rule of completion, and if that does not fit, by a search.
 #[tactic(auto, using(crate::proofs::Settled::dealt_found))]
 fn settle_needs(alloc: Global, needs: &Needs<'_>) -> Result<RackFinding, AllocError>
     ensures { IfOk result (AreFound (passed_of needs.now)) }
@@ -102,10 +102,10 @@ fn settle_needs(alloc: Global, needs: &Needs<'_>) -> Result<RackFinding, AllocEr
     }
 }
 
-/// What is found of the racks of a record that passed: by the bounds, by the deal that is tried first, and by a search. Of a
-/// record without an exchange it is never `Unknown`.
+/// What is found of the racks of a record that passed: by the bounds, by the deal that is tried first, and by a search. For
+/// a record without an exchange it is never `Unknown`.
 ///
-/// It fails only where memory runs out.
+/// It fails only if memory runs out.
 #[tactic(auto, using(crate::proofs::Settled::tried_past))]
 pub fn settle_racks(alloc: Global, passed: &Passed<'_>) -> Result<RackFinding, AllocError>
     ensures { IfOk result (AreFound passed.now) }

@@ -19,14 +19,14 @@ use std::alloc::Global;
 /// Judges a game from its record by the words of a list and their lexicon, and writes the report.
 ///
 /// The words are read before the lexicon, and the lexicon before the record, each to its end, or to one byte past its
-/// limit of 16 MiB, 268,435,468 bytes or 1 MiB and no further. Where the words are no list, the lexicon is not read, and
-/// where the file is not the lexicon of the list, the record is not read. A lexicon over its limit has a wrong length,
+/// limit of 16 MiB, 268,435,468 bytes or 1 MiB and no further. If the words are not a list, the lexicon is not read, and
+/// if the file is not the lexicon of the list, the record is not read. A lexicon over its limit has a wrong length,
 /// whatever its bytes are. The report is made in memory before the first write.
 ///
 /// # Errors
 ///
-/// `ReadFailed` and `WriteFailed` come only where that device failed, or a write took no byte; `NoMemory` where memory
-/// was refused. After `WriteFailed` a front of the report went out, after the other two nothing.
+/// `ReadFailed` and `WriteFailed` come only if that device failed, or a write took no byte; `NoMemory` if memory
+/// was refused. After `WriteFailed` a prefix of the report was written, after the other two nothing.
 pub fn run<W: Input, L: Input, G: Input, O: Output>(
     alloc: Global,
     words: &mut W,
@@ -66,13 +66,13 @@ pub fn run<W: Input, L: Input, G: Input, O: Output>(
 /// Judges a game from its record as [`run`] does, by the rules that a text states.
 ///
 /// The rules text is read before all other inputs, to its end, or to one byte past its limit of 65,536 bytes and no
-/// further. Where it gives no rules, that is the verdict, and no other input is read. Else all is as `run` does it with
+/// further. If it gives no rules, that is the verdict, and no other input is read. Otherwise all is as in `run`, with
 /// the rules of the text.
 ///
 /// # Errors
 ///
-/// `ReadFailed` and `WriteFailed` come only where that device failed, or a write took no byte; `NoMemory` where memory
-/// was refused. After `WriteFailed` a front of the report went out, after the other two nothing.
+/// `ReadFailed` and `WriteFailed` come only if that device failed, or a write took no byte; `NoMemory` if memory
+/// was refused. After `WriteFailed` a prefix of the report was written, after the other two nothing.
 pub fn run_ruled<R: Input, W: Input, L: Input, G: Input, O: Output>(
     alloc: Global,
     rules_text: &mut R,
@@ -101,16 +101,16 @@ pub fn run_ruled<R: Input, W: Input, L: Input, G: Input, O: Output>(
     )
 }
 
-/// Judges a game as [`run`] does, but searches for a deal where `run` would say `Unsettled`.
+/// Judges a game as [`run`] does, but searches for a deal if `run` would say `Unsettled`.
 ///
 /// A deal that fits makes the game legal. A proof that no racks fit the steps up to a line makes it illegal: the verdict is
-/// `NoDeal` with that line, the first up to which the search finds a proof. `Unsettled` is left where the search finds
-/// neither within its budget, which never happens to a record without an exchange.
+/// `NoDeal` with that line, the first up to which the search finds a proof. The verdict is still `Unsettled` if the search
+/// finds neither within its budget, which never happens for a record without an exchange.
 ///
 /// # Errors
 ///
-/// `ReadFailed` and `WriteFailed` come only where that device failed, or a write took no byte; `NoMemory` where memory
-/// was refused. After `WriteFailed` a front of the report went out, after the other two nothing.
+/// `ReadFailed` and `WriteFailed` come only if that device failed, or a write took no byte; `NoMemory` if memory
+/// was refused. After `WriteFailed` a prefix of the report was written, after the other two nothing.
 pub fn run_settled<W: Input, L: Input, G: Input, O: Output>(
     alloc: Global,
     words: &mut W,
@@ -153,8 +153,8 @@ pub fn run_settled<W: Input, L: Input, G: Input, O: Output>(
 ///
 /// # Errors
 ///
-/// `ReadFailed` and `WriteFailed` come only where that device failed, or a write took no byte; `NoMemory` where memory
-/// was refused. After `WriteFailed` a front of the report went out, after the other two nothing.
+/// `ReadFailed` and `WriteFailed` come only if that device failed, or a write took no byte; `NoMemory` if memory
+/// was refused. After `WriteFailed` a prefix of the report was written, after the other two nothing.
 pub fn run_settled_ruled<R: Input, W: Input, L: Input, G: Input, O: Output>(
     alloc: Global,
     rules_text: &mut R,

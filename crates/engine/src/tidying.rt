@@ -54,8 +54,8 @@ fn decide_tidy<G: Input>(alloc: Global, game: &mut G) -> Result<Decision, RunFau
 ///
 /// # Errors
 ///
-/// `ReadFailed` and `WriteFailed` come only where that device failed, or a write took no byte; `NoMemory` where memory
-/// was refused. After `WriteFailed` a front of the text went out, after the other two nothing.
+/// `ReadFailed` and `WriteFailed` come only if that device failed, or a write took no byte; `NoMemory` if memory
+/// was refused. After `WriteFailed` a prefix of the text was written, after the other two nothing.
 pub fn run_tidy<G: Input, O: Output>(
     alloc: Global,
     game: &mut G,

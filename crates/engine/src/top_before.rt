@@ -17,16 +17,16 @@ use std::alloc::Global;
 /// Writes the first `number` of the best plays by a rack on the board before a line of a record, by the words of a list and their
 /// lexicon; without a line, on the board after its last event.
 ///
-/// Without the bytes of a rack, it is the one that the event on the line shows, or the first event behind it. Bytes that are not 1 to 7
-/// of A to Z and `?` are `BadRack`, and no input is read. Else the inputs are read as [`run`](crate::run) reads them. Where no event
-/// stands on the line or behind it, the verdict is `BadLine`, and where no rack is given or shown, `BadRack`. The events before the
-/// line are judged as `run` judges them; nothing is asked of the event on it and of those behind it. What is written is as
-/// [`run_top`](crate::run_top) writes it, with up to `number` plays in place of ten.
+/// Without the bytes of a rack, it is the one that the event on the line shows, or the first event after it. If the bytes are not 1 to
+/// 7 of A to Z and `?`, the verdict is `BadRack`, and no input is read. Otherwise the inputs are read as [`run`](crate::run) reads
+/// them. If no event is on the line or after it, the verdict is `BadLine`, and if no rack is given or shown, `BadRack`. The events
+/// before the line are judged as `run` judges them; the event on it and those after it are not judged. What is written is as
+/// [`run_top`](crate::run_top) writes it, with up to `number` plays instead of ten.
 ///
 /// # Errors
 ///
-/// `ReadFailed` and `WriteFailed` come only where that device failed, or a write took no byte; `NoMemory` where memory
-/// was refused. After `WriteFailed` a front of the text went out, after the other two nothing.
+/// `ReadFailed` and `WriteFailed` come only if that device failed, or a write took no byte; `NoMemory` if memory
+/// was refused. After `WriteFailed` a prefix of the text was written, after the other two nothing.
 pub fn run_top_before<W: Input, L: Input, G: Input, O: Output>(
     alloc: Global,
     words: &mut W,
@@ -48,7 +48,7 @@ pub fn run_top_before<W: Input, L: Input, G: Input, O: Output>(
         ∷ lexicon_source (L.device lexicon.old) (L.device lexicon.new) ∷ game_source (G.device game.old) (G.device game.new) ∷ [])
         (AreTopped number before rules.now (option_copied rack.entry)) (O.device out.old) (O.device out.new) result }
 
-    // No input is read behind bytes that are no rack.
+    // No input is read after bytes that are not a rack.
     ensures bad_rack { given_rack (option_copied rack.entry) ≡ None → AreUntouched (words_source (W.device words.old) (W.device words.new)
         ∷ lexicon_source (L.device lexicon.old) (L.device lexicon.new) ∷ game_source (G.device game.old) (G.device game.new) ∷ []) }
 {
@@ -61,13 +61,14 @@ pub fn run_top_before<W: Input, L: Input, G: Input, O: Output>(
 
 /// Writes the best plays before a line as [`run_top_before`] does, by the rules that a text states.
 ///
-/// Where the bytes are no rack, that is the verdict, and no input is read. Else the rules text is read before all other inputs,
-/// as [`run_ruled`](crate::run_ruled) reads it; where it gives no rules, that is the verdict, and no other input is read.
+/// If the bytes are not a rack, that is the verdict, and no input is read. Otherwise the rules text is read before all other
+/// inputs, as [`run_ruled`](crate::run_ruled) reads it; if it gives no rules, that is the verdict, and no other input is
+/// read.
 ///
 /// # Errors
 ///
-/// `ReadFailed` and `WriteFailed` come only where that device failed, or a write took no byte; `NoMemory` where memory
-/// was refused. After `WriteFailed` a front of the text went out, after the other two nothing.
+/// `ReadFailed` and `WriteFailed` come only if that device failed, or a write took no byte; `NoMemory` if memory
+/// was refused. After `WriteFailed` a prefix of the text was written, after the other two nothing.
 pub fn run_top_before_ruled<R: Input, W: Input, L: Input, G: Input, O: Output>(
     alloc: Global,
     rules_text: &mut R,
@@ -90,7 +91,7 @@ pub fn run_top_before_ruled<R: Input, W: Input, L: Input, G: Input, O: Output>(
         ∷ lexicon_source (L.device lexicon.old) (L.device lexicon.new) ∷ game_source (G.device game.old) (G.device game.new) ∷ [])
         (AreToppedByText number before (option_copied rack.entry)) (O.device out.old) (O.device out.new) result }
 
-    // No input is read behind bytes that are no rack.
+    // No input is read after bytes that are not a rack.
     ensures bad_rack { given_rack (option_copied rack.entry) ≡ None → AreUntouched (rules_source (R.device rules_text.old) (R.device rules_text.new)
         ∷ words_source (W.device words.old) (W.device words.new)
         ∷ lexicon_source (L.device lexicon.old) (L.device lexicon.new) ∷ game_source (G.device game.old) (G.device game.new) ∷ []) }

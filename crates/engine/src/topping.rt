@@ -18,14 +18,14 @@ use gcg_read::read_rack;
 use ref_tiles::Rules;
 use std::alloc::{AllocError, Global};
 
-/// The verdict that a rack is none.
+/// The verdict that the bytes are not a rack.
 pub(crate) fn bad_rack(alloc: Global) -> Result<Decision, AllocError>
     ensures { IfOk result (λ d. IsTold verdict.BadRack reports.bad_rack_line d.verdict d.report.items) }
 {
     Decision::refused(alloc, InputFault::Rack)
 }
 
-/// The same as what is decided of a call.
+/// The same as the decision of a call.
 fn decide_bad_rack(alloc: Global) -> Result<Decision, RunFault>
     ensures told { IfOk result (λ d. IsTold verdict.BadRack reports.bad_rack_line d.verdict d.report.items) }
     ensures memory { IfErr result (λ fault. fault ≡ NoMemory) }
@@ -33,7 +33,7 @@ fn decide_bad_rack(alloc: Global) -> Result<Decision, RunFault>
     Ok(bad_rack(alloc)?)
 }
 
-/// Writes the verdict that a rack is none.
+/// Writes the verdict that the bytes are not a rack.
 pub(crate) fn refuse_rack<O: Output>(alloc: Global, out: &mut O) -> Result<Verdict, RunFault>
     requires { HasRoom (O.device out.old) }
     ensures { RefusesRack (O.device out.old) (O.device out.new) result }
@@ -44,16 +44,16 @@ pub(crate) fn refuse_rack<O: Output>(alloc: Global, out: &mut O) -> Result<Verdi
 
 /// Writes the ten best plays by a rack on the board after a record, by the words of a list and their lexicon.
 ///
-/// The rack is 1 to 7 of A to Z and `?`, in any order; where it is not, that is the verdict, and no input is read. Else the
-/// inputs are read as [`run`](crate::run) reads them, and a bad input or an event that the rules do not allow is reported
-/// as `run` reports it. Racks of the record are not compared with each other: what `run` says of deals is not looked at. What is
-/// written is made in memory before the first write: one line `NOTATION SCORE` for each play, the greatest score first, and of
-/// equal ones the first by their notations; `none` where there is no play.
+/// The rack is 1 to 7 of A to Z and `?`, in any order; if it is not, that is the verdict, and no input is read. Otherwise the
+/// inputs are read as [`run`](crate::run) reads them, and a bad input or an event that the rules do not allow is reported as
+/// `run` reports it. The racks of the record are not compared with each other, so deals do not matter. What is written is made
+/// in memory before the first write: one line `NOTATION SCORE` for each play, the greatest score first, and plays of equal score
+/// by their notations; `none` if there is no play.
 ///
 /// # Errors
 ///
-/// `ReadFailed` and `WriteFailed` come only where that device failed, or a write took no byte; `NoMemory` where memory
-/// was refused. After `WriteFailed` a front of the text went out, after the other two nothing.
+/// `ReadFailed` and `WriteFailed` come only if that device failed, or a write took no byte; `NoMemory` if memory
+/// was refused. After `WriteFailed` a prefix of the text was written, after the other two nothing.
 
 pub fn run_top<W: Input, L: Input, G: Input, O: Output>(
     alloc: Global,
@@ -73,7 +73,7 @@ pub fn run_top<W: Input, L: Input, G: Input, O: Output>(
         ∷ lexicon_source (L.device lexicon.old) (L.device lexicon.new) ∷ game_source (G.device game.old) (G.device game.new) ∷ [])
         (IsTopped rules.now rack.now) (O.device out.old) (O.device out.new) result }
 
-    // No input is read behind a rack that is none.
+    // No input is read after bytes that are not a rack.
     ensures bad_rack { is_rack rack.now ≡ false → AreUntouched (words_source (W.device words.old) (W.device words.new)
         ∷ lexicon_source (L.device lexicon.old) (L.device lexicon.new) ∷ game_source (G.device game.old) (G.device game.new) ∷ []) }
 {
@@ -87,14 +87,14 @@ pub fn run_top<W: Input, L: Input, G: Input, O: Output>(
 
 /// Writes the ten best plays by a rack as [`run_top`] does, by the rules that a text states.
 ///
-/// Where the rack is none, that is the verdict, and no input is read. Else the rules text is read before all other inputs,
-/// as [`run_ruled`](crate::run_ruled) reads it; where it gives no rules, that is the verdict, and no other input is read. Else
-/// all is as `run_top` does it with the rules of the text.
+/// If the bytes are not a rack, that is the verdict, and no input is read. Otherwise the rules text is read before all other
+/// inputs, as [`run_ruled`](crate::run_ruled) reads it; if it gives no rules, that is the verdict, and no other input is read.
+/// Otherwise all is as in `run_top`, with the rules of the text.
 ///
 /// # Errors
 ///
-/// `ReadFailed` and `WriteFailed` come only where that device failed, or a write took no byte; `NoMemory` where memory
-/// was refused. After `WriteFailed` a front of the text went out, after the other two nothing.
+/// `ReadFailed` and `WriteFailed` come only if that device failed, or a write took no byte; `NoMemory` if memory
+/// was refused. After `WriteFailed` a prefix of the text was written, after the other two nothing.
 
 pub fn run_top_ruled<R: Input, W: Input, L: Input, G: Input, O: Output>(
     alloc: Global,
@@ -115,7 +115,7 @@ pub fn run_top_ruled<R: Input, W: Input, L: Input, G: Input, O: Output>(
         ∷ lexicon_source (L.device lexicon.old) (L.device lexicon.new) ∷ game_source (G.device game.old) (G.device game.new) ∷ [])
         (IsToppedByText rack.now) (O.device out.old) (O.device out.new) result }
 
-    // No input is read behind a rack that is none.
+    // No input is read after bytes that are not a rack.
     ensures bad_rack { is_rack rack.now ≡ false → AreUntouched (rules_source (R.device rules_text.old) (R.device rules_text.new)
         ∷ words_source (W.device words.old) (W.device words.new)
         ∷ lexicon_source (L.device lexicon.old) (L.device lexicon.new) ∷ game_source (G.device game.old) (G.device game.new) ∷ []) }

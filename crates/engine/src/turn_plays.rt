@@ -22,14 +22,14 @@ use std::alloc::{AllocError, Global};
 pub struct TurnPlays {
     /// The tiles of the rack; without them the rack is the one that the line shows.
     pub rack: Option<Counts>,
-    /// How many plays are given at the most.
+    /// The greatest number of plays that are given.
     pub number: usize,
     /// The line; without one the board is that after the last event.
     pub before: Option<u32>,
     ghost few: { number ≤ 100 },
 }
 
-/// The question by the bytes of a rack, or by none; none where the bytes are no rack.
+/// The question by the bytes of a rack, or without them; none if the bytes are not a rack.
 pub(crate) fn turn_plays(
     rack: Option<&[u8]>,
     number: usize,
@@ -52,7 +52,7 @@ pub(crate) fn turn_plays(
     })
 }
 
-/// The rack of an event, where it shows one.
+/// The rack of an event, if it shows one.
 fn shown_rack(event: Option<&Event>) -> Option<Counts>
     ensures { result ≡ shown_rack (option_copied event.entry) }
 {
@@ -62,7 +62,7 @@ fn shown_rack(event: Option<&Event>) -> Option<Counts>
     }
 }
 
-/// The rack that is asked about.
+/// The rack of the question: the given one, or else that of the event.
 fn rack_asked(given: Option<Counts>, event: Option<&Event>) -> Option<Counts>
     ensures { result ≡ rack_asked given (option_copied event.entry) }
 {
@@ -110,7 +110,7 @@ fn tell_before(
     }
 }
 
-/// The same by the rack that is asked about; where there is none, that is the verdict.
+/// The same by the rack of the question; if there is none, that is the verdict.
 fn tell_by_rack(
     alloc: Global,
     asked: &AskedGame<'_>,
@@ -126,7 +126,7 @@ fn tell_by_rack(
     }
 }
 
-/// The same before the line that is asked about; where there is none, that is the verdict.
+/// The same before the line of the question; if there is none, that is the verdict.
 fn tell_by_line(
     alloc: Global,
     asked: &AskedGame<'_>,

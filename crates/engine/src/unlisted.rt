@@ -1,4 +1,4 @@
-//! How many plays of a record stand with a word that is not in the list.
+//! How many phonies of a record stand: plays with a word that is not in the list.
 ghost use Rattle.std.specs.Prelude.{◌≡◌, ◌≤◌, not, if◌then◌else◌};
 ghost use Rattle.game_turns.specs.Passing.{rules_in, record_in, list_in};
 ghost use Rattle.game_rows.specs.Rows.{HaveRows};
@@ -7,7 +7,7 @@ ghost use Rattle.engine.specs.Archiving.{unlisted_plays};
 use game_rows::Row;
 use game_turns::Passed;
 
-/// One for a play that stands with a word that is not in the list, and else none.
+/// 1 for a play that stands with a word that is not in the list, and otherwise 0.
 fn unlisted_here(row: &Row) -> usize
     ensures number { result ≡ (if not row.now.listed then 1 else 0) }
     ensures few { result ≤ 1 }

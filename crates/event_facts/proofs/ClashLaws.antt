@@ -1,4 +1,4 @@
--- Steps that tell only a part of what others tell.
+-- Steps that show only a part of what others show.
 use Rattle.std.proofs.Common.{◌≡◌, ℕ, zero, suc, ◌+◌, ◌-◌, ◌<◌, ◌≤◌, List, [], ◌∷◌, ◌++◌, length, take, get_or, slice_get, slice_index, Some, refl, sym, subst, add-one, arith, inl, inr}
 use Rattle.std.proofs.lemmas.Bool.{cases_lt}
 use Rattle.std.proofs.lemmas.List.{get_or_past}
@@ -34,7 +34,7 @@ pub turn_silent : (whole : Act) (shown some : List ℕ) (what : Motion) → whol
 turn_silent whole shown some what is same =
     subst (TellsPart (act.Turns some what)) (sym is) (some, subst (λ t. IsContainedIn t shown) (sym same) (none_part shown), refl)
 
--- one step more
+-- one more step
 pub parts_push : (less steps : List Step) (k : ℕ) (l s : Step) → ArePartsOf less (take k steps) → slice_get steps k ≡ Some s → IsPartOf l s → ArePartsOf (less ++ l ∷ []) (take (suc k) steps)
 parts_push less [] k l s parts there is = absurd (none-some s there)
 parts_push [] (t ∷ steps) zero l s parts there is = (subst (λ x. IsPartOf l x) (sym (same_Some t s there)) is, tt)

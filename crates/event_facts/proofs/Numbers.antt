@@ -30,7 +30,7 @@ of_rack : (points : ℕ) (out : Option Seat) → last_rack_score points out ≡ 
 of_rack points (Some out) = refl
 of_rack points None = refl
 
--- the score that the rules give is the one that the checks ask for
+-- the score that the rules give is the one that the checks require
 score_is : (rules : Rules) (s : State) (what : EventKind) → right_score rules s what ≡ shapes.kind_score rules s what
 score_is rules s (kind.Play at dir word) = refl
 score_is rules s kind.Pass = refl
@@ -78,7 +78,7 @@ score_told rules list s e right fails =
     ∙ score_named (shapes.kind_score rules s e.kind) (side_of s.sides e.player).total e.score e.total right
     (numbers_told rules list s e (fault.WrongScore right) right fails refl).1
 
--- a wrong total names what the player had, and the score
+-- a wrong total names what the player had plus the score
 pub total_told : (rules : Rules) (list : List (List ℕ)) (s : State) (e : Event) (right : ℤ) → fault_in rules list s e ≡ Some (fault.WrongTotal right)
     → right ≡ (side_of s.sides e.player).total +ℤ e.score
 total_told rules list s e right fails =
@@ -94,7 +94,7 @@ lacking right written score shown told same own is = is ∙ ap (λ n. n -ℤ tol
 back : (right written score : ℤ) → score ≡ right -ℤ written → written +ℤ score ≡ right
 back right written score lacks = +ℤ_comm written score ∙ ap (λ n. n +ℤ written) lacks ∙ -ℤ-+ℤ_cancel right written
 
--- a total that lacks the score of its line is the one before
+-- a total that lacks the score of its own line is the one before
 pub left_own : (had score right written : ℤ) → right ≡ had +ℤ score → score ≡ right -ℤ written → written ≡ had
 left_own had score right written is lacks =
     sym (+ℤ-neg_ℤ_cancel written score) ∙ ap (λ n. n -ℤ score) (back right written score lacks ∙ is) ∙ +ℤ-neg_ℤ_cancel had score
@@ -103,12 +103,12 @@ left_own had score right written is lacks =
 pub left_one : (had own score right written : ℤ) → right ≡ had +ℤ own → score ≡ right -ℤ written → written +ℤ score ≡ had +ℤ own
 left_one had own score right written is lacks = back right written score lacks ∙ is
 
--- the right score and the one that is written
+-- the right score and the written one
 pub scores_told : (rules : Rules) (list : List (List ℕ)) (s : State) (e : Event) (right written shown told : ℤ) → fault_in rules list s e ≡ Some (fault.WrongScore right)
     → shown ≡ right → told ≡ written → written ≡ e.score → (right_score rules s e.kind ≡ Some shown) × (told ≡ e.score)
 scores_told rules list s e right written shown told fails same own is = (score_told rules list s e right fails ∙ ap Some (sym same), own ∙ is)
 
--- a sum of what is shown
+-- the sum of what is shown
 pub sum_shown : (right had score shown shown_had shown_score : ℤ) → right ≡ had +ℤ score → shown ≡ right → shown_had ≡ had → shown_score ≡ score → shown ≡ shown_had +ℤ shown_score
 sum_shown right had score shown shown_had shown_score is same own_had own_score =
     same ∙ is ∙ ap (λ n. n +ℤ score) (sym own_had) ∙ ap (λ n. shown_had +ℤ n) (sym own_score)

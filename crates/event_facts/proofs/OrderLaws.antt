@@ -1,4 +1,4 @@
--- The points of a line that is missing.
+-- The points of a missing line.
 use Rattle.std.proofs.Common.{◌≡◌, ℕ, ℤ, ◌+◌, ◌<◌, List, [], ◌∷◌, ◌++◌, length, take, get_or, add-one, sym, ap, ◌∙◌}
 use Rattle.std.proofs.Math.Seq.{take-suc}
 use Rattle.std.proofs.lemmas.Option.{same_Some}
@@ -8,7 +8,7 @@ use Rattle.ref_tiles.specs.declared.symbols.Symbol.{Symbol}
 use Rattle.ref_tiles.specs.Symbols.{symbol_of, byte_of}
 use Rattle.ref_tiles.proofs.SymbolLemmas.{read_again}
 
--- what a player has behind a score
+-- what a player has after a score
 pub had_and : (total score own shown told : ℤ) → shown ≡ total → told ≡ score → own ≡ shown +ℤ told → own ≡ total +ℤ score
 had_and total score own shown told same given is = is ∙ ap (λ n. n +ℤ told) same ∙ ap (λ n. total +ℤ n) given
 

@@ -11,7 +11,7 @@ use Rattle.game_facts.specs.Spots.{scores_at, spots_along, scoring_along, scorin
 use Rattle.event_facts.specs.Moments.{Moment}
 use Rattle.event_facts.specs.Elsewhere.{is_listed_at, those_or, places}
 
--- the elements that pass a test pass it
+-- an element of a filtered list passes the test
 passed_one : {X : Type 0} (f : X → Bool) (x : X) (xs : List X) (b : Bool) → f x ≡ b → All (λ y. f y ≡ true) (filter f xs) → All (λ y. f y ≡ true) (filter f (x ∷ xs))
 passed_one f x xs true is rest = rw is (All-cons (λ y. f y ≡ true) x (filter f xs) is rest)
 passed_one f x xs false is rest = rw is rest
@@ -20,7 +20,7 @@ all_passed : {X : Type 0} (f : X → Bool) (xs : List X) → All (λ y. f y ≡ 
 all_passed f [] = All-nil (λ y. f y ≡ true)
 all_passed f (x ∷ xs) = passed_one f x xs (f x) refl (all_passed f xs)
 
--- what holds of all holds of those that pass a test, and of the first of them
+-- what holds for all holds for those that pass a test, and for the first of them
 kept_one : {X : Type 0} (P : X → Type 0) (f : X → Bool) (x : X) (xs : List X) (b : Bool) → f x ≡ b → P x → All P (filter f xs) → All P (filter f (x ∷ xs))
 kept_one P f x xs true is here rest = rw is (All-cons P x (filter f xs) here rest)
 kept_one P f x xs false is here rest = rw is rest

@@ -1,4 +1,4 @@
--- What is said of a play.
+-- What is said about a play.
 use Rattle.std.proofs.Common.{◌≡◌, ℕ, List, sym, subst}
 use Rattle.ref_board.specs.declared.directions.Dir.{Dir}
 use Rattle.ref_tiles.specs.declared.symbols.Symbol.{Symbol}
@@ -6,7 +6,7 @@ use Rattle.gcg_read.specs.declared.events.EventKind.{EventKind}
 use Rattle.gcg_read.specs.declared.events.EventKind.TheVariants as kind
 use Rattle.event_facts.specs.Facts.{OfPlay, OfLastRack}
 
--- what holds of where a play begins, its direction and its text holds of the play
+-- what holds for the place at which a play begins, its direction and its text holds for the play
 pub of_play : (what : EventKind) (at : ℕ) (dir : Dir) (word : List Symbol) (P : ℕ → Dir → List Symbol → Type 0) → what ≡ kind.Play at dir word → P at dir word → OfPlay what P
 of_play what at dir word P is holds = subst (λ (k : EventKind). OfPlay k P) (sym is) holds
 

@@ -1,4 +1,4 @@
--- What lines show of racks.
+-- What lines show about racks.
 use Rattle.std.proofs.Common.{◌≡◌, ◌≤◌, ◌<◌, ◌-◌, get_or, refl, length, arith, ℕ, List, take, reverse, slice_get, Some, sym, ap, ◌∙◌}
 use Rattle.std.proofs.lemmas.Option.{same_Some, slice_get_within, slice_get_read}
 use Rattle.gcg_read.specs.declared.events.Seat.{Seat}
@@ -17,7 +17,7 @@ of_seat_shown : (s : Step) (past : List Step) (player : Seat) (known : Known) �
 of_seat_shown s past First known is = is.first
 of_seat_shown s past Second known is = is.second
 
--- what is known of a player, with what left the rack, is what the moments show
+-- what is known about a player, plus what left the rack, is what the moments show
 pub shown_of : (steps : List Step) (place : ℕ) (s : Step) (player : Seat) (tiles : List ℕ) (known : Known) → slice_get steps place ≡ Some s → IsShownAt steps place known
     → tiles ≡ known_of known player → joined tiles (gone player (reverse (take place steps))) ≡ low_at player s (reverse (take place steps))
 shown_of steps place s player tiles known there is same =
@@ -25,11 +25,11 @@ shown_of steps place s player tiles known there is same =
     let own : is.step ≡ s = same_Some is.step s (sym is.there ∙ there) in
     ap (λ (t : List ℕ). joined t (gone player past)) same ∙ sym (of_seat_shown is.step past player known is.shown) ∙ ap (λ (t : Step). low_at player t past) own
 
--- an element stands within its list
+-- an element is within its list
 pub within : {X : Type 0} (xs : List X) (place : ℕ) (x : X) → slice_get xs place ≡ Some x → place ≤ length xs
 within xs place x there = let below = slice_get_within xs place x there in omega (arith, below)
 
--- where racks fit the steps before a place
+-- racks fit the steps before a place
 pub dealt_to : (rules : Rules) (steps : List Step) (place : ℕ) (step : Step) (racks : List Held) → 0 < place → place ≤ length steps → step ≡ get_or steps (place - 1) step
     → Fits rules (take place steps) racks → IsDealtTo rules steps place step.line
 dealt_to rules steps place step racks some within is fit =

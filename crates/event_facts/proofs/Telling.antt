@@ -1,4 +1,4 @@
--- Facts that are true stay so where another true one comes behind them.
+-- Facts that are true stay true when another true one comes after them.
 use Rattle.std.proofs.Common.{◌≡◌, ℕ, ◌+◌, ◌*◌, add-one, ap, ◌∙◌, List, [], ◌∷◌, ◌++◌, All, sym, subst}
 use Rattle.std.proofs.Math.Nat.{mul-suc}
 use Rattle.std.proofs.lemmas.List.Elements.{All-append, All-cons, All-nil}
@@ -7,6 +7,6 @@ pub one_more : {X : Type 0} (P : X → Type 0) (old new : List X) (x : X) → ne
 one_more P old new x is before here =
     subst (All P) (sym is) (All-append P old (x ∷ []) before (All-cons P x [] here (All-nil P)))
 
--- one unit more
+-- one more unit
 pub one_unit_more : (unit k amount next : ℕ) → amount ≡ unit * k → next ≡ amount + unit → next ≡ unit * (k + 1)
 one_unit_more unit k amount next before is = is ∙ ap (λ n. n + unit) before ∙ sym (mul-suc unit k) ∙ ap (λ n. unit * n) (sym (add-one k))

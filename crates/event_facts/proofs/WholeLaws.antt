@@ -1,4 +1,4 @@
--- One event more of a record whose events the rules allow.
+-- One more event of a record whose events the rules allow.
 use Rattle.std.proofs.Common.{◌≡◌, ℕ, ◌+◌, ◌<◌, List, [], ◌∷◌, ◌++◌, length, get_or, slice_get, Option, Some, refl, sym, ap, ◌∙◌, add-one, append_assoc}
 use Rattle.std.proofs.lemmas.Option.{slice_get_read}
 use Rattle.ref_tiles.specs.declared.rulebook.Rules.{Rules}
@@ -8,7 +8,7 @@ use Rattle.game_turns.specs.Tallies.{State, tally_at}
 use Rattle.event_facts.specs.declared.facts.Fact.{Fact}
 use Rattle.event_facts.specs.Wholes.{TellsUnlisted, TellsHidden, AddsNotes, UnlistedValue, unlisted_of, play_with, unlisted_play, unlisted_to, turn_line, hidden_line, turns_to, hidden_to}
 
--- what is read at a place within a list stands there
+-- what is read at a place within a list is there
 pub read_there : {X : Type 0} (xs : List X) (place : ℕ) (x : X) → place < length xs → x ≡ get_or xs place x → slice_get xs place ≡ Some x
 read_there xs place x below is = slice_get_read xs (length xs) place x refl below is
 
@@ -33,7 +33,7 @@ hidden_more rules events place e s old new stands state before is =
     is ∙ ap (λ (ls : List ℕ). ls ++ hidden_line s (Some e)) before ∙ ap (λ (t : State). hidden_to rules events place ++ hidden_line t (Some e)) state
     ∙ ap (λ (o : Option Event). hidden_to rules events place ++ hidden_line (tally_at rules events place) o) (sym stands) ∙ sym (ap (hidden_to rules events) (add-one place))
 
--- two facts behind others
+-- two facts after others
 pub both_told : (rules : Rules) (list : List (List ℕ)) (events : List Event) (old one new : List Fact) (unlisted hidden : Fact) → TellsUnlisted rules list events unlisted → TellsHidden rules events hidden
     → one ≡ old ++ unlisted ∷ [] → new ≡ one ++ hidden ∷ [] → AddsNotes rules list events old new
 both_told rules list events old one new unlisted hidden plays racks first second =

@@ -25,7 +25,7 @@ use Rattle.event_facts.specs.declared.words.PlayedWord.{PlayedWord}
 use Rattle.event_facts.specs.declared.words.ScoredPlay.{ScoredPlay}
 use Rattle.event_facts.specs.Words.{WordValue, played_square, word_in, added, played_word, word_by, words_by, full_bonus, whole_score, IsScoredPlay}
 
--- ---- one word more
+-- ---- one more word
 
 pub words_more : (list : List (List ℕ)) (scored : List ScoredWord) (letters : List (ArrayVec ℕ)) (k : ℕ) (w : ScoredWord) (l : ArrayVec ℕ)
     → slice_get scored k ≡ Some w → slice_get letters k ≡ Some l
@@ -119,7 +119,7 @@ play_adds_up law rules list board d ps p sums letters of_sums of_letters of_word
     ∙ law.play rules d board ps in
     record { words = words; bonus = of_bonus; adds_up = of_score ∙ ap pos (sym together); right = of_score }
 
--- as many sums as words
+-- there are as many sums as words
 pub as_many : (rules : Rules) (board : List (Option Tile)) (d : Dir) (ps : List Placed) (scored : List ScoredWord) (letters : List (ArrayVec ℕ)) → map sum_in scored ≡ word_sums rules d board ps
     → items_of letters ≡ words_formed d board ps → length scored ≡ length letters
 unfolding word_sums words_formed

@@ -10,7 +10,7 @@ use Rattle.gcg_read.specs.declared.events.EventKind.TheVariants as kind
 use Rattle.game_board.specs.Marks.{square_mark}
 use Rattle.event_facts.specs.declared.boards.ShownSquare.{ShownSquare}
 
--- whether a text of so many symbols covers a square: one of its line, from its first square on
+-- whether a text of `many` symbols covers a square: one on its line, from its first square on
 abbrev pub covers : (at : ℕ) → Dir → (many square : ℕ) → Bool
 covers at d many square =
     line_of d square == line_of d at && nat_le (place_of d at) (place_of d square) && nat_lt (place_of d square) (place_of d at + many)

@@ -1,4 +1,4 @@
--- What is true of an event at its place: of each fact, what its numbers, squares, players and lines are.
+-- What is true of an event in its place: for each fact, what its numbers, squares, players and lines are.
 use Rattle.std.specs.Prelude.{◌≡◌, ℕ, ℤ, pos, neg_ℤ, ◌+◌, ◌-◌, ◌*◌, ◌+ℤ◌, ◌<◌, ◌==◌, Bool, true, false, List, All, Contains, length, sum, map, take, reverse, slice_get, Option, Some, None, is_some, if◌then◌else◌}
 use Rattle.std.specs.List.{range_with_len}
 use Rattle.ref_tiles.specs.declared.symbols.Symbol.{Symbol}
@@ -32,14 +32,14 @@ use Rattle.event_facts.specs.Elsewhere.{places}
 use Rattle.event_facts.specs.Readings.{IsNotOnRack, IsSwapped, IsMisread}
 use Rattle.event_facts.specs.Orders.{StandsTwice, AreTheOtherWay, IsMissing, IsOthers}
 
--- ---- what the facts speak of
+-- ---- what the facts are about
 
--- something of a play, by where its text begins, its direction and its text; of no other event
+-- a property of a play, given where its text begins, its direction and its text; false for any other event
 abbrev pub OfPlay : EventKind → (ℕ → Dir → List Symbol → Type 0) → Type 0
 OfPlay (kind.Play at dir word) P = P at dir word
 OfPlay other P = ⊥
 
--- something of a last rack, by its tiles
+-- a property of a last rack, given its tiles
 abbrev pub OfLastRack : EventKind → (List ℕ → Type 0) → Type 0
 OfLastRack (kind.LastRack tiles) P = P tiles
 OfLastRack other P = ⊥
@@ -53,13 +53,13 @@ abbrev pub is_withdrawal : EventKind → Bool
 is_withdrawal kind.Withdraw = true
 is_withdrawal other = false
 
--- how many tiles an event exchanges
+-- the number of tiles that an event exchanges
 abbrev pub exchanged : EventKind → ℕ
 exchanged (kind.Exchange tiles) = sum tiles
 exchanged (kind.ExchangeUnknown n) = n
 exchanged other = 0
 
--- whose last rack an event shows: the other player's once a player is out, and else the own
+-- whose last rack an event shows: the other player's once a player is out, otherwise its own player's
 abbrev pub holder_by : (out : Option Seat) → Seat → Seat
 holder_by None player = player
 holder_by (Some out) player = other_seat out
@@ -73,13 +73,13 @@ withdrawn_score (played p) = neg_ℤ p.score
 withdrawn_score (taken_back tiles) = pos 0
 withdrawn_score tallies.other = pos 0
 
--- a last rack gives twice its points to a player who is out, and else takes them
+-- a last rack gives twice its points to a player who is out, otherwise it takes them
 abbrev pub last_rack_score : (points : ℕ) → (out : Option Seat) → ℤ
 last_rack_score points (Some out) = pos (2 * points)
 last_rack_score points None = neg_ℤ (pos points)
 
--- The score that the rules give an event in a state: what its text scores, nothing for a pass and an exchange, and so on. None for the
--- bonus of a challenge and a penalty, which may have several amounts.
+-- The score that the rules give an event in a state: what its text scores, nothing for a pass and an exchange, and so on. None for
+-- the bonus of a challenge and for a penalty, which may have several amounts.
 abbrev pub right_score : Rules → State → EventKind → Option ℤ
 right_score rules s (kind.Play at dir word) = Some (text_score rules s.board dir at word)
 right_score rules s kind.Pass = Some (pos 0)
@@ -106,7 +106,7 @@ abbrev pub where_play : Option Event → Option Event
 where_play None = None
 where_play (Some e) = if is_play e.kind then Some e else None
 
--- the event directly before another one, where that is a play
+-- the event directly before another one, if that is a play
 abbrev pub play_before : (past : List Event) → Option Event
 play_before past = where_play (last_event past)
 
@@ -121,7 +121,7 @@ pub record AreWordsBefore (m : Moment) (line : ℕ) (words : List Spelled) : Typ
   pub on_line : latest.line ≡ line
   pub words_are : letters_in words ≡ latest_words m.before.latest
 
--- the event before is a play on a line, by the other player than that of the event
+-- the event before is a play on a line, by the opponent of the player of the event
 pub record IsOthersPlay (m : Moment) (line : ℕ) (player other : Seat) : Type 0 where
   pub latest : Event
   pub is_play_before : play_before m.past ≡ Some latest
@@ -156,7 +156,7 @@ IsOtherLetter m at dir word square byte shown =
 
 -- ---- each fact
 
--- What is true of an event at its place, fact by fact. Of a record as a whole, and of racks, other words are said.
+-- What is true of an event in its place, fact by fact. Facts about a record as a whole and about racks are defined elsewhere.
 abbrev pub IsTrue : Moment → Fact → Type 0
 IsTrue m (fact.OthersTurn player other) = (player ≡ m.event.player) × (other ≡ other_seat player)
 IsTrue m (fact.StandsTwice line) = StandsTwice m line

@@ -1,4 +1,4 @@
--- An event at its place, with the game as it stands before it.
+-- An event in its place, with the game before it.
 use Rattle.std.specs.Prelude.{◌≡◌, ℕ, ◌+◌, ◌-◌, List, length, take, drop, slice_get, Option, Some}
 use Rattle.ref_tiles.specs.declared.rulebook.Rules.{Rules}
 use Rattle.gcg_read.specs.declared.events.Event.{Event}
@@ -6,7 +6,7 @@ use Rattle.game_turns.specs.Machines.{state_of}
 use Rattle.game_turns.specs.Tallies.{State, tally_at}
 use Rattle.event_facts.specs.declared.scenes.Scene.{Scene}
 
--- the rules and the word list, the events before it, the event, those behind it, and the state of the game before it
+-- the rules and the word list, the events before it, the event, those after it, and the state of the game before it
 pub record Moment : Type 0 where
   pub rules : Rules
   pub list : List (List ℕ)

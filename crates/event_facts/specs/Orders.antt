@@ -1,4 +1,4 @@
--- Lines that stand twice, in the wrong order or under the wrong name, and lines that are missing.
+-- Lines that are written twice, in the wrong order or under the wrong name, and missing lines.
 use Rattle.std.specs.Prelude.{◌≡◌, ℕ, ℤ, ◌+◌, ◌+ℤ◌, Bool, ◌∷◌, ◌++◌, length, drop, find, slice_get, Some}
 use Rattle.gcg_read.specs.declared.events.Seat.{Seat}
 use Rattle.gcg_read.specs.declared.events.Event.{Event}
@@ -15,7 +15,7 @@ pub record StandsTwice (m : Moment) (line : ℕ) : Type 0 where
   pub on_line : line ≡ latest.line
   pub same : record latest { line = m.event.line } ≡ m.event
 
--- with the event and the next one the other way round the rules allow both
+-- with the event and the next one interchanged, the rules allow both
 pub record AreTheOtherWay (m : Moment) (line next : ℕ) : Type 0 where
   pub other : Event
   pub behind : slice_get m.later 0 ≡ Some other
@@ -27,8 +27,8 @@ pub record AreTheOtherWay (m : Moment) (line next : ℕ) : Type 0 where
 abbrev pub is_of : Seat → Event → Bool
 is_of player e = same_seat e.player player
 
--- The total of the event is right, and the other player's next total is so many points more than that player had and scores on that line: as if a
--- line of the other player with these points were missing, behind the line before and before that of the event.
+-- The total of the event is right, and the other player's next total is `score` more than what that player had plus the score on
+-- that line: as if a line of the other player with these points were missing, after the line before and before that of the event.
 pub record IsMissing (m : Moment) (player : Seat) (score : ℤ) (before after : ℕ) : Type 0 where
   pub other : player ≡ other_seat m.event.player
   pub right : m.event.total ≡ total_after m.before m.event
@@ -40,7 +40,7 @@ pub record IsMissing (m : Moment) (player : Seat) (score : ℤ) (before after : 
   pub found : find (is_of player) m.later ≡ Some next
   pub lacks : next.total ≡ ((side_of m.before.sides player).total +ℤ score) +ℤ next.score
 
--- as a line of the other player the rules allow the event
+-- as a line of the other player, the rules allow the event
 pub record IsOthers (m : Moment) (other : Seat) : Type 0 where
   pub is : other ≡ other_seat m.event.player
   pub allowed : AreAllowedTo m.rules m.list (m.past ++ record m.event { player = other } ∷ m.later) (length m.past + 1)

@@ -29,7 +29,7 @@ use Rattle.event_facts.specs.declared.facts.Leaving.TheVariants as leaves
 
 -- ---- what the lines show of a rack
 
--- whose rack a step shows: the mover's, or that of a last rack's holder
+-- the player whose rack a step shows: the one who moves, or the holder of a last rack
 abbrev pub holder_by : Seat → Act → Seat
 holder_by player (act.Turns shown what) = player
 holder_by player (act.TakesBack used) = player
@@ -39,7 +39,7 @@ holder_by player act.Rests = player
 abbrev pub holder_of : Step → Seat
 holder_of s = holder_by s.player s.act
 
--- which tiles of a rack a turn takes off it: those of a play that stands, and those of an exchange
+-- the tiles that a turn takes off a rack: those of a play that stands, and those of an exchange
 abbrev pub leaving_by : Motion → Leaving
 leaving_by motion.Keeps = leaves.Nothing
 leaving_by (motion.Lays used drawn) = leaves.Plays used
@@ -67,20 +67,20 @@ rack_line_by s (Some tiles) = if sum tiles == 0 then [] else record { line = s.l
 abbrev pub rack_line : Seat → Step → List RackLine
 rack_line seat s = rack_line_by s (needed seat s)
 
--- the same of the steps behind the player's latest exchange of unknown tiles, of a past from the latest step back
+-- the same for the steps after the player's latest exchange of unknown tiles, in a past with the latest step first
 abbrev pub rack_lines : Seat → (past : List Step) → List RackLine
 rack_lines seat [] = []
 rack_lines seat (s ∷ past) = if ends_epoch seat s then [] else rack_lines seat past ++ rack_line seat s
 
--- What some lines together show that a rack has to hold at the last of them, where it had these tiles before the first: from line to line of
--- each kind the greater number of what was there and what the line shows, and then what leaves is off.
+-- What some lines together show that a rack must hold at the last of them, if it had these tiles before the first: from line to
+-- line, for each kind the greater of what was there and what the line shows, and then what leaves is taken off.
 abbrev pub together : (known : List ℕ) → List RackLine → List ℕ
 together known [] = known
 together known (l ∷ []) = greater known l.shown
 together known (l ∷ m ∷ lines) = together (without (greater known l.shown) (left_by l.leaves)) (m ∷ lines)
 
--- A rack would have to hold more tiles than it has: so many as the lines together show, and with those that left it as many as the game's
--- moments up to the step have shown.
+-- A rack would have to hold more tiles than it has: the tiles that the lines together show, which, plus those that left it, are as
+-- many as the game's moments up to the step have shown.
 pub record IsTooBig (steps : List Step) (place : ℕ) (player : Seat) (size : ℕ) (tiles : List ℕ) (lines : List RackLine) : Type 0 where
   pub step : Step
   pub there : slice_get steps place ≡ Some step
@@ -93,7 +93,7 @@ pub record IsTooBig (steps : List Step) (place : ℕ) (player : Seat) (size : �
 
 -- ---- what the lines show of a kind of tile
 
--- how many tiles of a kind a step puts on the board for good
+-- the number of tiles of a kind that a step puts on the board for good
 abbrev pub laid_by : Kind → Leaving → ℕ
 laid_by kind leaves.Nothing = 0
 laid_by kind (leaves.Plays tiles) = count_of tiles kind
@@ -106,17 +106,17 @@ abbrev pub count_in : Kind → Option (List ℕ) → ℕ
 count_in kind None = 0
 count_in kind (Some tiles) = count_of tiles kind
 
--- how many tiles of a kind a step shows on its holder's rack
+-- the number of tiles of a kind that a step shows on its holder's rack
 abbrev pub shown_in_kind : Kind → Step → ℕ
 shown_in_kind kind s = count_in kind (needed (holder_of s) s)
 
--- what a step shows of a kind, where that counts or is played
+-- what a step shows of a kind, if that counts or is played
 abbrev pub kind_line : Kind → (counts : Bool) → Step → List KindLine
 kind_line kind counts s =
     if shown_in_kind kind s == 0 || not counts && laid_in_kind kind s == 0 then []
     else record { line = s.line; player = holder_of s; shown = shown_in_kind kind s; played = laid_in_kind kind s } ∷ []
 
--- The same of steps in their order: a line counts where no exchange of unknown tiles by its holder, its own or a later one, hides what it shows.
+-- The same for steps in order: a line counts if no exchange of unknown tiles by its holder, its own or a later one, hides what it shows.
 abbrev pub kind_lines : Kind → List Step → List KindLine
 kind_lines kind [] = []
 kind_lines kind (s ∷ later) = kind_line kind (not (list_any (ends_epoch (holder_of s)) (s ∷ later))) s ++ kind_lines kind later
@@ -130,7 +130,7 @@ exchanged_by_motion (motion.Tries used) = 0
 exchanged_by_motion (motion.Throws tiles) = sum tiles
 exchanged_by_motion (motion.ThrowsUnknown n) = n
 
--- how many tiles a step exchanges
+-- the number of tiles that a step exchanges
 abbrev pub exchanged_by : Act → ℕ
 exchanged_by (act.Turns shown what) = exchanged_by_motion what
 exchanged_by (act.TakesBack used) = 0
@@ -146,14 +146,14 @@ exchange_lines steps = flat_map exchange_line steps
 
 -- ---- what already cannot be together
 
--- what a line tells of a rack: on a turn the tiles that it states, and of a last rack all
+-- what a line says about a rack: for a turn the tiles that it states, and for a last rack all
 abbrev pub told_by : Act → List ℕ
 told_by (act.Turns shown what) = shown
 told_by (act.TakesBack used) = no_tiles
 told_by (act.Ends holder tiles) = tiles
 told_by act.Rests = no_tiles
 
--- an act as it is, but that a turn states only some of its tiles, or that a last rack is not told
+-- an act as it is, except that a turn states only some of its tiles, or that a last rack is not shown
 abbrev pub TellsPart : (less whole : Act) → Type 0
 TellsPart less (act.Turns shown what) = (some : List ℕ) × IsContainedIn some shown × (less ≡ act.Turns some what)
 TellsPart less (act.TakesBack used) = less ≡ act.TakesBack used
@@ -163,22 +163,22 @@ TellsPart less act.Rests = less ≡ act.Rests
 abbrev pub IsPartOf : (less whole : Step) → Type 0
 IsPartOf less whole = TellsPart less.act whole.act × (less ≡ record whole { act = less.act })
 
--- the same steps, which tell only a part of the racks
+-- the same steps, which show only a part of the racks
 abbrev pub ArePartsOf : (less whole : List Step) → Type 0
 ArePartsOf [] [] = Unit {0}
 ArePartsOf [] (s ∷ steps) = ⊥
 ArePartsOf (l ∷ less) [] = ⊥
 ArePartsOf (l ∷ less) (s ∷ steps) = IsPartOf l s × ArePartsOf less steps
 
--- what a step tells of a rack, where it tells something
+-- what a step says about a rack, if it says something
 abbrev pub clash_line : Step → List ClashLine
 clash_line s = if sum (told_by s.act) == 0 then [] else record { line = s.line; player = holder_of s; tiles = told_by s.act } ∷ []
 
 abbrev pub clash_lines : List Step → List ClashLine
 clash_lines steps = flat_map clash_line steps
 
--- These tiles on these lines already cannot be together: no racks fit the steps even if the lines tell no more of the racks than that. What
--- is played, exchanged and taken back stays as it is.
+-- These tiles on these lines already cannot be together: no racks fit the steps even if the lines show no more of the racks than
+-- that. What is played, exchanged and taken back stays as it is.
 pub record IsClash (rules : Rules) (steps : List Step) (lines : List ClashLine) : Type 0 where
   pub less : List Step
   pub parts : ArePartsOf less steps
@@ -201,7 +201,7 @@ pub record IsShort (rules : Rules) (steps : List Step) (place : ℕ) (kind : Kin
   pub more : all < many
   pub lines_are : lines ≡ kind_lines kind (take place steps) ++ kind_line kind true step
 
--- the exchanges up to the step at a place, that one included
+-- the exchanges up to and including the step at a place
 pub record AreExchanges (steps : List Step) (place : ℕ) (lines : List ExchangeLine) : Type 0 where
   pub step : Step
   pub there : slice_get steps place ≡ Some step
@@ -216,7 +216,7 @@ pub record IsDealtTo (rules : Rules) (steps : List Step) (place line : ℕ) : Ty
   pub racks : List Held
   pub fit : Fits rules (take place steps) racks
 
--- what is true of the racks up to the step at a place; where no deal gives them, what already cannot be together is true where it is told
+-- what is true of the racks up to the step at a place; if no deal gives them, the clash is true if there is one
 abbrev pub IsRackTrue : Rules → List Step → (place : ℕ) → Fact → Type 0
 IsRackTrue rules steps place (fact.RackTooBig player size tiles lines) = IsTooBig steps place player size tiles lines.items
 IsRackTrue rules steps place (fact.TilesShort kind all many laid first second lines) = IsShort rules steps place kind all many laid first second lines.items

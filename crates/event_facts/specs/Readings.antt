@@ -1,4 +1,4 @@
--- The same play with another tile in one place: what was played where a tile was read or written wrongly.
+-- The same play with another tile in one place: what was played if a tile was read or written wrongly.
 use Rattle.std.specs.Prelude.{◌≡◌, ℕ, ℤ, ◌<◌, ◌≤◌, true, List, slice_get, slice_index, slice_set, Some, None}
 use Rattle.std.specs.List.{list_all}
 use Rattle.ref_tiles.specs.declared.kinds.Kind.{Kind}
@@ -17,7 +17,7 @@ use Rattle.lex_list.specs.Words.{is_listed}
 use Rattle.game_turns.specs.Checks.{play_fault, text_score}
 use Rattle.event_facts.specs.Moments.{Moment}
 
--- a blank in the place of a letter tile, and a letter tile in the place of a blank; both show the same letter
+-- a blank in place of a letter tile, and a letter tile in place of a blank; both show the same letter
 abbrev pub swapped : Symbol → Symbol
 swapped symbol.Dot = symbol.Dot
 swapped (symbol.Letter l) = symbol.Blank l
@@ -38,8 +38,8 @@ pub record IsNotOnRack (m : Moment) (at : ℕ) (dir : Dir) (word : List Symbol) 
   pub counts : has ≡ count_of rack which
   pub more : has < many
 
--- The text of a play with another symbol at a place, which is on this square, is a legal play there, and scores this; what stands there, and
--- what is read there, are named by the bytes that write them.
+-- The text of a play with another symbol at a place, which is on this square, is a legal play there, with this score; what is
+-- written there, and what it is read as, are named by the bytes that write them.
 pub record IsReadAs (m : Moment) (at : ℕ) (dir : Dir) (word : List Symbol) (place : ℕ) (symbol other : Symbol) (square stood read : ℕ) (score : ℤ) : Type 0 where
   pub stands : slice_get word place ≡ Some symbol
   pub on_square : square ≡ along dir at place
@@ -48,7 +48,7 @@ pub record IsReadAs (m : Moment) (at : ℕ) (dir : Dir) (word : List Symbol) (pl
   pub legal : play_fault m.before.board dir at (with_symbol word place other) ≡ None
   pub scores : score ≡ text_score m.rules m.before.board dir at (with_symbol word place other)
 
--- With the letter on a square as a blank, or the blank there as a letter, the play has the score that is written.
+-- With the letter on a square as a blank, or the blank there as a letter, the play has the written score.
 pub record IsSwapped (m : Moment) (at : ℕ) (dir : Dir) (word : List Symbol) (square stood read : ℕ) (score : ℤ) : Type 0 where
   pub place : ℕ
   pub symbol : Symbol

@@ -1,4 +1,5 @@
--- What is said of a record whose events the rules allow: which plays stand with words that are not in the list, and which turns show no rack.
+-- What is said about a record whose events the rules allow: which plays stand with words that are not in the list, and which turns
+-- show no rack.
 use Rattle.std.specs.Prelude.{◌≡◌, ℕ, zero, suc, ◌+◌, ◌&&◌, Bool, true, false, List, [], ◌∷◌, ◌++◌, length, map, slice_get, Option, Some, None, is_none, if◌then◌else◌}
 use Rattle.std.specs.List.{flat_map}
 use Rattle.ref_tiles.specs.declared.rulebook.Rules.{Rules}
@@ -28,7 +29,7 @@ play_in p = record { line = p.line; player = p.player; words = letters_in p.word
 abbrev pub unlisted_one : (list : List (List ℕ)) → List ℕ → List (List ℕ)
 unlisted_one list word = if is_listed list word then [] else word ∷ []
 
--- the words that are not in the list, in their order
+-- the words that are not in the list, in order
 abbrev pub unlisted_of : (list : List (List ℕ)) → List (List ℕ) → List (List ℕ)
 unlisted_of list words = flat_map (unlisted_one list) words
 
@@ -36,12 +37,12 @@ abbrev pub play_with : Event → (words : List (List ℕ)) → List UnlistedValu
 play_with e [] = []
 play_with e (word ∷ words) = record { line = e.line; player = e.player; words = word ∷ words } ∷ []
 
--- an event, where it is a play that stands with such words, by the state behind it
+-- an event, if it is a play that stands with such words, by the state after it
 abbrev pub unlisted_play : (list : List (List ℕ)) → (behind : State) → Option Event → List UnlistedValue
 unlisted_play list behind None = []
 unlisted_play list behind (Some e) = play_with e (unlisted_of list (standing_words behind.latest))
 
--- those among the first events of a record
+-- those among the first `many` events of a record
 abbrev pub unlisted_to : Rules → (list : List (List ℕ)) → List Event → (many : ℕ) → List UnlistedValue
 unlisted_to rules list events zero = []
 unlisted_to rules list events (suc many) = unlisted_to rules list events many ++ unlisted_play list (tally_at rules events (many + 1)) (slice_get events many)
@@ -68,7 +69,7 @@ abbrev pub hidden_line : (before : State) → Option Event → List ℕ
 hidden_line before None = []
 hidden_line before (Some e) = one_where (may_show before.out e.kind && is_none e.rack) e.line
 
--- those among the first events of a record
+-- those among the first `many` events of a record
 abbrev pub turns_to : Rules → List Event → (many : ℕ) → List ℕ
 turns_to rules events zero = []
 turns_to rules events (suc many) = turns_to rules events many ++ turn_line (tally_at rules events many) (slice_get events many)
@@ -84,13 +85,13 @@ abbrev pub TellsUnlisted : Rules → (list : List (List ℕ)) → List Event →
 TellsUnlisted rules list events (fact.Unlisted plays) = map play_in plays.items ≡ unlisted_to rules list events (length events)
 TellsUnlisted rules list events other = ⊥
 
--- all its turns that show no rack, and how many turns there are
+-- all its turns that show no rack, and the number of turns
 abbrev pub TellsHidden : Rules → List Event → Fact → Type 0
 TellsHidden rules events (fact.RacksHidden lines turns) =
     (lines.items ≡ hidden_to rules events (length events)) × (turns ≡ length (turns_to rules events (length events)))
 TellsHidden rules events other = ⊥
 
--- what is said of a record whose events the rules allow
+-- what is said about a record whose events the rules allow
 pub record AreNotes (rules : Rules) (list : List (List ℕ)) (events : List Event) (notes : List Fact) : Type 0 where
   pub unlisted : Fact
   pub hidden : Fact
@@ -98,7 +99,7 @@ pub record AreNotes (rules : Rules) (list : List (List ℕ)) (events : List Even
   pub plays : TellsUnlisted rules list events unlisted
   pub racks : TellsHidden rules events hidden
 
--- it is said behind other facts
+-- it is said after other facts
 pub record AddsNotes (rules : Rules) (list : List (List ℕ)) (events : List Event) (old new : List Fact) : Type 0 where
   pub notes : List Fact
   pub behind : new ≡ old ++ notes

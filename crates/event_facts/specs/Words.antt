@@ -51,8 +51,8 @@ word_in w =
 abbrev pub added : List PlayedSquare → ℕ
 added squares = sum_by (λ (s : PlayedSquare). s.adds) squares
 
--- The word of a run, by the rules, a word list and the board with the tiles of the play: the sum of what its squares add, times the product
--- of the word premiums under its new tiles, is what it scores.
+-- The word of a run, by the rules, a word list and the board with the tiles of the play: its score is the sum of what its squares
+-- add, times the product of the word premiums under its new tiles.
 abbrev pub played_word : Rules → (list : List (List ℕ)) → (after : List (Option Tile)) → List Placed → Run → WordValue
 played_word rules list after ps run =
     let squares = map played_square (squares_on rules after ps run) in
@@ -65,7 +65,7 @@ played_word rules list after ps run =
       score = added squares * words_factor rules ps run;
     }
 
--- the same from a word's sums and its letters
+-- the same, given a word's sums and its letters
 abbrev pub word_by : (list : List (List ℕ)) → WordSum → (letters : List ℕ) → WordValue
 word_by list sums letters =
     record {
@@ -82,22 +82,22 @@ words_by list [] letters = []
 words_by list (sums ∷ rest) [] = []
 words_by list (sums ∷ rest) (word ∷ words) = word_by list sums word ∷ words_by list rest words
 
--- the bonus of a play of seven tiles
+-- the bonus for a play of seven tiles
 abbrev pub full_bonus : Rules → List Placed → Option ℕ
 full_bonus rules ps = if length ps == 7 then Some rules.bonus else None
 
--- what the words of a play score together, and the bonus
+-- the score of all words of a play, plus the bonus
 abbrev pub whole_score : ScoredPlay → ℕ
 whole_score p = sum_by (λ (w : PlayedWord). w.score) p.words.items + unwrap_or p.bonus 0
 
--- The words of a play on a board, in order, and the bonus of seven tiles; all of it adds up to the score of the play.
+-- The words of a play on a board, in order, and the bonus for seven tiles; together they add up to the score of the play.
 pub record IsScoredPlay (rules : Rules) (list : List (List ℕ)) (board : List (Option Tile)) (d : Dir) (ps : List Placed) (p : ScoredPlay) : Type 0 where
   pub words : map word_in p.words.items ≡ map (played_word rules list (with_tiles board ps) ps) (runs_formed d (with_tiles board ps) ps)
   pub bonus : p.bonus ≡ full_bonus rules ps
   pub adds_up : p.score ≡ pos (whole_score p)
   pub right : p.score ≡ pos (score_of rules board ps)
 
--- the same of the play that a text names; none where it names no legal play
+-- the same for the play that a text names; none if it does not name a legal play
 abbrev pub IsScoredText : Rules → (list : List (List ℕ)) → (board : List (Option Tile)) → Dir → (at : ℕ) → List Symbol → Option ScoredPlay → Type 0
 IsScoredText rules list board d at word None = play_fault board d at word ≡ None → ⊥
 IsScoredText rules list board d at word (Some p) = (play_fault board d at word ≡ None) × IsScoredPlay rules list board d (placement_of board d at word) p

@@ -11,13 +11,13 @@ use std::alloc::{AllocError, Global};
 /// A square of a board as it is shown.
 #[derive(Clone, Copy, Debug, PartialEq, Eq)]
 pub struct ShownSquare {
-    /// The letter of its tile, a capital or for a blank a small one; where it is empty the mark of its premium.
+    /// The letter of its tile, a capital, or a small one for a blank; if it is empty, the mark of its premium.
     pub mark: u8,
     /// Whether the play covers it.
     pub is_marked: bool,
 }
 
-/// Whether a text of so many symbols covers a square: one of its line, from its first square on.
+/// Whether a text of `many` symbols covers a square: one on its line, from its first square on.
 fn covers(at: Square, dir: Dir, many: usize, square: Square) -> bool
     ensures { result ≡ covers at dir many square }
 {
@@ -46,9 +46,9 @@ fn shown_square(rules: &Rules, board: &Board, kind: &EventKind, square: Square) 
     }
 }
 
-/// The squares of a board, row by row from 1A, those that the play of an event covers marked.
+/// The squares of a board, row by row from 1A, with those that the play of an event covers marked.
 ///
-/// It fails only where memory runs out.
+/// It fails only if memory runs out.
 #[tactic(auto, unfolding(crate::specs::Boards::shown_squares))]
 pub fn shown_board(
     alloc: Global,

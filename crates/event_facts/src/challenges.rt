@@ -25,7 +25,7 @@ pub(crate) fn spelled(alloc: Global, words: &[Word]) -> Result<Vec<Spelled>, All
     Ok(kept)
 }
 
-/// The event directly before an event, where that is a play.
+/// The event directly before an event, if that is a play.
 fn play_before<'a>(scene: &Scene<'a>) -> Option<&'a Event>
     ensures { option_map (λ e. e.now) result ≡ play_before scene.now.past.now }
 {
@@ -63,7 +63,7 @@ pub(crate) fn phony(alloc: Global, scene: &Scene<'_>) -> Result<Option<Fact>, Al
     }
 }
 
-/// Why there is no play to be taken back.
+/// Why there is no play to take back.
 pub(crate) fn nothing_to_withdraw(scene: &Scene<'_>) -> Option<Fact>
     ensures { IfSome result (IsTrue (moment_of scene.now)) }
 {
@@ -80,7 +80,7 @@ pub(crate) fn nothing_to_withdraw(scene: &Scene<'_>) -> Option<Fact>
     }
 }
 
-/// Which bonus a challenge gives, or that there is no play to be challenged.
+/// Which bonus a challenge gives, or that there is no play to challenge.
 pub(crate) fn wrong_bonus(alloc: Global, scene: &Scene<'_>) -> Result<Option<Fact>, AllocError>
     ensures { IfOk result (λ fact. IfSome fact (IsTrue (moment_of scene.now))) }
 {
@@ -97,7 +97,7 @@ pub(crate) fn wrong_bonus(alloc: Global, scene: &Scene<'_>) -> Result<Option<Fac
     }
 }
 
-/// How many of the words are in the list.
+/// The number of the words that are in the list.
 fn listed_in(list: &WordList, words: &[Word]) -> usize
     ensures { result ≡ listed_in list.now (items_of words.now) }
 {
@@ -124,7 +124,7 @@ fn bonus(alloc: Global, scene: &Scene<'_>) -> Result<Option<Fact>, AllocError>
 
 /// The amounts of a bonus for one word, for two, up to a number of words.
 ///
-/// It fails where memory runs out, and where an amount is past every number; so many words have no memory either.
+/// It fails if memory runs out, or if an amount overflows; there is no memory for that many words either.
 fn amounts_of(alloc: Global, unit: usize, words: usize) -> Result<Vec<usize>, AllocError>
     ensures { IfOk result (λ amounts. amounts.items ≡ map (λ n. unit * n) (range_with_len 1 words)) }
 {

@@ -1,7 +1,8 @@
-//! Which tiles and lines cannot be together, where no deal gives the racks.
+//! Which tiles and lines cannot be together if no deal gives the racks.
 //!
-//! The search finds a cut, which shows that there is no deal. What it does not count is left out of what the lines show, and then each line that
-//! can be left out by the same cut. How that is chosen is not trusted: the cut is checked once more for what is left.
+//! The search finds a cut, which shows that there is no deal. What it does not count is left out of what the lines show, and then
+//! each line that can be left out with the same cut. How this is chosen is not trusted: the cut is checked once more for what is
+//! left.
 ghost use Rattle.std.specs.Prelude.{◌≡◌, ◌++◌, ◌+◌, ◌<◌, take, length, IfOk, IfSome, OnOk};
 ghost use Rattle.ref_tiles.specs.Counting.{IsContainedIn};
 ghost use Rattle.event_facts.specs.Racks.{told_by, TellsPart, IsPartOf, ArePartsOf, clash_line, clash_lines, IsClash};
@@ -15,9 +16,9 @@ use gcg_read::Seat;
 use ref_tiles::{Counts, KINDS, Rules};
 use std::alloc::{AllocError, Global};
 
-// ---- what lines tell of racks
+// ---- what lines say about racks
 
-/// What a line tells of a rack.
+/// What a line says about a rack.
 fn told_by(act: &Act) -> Counts
     ensures { result ≡ told_by act.now }
 {
@@ -28,7 +29,7 @@ fn told_by(act: &Act) -> Counts
     }
 }
 
-/// Adds what a step tells of a rack, where it tells something.
+/// Adds what a step says about a rack, if it says something.
 fn push_clash_line(lines: &mut Vec<ClashLine>, step: &Step) -> Result<(), AllocError>
     ensures { OnOk result (lines.new.items ≡ lines.old.items ++ clash_line step.now) }
 {
@@ -44,7 +45,7 @@ fn push_clash_line(lines: &mut Vec<ClashLine>, step: &Step) -> Result<(), AllocE
     Ok(())
 }
 
-/// What steps tell of racks.
+/// What steps say about racks.
 fn clash_lines(alloc: Global, steps: &[Step]) -> Result<Vec<ClashLine>, AllocError>
     ensures { IfOk result (λ lines. lines.items ≡ clash_lines steps.now) }
 {
@@ -57,7 +58,7 @@ fn clash_lines(alloc: Global, steps: &[Step]) -> Result<Vec<ClashLine>, AllocErr
 
 // ---- less of it
 
-/// As many tiles as there can be of each kind but the chosen ones, or of these alone.
+/// The greatest number of tiles of each kind except the chosen ones, or of only these.
 fn all_but(kinds: &[bool; KINDS], chosen: bool) -> Counts {
     let mut numbers = [0; KINDS];
     for kind in 0..KINDS {
@@ -68,7 +69,7 @@ fn all_but(kinds: &[bool; KINDS], chosen: bool) -> Counts {
     Counts::of(numbers)
 }
 
-/// An act that tells only those tiles of a turn that are not among some others.
+/// An act that shows only those tiles of a turn that are not among some others.
 #[tactic(auto, using(crate::proofs::ClashLaws::turn_without))]
 fn act_without(act: &Act, others: &Counts) -> Act
     ensures { TellsPart result act.now }
@@ -82,7 +83,7 @@ fn act_without(act: &Act, others: &Counts) -> Act
     }
 }
 
-/// An act that tells nothing of a rack.
+/// An act that says nothing about a rack.
 fn silent(act: &Act) -> Act
     ensures { TellsPart result act.now }
 {
@@ -104,7 +105,7 @@ fn is_among(places: &Places, player: Seat) -> bool {
     }
 }
 
-/// What counts by a cut of what a step tells: the tiles of its kinds, and of the others where the rack is one of its places.
+/// The part of what a step shows that counts for a cut: the tiles of its kinds, and of the others if the rack is one of its places.
 fn counted_by(cut: &Cut, places: &Places, step: &Step) -> Act
     ensures { TellsPart result step.now.act }
 {
@@ -112,7 +113,7 @@ fn counted_by(cut: &Cut, places: &Places, step: &Step) -> Act
     act_without(&step.act, &all_but(&cut.kinds, chosen))
 }
 
-/// What the step at a place tells where its line is kept: what counts by a cut. Otherwise it tells nothing.
+/// What the step at a place says if its line is kept: what counts for a cut. Otherwise it says nothing.
 fn act_told(step: &Step, cut: &Cut, place: usize, kept: &[bool]) -> Act
     ensures { TellsPart result step.now.act }
 {
@@ -122,7 +123,7 @@ fn act_told(step: &Step, cut: &Cut, place: usize, kept: &[bool]) -> Act
     }
 }
 
-/// A step that tells something else.
+/// A step that says something else.
 fn telling(step: &Step, act: &Act) -> Step
     requires { TellsPart act.now step.now.act }
     ensures { IsPartOf result step.now }
@@ -130,7 +131,7 @@ fn telling(step: &Step, act: &Act) -> Step
     Step { act: *act, ..*step }
 }
 
-/// The steps of which the lines that are kept tell what counts by a cut, and the others nothing.
+/// The steps with what counts for a cut if their lines are kept, and with nothing otherwise.
 fn told(alloc: Global, steps: &[Step], cut: &Cut, kept: &[bool]) -> Result<Vec<Step>, AllocError>
     ensures { IfOk result (λ less. ArePartsOf less.items steps.now) }
 {
@@ -145,7 +146,7 @@ fn told(alloc: Global, steps: &[Step], cut: &Cut, kept: &[bool]) -> Result<Vec<S
 
 // ---- which lines are kept
 
-/// Whether no racks fit some steps, as a cut shows.
+/// The proof by a cut that no racks fit some steps.
 #[derive(Clone, Copy)]
 struct Proof<'a> {
     rules: &'a Rules,
@@ -163,7 +164,7 @@ fn mark(kept: &mut Vec<bool>, from: usize, to: usize, keeps: bool) {
 }
 
 impl Proof<'_> {
-    /// Leaves out lines from one place to before another, where the cut still shows that there is no deal.
+    /// Leaves out lines from one place to before another, if the cut still shows that there is no deal.
     fn leave_out(
         &self,
         alloc: Global,
@@ -179,7 +180,7 @@ impl Proof<'_> {
         Ok(())
     }
 
-    /// Leaves out what it can, so many lines at a time.
+    /// Leaves out what it can, a number of lines at a time.
     fn leave_out_by(
         &self,
         alloc: Global,
@@ -195,7 +196,7 @@ impl Proof<'_> {
         Ok(())
     }
 
-    /// The lines that are kept: many are left out at once first, then few, then each.
+    /// The lines that are kept: many are left out at once first, then few, then one by one.
     fn kept_lines(&self, alloc: Global) -> Result<Vec<bool>, AllocError> {
         let mut kept = Vec::new(alloc);
         for _ in self.steps {
@@ -208,7 +209,7 @@ impl Proof<'_> {
     }
 }
 
-/// What already cannot be together of what steps tell, by a cut; none where the cut does not show it.
+/// What already cannot be together among what steps show, by a cut; none if the cut does not show it.
 fn clash_by(
     alloc: Global,
     rules: &Rules,
@@ -227,7 +228,7 @@ fn clash_by(
     Ok(Some(lines))
 }
 
-/// What already cannot be together of what the steps up to a place tell, that one included; none where no proof is found.
+/// What already cannot be together among what the steps up to and including a place show; none if no proof is found.
 pub(crate) fn clash_at(
     alloc: Global,
     rules: &Rules,

@@ -8,9 +8,9 @@ use deal_steps::Step;
 use ref_tiles::Rules;
 use std::alloc::{AllocError, Global};
 
-/// That a deal gives the racks that the lines before a step show; none where no deal was found for them.
+/// That a deal gives the racks that the lines before a step show; none if no deal was found for them.
 ///
-/// It fails only where memory runs out.
+/// It fails only if memory runs out.
 #[tactic(auto, using(crate::proofs::RackLaws::dealt_to))]
 pub fn dealt_to(
     alloc: Global,

@@ -1,4 +1,4 @@
-//! What is said of a record or of one of its events: facts, each with its numbers, squares, tiles, players and lines.
+//! What is said about a record or one of its events: facts, each with its numbers, squares, tiles, players and lines.
 
 use game_facts::Spot;
 use gcg_read::Seat;
@@ -15,7 +15,7 @@ pub struct Spelled {
 /// Which tiles leave a rack.
 #[derive(Drop)]
 pub enum Leaving {
-    /// None, or none that are known.
+    /// None, or none that is known.
     Nothing,
     /// A play puts them on the board.
     Plays(Counts),
@@ -34,16 +34,16 @@ pub struct RackLine {
     pub leaves: Leaving,
 }
 
-/// How many tiles of a kind a line shows.
+/// The number of tiles of a kind that a line shows.
 #[derive(Drop)]
 pub struct KindLine {
     /// The line.
     pub line: u32,
-    /// Whose rack it shows.
+    /// The player whose rack it shows.
     pub player: Seat,
-    /// How many tiles of the kind it shows on the rack.
+    /// The number of tiles of the kind that it shows on the rack.
     pub shown: usize,
-    /// How many of them it plays.
+    /// The number of them that it plays.
     pub played: usize,
 }
 
@@ -52,7 +52,7 @@ pub struct KindLine {
 pub struct ClashLine {
     /// The line.
     pub line: u32,
-    /// Whose rack it shows.
+    /// The player whose rack it shows.
     pub player: Seat,
     /// The tiles.
     pub tiles: Counts,
@@ -63,9 +63,9 @@ pub struct ClashLine {
 pub struct ExchangeLine {
     /// The line.
     pub line: u32,
-    /// Who exchanges.
+    /// The player who exchanges.
     pub player: Seat,
-    /// How many tiles.
+    /// The number of tiles.
     pub tiles: usize,
 }
 
@@ -80,7 +80,7 @@ pub struct UnlistedPlay {
     pub words: Vec<Spelled>,
 }
 
-/// What is said of a record as a whole, or of one event: a sentence each.
+/// What is said about a record as a whole, or about one event: a sentence each.
 #[derive(Drop)]
 pub enum Fact {
     /// The record has no event.
@@ -98,7 +98,7 @@ pub enum Fact {
     RacksHidden {
         /// Their lines.
         lines: Vec<u32>,
-        /// How many turns there are, with a rack or without.
+        /// The number of turns, with a rack or without.
         turns: usize,
     },
     /// The rules do not allow an event before this one, so this one was not judged.
@@ -120,7 +120,7 @@ pub enum Fact {
         /// The line before.
         line: u32,
     },
-    /// With this line and the next one the other way round the rules allow both.
+    /// With this line and the next one interchanged, the rules allow both.
     WrongWay {
         /// This line.
         line: u32,
@@ -131,11 +131,11 @@ pub enum Fact {
     Missing {
         /// The other player.
         player: Seat,
-        /// What the missing line scores, by the next total of the other player.
+        /// The score of the missing line, from the next total of the other player.
         score: i32,
         /// The line before it.
         before: u32,
-        /// The line behind it.
+        /// The line after it.
         after: u32,
     },
     /// If it is a line of the other player, the rules allow the event.
@@ -143,7 +143,7 @@ pub enum Fact {
         /// The other player.
         other: Seat,
     },
-    /// A player is out, so the last rack has to be on a line of that player.
+    /// A player is out, so the last rack must be on a line of that player.
     OthersLine {
         /// The player of the event.
         player: Seat,
@@ -152,14 +152,14 @@ pub enum Fact {
     },
     /// The game is complete: the last racks are in.
     Complete,
-    /// A player is out, so there are no more turns; what is missing is the other player's last rack.
+    /// A player is out, so there are no more turns; the other player's last rack is missing.
     Out {
         /// The player who is out.
         out: Seat,
         /// The other player.
         holder: Seat,
     },
-    /// A player has lost the points of a rack, so there are no more turns; what is missing is the other player's last rack.
+    /// A player has lost the points of a rack, so there are no more turns; the other player's last rack is missing.
     RackLost {
         /// The player whose points are lost.
         player: Seat,
@@ -168,9 +168,9 @@ pub enum Fact {
     },
     /// No last rack is due: no player is out, and there were fewer turns without a play that stands than end a game.
     NoRackDue {
-        /// How many such turns in a row end a game.
+        /// The number of such turns in a row that end a game.
         limit: usize,
-        /// How many there were before the event.
+        /// The number of them before the event.
         turns: usize,
     },
     /// A play leaves the board.
@@ -179,9 +179,9 @@ pub enum Fact {
         at: Square,
         /// Its direction.
         dir: Dir,
-        /// How many squares it covers.
+        /// The number of squares that it covers.
         squares: usize,
-        /// How many there are from the first one to the end of the line.
+        /// The number of squares from the first one to the end of the line.
         room: usize,
     },
     /// A play has a dot on an empty square.
@@ -202,7 +202,7 @@ pub enum Fact {
     NoNewTile,
     /// A play puts down more tiles than a rack has.
     ManyTiles {
-        /// How many.
+        /// The number of tiles.
         tiles: usize,
     },
     /// A tile lies directly before a play.
@@ -212,50 +212,50 @@ pub enum Fact {
         /// The letter that it shows, a capital.
         letter: u8,
     },
-    /// A tile lies directly behind a play.
+    /// A tile lies directly after a play.
     TileAfter {
         /// Its square.
         square: Square,
         /// The letter that it shows, a capital.
         letter: u8,
     },
-    /// The line of a play has to name the whole word.
+    /// The line of a play must name the whole word.
     NotWhole,
     /// The first play of a game does not cover 8H.
     MissesCentre,
-    /// A play makes no word of two letters or more.
+    /// A play does not make a word of two letters or more.
     TooShort,
     /// No tile of a play touches a tile that is already on the board.
     Apart,
-    /// What a play scores.
+    /// The score of a play.
     PlayScore {
         /// The right score.
         right: i32,
         /// The score that is written.
         written: i32,
     },
-    /// What a pass scores.
+    /// The score of a pass.
     PassScore {
         /// The right score.
         right: i32,
         /// The score that is written.
         written: i32,
     },
-    /// What an exchange scores.
+    /// The score of an exchange.
     ExchangeScore {
         /// The right score.
         right: i32,
         /// The score that is written.
         written: i32,
     },
-    /// What a withdrawal scores: it takes the points of the play off again.
+    /// The score of a withdrawal: it takes off the points of the play again.
     WithdrawalScore {
         /// The right score.
         right: i32,
         /// The score that is written.
         written: i32,
     },
-    /// What a last rack scores.
+    /// The score of a last rack.
     LastRackScore {
         /// The player who gets or loses the points.
         player: Seat,
@@ -268,7 +268,7 @@ pub enum Fact {
         /// The score that is written.
         written: i32,
     },
-    /// What any other event scores.
+    /// The score of any other event.
     OtherScore {
         /// The right score.
         right: i32,
@@ -281,7 +281,7 @@ pub enum Fact {
         written: i32,
         /// Where they have it: the first places.
         spots: Vec<Spot>,
-        /// How many more places there are.
+        /// The number of more places.
         others: usize,
     },
     /// With a letter of the play as a blank, or a blank as a letter, it has the score that is written.
@@ -290,18 +290,18 @@ pub enum Fact {
         square: Square,
         /// The letter of the play there, as it is written: small for a blank.
         letter: u8,
-        /// What is read there: the same letter, small for a blank.
+        /// What it is read as: the same letter, small for a blank.
         read: u8,
-        /// What the play scores with it, which is the score that is written.
+        /// The score of the play with it, which is the score that is written.
         score: i32,
     },
     /// A play uses more tiles of a kind than the line shows on the rack.
     NotOnRack {
         /// The kind.
         kind: Kind,
-        /// How many of them the play uses.
+        /// The number of them that the play uses.
         played: usize,
-        /// How many of them the line shows.
+        /// The number of them that the line shows.
         has: usize,
         /// The rack that the line shows.
         rack: Counts,
@@ -312,16 +312,16 @@ pub enum Fact {
         square: Square,
         /// The letter of the play there, as it is written: small for a blank.
         letter: u8,
-        /// What is read there: another letter, small for a blank.
+        /// What it is read as: another letter, small for a blank.
         read: u8,
         /// The words of the play with it.
         words: Vec<Spelled>,
-        /// What the play scores with it.
+        /// The score of the play with it.
         score: i32,
         /// The score that is written.
         written: i32,
     },
-    /// How a total is made.
+    /// The sum that makes a total.
     WrongTotal {
         /// The player.
         player: Seat,
@@ -329,7 +329,7 @@ pub enum Fact {
         had: i32,
         /// The score of the event.
         score: i32,
-        /// Both together.
+        /// Their sum.
         right: i32,
         /// The total that is written.
         written: i32,
@@ -401,9 +401,9 @@ pub enum Fact {
     },
     /// Which bonus a challenge gives.
     Bonus {
-        /// How many points each challenged word in the list gives.
+        /// The number of points for each challenged word in the list.
         unit: usize,
-        /// How many words of the play are in the list.
+        /// The number of words of the play that are in the list.
         listed: usize,
         /// The amounts that are allowed: for one word, for two, up to all of these.
         amounts: Vec<usize>,
@@ -414,43 +414,43 @@ pub enum Fact {
     TooManyUsed {
         /// The player.
         player: Seat,
-        /// How many tiles the play uses.
+        /// The number of tiles that the play uses.
         used: usize,
-        /// How many the player has.
+        /// The number of tiles that the player has.
         has: usize,
     },
     /// An exchange is allowed only while the bag has enough tiles.
     ExchangeRefused {
-        /// How many tiles the bag has.
+        /// The number of tiles in the bag.
         bag: usize,
-        /// How many it has to have.
+        /// The number that it must have.
         least: usize,
     },
     /// An exchange of more tiles than there are.
     ExchangeSize {
-        /// How many tiles are exchanged.
+        /// The number of tiles that are exchanged.
         tiles: usize,
         /// The player.
         player: Seat,
-        /// How many tiles the player has.
+        /// The number of tiles that the player has.
         has: usize,
-        /// How many the bag has.
+        /// The number of tiles in the bag.
         bag: usize,
     },
     /// A last rack of more or fewer tiles than its holder has.
     LastRackSize {
-        /// How many tiles are shown.
+        /// The number of tiles that are shown.
         shown: usize,
-        /// Whose rack it is.
+        /// The player whose rack it is.
         holder: Seat,
-        /// How many tiles that player has.
+        /// The number of tiles that this player has.
         has: usize,
     },
     /// A rack would have to hold more tiles than it has.
     RackTooBig {
-        /// Whose rack it is.
+        /// The player whose rack it is.
         player: Seat,
-        /// How many tiles it has.
+        /// The number of tiles that it has.
         size: usize,
         /// The tiles that it would have to hold.
         needed: Counts,
@@ -461,15 +461,15 @@ pub enum Fact {
     TilesShort {
         /// The kind.
         kind: Kind,
-        /// How many the game has.
+        /// The number of them in the game.
         all: usize,
-        /// How many there would have to be.
+        /// The number that there would have to be.
         needed: usize,
-        /// How many of these are on the board.
+        /// The number of these that are on the board.
         laid: usize,
-        /// How many are on the first player's rack.
+        /// The number on the first player's rack.
         first: usize,
-        /// How many are on the second player's rack.
+        /// The number on the second player's rack.
         second: usize,
         /// The lines that show them.
         lines: Vec<KindLine>,
@@ -482,7 +482,7 @@ pub enum Fact {
     /// No deal of the tiles gives the players the racks that the lines show.
     NoDeal {
         /// What already cannot be together: lines, and tiles that they show, such that no deal would give these even if no other
-        /// tile of a rack were shown. There is no line where the plays and the exchanges alone have no deal, and none is told where
+        /// tile of a rack were shown. It has no line if the plays and the exchanges by themselves already have no deal, and it is none if
         /// no proof was found.
         clash: Option<Vec<ClashLine>>,
         /// The exchanges up to the line.

@@ -1,5 +1,5 @@
-//! Facts about an event that explain what the rules say of it: each is a value with its numbers, squares, tiles, players and lines; the
-//! words of its play with what each square adds; and the board before it with the squares of the play marked.
+//! Facts about an event that explain what the rules say about it: each is a value with its numbers, squares, tiles, players and
+//! lines; the words of its play with what each square adds; and the board before it with the squares of the play marked.
 #![tactic(auto)]
 
 mod boards;

@@ -1,4 +1,4 @@
-//! Lines that stand twice, in the wrong order or under the wrong name, and lines that are missing.
+//! Lines that are written twice, in the wrong order or under the wrong name, and missing lines.
 ghost use Rattle.std.specs.Prelude.{◌≡◌, ◌≤◌, ◌+◌, ◌++◌, ◌∷◌, [], true, length, drop, find, slice_get, IfOk, IfSome, OnOk};
 ghost use Rattle.std.specs.Option.{option_copied};
 ghost use Rattle.game_turns.specs.Places.{AreAllowedTo};
@@ -17,7 +17,7 @@ use ref_board::{Dir, Square};
 use ref_tiles::{Counts, Rules, Symbol};
 use std::alloc::{AllocError, Global};
 
-// ---- a line that stands twice
+// ---- a line that is written twice
 
 /// Whether both are the same symbol: one byte writes both.
 #[tactic(auto, using(crate::proofs::OrderLaws::same_symbol))]
@@ -105,7 +105,7 @@ fn is_same_kind(kind: &EventKind, other: &EventKind) -> bool
     }
 }
 
-/// Whether two events differ in their lines alone.
+/// Whether two events differ only in their lines.
 fn says_the_same(event: &Event, other: &Event) -> bool
     ensures { result ≡ true → record event.now { line = other.now.line } ≡ other.now }
 {
@@ -137,7 +137,7 @@ fn stands_twice(scene: &Scene<'_>) -> Option<Fact>
 
 // ---- the events in another order, or with another player
 
-/// The same text.
+/// A copy of the text.
 fn copied_text(text: &Text) -> Text
     ensures { result ≡ text.now }
 {
@@ -147,7 +147,7 @@ fn copied_text(text: &Text) -> Text
     }
 }
 
-/// The same kind of event, with the same squares, letters and tiles.
+/// A copy of the kind of an event.
 fn copied_kind(kind: &EventKind) -> EventKind
     ensures { result ≡ kind.now }
 {
@@ -167,7 +167,7 @@ fn copied_kind(kind: &EventKind) -> EventKind
     }
 }
 
-/// The same event as one of a player.
+/// A copy of the event as one of a player.
 fn copied_for(event: &Event, player: Seat) -> Event
     ensures { result ≡ record event.now { player = player } }
 {
@@ -219,7 +219,7 @@ fn other_way(alloc: Global, scene: &Scene<'_>, next: &Event) -> Result<Vec<Event
     Ok(events)
 }
 
-/// That the rules allow this line and the next one the other way round.
+/// That the rules allow this line and the next one interchanged.
 fn wrong_way(alloc: Global, scene: &Scene<'_>) -> Result<Option<Fact>, AllocError>
     ensures { IfOk result (λ fact. IfSome fact (IsTrue (moment_of scene.now))) }
 {
@@ -269,7 +269,7 @@ fn allowed_for(alloc: Global, scene: &Scene<'_>) -> Result<Option<Fact>, AllocEr
     Ok(Some(Fact::AllowedFor { other }))
 }
 
-// ---- a line that is missing
+// ---- a missing line
 
 /// The first event of a player.
 fn first_of(events: &[Event], player: Seat) -> Option<&Event>
@@ -302,10 +302,10 @@ fn missing(scene: &Scene<'_>) -> Option<Fact>
     })
 }
 
-// ---- all of it
+// ---- the whole
 
-/// What may be wrong with a line of a player whose turn it is not: it stands twice, it and the next one are the wrong way round, a line is
-/// missing before it, or it is the other player's. The first of these.
+/// What may be wrong with a line of a player who is not on turn: it is written twice, it and the next one are interchanged, a line
+/// is missing before it, or it is the other player's. The first of these that holds.
 pub(crate) fn order_fact(alloc: Global, scene: &Scene<'_>) -> Result<Option<Fact>, AllocError>
     ensures { IfOk result (λ fact. IfSome fact (IsTrue (moment_of scene.now))) }
 {

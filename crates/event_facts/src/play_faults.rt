@@ -60,7 +60,7 @@ fn mismatch(scene: &Scene<'_>, at: Square, dir: Dir, word: &[Symbol]) -> Option<
     }
 }
 
-/// How many tiles a play puts down.
+/// The number of tiles that a play puts down.
 #[tactic(auto, using(crate::proofs::Plays::of_play))]
 fn too_many(scene: &Scene<'_>, at: Square, dir: Dir, word: &[Symbol]) -> Option<Fact>
     requires { scene.now.event.now.kind ≡ kind.Play at dir word.now }
@@ -89,7 +89,7 @@ fn tile_before(scene: &Scene<'_>, at: Square, dir: Dir, word: &[Symbol]) -> Opti
     })
 }
 
-/// The tile that lies directly behind a text.
+/// The tile that lies directly after a text.
 #[tactic(auto, using(crate::proofs::Plays::of_play))]
 fn tile_after(scene: &Scene<'_>, at: Square, dir: Dir, word: &[Symbol]) -> Option<Fact>
     requires { scene.now.event.now.kind ≡ kind.Play at dir word.now }
@@ -107,7 +107,7 @@ fn tile_after(scene: &Scene<'_>, at: Square, dir: Dir, word: &[Symbol]) -> Optio
     })
 }
 
-/// Adds a fact where there is one.
+/// Adds a fact if there is one.
 pub(crate) fn tell_some(
     facts: &mut Vec<Fact>,
     scene: &Scene<'_>,
@@ -123,7 +123,7 @@ pub(crate) fn tell_some(
     }
 }
 
-/// Adds which tiles lie directly before and behind a text.
+/// Adds which tiles lie directly before and after a text.
 #[tactic(auto, using(crate::proofs::Plays::of_play))]
 fn tell_ends(
     facts: &mut Vec<Fact>,
@@ -142,7 +142,7 @@ fn tell_ends(
     tell(facts, scene, Fact::NotWhole)
 }
 
-/// What is wrong with a play on the board before it, where one fact says it.
+/// What is wrong with a play on the board before it, if one fact says it.
 #[tactic(auto, using(crate::proofs::Plays::of_play))]
 fn one_fact(
     scene: &Scene<'_>,
@@ -187,7 +187,7 @@ fn tell_fault(
     tell_some(facts, scene, one_fact(scene, at, dir, word, fault))
 }
 
-/// Adds what is wrong with the text or the placement of a play on the board before it, where something is.
+/// Adds what is wrong with the text or the placement of a play on the board before it, if anything is.
 pub(crate) fn tell_play_fault(
     facts: &mut Vec<Fact>,
     scene: &Scene<'_>,

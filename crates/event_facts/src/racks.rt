@@ -13,7 +13,7 @@ use gcg_read::{Seat, same_seat};
 use ref_tiles::{Counts, Kind, Rules};
 use std::alloc::{AllocError, Global};
 
-/// Whose rack a step shows: the mover's, or that of a last rack's holder.
+/// The player whose rack a step shows: the one who moves, or the holder of a last rack.
 pub(crate) fn holder_of(step: &Step) -> Seat
     ensures { result ≡ holder_of step.now }
 {
@@ -48,7 +48,7 @@ fn ends_epoch(step: &Step, player: Seat) -> bool
     }
 }
 
-/// Which tiles leave a rack.
+/// The tiles that leave a rack.
 fn leaving(act: &Act) -> Leaving
     ensures { result ≡ leaving act.now }
 {
@@ -58,7 +58,7 @@ fn leaving(act: &Act) -> Leaving
     }
 }
 
-/// Which tiles of a rack a turn takes off it.
+/// The tiles that a turn takes off a rack.
 fn leaving_by(motion: &Motion) -> Leaving
     ensures { result ≡ leaving_by motion.now }
 {
@@ -89,7 +89,7 @@ fn push_rack_line(lines: &mut Vec<RackLine>, step: &Step, player: Seat) -> Resul
     Ok(())
 }
 
-/// Goes on with a step: behind an exchange of unknown tiles nothing that was shown before counts any more.
+/// Continues with a step: after an exchange of unknown tiles, nothing that was shown before counts any more.
 fn next_rack_line(lines: &mut Vec<RackLine>, step: &Step, player: Seat) -> Result<(), AllocError>
     ensures { OnOk result (lines.new.items ≡ if ends_epoch player step.now then [] else lines.old.items ++ rack_line player step.now) }
 {
@@ -100,7 +100,7 @@ fn next_rack_line(lines: &mut Vec<RackLine>, step: &Step, player: Seat) -> Resul
     push_rack_line(lines, step, player)
 }
 
-/// What steps show of a player's rack, as far as it counts behind them.
+/// What steps show of a player's rack, as far as it still counts after them.
 fn rack_lines(alloc: Global, past: &[Step], player: Seat) -> Result<Vec<RackLine>, AllocError>
     ensures { IfOk result (λ lines. lines.items ≡ rack_lines player (reverse past.now)) }
 {
@@ -144,7 +144,7 @@ fn are_same(tiles: &Counts, others: &Counts) -> bool
     tiles == others
 }
 
-/// That a rack would have to hold more tiles at a step than its player has; none where the lines up to it do not show that.
+/// That a rack would have to hold more tiles at a step than its player has; none if the lines up to it do not show that.
 pub fn rack_too_big(
     alloc: Global,
     rules: &Rules,
@@ -199,7 +199,7 @@ fn too_big(
 
 // ---- tiles that are short
 
-/// How many tiles of a kind a step puts on the board for good.
+/// The number of tiles of a kind that a step puts on the board for good.
 fn laid_in_kind(step: &Step, kind: Kind) -> usize
     ensures { result ≡ laid_in_kind kind step.now }
 {
@@ -209,7 +209,7 @@ fn laid_in_kind(step: &Step, kind: Kind) -> usize
     }
 }
 
-/// How many tiles of a kind a step shows on its holder's rack.
+/// The number of tiles of a kind that a step shows on its holder's rack.
 fn shown_in_kind(step: &Step, kind: Kind) -> usize
     ensures { result ≡ shown_in_kind kind step.now }
 {
@@ -219,7 +219,7 @@ fn shown_in_kind(step: &Step, kind: Kind) -> usize
     }
 }
 
-/// Adds what a step shows of a kind, where that counts or is played.
+/// Adds what a step shows of a kind, if that counts or is played.
 fn push_kind_line(
     lines: &mut Vec<KindLine>,
     step: &Step,
@@ -254,7 +254,7 @@ fn any_ends_epoch(steps: &[Step], player: Seat) -> bool
     false
 }
 
-/// The lines that show a kind of tile among some steps, as far as they count behind them.
+/// The lines among some steps that show a kind of tile, as far as they still count after them.
 fn kind_lines(alloc: Global, past: &[Step], kind: Kind) -> Result<Vec<KindLine>, AllocError>
     ensures { IfOk result (λ lines. lines.items ≡ kind_lines kind past.now) }
 {
@@ -267,7 +267,7 @@ fn kind_lines(alloc: Global, past: &[Step], kind: Kind) -> Result<Vec<KindLine>,
     Ok(lines)
 }
 
-/// That there would have to be more tiles of a kind at a step than the game has; none where the lines up to it do not show that.
+/// That there would have to be more tiles of a kind at a step than the game has; none if the lines up to it do not show that.
 pub fn tiles_short(
     alloc: Global,
     rules: &Rules,
@@ -322,7 +322,7 @@ fn short(
 
 // ---- no deal
 
-/// How many tiles a step exchanges.
+/// The number of tiles that a step exchanges.
 fn exchanged_by(act: &Act) -> usize
     ensures { result ≡ exchanged_by act.now }
 {
@@ -332,7 +332,7 @@ fn exchanged_by(act: &Act) -> usize
     }
 }
 
-/// How many tiles a turn exchanges.
+/// The number of tiles that a turn exchanges.
 fn exchanged_by_motion(motion: &Motion) -> usize
     ensures { result ≡ exchanged_by_motion motion.now }
 {
@@ -343,7 +343,7 @@ fn exchanged_by_motion(motion: &Motion) -> usize
     }
 }
 
-/// Adds an exchange, where a step is one.
+/// Adds an exchange, if a step is one.
 fn push_exchange(lines: &mut Vec<ExchangeLine>, step: &Step) -> Result<(), AllocError>
     ensures { OnOk result (lines.new.items ≡ lines.old.items ++ exchange_line step.now) }
 {
@@ -370,9 +370,9 @@ fn exchange_lines(alloc: Global, steps: &[Step]) -> Result<Vec<ExchangeLine>, Al
     Ok(lines)
 }
 
-/// Which tiles and lines cannot be together, and the exchanges up to a step, where no deal gives the racks up to it.
+/// Which tiles and lines cannot be together, and the exchanges up to a step, if no deal gives the racks up to it.
 ///
-/// It fails only where memory runs out.
+/// It fails only if memory runs out.
 pub fn no_deal(
     alloc: Global,
     rules: &Rules,

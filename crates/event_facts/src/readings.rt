@@ -19,10 +19,10 @@ use ref_play::{Placed, along, score, words};
 use ref_tiles::{Counts, KINDS, Kind, Symbol};
 use std::alloc::{AllocError, Global};
 
-/// How many readings are named at the most.
+/// The maximum number of readings that are named.
 const NAMED: usize = 3;
 
-/// How many tiles of the kind with this number some tiles are.
+/// The number of the tiles that are of the kind with this number.
 fn count_used(tiles: &[Placed], number: usize) -> usize
     ensures { result ≡ used tiles.now number }
 {
@@ -32,7 +32,7 @@ fn count_used(tiles: &[Placed], number: usize) -> usize
         .count()
 }
 
-/// Whether tiles are all on a rack.
+/// Whether all tiles are on a rack.
 fn is_on_rack(rack: &Counts, tiles: &[Placed]) -> bool
     ensures { result ≡ true → IsOnRack rack.now tiles.now }
 {
@@ -45,7 +45,7 @@ fn is_on_rack(rack: &Counts, tiles: &[Placed]) -> bool
     true
 }
 
-/// How many of some tiles are not on a rack.
+/// The number of the tiles that are not on a rack.
 fn many_missing(rack: &Counts, tiles: &[Placed]) -> usize {
     let has = rack.numbers();
     let mut many = 0usize;
@@ -56,7 +56,7 @@ fn many_missing(rack: &Counts, tiles: &[Placed]) -> usize {
     many
 }
 
-/// The same letter as a blank where it is none, and as a letter where it is a blank.
+/// The same letter as a blank if it is not one, and as a letter if it is a blank.
 fn swapped(symbol: Symbol) -> Symbol
     ensures { result ≡ swapped symbol }
 {
@@ -67,7 +67,7 @@ fn swapped(symbol: Symbol) -> Symbol
     }
 }
 
-/// What a symbol is with a tile of a kind in its place: a blank shows the same letter.
+/// A symbol with a tile of a kind in its place: a blank shows the same letter.
 fn with_kind(symbol: Symbol, kind: Kind) -> Symbol {
     let letter = match symbol {
         Symbol::Dot => return Symbol::Dot,
@@ -96,7 +96,7 @@ fn with_symbol(
     Ok(text)
 }
 
-/// That a play has the written score with a letter at a place as a blank, or a blank there as a letter, where it has.
+/// That a play has the written score with the letter at a place as a blank, or the blank there as a letter, if it has.
 #[tactic(auto, using(crate::proofs::Plays::of_play))]
 fn as_blank(
     alloc: Global,
@@ -144,7 +144,7 @@ fn shows_too_much(scene: &Scene<'_>, tiles: &[Placed]) -> bool {
     }
 }
 
-/// Adds each letter of a play that may be a blank, and each blank that may be a letter, by the score that is written.
+/// Adds each letter of a play that may be a blank, and each blank that may be a letter, judged by the written score.
 fn tell_blanks(
     alloc: Global,
     facts: &mut Vec<Fact>,
@@ -164,7 +164,7 @@ fn tell_blanks(
     Ok(())
 }
 
-/// That a play uses more tiles of a kind than the line shows on the rack, where it does.
+/// That a play uses more tiles of a kind than the line shows on the rack, if it does.
 #[tactic(auto, using(crate::proofs::Plays::of_play))]
 fn not_on_rack(
     scene: &Scene<'_>,
@@ -220,7 +220,7 @@ fn tell_missing(
     Ok(())
 }
 
-/// The play of a text with another symbol at a place, where that is legal, uses only tiles of the rack and forms only words of the list.
+/// The play of a text with another symbol at a place, if that is legal, uses only tiles of the rack and forms only words of the list.
 #[tactic(auto, using(crate::proofs::Plays::of_play))]
 fn misread(
     alloc: Global,
@@ -270,12 +270,12 @@ fn is_as_written(fact: &Option<Fact>) -> bool {
     }
 }
 
-/// Which readings are told: those with the score that is written, or all; and how many facts there may be.
+/// Which readings are named: those with the written score, or all; and the maximum number of facts.
 #[derive(Clone, Copy)]
 struct Wanted {
-    /// Whether the score has to be the one that is written.
+    /// Whether the score must be the written one.
     as_written: bool,
-    /// How many facts there may be.
+    /// The maximum number of facts.
     most: usize,
 }
 
@@ -331,7 +331,7 @@ fn tell_readings(
     Ok(())
 }
 
-/// Adds which tiles of a play are not on its rack, and which may have been read wrongly: first by the score that is written.
+/// Adds which tiles of a play are not on its rack, and which may have been misread: first those that give the written score.
 fn tell_misread(
     alloc: Global,
     facts: &mut Vec<Fact>,
@@ -358,8 +358,8 @@ fn tell_misread(
     Ok(())
 }
 
-/// Adds which tiles of a play are not on the rack that its line shows, where both are more than the player has; and, where the score is
-/// wrong, which letter may be a blank.
+/// Adds which tiles of a play are not on the rack that its line shows, if together they are more than the player has; and, if the
+/// score is wrong, which letter may be a blank.
 pub(crate) fn tell_slips(
     alloc: Global,
     facts: &mut Vec<Fact>,
@@ -385,10 +385,10 @@ pub(crate) fn tell_slips(
     Ok(())
 }
 
-/// Adds which tiles of a play are not on the rack that its line shows, where both are more than the player has, and which tile may have been
-/// read as another one.
+/// Adds which tiles of a play are not on the rack that its line shows, if together they are more than the player has, and which
+/// tile may have been read as another one.
 ///
-/// It fails only where memory runs out.
+/// It fails only if memory runs out.
 pub fn tell_rack_slip(
     alloc: Global,
     facts: &mut Vec<Fact>,

@@ -30,7 +30,7 @@ fn tell_play(alloc: Global, facts: &mut Vec<Fact>, scene: &Scene<'_>) -> Result<
     tell_elsewhere(alloc, facts, scene, *at, *dir, word.as_slice())
 }
 
-/// What is wrong with an event, where one fact says it.
+/// What is wrong with an event, if one fact says it.
 fn one_fact(alloc: Global, scene: &Scene<'_>, fault: &RuleFault) -> Result<Option<Fact>, AllocError>
     ensures { IfOk result (λ fact. IfSome fact (IsTrue (moment_of scene.now))) }
 {
@@ -53,7 +53,7 @@ fn one_fact(alloc: Global, scene: &Scene<'_>, fault: &RuleFault) -> Result<Optio
     }
 }
 
-/// Adds what is wrong with an event, where one fact says it.
+/// Adds what is wrong with an event, if one fact says it.
 fn tell_one(
     alloc: Global,
     facts: &mut Vec<Fact>,

@@ -1,4 +1,4 @@
-//! An event at its place, and what is said of it.
+//! An event in its place, and what is said about it.
 ghost use Rattle.std.specs.Prelude.{◌≡◌, All, OnOk};
 ghost use Rattle.event_facts.specs.Moments.{moment_of};
 ghost use Rattle.event_facts.specs.Facts.{IsTrue};
@@ -10,7 +10,7 @@ use lex_list::WordList;
 use ref_tiles::Rules;
 use std::alloc::AllocError;
 
-/// An event at its place, with the game as it stands before it.
+/// An event in its place, with the game before it.
 #[derive(Clone, Copy)]
 pub struct Scene<'a> {
     /// The rules.
@@ -21,7 +21,7 @@ pub struct Scene<'a> {
     pub past: &'a [Event],
     /// The event.
     pub event: &'a Event,
-    /// The events behind it.
+    /// The events after it.
     pub later: &'a [Event],
     /// The game before it.
     pub machine: &'a Machine,

@@ -21,10 +21,10 @@ use ref_play::words;
 use ref_tiles::Symbol;
 use std::alloc::{AllocError, Global};
 
-/// How many places are named at the most.
+/// The maximum number of places that are named.
 const NAMED: usize = 3;
 
-/// What an event scores.
+/// The score of an event.
 #[tactic(auto, using(crate::proofs::Numbers::score_told))]
 pub(crate) fn score_fact(scene: &Scene<'_>, right: i32) -> Fact
     requires fails { fault_in scene.now.rules.now scene.now.list.now (state_of scene.now.machine.now) scene.now.event.now ≡ Some (fault.WrongScore right) }
@@ -78,7 +78,7 @@ fn listed_spots(
     Ok(listed)
 }
 
-/// Where the text of a play has the written score: the spots at which each word is in the word list, where there is one, and else all.
+/// Where the text of a play has the written score: the spots at which each word is in the word list, if there is one, otherwise all.
 #[tactic(auto, unfolding(crate::specs::Elsewhere::places))]
 fn places(alloc: Global, scene: &Scene<'_>, word: &[Symbol]) -> Result<Vec<Spot>, AllocError>
     ensures { IfOk result (λ spots. spots.items ≡ places (moment_of scene.now) word.now) }
@@ -92,14 +92,14 @@ fn places(alloc: Global, scene: &Scene<'_>, word: &[Symbol]) -> Result<Vec<Spot>
     Ok(listed)
 }
 
-/// The first of some spots, and how many more there are.
+/// The first of some spots, and the number of others.
 #[derive(Drop)]
 struct Named {
     spots: Vec<Spot>,
     others: usize,
 }
 
-/// The spots that are named.
+/// The spots that are named, and the number of others.
 fn first_named(alloc: Global, spots: &[Spot]) -> Result<Named, AllocError>
     ensures { IfOk result (λ n. (n.spots.items ≡ take 3 spots.now) × (n.others ≡ length spots.now - 3)) }
 {
@@ -110,7 +110,7 @@ fn first_named(alloc: Global, spots: &[Spot]) -> Result<Named, AllocError>
     })
 }
 
-/// Where the text of a play has the written score, where it has it anywhere.
+/// Where the text of a play has the written score, if it has it anywhere.
 #[tactic(auto, using(crate::proofs::Plays::of_play, crate::proofs::Places::all_score))]
 fn elsewhere(
     alloc: Global,
@@ -134,7 +134,7 @@ fn elsewhere(
     }))
 }
 
-/// Adds where the text of a play has the written score, where it has it anywhere.
+/// Adds where the text of a play has the written score, if it has it anywhere.
 pub(crate) fn tell_elsewhere(
     alloc: Global,
     facts: &mut Vec<Fact>,
@@ -151,7 +151,7 @@ pub(crate) fn tell_elsewhere(
     tell_some(facts, scene, fact)
 }
 
-/// Adds what an event scores, and of a play with which other tile and at which other place it would score what is written.
+/// Adds the score of an event, and for a play, with which other tile and in which other place it would have the written score.
 pub(crate) fn tell_score(
     alloc: Global,
     facts: &mut Vec<Fact>,

@@ -8,7 +8,7 @@ use crate::scenes::Scene;
 use game_facts::new_tiles;
 use gcg_read::{EventKind, Seat};
 
-/// How many tiles a play uses, and how many its player has.
+/// The number of tiles that a play uses, and the number that its player has.
 #[tactic(auto, using(crate::proofs::Plays::of_play))]
 pub(crate) fn too_many_used(scene: &Scene<'_>) -> Option<Fact>
     ensures { IfSome result (IsTrue (moment_of scene.now)) }
@@ -24,7 +24,7 @@ pub(crate) fn too_many_used(scene: &Scene<'_>) -> Option<Fact>
     })
 }
 
-/// How many tiles the bag has, and how many an exchange needs.
+/// The number of tiles in the bag, and the number that an exchange needs.
 pub(crate) fn exchange_refused(scene: &Scene<'_>) -> Option<Fact>
     ensures { IfSome result (IsTrue (moment_of scene.now)) }
 {
@@ -34,7 +34,7 @@ pub(crate) fn exchange_refused(scene: &Scene<'_>) -> Option<Fact>
     })
 }
 
-/// How many tiles an event exchanges.
+/// The number of tiles that an event exchanges.
 fn exchanged(kind: &EventKind) -> usize
     ensures { result ≡ exchanged kind.now }
 {
@@ -45,7 +45,7 @@ fn exchanged(kind: &EventKind) -> usize
     }
 }
 
-/// How many tiles are exchanged, and how many there are.
+/// The number of tiles that are exchanged, and the number that there are.
 pub(crate) fn exchange_size(scene: &Scene<'_>) -> Option<Fact>
     ensures { IfSome result (IsTrue (moment_of scene.now)) }
 {
@@ -57,7 +57,7 @@ pub(crate) fn exchange_size(scene: &Scene<'_>) -> Option<Fact>
     })
 }
 
-/// Whose last rack an event shows: the other player's once the player is out, and else the own.
+/// The player whose last rack an event shows: the other player once a player is out, otherwise its own player.
 fn holder(scene: &Scene<'_>) -> Seat
     ensures { result ≡ holder_at (moment_of scene.now) }
 {
@@ -67,7 +67,7 @@ fn holder(scene: &Scene<'_>) -> Seat
     }
 }
 
-/// How many tiles a last rack shows, and how many its holder has.
+/// The number of tiles that a last rack shows, and the number that its holder has.
 #[tactic(auto, using(crate::proofs::Plays::of_last_rack))]
 pub(crate) fn last_rack_size(scene: &Scene<'_>) -> Option<Fact>
     ensures { IfSome result (IsTrue (moment_of scene.now)) }

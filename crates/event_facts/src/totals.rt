@@ -12,7 +12,7 @@ use game_facts::latest_with;
 use gcg_read::{Event, EventKind, Seat, same_seat};
 use std::alloc::AllocError;
 
-/// How a total is made.
+/// The sum that makes a total.
 #[tactic(auto, using(crate::proofs::Numbers::total_told))]
 fn wrong_total(scene: &Scene<'_>, right: i32) -> Fact
     requires fails { fault_in scene.now.rules.now scene.now.list.now (state_of scene.now.machine.now) scene.now.event.now ≡ Some (fault.WrongTotal right) }
@@ -27,7 +27,7 @@ fn wrong_total(scene: &Scene<'_>, right: i32) -> Fact
     }
 }
 
-/// The turn that a total leaves out, where it is right but for that one.
+/// The turn that a total leaves out, if it is right except for that one.
 #[tactic(auto, using(crate::proofs::Numbers::left_own, crate::proofs::Numbers::left_one))]
 fn left_out(scene: &Scene<'_>, right: i32) -> Option<Fact>
     requires fails { fault_in scene.now.rules.now scene.now.list.now (state_of scene.now.machine.now) scene.now.event.now ≡ Some (fault.WrongTotal right) }
@@ -41,7 +41,7 @@ fn left_out(scene: &Scene<'_>, right: i32) -> Option<Fact>
     Some(Fact::LeavesOut { line, score })
 }
 
-/// Adds how a total is made, and the turn that it leaves out, where it is right but for one.
+/// Adds the sum that makes a total, and the turn that it leaves out, if it is right except for one.
 pub(crate) fn tell_total(
     facts: &mut Vec<Fact>,
     scene: &Scene<'_>,
@@ -70,7 +70,7 @@ fn time_line(events: &[Event], player: Seat) -> Option<u32>
     None
 }
 
-/// Which penalties for time there are.
+/// Which penalties for time are possible.
 pub(crate) fn bad_time(scene: &Scene<'_>) -> Option<Fact>
     ensures { IfSome result (IsTrue (moment_of scene.now)) }
 {

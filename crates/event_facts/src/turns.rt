@@ -7,7 +7,7 @@ use crate::facts::Fact;
 use crate::scenes::Scene;
 use gcg_read::{EventKind, Seat};
 
-/// On whose line a last rack has to be.
+/// On whose line a last rack must be.
 fn others_line(scene: &Scene<'_>) -> Option<Fact>
     ensures { IfSome result (IsTrue (moment_of scene.now)) }
 {
@@ -18,7 +18,7 @@ fn others_line(scene: &Scene<'_>) -> Option<Fact>
     })
 }
 
-/// Whose turn it is, or on whose line a last rack has to be.
+/// Whose turn it is, or on whose line a last rack must be.
 pub(crate) fn not_your_turn(scene: &Scene<'_>) -> Option<Fact>
     ensures { IfSome result (IsTrue (moment_of scene.now)) }
 {
@@ -31,7 +31,7 @@ pub(crate) fn not_your_turn(scene: &Scene<'_>) -> Option<Fact>
     })
 }
 
-/// That a player has lost the points of a rack, where that is so.
+/// That a player has lost the points of a rack, if this is so.
 fn rack_lost(scene: &Scene<'_>, player: Seat) -> Option<Fact>
     ensures { IfSome result (IsTrue (moment_of scene.now)) }
 {

@@ -1,4 +1,5 @@
-//! What is said of a record whose events the rules allow: which plays stand with words that are not in the list, and which turns show no rack.
+//! What is said about a record whose events the rules allow: which plays stand with words that are not in the list, and which turns
+//! show no rack.
 ghost use Rattle.std.specs.Prelude.{◌≡◌, ◌+◌, ◌<◌, ◌++◌, ◌∷◌, [], map, length, slice_get, Some, IfOk, OnOk};
 ghost use Rattle.ref_play.specs.Words.{items_of};
 ghost use Rattle.game_turns.specs.Machines.{rules_of, state_of};
@@ -14,7 +15,7 @@ use lex_list::WordList;
 use ref_play::Word;
 use std::alloc::{AllocError, Global};
 
-/// Appends a word, where it is not in the list.
+/// Appends a word, if it is not in the list.
 fn push_unlisted(
     alloc: Global,
     kept: &mut Vec<Spelled>,
@@ -31,7 +32,7 @@ fn push_unlisted(
     Ok(())
 }
 
-/// The words that are not in the list, in their order.
+/// The words that are not in the list, in order.
 fn unlisted_of(alloc: Global, list: &WordList, words: &[Word]) -> Result<Vec<Spelled>, AllocError>
     ensures { IfOk result (λ kept. letters_in kept.items ≡ unlisted_of list.now (items_of words.now)) }
 {
@@ -42,7 +43,7 @@ fn unlisted_of(alloc: Global, list: &WordList, words: &[Word]) -> Result<Vec<Spe
     Ok(kept)
 }
 
-/// Appends a play with words that are not in the list, where it has any.
+/// Appends a play with words that are not in the list, if it has any.
 fn push_play(
     plays: &mut Vec<UnlistedPlay>,
     event: &Event,
@@ -91,7 +92,7 @@ fn may_show(out: Option<Seat>, kind: &EventKind) -> bool
     }
 }
 
-/// Appends a line, where something is so.
+/// Appends a line, if a condition holds.
 fn push_where(lines: &mut Vec<u32>, so: bool, line: u32) -> Result<(), AllocError>
     ensures { OnOk result (lines.new.items ≡ lines.old.items ++ one_where so line) }
 {
@@ -161,10 +162,10 @@ fn hidden_fact(alloc: Global, passed: &Passed<'_>) -> Result<Fact, AllocError>
     })
 }
 
-/// Adds what is said of a record whose events the rules allow: which of its plays stand with words that are not in the list, and which of its
-/// turns show no rack.
+/// Adds what is said about a record whose events the rules allow: which of its plays stand with words that are not in the list, and
+/// which of its turns show no rack.
 ///
-/// It fails only where memory runs out.
+/// It fails only if memory runs out.
 #[tactic(auto, using(crate::proofs::WholeLaws::both_told))]
 pub fn push_notes(
     alloc: Global,

@@ -13,7 +13,7 @@ use ref_board::{Board, Dir, SIDE, Square};
 use ref_play::{Placed, Play, RACK, Word, bonus_score, score, words};
 use ref_tiles::{Premium, Rules, Symbol, Tile};
 
-/// How many words a play forms at the most: one along it, and one across each of its tiles.
+/// The maximum number of words of a play: one along it, and one across each of its tiles.
 const WORDS: usize = 8;
 
 /// A square of a word that a play forms.
@@ -29,7 +29,7 @@ pub struct PlayedSquare {
     pub points: u8,
     /// The premium that counts: that of the square under a new tile, and none under an old one.
     pub premium: Premium,
-    /// By what the points are multiplied.
+    /// The factor of the points.
     pub factor: u32,
     /// What the square adds to the word: the points, times the factor.
     pub adds: u32,
@@ -68,7 +68,7 @@ pub struct PlayedWord {
     pub letters_sum: u32,
     /// The product of the word premiums under its new tiles.
     pub factor: u32,
-    /// What it scores: the sum, times the factor.
+    /// Its score: the sum times the factor.
     pub score: u32,
 }
 
@@ -96,11 +96,11 @@ pub type PlayedWords = ArrayVec<PlayedWord, WORDS>;
 /// The words of a play, and what they add up to.
 #[derive(Drop)]
 pub struct ScoredPlay {
-    /// Its words: that of its direction first, where it has two letters, and then the cross words in the order of the new tiles.
+    /// Its words: that of its direction first, if it has two letters, and then the cross words in the order of the new tiles.
     pub words: PlayedWords,
-    /// The bonus, where it puts down seven tiles.
+    /// The bonus, if it puts down seven tiles.
     pub bonus: Option<u32>,
-    /// What it scores: what the words score together, and the bonus.
+    /// Its score: that of all its words, plus the bonus.
     pub score: i32,
 }
 
@@ -151,7 +151,7 @@ fn letters_sum(squares: &[WordSquare]) -> u32
     sum
 }
 
-/// The same letters.
+/// A copy of the letters.
 fn copied(letters: &[u8]) -> Word
     requires { length letters.now ≤ 15 }
     ensures { result.items ≡ letters.now }
@@ -177,7 +177,7 @@ fn played_word(list: &WordList, one: &ScoredWord, letters: &Word) -> PlayedWord
     }
 }
 
-/// The words of a play, in their order.
+/// The words of a play, in order.
 fn played_words(list: &WordList, scored: &[ScoredWord], letters: &[Word]) -> PlayedWords
     requires few { length scored.now ≤ 8 }
     requires each { length scored.now ≡ length letters.now }
@@ -190,7 +190,7 @@ fn played_words(list: &WordList, scored: &[ScoredWord], letters: &[Word]) -> Pla
     words
 }
 
-/// The bonus of a play, where it puts down seven tiles.
+/// The bonus of a play, if it puts down seven tiles.
 fn full_bonus(rules: &Rules, tiles: &[Placed]) -> Option<u32>
     ensures { result ≡ full_bonus rules.now tiles.now }
 {
@@ -217,7 +217,7 @@ fn scored(rules: &Rules, list: &WordList, board: &Board, play: &Play) -> ScoredP
     }
 }
 
-/// The words of the play that a text names on a board, and what they add up to; none where it names no legal play.
+/// The words of the play that a text names on a board, and what they add up to; none if it does not name a legal play.
 pub fn scored_play(
     rules: &Rules,
     list: &WordList,

@@ -30,7 +30,7 @@ hidden_best rules list s e gave b hidden turn is =
       idle = λ none. absurd (false≢true (sym none ∙ turn));
     }
 
--- an event that is no turn
+-- an event that is not a turn
 pub idle_best : (rules : Rules) (list : List (List ℕ)) (s : State) (e : Event) (gave : ℤ) (b : TurnBest) → is_judged s.out e.kind ≡ false → b ≡ best.NoTurn → IsTurnBest rules list s e gave b
 idle_best rules list s e gave b idle is =
     record {

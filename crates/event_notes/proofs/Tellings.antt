@@ -1,4 +1,4 @@
--- What the line of an event tells of its best play, by the value of it.
+-- What the line of an event says of its best play, by the value of it.
 use Rattle.std.proofs.Common.{ℕ, ℤ, List, ◌∷◌, ◌++◌, codes, refl, ap, ◌∙◌, Option, Some, None}
 use Rattle.std.specs.Fmt.{signed_decimal}
 use Rattle.ref_tiles.specs.declared.tiles.Tile.{Tile}

@@ -11,7 +11,7 @@ use Rattle.event_notes.specs.declared.bests.BestPlay.{BestPlay}
 use Rattle.event_notes.specs.declared.bests.TurnBest.{TurnBest}
 use Rattle.event_notes.specs.declared.bests.TurnBest.TheVariants as best
 
--- A play on a board, as it is written, with its score; and how many points more than those of a turn that is.
+-- A play on a board, as it is written, with its score, and how many points more it gives than the turn gave.
 pub record IsBestPlay (board : List (Option Tile)) (gave : ℤ) (given : Given) (b : BestPlay) : Type 0 where
   pub notation : written b.written ≡ notation_of board given.tiles
   pub score : b.score ≡ given.score
@@ -24,13 +24,13 @@ IsBestBy rules list board rack gave best.NotShown = ⊥
 IsBestBy rules list board rack gave best.NoPlay = IsAnnotation rules list board rack None
 IsBestBy rules list board rack gave (best.Best b) = (given : Given) × IsAnnotation rules list board rack (Some given) × IsBestPlay board gave given b
 
--- the same by the whole rack, where it is shown
+-- the same by the whole rack, if it is shown
 abbrev pub IsBestByRack : Rules → (list : List (List ℕ)) → (board : List (Option Tile)) → (gave : ℤ) → Option (List ℕ) → TurnBest → Type 0
 IsBestByRack rules list board gave None b = b ≡ best.NotShown
 IsBestByRack rules list board gave (Some rack) b = IsBestBy rules list board rack gave b
 
--- What is said of the best play of an event that gave so many points, by the state before it: of a turn the best play by its rack, where that is
--- shown, and what it would have given more; and nothing where the event is no turn.
+-- What is said of the best play of an event that gave `gave` points, by the state before it: for a turn the best play by its rack, if that is
+-- shown, and how many points more it would have given; and nothing if the event is not a turn.
 pub record IsTurnBest (rules : Rules) (list : List (List ℕ)) (s : State) (e : Event) (gave : ℤ) (b : TurnBest) : Type 0 where
   pub turn : is_judged s.out e.kind ≡ true → IsBestByRack rules list s.board gave (full_rack s e) b
   pub idle : is_judged s.out e.kind ≡ false → b ≡ best.NoTurn

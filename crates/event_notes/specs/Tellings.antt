@@ -1,4 +1,4 @@
--- What the line of an event tells of its best play, by the value of it.
+-- What the line of an event says of its best play, by the value of it.
 use Rattle.std.specs.Prelude.{ℕ, ℤ, List, [], ◌∷◌, ◌++◌, codes}
 use Rattle.std.specs.Fmt.{signed_decimal}
 use Rattle.ref_tiles.specs.declared.rulebook.Rules.{Rules}
@@ -10,7 +10,7 @@ use Rattle.event_notes.specs.declared.bests.TurnBest.{TurnBest}
 use Rattle.event_notes.specs.declared.bests.TurnBest.TheVariants as best
 use Rattle.event_notes.specs.Bests.{IsTurnBest}
 
--- what a line tells of the best play
+-- what a line says of the best play
 abbrev pub best_told : TurnBest → List ℕ
 best_told best.NoTurn = []
 best_told best.NotShown = codes " best -"
@@ -19,6 +19,6 @@ best_told (best.Best b) = codes " best " ++ notation_text (written b.written) ++
 
 -- ---- laws
 
--- What is told by the value of a best play is what the line of the event tells.
+-- The text of the value of a best play is the one that the line of the event has.
 abbrev pub BestsAreTold : Type 0
 BestsAreTold = (rules : Rules) (list : List (List ℕ)) (s : State) (e : Event) (gave : ℤ) (b : TurnBest) → IsTurnBest rules list s e gave b → TellsBest rules list s e (best_told b)

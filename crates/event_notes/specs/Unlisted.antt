@@ -8,7 +8,7 @@ use Rattle.event_notes.specs.declared.unlisted.SpelledWord.{SpelledWord}
 abbrev pub letters_in : List SpelledWord → List (List ℕ)
 letters_in words = map (λ (word : SpelledWord). word.letters.items) words
 
--- a word, where it is not in the list
+-- a word, if it is not in the list
 abbrev pub unlisted_one : (list : List (List ℕ)) → List ℕ → List (List ℕ)
 unlisted_one list word = if is_listed list word then [] else word ∷ []
 

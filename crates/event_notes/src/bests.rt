@@ -24,14 +24,14 @@ pub struct BestPlay {
     pub written: Notation,
     /// What it scores.
     pub score: i32,
-    /// How many points it would have given more than the turn.
+    /// How many points more than the turn it would have given.
     pub more: i64,
 }
 
 /// What is said of the best play of an event.
 #[derive(Drop)]
 pub enum TurnBest {
-    /// The event is no turn.
+    /// The event is not a turn.
     NoTurn,
     /// The line does not show the whole rack.
     NotShown,
@@ -41,7 +41,7 @@ pub enum TurnBest {
     Best(BestPlay),
 }
 
-/// A play as the best one of a turn that gave so many points.
+/// A play as the best one of a turn that gave `gave` points.
 fn best_play(board: &Board, play: &Play, score: i32, gave: i32) -> BestPlay
     requires { IsLegal board.now play.now.tiles.items }
     ensures { IsBestPlay board.now gave (seen play.now score) result }
@@ -53,8 +53,8 @@ fn best_play(board: &Board, play: &Play, score: i32, gave: i32) -> BestPlay
     }
 }
 
-/// The best play by a rack on a board, with its score. The cross-sets are those that `follow` keeps, where it follows this board; else they
-/// are made afresh.
+/// The best play by a rack on a board, with its score. The cross-sets are those of `follow` if it follows this board; otherwise they are
+/// computed anew.
 fn annotate_on(
     rules: &Rules,
     pair: &Checked<'_>,
@@ -73,7 +73,7 @@ fn annotate_on(
     annotate(rules, pair, &mut own, rack, &cross)
 }
 
-/// The best play by a rack on a board, of a turn that gave so many points.
+/// The best play by a rack on a board, for a turn that gave `gave` points.
 fn best_by_rack(
     rules: &Rules,
     pair: &Checked<'_>,
@@ -91,8 +91,8 @@ fn best_by_rack(
     }
 }
 
-/// What is said of the best play of an event that gave so many points; `machine` stands before the event. Where `follow` has the board of the
-/// machine, its cross-sets need not be made afresh.
+/// What is said of the best play of an event that gave `gave` points; `machine` is before the event. If `follow` has the board of the
+/// machine, its cross-sets need not be computed anew.
 #[tactic(auto, using(crate::proofs::BestLaws::shown_best, crate::proofs::BestLaws::hidden_best, crate::proofs::BestLaws::idle_best))]
 pub fn best_of_turn(
     rules: &Rules,

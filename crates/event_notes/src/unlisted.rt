@@ -14,7 +14,7 @@ pub struct SpelledWord {
     pub letters: Vec<u8>,
 }
 
-/// Appends a word, where it is not in the list.
+/// Appends a word, if it is not in the list.
 fn push_unlisted(
     alloc: Global,
     kept: &mut Vec<SpelledWord>,
@@ -33,7 +33,7 @@ fn push_unlisted(
 
 /// The words that are not in the list, in their order.
 ///
-/// It fails only where memory runs out.
+/// It fails only if memory runs out.
 pub fn unlisted_of(
     alloc: Global,
     list: &WordList,

@@ -6,7 +6,7 @@ use Rattle.exit_statuses.specs.declared.exits.Exit.TheVariants as exit
 use Rattle.engine.specs.declared.findings.Finding.{Finding}
 use Rattle.engine.specs.declared.findings.Finding.TheVariants as finding
 
--- the exit after a finding alone: a record without an event is no game
+-- the exit by the finding only: a record without an event is not a game
 abbrev pub exit_of_finding : Finding → Exit
 exit_of_finding finding.NoGame = exit.BadInput
 exit_of_finding (finding.Legal complete) = exit.Fine

@@ -8,12 +8,12 @@ use Rattle.exit_statuses.specs.declared.exits.Exit.TheVariants as exit
 use Rattle.exit_statuses.specs.Audits.{exit_of_finding}
 use Rattle.engine.specs.declared.entries.Entry.{Entry}
 
--- whether there is an event to be explained, where a line is named
+-- whether there is an event to be explained, if a line is named
 abbrev pub exit_by : (verdict place : Exit) → Option ℕ → Exit
 exit_by by_verdict by_place None = by_place
 exit_by by_verdict by_place (Some place) = by_verdict
 
--- the exit of a line that is named in a record: that of its verdict, but where every event stands before the line
+-- the exit of a line that is named in a record: that of its verdict, unless every event is before the line
 abbrev pub exit_on : (verdict : Exit) → List Event → (line : Option ℕ) → Exit
 exit_on verdict events None = verdict
 exit_on verdict events (Some line) = exit_by verdict exit.BadInput (place_of_line events line)

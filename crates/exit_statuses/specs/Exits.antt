@@ -33,7 +33,7 @@ exit_of verdict.BadRack = BadInput
 exit_of verdict.BadRules = BadInput
 exit_of verdict.BadLine = BadInput
 
--- what kept the program from its end, where a call gave up: this is the name of the input or output that failed, if one did, and why it did
+-- why the program could not finish, if a call gave up: this is the name of the input or output that failed, if one did, and why it did
 abbrev pub trouble_of : RunFault → Bor (List ℕ) → Reason → Trouble
 trouble_of run.ReadFailed name reason = trouble.ReadFailed name reason
 trouble_of run.WriteFailed name reason = trouble.WriteFailed name reason

@@ -5,7 +5,7 @@ ghost use Rattle.exit_statuses.specs.Archives.{exit_of_answer};
 use crate::exits::Exit;
 use archive_lines::{Answer, Fields, PageField};
 
-/// How the program ends after a line with this answer, where no other game has a greater status.
+/// How the program ends after a line with this answer, if no other game has a greater status.
 pub fn exit_of_answer(answer: Answer) -> Exit
     ensures { result ≡ exit_of_answer answer }
 {
@@ -18,7 +18,7 @@ pub fn exit_of_answer(answer: Answer) -> Exit
     }
 }
 
-/// How the program ends after the page of a game, where nothing else has a greater status.
+/// How the program ends after the page of a game, if nothing else has a greater status.
 fn exit_of_page(page: &PageField) -> Exit {
     match page {
         PageField::Missing | PageField::Written(_) => Exit::Fine,
@@ -26,7 +26,7 @@ fn exit_of_page(page: &PageField) -> Exit {
     }
 }
 
-/// How the program ends after the line of a game, where no other game has a greater status.
+/// How the program ends after the line of a game, if no other game has a greater status.
 pub fn exit_of_line(fields: &Fields<'_>) -> Exit {
     let exit = exit_of_answer(fields.verdict);
     match &fields.page {

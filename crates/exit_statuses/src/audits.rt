@@ -7,7 +7,7 @@ use crate::exits::Exit;
 use engine::{Audit, Finding};
 use game_sheets::WrongNumber;
 
-/// The exit after a finding alone: a record without an event is no game.
+/// The exit by the finding only: a record without an event is not a game.
 pub(crate) fn exit_of_finding(finding: &Finding) -> Exit
     ensures { result ≡ exit_of_finding finding.now }
 {
@@ -30,8 +30,8 @@ fn exit_of_numbers(wrong: &[WrongNumber]) -> Exit
     }
 }
 
-/// How the program ends after an audit: 0 where no number is wrong and the game is legal, 1 where a number is wrong or the game is
-/// illegal, 2 where the corrected game is unsettled, and 3 where the record has no event.
+/// How the program ends after an audit: 0 if no number is wrong and the game is legal, 1 if a number is wrong or the game is
+/// illegal, 2 if the corrected game is unsettled, and 3 if the record has no event.
 pub fn exit_of_audit(audit: &Audit) -> Exit
     ensures { status_of result ≡ audit_status audit.now.wrong.items audit.now.entry.finding }
 {

@@ -21,8 +21,8 @@ fn exit_on(verdict: Exit, events: &[Event], line: Option<u32>) -> Exit
     }
 }
 
-/// How the program ends after a case is explained, or one of its lines: as after its verdict; and 3 where the record is bad or has no
-/// event, or every event of it stands before the line.
+/// How the program ends after a case is explained, or one of its lines: as after its verdict; and 3 if the record is bad or has no
+/// event, or every event of it is before the line.
 pub fn exit_of_case(case: &Case, line: Option<u32>) -> Exit
     ensures { result ≡ explain_exit case.now.read line }
 {

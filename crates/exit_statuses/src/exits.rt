@@ -1,4 +1,4 @@
-//! The exit status of each verdict, and what keeps the program from its end.
+//! The exit status of each verdict, and why the program could not finish.
 ghost use Rattle.std.specs.Prelude.{◌≡◌, max};
 
 use engine::{RunFault, Verdict};
@@ -8,13 +8,13 @@ use watching::Reason;
 /// How the program ends.
 #[derive(Clone, Copy, Debug, PartialEq, Eq)]
 pub enum Exit {
-    /// The game is legal, or what was asked for is done, help too.
+    /// The game is legal, or what was requested is done, help included.
     Fine,
     /// The game is illegal.
     Illegal,
     /// Whether the game is legal was not settled.
     Unsettled,
-    /// An input is no word list, no lexicon, no record, no rack, no line of a record or no rules text.
+    /// An input is not the word list, lexicon, record, rack, line of a record or rules text that it should be.
     BadInput,
     /// A device failed, or memory was refused.
     Broken,
@@ -51,7 +51,7 @@ impl Exit {
     }
 }
 
-/// What kept the program from its end. Its text is what standard error gets.
+/// Why the program could not finish. Its text is what standard error gets.
 #[derive(Clone, Copy, Debug, PartialEq, Eq)]
 pub enum Trouble<'a> {
     /// A read of the input of this name failed.
@@ -78,7 +78,7 @@ impl fmt::Display for Trouble<'_> {
 impl<'a> Trouble<'a> {
     ghost use Rattle.exit_statuses.specs.Exits.{trouble_of};
 
-    /// What kept the program from its end, where a call gave up. `name` is that of the input or output that failed, where one did, and
+    /// Why the program could not finish, if a call gave up. `name` is that of the input or output that failed, if one did, and
     /// `reason` why it did.
     pub fn of(fault: RunFault, name: &'a str, reason: Reason) -> Trouble<'a>
         ensures { result ≡ trouble_of fault name.entry reason }

@@ -1,5 +1,5 @@
 //! How the program ends: the exit status of each verdict, and what follows after an audit, an explanation and the lines of an archive; and
-//! the text of what kept it from its end.
+//! the text that says why it could not finish.
 //!
 //! Exit statuses: 0 legal or done, 1 illegal, 2 unsettled, 3 bad input, 4 a device or memory, 64 the command line.
 #![tactic(auto)]

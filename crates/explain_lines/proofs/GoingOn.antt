@@ -1,4 +1,4 @@
--- A text with another behind it, and more behind that.
+-- A text with another after it, and more after that.
 use Rattle.std.proofs.Common.{◌≡◌, ℕ, List, ◌++◌, ap, ◌∙◌}
 use Rattle.case_openings.specs.Openings.{GoesOn}
 

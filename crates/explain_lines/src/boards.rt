@@ -23,7 +23,7 @@ pub fn push_shown(text: &mut Vec<u8>, line: u32, shown: &Shown) -> Result<(), Al
     push_board(text, shown.squares.as_slice())
 }
 
-/// What stands between two squares of a row: a bracket where the marked squares begin or end.
+/// What comes between two squares of a row: a bracket where the marked squares begin or end.
 fn between(before: bool, here: bool) -> u8 {
     match (before, here) {
         (false, true) => b'[',

@@ -15,10 +15,10 @@ use ref_tiles::Rules;
 use sentence_parts::say_of_line;
 use std::alloc::{AllocError, Global};
 
-/// Appends what explains the verdict on a record, or one of its lines: the verdict line; the line as it stands in the file; what is
+/// Appends what explains the verdict on a record, or one of its lines: the verdict line; the line as it is in the file; what is
 /// wrong with it; the words of a play with what each square adds; and the board before it.
 ///
-/// It fails only where memory runs out.
+/// It fails only if memory runs out.
 #[tactic(auto, using(crate::proofs::GoingOn::goes_on))]
 pub fn push_explanation(
     alloc: Global,
@@ -42,7 +42,7 @@ fn push_all(text: &mut Vec<u8>, more: &[u8]) -> Result<(), AllocError>
     text.extend_from_slice(more)
 }
 
-/// What an explanation says behind its opening.
+/// What an explanation says after its opening.
 fn sentences_of(
     alloc: Global,
     rules: &Rules,
@@ -62,7 +62,7 @@ fn sentences_of(
     Ok(text)
 }
 
-/// Appends why a text is no record, and what the line of its fault lacks, where that can be told.
+/// Appends why a text is not a record, and what the line of its fault lacks, if that can be found out.
 fn push_unread(
     alloc: Global,
     text: &mut Vec<u8>,
@@ -79,7 +79,7 @@ fn push_unread(
     Ok(())
 }
 
-/// Appends an explanation behind its opening: the facts, and what is shown beside them.
+/// Appends an explanation after its opening: the facts, and what is shown with them.
 fn push_told(text: &mut Vec<u8>, told: &Explanation<'_>) -> Result<(), AllocError> {
     push_facts(text, told)?;
     let Some(line) = told.line else {
@@ -99,7 +99,7 @@ fn push_told(text: &mut Vec<u8>, told: &Explanation<'_>) -> Result<(), AllocErro
 
 /// Appends the sentences that explain the verdict on a record, and nothing else.
 ///
-/// It fails only where memory runs out.
+/// It fails only if memory runs out.
 pub fn push_reason(
     alloc: Global,
     text: &mut Vec<u8>,

@@ -39,7 +39,7 @@ fn push_others_play(
     )
 }
 
-/// Appends that no play comes right before the event, so that there is none to be taken back or challenged.
+/// Appends that no play comes directly before the event, so that there is none to be taken back or challenged.
 fn push_no_play(text: &mut Vec<u8>, is_first: bool, act: &str) -> Result<(), AllocError> {
     let why = if is_first {
         "This is the first event"
@@ -90,7 +90,7 @@ fn push_amounts(text: &mut Vec<u8>, amounts: &[usize]) -> Result<(), AllocError>
     Ok(())
 }
 
-/// Appends the bonus that is written, behind those that are allowed.
+/// Appends the bonus that is written, after those that are allowed.
 fn push_written(text: &mut Vec<u8>, written: i32) -> Result<(), AllocError> {
     say(
         text,

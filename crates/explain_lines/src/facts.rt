@@ -16,7 +16,7 @@ use gcg_read::Players;
 use sentence_parts::say_of_line;
 use std::alloc::AllocError;
 
-/// Appends the facts of an explanation, one behind the other.
+/// Appends the facts of an explanation, one after the other.
 pub fn push_facts(text: &mut Vec<u8>, told: &Explanation<'_>) -> Result<(), AllocError> {
     for fact in told.facts.as_slice() {
         push_fact(text, told.players, fact)?;

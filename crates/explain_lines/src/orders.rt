@@ -1,4 +1,4 @@
-//! Lines that stand twice, in the wrong order or under the wrong name, and lines that are missing.
+//! Lines that are there twice, in the wrong order or under the wrong name, and lines that are missing.
 
 use crate::names::nick;
 use event_facts::Fact;

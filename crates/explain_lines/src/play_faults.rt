@@ -53,7 +53,7 @@ fn push_dot(text: &mut Vec<u8>, square: Square) -> Result<(), AllocError> {
     )
 }
 
-/// Appends that a play has another letter than the tile on a square.
+/// Appends that a play has a letter that differs from that of the tile on a square.
 fn push_other_letter(
     text: &mut Vec<u8>,
     square: Square,
@@ -86,7 +86,7 @@ fn push_too_many(text: &mut Vec<u8>, tiles: usize) -> Result<(), AllocError> {
     )
 }
 
-/// Appends the tile that lies directly before or behind a play.
+/// Appends the tile directly before or after a play.
 fn push_beside(
     text: &mut Vec<u8>,
     square: Square,

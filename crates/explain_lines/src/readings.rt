@@ -7,7 +7,7 @@ use ref_tiles::{Counts, Kind};
 use sentence_parts::{Part, say};
 use std::alloc::AllocError;
 
-/// Appends the score that a play has, and the one that is written, where that is another one.
+/// Appends the score that a play has, and the one that is written, if it is another one.
 fn push_scores(text: &mut Vec<u8>, score: i32, written: i32) -> Result<(), AllocError> {
     if score == written {
         return say(

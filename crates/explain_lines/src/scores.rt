@@ -67,7 +67,7 @@ fn push_elsewhere(
     text.extend_from_slice(b".\n")
 }
 
-/// Appends a spot, behind what parts it from the one before. The last one is the one with this number, counted from 1.
+/// Appends a spot, after what separates it from the one before. The spot with number `last`, counted from 1, is the last one.
 fn push_spot(text: &mut Vec<u8>, spot: &Spot, k: usize, last: usize) -> Result<(), AllocError> {
     let front = if k == 0 {
         ""

@@ -4,7 +4,7 @@ use event_facts::Spelled;
 use sentence_parts::{Part, say};
 use std::alloc::AllocError;
 
-/// What stands behind an item, by how many are left behind it.
+/// What comes after an item, if `left` items come after it.
 fn between(left: usize) -> &'static str {
     match left {
         0 => "",

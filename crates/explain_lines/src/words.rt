@@ -6,7 +6,7 @@ use ref_tiles::Premium;
 use sentence_parts::{Part, say};
 use std::alloc::AllocError;
 
-/// Appends the words of a play: of each its squares and its sum, the bonus, and what the play scores.
+/// Appends the words of a play: the squares and the sum of each, the bonus, and what the play scores.
 pub fn push_play(text: &mut Vec<u8>, play: &ScoredPlay) -> Result<(), AllocError> {
     for word in play.words.iter() {
         push_word(text, word)?;
@@ -22,7 +22,7 @@ pub fn push_play(text: &mut Vec<u8>, play: &ScoredPlay) -> Result<(), AllocError
     )
 }
 
-/// Appends the bonus of seven tiles, where there is one.
+/// Appends the bonus of a bingo, which puts down seven tiles, if there is one.
 fn push_bonus(text: &mut Vec<u8>, bonus: Option<u32>) -> Result<(), AllocError> {
     match bonus {
         None => Ok(()),
@@ -37,7 +37,7 @@ fn push_bonus(text: &mut Vec<u8>, bonus: Option<u32>) -> Result<(), AllocError> 
     }
 }
 
-/// What stands before a letter of a word: a bracket where the letters that were on the board already begin or end.
+/// What comes before a letter of a word: a bracket where the letters that were on the board already begin or end.
 fn bracket(before: bool, here: bool) -> &'static str {
     match (before, here) {
         (false, true) => "(",
@@ -118,7 +118,7 @@ fn push_square(text: &mut Vec<u8>, square: &PlayedSquare) -> Result<(), AllocErr
     )
 }
 
-/// Appends by what the points of a square are multiplied, where that is not 1.
+/// Appends what the points of a square are multiplied by, if that is not 1.
 fn push_factor(text: &mut Vec<u8>, square: &PlayedSquare) -> Result<(), AllocError> {
     if square.factor == 1 {
         return Ok(());

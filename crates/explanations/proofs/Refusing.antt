@@ -23,7 +23,7 @@ there_by rules list events place p why false is below allowed fails =
     let same : p ≡ place = omega (arith, below, past) in
     subst (λ n. fault_at rules list events n ≡ Some why) same fails
 
--- where the events before a place are allowed, and one is refused before the next, it is the one at the place
+-- if the events before a place are allowed, and one is refused before the next, it is the one at the place
 pub refused_there : (rules : Rules) (list : List (List ℕ)) (events : List Event) (place line : ℕ) (why : RuleFault) → AreAllowedTo rules list events place
     → IsRefusedBefore rules list events (place + 1) line why → fault_at rules list events place ≡ Some why
 refused_there rules list events place line why allowed refused =
@@ -35,7 +35,7 @@ unfolding fault_at
 fails_in rules list events place e s why stands is fails =
     ap (λ (t : State). fault_in rules list t e) is ∙ ap (fault_of_event rules list (tally_at rules events place)) (sym stands) ∙ fails
 
--- what is true of the event is true of the place where it stands
+-- what is true of the event is true of its place
 pub all_at : (rules : Rules) (list : List (List ℕ)) (events : List Event) (place : ℕ) (m : Moment) (facts : List Fact) → IsMomentAt rules list events place m → All (IsTrue m) facts
     → All (IsTrueAt rules list events place) facts
 all_at rules list events place m [] at all = All-nil (IsTrueAt rules list events place)
@@ -48,10 +48,10 @@ none_at P facts is = subst (All P) (sym is) (All-nil P)
 pub one_at : (P : Fact → Type 0) (old new : List Fact) (f : Fact) → old ≡ [] → new ≡ old ++ f ∷ [] → P f → All P new
 one_at P old new f none is holds = subst (All P) (sym (is ∙ ap (λ (fs : List Fact). fs ++ f ∷ []) none)) (All-cons P f [] holds (All-nil P))
 
--- a fact behind others that are true
+-- a fact after others that are true
 pub one_behind : (P : Fact → Type 0) (old new : List Fact) (f : Fact) → new ≡ old ++ f ∷ [] → All P old → P f → All P new
 one_behind P old new f is before holds = subst (All P) (sym is) (All-append P old (f ∷ []) before (All-cons P f [] holds (All-nil P)))
 
--- what is read at a place within a list stands there
+-- what is read at a place within a list is there
 pub read_at : {X : Type 0} (xs : List X) (place : ℕ) (x : X) → place < length xs → x ≡ get_or xs place x → slice_get xs place ≡ Some x
 read_at xs place x below is = slice_get_read xs (length xs) place x refl below is

@@ -26,8 +26,8 @@ use Rattle.explanations.specs.declared.explaining.Shown.{Shown}
 
 -- ---- facts
 
--- what is true of the event at a place beside what the rules say of it: that an earlier event is the first that they refuse, that they allow it
--- and those before it, or what is wrong with the racks
+-- what is true of the event at a place besides what the rules say of it: that an earlier event is the first that they refuse, that they allow
+-- it and those before it, or what is wrong with the racks
 abbrev pub IsTrueBeside : Rules → (list : List (List ℕ)) → List Event → (place : ℕ) → Fact → Type 0
 IsTrueBeside rules list events place (fact.NotJudged refused) = (why : RuleFault) × IsRefusedBefore rules list events place refused why
 IsTrueBeside rules list events place fact.Allowed = AreAllowedTo rules list events (place + 1)

@@ -16,7 +16,7 @@ use std::alloc::{AllocError, Global};
 /// The board before an event, and the words of its play.
 #[derive(Drop)]
 pub struct Shown {
-    /// The words of the play, where the event is one that is legal on the board.
+    /// The words of the play, if the event is one that is legal on the board.
     pub play: Option<ScoredPlay>,
     /// Whether the event is a play, whose squares are marked.
     pub is_play: bool,
@@ -24,7 +24,7 @@ pub struct Shown {
     pub squares: Vec<ShownSquare>,
 }
 
-/// What is shown beside the facts.
+/// What is shown with the facts.
 #[derive(Drop)]
 pub enum Picture {
     /// The board before the event, and the words of its play.
@@ -41,15 +41,15 @@ pub enum Picture {
 pub struct Explanation<'a> {
     /// The players, by whose names the facts speak of them.
     pub players: &'a Players,
-    /// The line of the event that is explained; none where it is the record as a whole.
+    /// The line of the event that is explained; none if it is the record as a whole.
     pub line: Option<u32>,
     /// What is said of it.
     pub facts: Vec<Fact>,
-    /// The board before the event, and the words of its play, where an event is explained.
+    /// The board before the event, and the words of its play, if an event is explained.
     pub picture: Option<Picture>,
 }
 
-/// The words of the play of an event, where it is one that is legal on a board.
+/// The words of the play of an event, if it is one that is legal on a board.
 fn play_shown(rules: &Rules, list: &WordList, board: &Board, kind: &EventKind) -> Option<ScoredPlay>
     ensures { IsPlayShown rules.now list.now board.now kind.now result }
 {
@@ -110,10 +110,10 @@ fn picture_at(
     Ok(Picture::Shown(shown))
 }
 
-/// What explains the event at a place of a record, counted from 0. Where the rules allow it, `fault` tells what is wrong with the racks up to
-/// it, if that is known.
+/// What explains the event at a place of a record, counted from 0. If the rules allow the event, `fault` says what is wrong with the racks up
+/// to it, if that is known.
 ///
-/// It fails only where memory runs out.
+/// It fails only if memory runs out.
 #[tactic(auto, using(crate::proofs::Refusing::read_at))]
 pub fn explain_event<'a>(
     alloc: Global,

@@ -1,7 +1,7 @@
 //! What explains an event of a record, as a value: the facts that a director needs, each with its numbers, squares and lines; the words of its
 //! play with what each square adds; and the board before it.
 //!
-//! A rendering of it, as text or as JSON, asks nothing of the game and adds up nothing.
+//! A rendering of it, as text or as JSON, computes nothing about the game and adds nothing up.
 #![tactic(auto)]
 
 mod explaining;

@@ -18,7 +18,8 @@ use lex_list::WordList;
 use ref_tiles::Rules;
 use std::alloc::{AllocError, Global};
 
-/// A sheet of which an event is explained: a record, its rules and its word list, and what is wrong with the racks up to the event.
+/// A sheet with an event that is explained: a record, its rules and its word list, and what is wrong with the racks up to the
+/// event.
 #[derive(Clone, Copy)]
 pub(crate) struct Sheet<'a> {
     /// The rules.
@@ -27,7 +28,7 @@ pub(crate) struct Sheet<'a> {
     pub list: &'a WordList,
     /// The record.
     pub record: &'a Record,
-    /// What is wrong up to the event, where that is not the event itself.
+    /// What is wrong up to the event, if that is not the event itself.
     pub fault: Option<&'a GameFault>,
 }
 
@@ -53,7 +54,7 @@ fn rack_fact(
     }
 }
 
-/// Up to which line a deal gives the racks, where none does up to the event at a place and some does before it.
+/// The line up to which a deal gives the racks, if no deal gives them up to the event at a place and some deal does before it.
 fn dealt_fact(
     alloc: Global,
     sheet: &Sheet<'_>,
@@ -94,7 +95,7 @@ fn one_fact(
     Ok(facts)
 }
 
-/// The list of a fact that is true of an event, where there is one.
+/// The list of a fact that is true of an event, if there is one.
 fn listed(
     alloc: Global,
     sheet: &Sheet<'_>,
@@ -127,7 +128,7 @@ fn push_fact(
     Ok(())
 }
 
-/// Adds a fact that is true of an event, where there is one.
+/// Adds a fact that is true of an event, if there is one.
 fn push_some(
     facts: &mut Vec<Fact>,
     sheet: &Sheet<'_>,
@@ -144,7 +145,7 @@ fn push_some(
     }
 }
 
-/// The events behind a place.
+/// The events after a place.
 fn events_behind(events: &[Event], place: usize) -> &[Event]
     requires { place < length events.now }
     ensures { result.now ≡ drop (place + 1) events.now }
@@ -152,7 +153,8 @@ fn events_behind(events: &[Event], place: usize) -> &[Event]
     &events[place + 1..]
 }
 
-/// Which tiles of a play are not on the rack that its line shows, where both are more than the player has.
+/// The tiles of a play that are not on the rack that its line shows, if the rack and these tiles together are more than
+/// the player has.
 #[tactic(auto, using(crate::proofs::Refusing::all_at))]
 fn rack_slips(
     alloc: Global,

@@ -30,8 +30,8 @@ fn named_rule_fault(fault: &RuleFault) -> NamedFault
     }
 }
 
-/// A fault of a game by its name, with the number that was expected or the kind of tile that is short: the parts of which a report makes the
-/// text of the fault.
+/// A fault of a game by its name, with the number that was expected or the kind of tile that is short: the parts from which a report makes
+/// the text of the fault.
 pub fn named_game_fault(fault: &GameFault) -> NamedFault
     ensures { named_text result ≡ fault_text fault.now }
 {

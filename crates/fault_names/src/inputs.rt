@@ -13,11 +13,11 @@ use lex_check::{Path, text_of};
 pub struct NamedInput {
     /// Which input is bad, as a report says it: `bad record`.
     pub what: &'static str,
-    /// The line of the fault, counted from 1; 0 where it lies on no line.
+    /// The line of the fault, counted from 1; 0 if it is on no line.
     pub line: u32,
-    /// The name of the fault, where it has one.
+    /// The name of the fault, if it has one.
     pub name: Option<&'static str>,
-    /// The path by which a lexicon and a list differ first, where they do.
+    /// The path of the first difference between a lexicon and a list, if there is one.
     pub path: Option<ArrayVec<u8, 17>>,
 }
 
@@ -45,7 +45,7 @@ fn in_lexicon(name: &'static str) -> NamedInput
     }
 }
 
-/// A path by which a lexicon and a list differ.
+/// A path at which a lexicon and a list differ.
 fn at_path(name: &'static str, path: &Path) -> NamedInput
     ensures { input_text result ≡ codes "bad lexicon: " ++ name.now ++ 32 ∷ map symbol_of path.now.items ++ 10 ∷ [] }
 {
@@ -57,7 +57,7 @@ fn at_path(name: &'static str, path: &Path) -> NamedInput
     }
 }
 
-/// That what was asked for is not there.
+/// That something requested does not exist.
 fn nameless(what: &'static str) -> NamedInput
     ensures text { input_text result ≡ what.now ++ 10 ∷ [] }
     ensures what { result.what.now ≡ what.now }
@@ -83,7 +83,7 @@ fn named_lexicon(fault: &LexiconFault) -> NamedInput
     }
 }
 
-/// What is wrong with an input, by its name: the parts of which a report makes its line.
+/// What is wrong with an input, by its name: the parts from which a report makes its line.
 #[tactic(auto, unfolding(call_stages::specs::Reports::bad_list_line, call_stages::specs::Reports::bad_rules_line, call_stages::specs::Reports::bad_record_line, call_stages::specs::Reports::too_many_arcs_line, call_stages::specs::Reports::bad_rack_line))]
 pub fn named_input(fault: &InputFault) -> NamedInput
     ensures { IsNamedInput fault.now result }

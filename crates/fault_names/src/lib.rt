@@ -1,7 +1,7 @@
 //! Faults by their names, as programs read them.
 //!
-//! A line of a report has the name of a fault and what stands behind it in one text. [`NamedFault`] and [`NamedInput`] have them apart, and
-//! the contracts of the calls that make them say that the text of the report is made of these parts.
+//! A line of a report has the name of a fault and what comes after it in one text. [`NamedFault`] and [`NamedInput`] have them
+//! separately, and the contracts of the calls that make them say that the text of the report is made of these parts.
 #![tactic(auto)]
 
 mod games;

@@ -2,14 +2,14 @@
 
 use ref_tiles::Kind;
 
-/// A fault by its name, with what a report has behind it.
+/// A fault by its name, with what a report has after it.
 #[derive(Clone, Copy, Debug, PartialEq, Eq)]
 pub struct NamedFault {
     /// The name, as reports print it.
     pub name: &'static str,
-    /// The number that was expected, where one was.
+    /// The number that was expected, if there is one.
     pub expected: Option<i32>,
-    /// The kind of tile that is short, where one is.
+    /// The kind of tile that is short, if there is one.
     pub kind: Option<Kind>,
 }
 
@@ -17,7 +17,7 @@ impl NamedFault {
     ghost use Rattle.std.specs.Prelude.{◌≡◌, Some, None};
     ghost use Rattle.fault_names.specs.Named.{IsBare};
 
-    /// A fault of this name, with nothing behind it.
+    /// A fault of this name, with nothing after it.
     pub(crate) fn bare(name: &'static str) -> NamedFault
         ensures { IsBare name.now result }
     {

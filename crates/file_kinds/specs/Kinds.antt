@@ -42,7 +42,7 @@ is_return byte = byte == 13
 abbrev pub has_returns_alone : List ℕ → Bool
 has_returns_alone text = list_any is_return text && not (list_any is_feed text)
 
--- > (62) behind blanks
+-- > (62) after blanks
 abbrev pub is_indented_event : List ℕ → Bool
 is_indented_event line = not (begins (62 ∷ []) line) && first_begins (62 ∷ []) (fields_of line)
 

@@ -1,4 +1,4 @@
-//! The kinds of files that are taken for records.
+//! The kinds of files that are mistaken for records.
 ghost use Rattle.std.specs.Prelude.{◌≡◌, ◌↔◌, IsTrue};
 ghost use Rattle.std.specs.List.{list_any};
 ghost use Rattle.text_lines.specs.Lines.{is_feed, lines_in};
@@ -11,46 +11,46 @@ use text_lines::{Lines, next_field, without_mark};
 pub enum FileKind {
     /// It has no byte.
     Empty,
-    /// It begins as a compiled lexicon.
+    /// It begins like a compiled lexicon.
     Lexicon,
-    /// It begins as a file that `gzip` made ([RFC 1952](https://www.rfc-editor.org/rfc/rfc1952), 2.3.1).
+    /// It begins like a file that `gzip` made ([RFC 1952](https://www.rfc-editor.org/rfc/rfc1952), 2.3.1).
     Gzip,
-    /// It begins as an archive of the format ZIP.
+    /// It begins like an archive of the format ZIP.
     Zip,
-    /// It begins as text in UTF-16, with a byte order mark or with a zero byte for every other one.
+    /// It begins like text in UTF-16, with a byte order mark or with a zero byte for every other one.
     Utf16,
     /// Its first field begins with `<`, as that of HTML does.
     Markup,
-    /// Its lines end in CR alone.
+    /// Its lines end in CR only.
     Returns,
-    /// Some line is an event but for the blanks before it.
+    /// Some line would be an event without the blanks before it.
     Indented,
     /// It is none of these.
     Other,
 }
 
-/// Whether a text begins as a compiled lexicon of either format.
+/// Whether a text begins like a compiled lexicon of either format.
 fn is_lexicon(text: &[u8]) -> bool
     ensures { result ≡ is_lexicon text.now }
 {
     text.starts_with(b"GAD1") || text.starts_with(b"GAD2")
 }
 
-/// Whether a text begins as a file that `gzip` made.
+/// Whether a text begins like a file that `gzip` made.
 fn is_gzip(text: &[u8]) -> bool
     ensures { result ≡ is_gzip text.now }
 {
     text.starts_with(&[0x1f, 0x8b])
 }
 
-/// Whether a text begins as a ZIP archive.
+/// Whether a text begins like a ZIP archive.
 fn is_zip(text: &[u8]) -> bool
     ensures { result ≡ is_zip text.now }
 {
     text.starts_with(&[0x50, 0x4b, 3, 4])
 }
 
-/// Whether a text begins as one in UTF-16.
+/// Whether a text begins like one in UTF-16.
 fn is_wide(text: &[u8]) -> bool
     ensures { result ≡ is_wide text.now }
 {
@@ -104,7 +104,7 @@ fn is_indented_event(line: &[u8]) -> bool
     }
 }
 
-/// Whether some line of a text is an event but for the blanks before it.
+/// Whether some line of a text would be an event without the blanks before it.
 fn has_indented_events(text: &[u8]) -> bool
     ensures { result ≡ has_indented_events text.now }
 {
@@ -116,21 +116,21 @@ fn has_indented_events(text: &[u8]) -> bool
     false
 }
 
-/// Whether a line of a text, behind a byte order mark, begins as an event does.
+/// Whether a line of a text, after a byte order mark, begins like an event.
 pub fn has_events(text: &[u8]) -> bool
     ensures { result ≡ has_events text.now }
 {
     has_event_lines(without_mark(text))
 }
 
-/// Whether a line begins as an event does.
+/// Whether a line begins like an event.
 fn is_event(line: &[u8]) -> bool
     ensures { result ≡ is_event line.now }
 {
     line.starts_with(b">")
 }
 
-/// Whether some line begins as an event does.
+/// Whether some line begins like an event.
 fn has_event_lines(text: &[u8]) -> bool
     ensures { result ≡ list_any is_event (lines_in text.now) }
 {
@@ -143,7 +143,7 @@ fn has_event_lines(text: &[u8]) -> bool
 }
 
 impl FileKind {
-    /// What a text without an event seems to be: the first kind, in the order in which they are declared, of which it has the signs.
+    /// What a text without an event seems to be: the first kind, in the order in which they are declared, whose signs it has.
     #[tactic(auto, unfolding(crate::specs::Kinds::kind_of))]
     pub fn of(text: &[u8]) -> FileKind
         ensures { result ≡ kind_of text.now }

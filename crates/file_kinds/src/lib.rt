@@ -1,4 +1,4 @@
-//! What a file seems to be that was given as a game record and has no event, by its first bytes.
+//! What a file that was given as a game record and has no event seems to be, by its first bytes.
 #![tactic(auto)]
 
 mod kinds;

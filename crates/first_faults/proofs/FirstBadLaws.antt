@@ -1,10 +1,10 @@
--- The first fault of items that are checked one after the other.
+-- The first fault of items that are checked in order.
 use Rattle.std.proofs.Common.{◌≡◌, ℕ, ◌+◌, List, [], ◌∷◌, ◌++◌, length, Option, Some, None, refl, sym, ap, ◌∙◌, subst, append_assoc, append-nil}
 use Rattle.std.specs.Prelude.{option_map}
 use Rattle.std.specs.Option.{option_or}
 use Rattle.first_faults.specs.FirstBad.{first_bad, IsFirstBad}
 
--- where there is no fault, the first item has none, and the others have none
+-- if there is no fault, the first item has none, and the others have none
 pub no_earlier : {W F : Type 0} (named : W → F) (here : Option W) (later : Option F) → option_or (option_map named here) later ≡ None → (here ≡ None) × (later ≡ None)
 no_earlier named None later e = (refl, e)
 no_earlier named (Some why) later e = absurd cc
@@ -40,7 +40,7 @@ module _ {X W F : Type 0} (named : ℕ → W → F) (check : List X → X → Op
   pub first_bad-is : (items : List X) (fault : F) → first_bad named check [] items ≡ Some fault → IsFirstBad named check items fault
   first_bad-is items fault e = first_from [] items fault refl e
 
-  -- where the items so far have the fault of all items, and no more are left, they are all of them, and none has a fault
+  -- if the items so far have the fault of all items, and no more are left, they are all of them, and none has a fault
   pub none_left : (items before behind : List X) → behind ≡ [] → first_bad named check before behind ≡ first_bad named check [] items → before ++ behind ≡ items
       → (first_bad named check [] items ≡ None) × (before ≡ items)
   none_left items before behind none same whole = (

@@ -1,12 +1,12 @@
--- Checks in their order: the first that fails is the fault.
+-- Checks in order: the first that fails is the fault.
 use Rattle.std.specs.Prelude.{◌≡◌, Bool, true, false, List, [], ◌∷◌, Option, Some, None, Result, Ok, Err}
 
--- a check that fails where the test holds
+-- a check that fails if the test holds
 abbrev pub fails : {F : Type 0} → Bool → F → Option F
 fails true fault = Some fault
 fails false fault = None
 
--- a check that fails where the test does not hold
+-- a check that fails if the test does not hold
 abbrev pub passes : {F : Type 0} → Bool → F → Option F
 passes true fault = None
 passes false fault = Some fault
@@ -17,12 +17,12 @@ first_fault [] = None
 first_fault (None ∷ checks) = first_fault checks
 first_fault (Some fault ∷ checks) = Some fault
 
--- the answer is Ok exactly where there is no fault, and else it is that fault
+-- the answer is Ok exactly when there is no fault, and otherwise is that fault
 abbrev pub Refuses : {A F : Type 0} → Result A F → Option F → Type 0
 Refuses (Ok _) fault = fault ≡ None
 Refuses (Err here) fault = fault ≡ Some here
 
--- the value, or the fault where there is one
+-- the value, or the fault, if there is one
 abbrev pub or_fault : {A F : Type 0} → Option F → A → Result A F
 or_fault None x = Ok x
 or_fault (Some fault) x = Err fault

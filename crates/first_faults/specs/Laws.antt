@@ -1,4 +1,4 @@
--- What the first fault of a list of checks is, in other words.
+-- What the first fault of a list of checks is, put differently.
 use Rattle.std.specs.Prelude.{◌≡◌, ◌↔◌, List, ◌∷◌, ◌++◌, Option, Some, None, All}
 use Rattle.first_faults.specs.Checks.{first_fault}
 
@@ -13,7 +13,7 @@ pub record IsFirstFault {F : Type 0} (checks : List (Option F)) (fault : F) : Ty
   pub whole : before ++ Some fault ∷ behind ≡ checks
   pub earlier : HaveNoFault before
 
--- there is no first fault exactly where no check has a fault
+-- there is no first fault exactly when no check has a fault
 abbrev pub NoFaultIsNowhere : Type 0 → Type 0
 NoFaultIsNowhere F = (checks : List (Option F)) → (first_fault checks ≡ None) ↔ HaveNoFault checks
 

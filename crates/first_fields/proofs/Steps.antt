@@ -29,7 +29,7 @@ rest_none Beginning = refl
 rest_none Field = refl
 rest_none Behind = refl
 
--- what is kept of a byte that ends no line
+-- what is kept of a byte that does not end a line
 kept_within : Place → ℕ → List ℕ
 kept_within place byte = if is_field (place_within place byte) then byte ∷ [] else []
 
@@ -57,13 +57,13 @@ rest_more Beginning byte line = first_by byte line (byte == 35) (is_blank byte) 
 rest_more Field byte line = field_by byte line (is_blank byte) refl
 rest_more Behind byte line = refl
 
--- what stands before the first line of joined lines stands before all
+-- what is before the first line of joined lines is before all
 joined_more : (front line : List ℕ) (lines : List (List ℕ))
     → join_with_byte 10 ((front ++ line) ∷ lines) ≡ front ++ join_with_byte 10 (line ∷ lines)
 joined_more front line [] = refl
 joined_more front line (next ∷ lines) = append_assoc front line (10 ∷ join_with_byte 10 (next ∷ lines))
 
--- lines with one more byte in front of the first
+-- lines with one more byte before the first
 lines_more : (place : Place) (byte : ℕ) (lines : List (List ℕ))
     → join_with_byte 10 (rests_of place (onto_first byte lines))
     ≡ kept_within place byte ++ join_with_byte 10 (rests_of (place_within place byte) lines)
@@ -104,12 +104,12 @@ kept_more place next front kept byte h rest =
     ap (fields_from place) (append_assoc front (byte ∷ []) rest) ∙ h (byte ∷ rest) ∙ ap (λ l. kept ++ l) (more next byte rest)
     ∙ sym (append_assoc kept (kept_of next byte) (fields_from (place_after next byte) rest))
 
--- nothing is kept of no text
+-- nothing is kept of an empty text
 none_from : (place : Place) → fields_from place [] ≡ []
 unfolding fields_from rests_of
 none_from place = rest_none place
 
--- what is kept of the bytes that are left where a front of them was taken
+-- what is kept of the bytes that are left after a front of them was taken
 pub fields_taken : (place next : Place) (a b : Option (List ℕ)) (front kept : List ℕ) → Consumes a b front → IsKept place front next kept
     → Consumes (option_map (fields_from place) a) (option_map (fields_from next) b) kept
 fields_taken place next None b front kept h k = tt

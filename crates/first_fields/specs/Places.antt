@@ -13,7 +13,7 @@ rest_of Beginning line = first_field line
 rest_of Field line = take_while is_solid line
 rest_of Behind line = []
 
--- the same of lines, of which the first is read from a place in it on
+-- the same for lines, of which the first is read from a place in it on
 unfoldable pub rests_of : Place → List (List ℕ) → List (List ℕ)
 rests_of place [] = []
 rests_of place (line ∷ lines) = rest_of place line ∷ map first_field lines
@@ -22,13 +22,13 @@ rests_of place (line ∷ lines) = rest_of place line ∷ map first_field lines
 unfoldable pub fields_from : Place → List ℕ → List ℕ
 fields_from place text = join_with_byte 10 (rests_of place (slice_split is_feed text))
 
--- the place behind a byte that ends no line
+-- the place after a byte that does not end a line
 unfoldable pub place_within : Place → ℕ → Place
 place_within Beginning byte = if byte == 35 || is_blank byte then Behind else Field
 place_within Field byte = if is_blank byte then Behind else Field
 place_within Behind byte = Behind
 
--- the place behind a byte
+-- the place after a byte
 unfoldable pub place_after : Place → ℕ → Place
 place_after place byte = if byte == 10 then Beginning else place_within place byte
 
@@ -41,6 +41,6 @@ is_field Behind = false
 unfoldable pub kept_of : Place → ℕ → List ℕ
 kept_of place byte = if byte == 10 || is_field (place_within place byte) then byte ∷ [] else []
 
--- a front of a text that was read from a place on: what is kept of it, and the place behind it
+-- a front of a text that was read from a place on: what is kept of it, and the place after it
 abbrev pub IsKept : Place → List ℕ → Place → List ℕ → Type 0
 IsKept place front next kept = (rest : List ℕ) → fields_from place (front ++ rest) ≡ kept ++ fields_from next rest

@@ -1,4 +1,4 @@
-//! The first fields of the lines of a text that is read: word lists with something behind each word, and remarks.
+//! The first fields of the lines of a text: for word lists with something after each word, and with remarks.
 #![tactic(auto)]
 
 mod places;

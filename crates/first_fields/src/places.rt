@@ -1,16 +1,16 @@
-//! Where a reader of first fields stands in a line, and what it keeps.
+//! Where a reader of first fields is in a line, and what it keeps.
 ghost use Rattle.std.specs.Prelude.{◌≡◌, ◌<◌, ◌≤◌, ◌+◌, ◌++◌, ◌==◌, ◌||◌, length, take};
 ghost use Rattle.text_lines.specs.Fields.{is_blank};
 ghost use Rattle.first_fields.specs.Places.{place_within, place_after, is_field, kept_of, IsKept};
 
-/// Where a reader stands in a line.
+/// Where a reader is in a line.
 #[derive(Clone, Copy, Debug, PartialEq, Eq)]
 pub enum Place {
     /// At its beginning.
     Beginning,
     /// In its first field.
     Field,
-    /// Behind its first field, or in a remark.
+    /// After its first field, or in a remark.
     Behind,
 }
 
@@ -22,7 +22,7 @@ fn is_blank(byte: u8) -> bool
 }
 
 impl Place {
-    /// The place behind a byte that ends no line.
+    /// The place after a byte that does not end a line.
     #[tactic(auto, unfolding(crate::specs::Places::place_within))]
     fn within(self, byte: u8) -> Place
         ensures { result ≡ place_within self byte }
@@ -35,7 +35,7 @@ impl Place {
         }
     }
 
-    /// Whether it is in the first field.
+    /// Whether this place is in the first field.
     fn is_field(self) -> bool
         ensures { result ≡ is_field self }
     {
@@ -46,17 +46,17 @@ impl Place {
     }
 }
 
-/// How many bytes are kept, and the place behind them.
+/// How many bytes are kept, and the place after them.
 #[derive(Clone, Copy, Debug)]
 pub struct Kept {
-    /// How many they are.
+    /// How many bytes are kept.
     pub len: usize,
     /// The place.
     pub place: Place,
 }
 
 impl Kept {
-    /// Reads one more byte, and puts it into the buffer behind those that are kept where it is one of them.
+    /// Reads one more byte, and appends it to those that are kept in the buffer if it is one of them.
     #[tactic(auto, unfolding(crate::specs::Places::place_after, crate::specs::Places::kept_of))]
     fn take_byte(&mut self, byte: u8, buf: &mut [u8])
         requires { self.old.len < length buf.old }
@@ -75,7 +75,7 @@ impl Kept {
     }
 }
 
-/// Puts what is kept of a chunk, from a place on, into the front of a buffer.
+/// Puts what is kept of a chunk, from a place on, at the front of a buffer.
 pub fn keep_fields(place: Place, chunk: &[u8], buf: &mut [u8]) -> Kept
     requires { length chunk.now ≤ length buf.old }
     ensures room { length buf.new ≡ length buf.old }

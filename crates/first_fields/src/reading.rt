@@ -1,4 +1,4 @@
-//! A reader that hands out the first fields of the lines of another one.
+//! A reader that gives the first fields of the lines of another one.
 ghost use Rattle.std.specs.Prelude.{◌≡◌, ◌<◌, ◌≤◌, length, take, option_map, IfOk, OnErr};
 ghost use Rattle.std.specs.Io.KnownBytes.{Consumes, IsAtEnd, Keeps};
 ghost use Rattle.first_fields.specs.Fields.{first_fields};
@@ -7,10 +7,10 @@ ghost use Rattle.first_fields.specs.Places.{fields_from};
 use crate::places::{Place, keep_fields};
 use std::io::{Error, ErrorKind, Read, Result};
 
-/// How many bytes one read asks for at most.
+/// The greatest number of bytes that one read asks for.
 const CHUNK: usize = 8192;
 
-/// A reader whose text has the first field of each line in place of the line: what stands before its first space or tab. A line that
+/// A reader whose text has the first field of each line in place of the line: what is before its first space or tab. A line that
 /// begins with `#` becomes an empty one, so that lines keep their numbers.
 #[derive(Drop)]
 pub struct FirstFields<R> {
@@ -18,7 +18,7 @@ pub struct FirstFields<R> {
     place: Place,
 }
 
-/// What a read of a chunk came to.
+/// The result of reading a chunk.
 #[derive(Clone, Copy, Debug)]
 struct Chunk {
     /// How many bytes were read.
@@ -38,14 +38,14 @@ impl<R: Read + Drop> FirstFields<R> {
         }
     }
 
-    /// The inner reader, behind what was read of it.
+    /// The inner reader, after what was read from it.
     pub fn inner(&self) -> &R
         ensures { option_map (fields_from self.now.place) (R.remaining result.now) ≡ ⟦<FirstFields<R> as Read>⟧.remaining self.now }
     {
         &self.inner
     }
 
-    /// The inner reader, behind what was read of it.
+    /// The inner reader, after what was read from it.
     pub fn into_inner(self) -> R
         ensures { option_map (fields_from self.place) (R.remaining result) ≡ ⟦<FirstFields<R> as Read>⟧.remaining self }
     {

@@ -60,7 +60,7 @@ none_answered rules list events = record { as_many = refl; each = λ k x there. 
 pub no_answers : (rules : Rules) (list : List (List ℕ)) (events : List Event) (answers : List EventAnswer) → answers ≡ [] → AreAnswersTo rules list events 0 answers
 no_answers rules list events answers none = subst (λ xs. AreAnswersTo rules list events 0 xs) (sym none) (none_answered rules list events)
 
--- one answer more
+-- one more answer
 pub answers_more : (rules : Rules) (list : List (List ℕ)) (events : List Event) (place : ℕ) (answers more : List EventAnswer) (a : EventAnswer) → AreAnswersTo rules list events place answers
     → IsAnswerAt rules list events place a → more ≡ answers ++ a ∷ [] → AreAnswersTo rules list events (place + 1) more
 answers_more rules list events place answers more a are at pushed =
@@ -70,7 +70,7 @@ answers_more rules list events place answers more a are at pushed =
       each = λ k x there. each_more rules list events place answers a are at k x there (below_or_past k (length answers));
     })
 
--- ---- what is answered of an event
+-- ---- what is answered for an event
 
 by_states : (rules : Rules) (list : List (List ℕ)) (events : List Event) (place : ℕ) (e : Event) (s t : State) (a : EventAnswer) → slice_get events place ≡ Some e → s ≡ tally_at rules events place
     → t ≡ tally_at rules events (place + 1) → IsTurnBest rules list s e (given_at events place e) a.best → tiles_in a.play ≡ latest_tiles t.latest → a.word.items ≡ word_of t.board e.kind
@@ -89,7 +89,7 @@ by_states rules list events place e s t a stands before behind best tiles word u
 pub best_by_own : (own rules : Rules) (list : List (List ℕ)) (st : State) (e : Event) (gave : ℤ) (b : TurnBest) → own ≡ rules → IsTurnBest own list st e gave b → IsTurnBest rules list st e gave b
 best_by_own own rules list st e gave b same is = subst (λ (r : Rules). IsTurnBest r list st e gave b) same is
 
--- The machine before the event, and behind it; `game` is the record as it was lent, and `listed` the list.
+-- The machine before the event, and after it; `game` is the record as it was lent, and `listed` the list.
 pub answer_is : (rules : Rules) (list listed : List (List ℕ)) (game r : Record) (shown : List Event) (place : ℕ) (e : Event) (before behind : Machine) (gave : ℤ) (b : TurnBest)
     (a : EventAnswer) → state_of before ≡ tally_at rules r.events place → state_of behind ≡ tally_at rules r.events (place + 1) → game ≡ r → shown ≡ game.events → listed ≡ list
     → place < length r.events → e ≡ get_or shown place e → gave ≡ given_at shown place e → IsTurnBest rules list (state_of before) e gave b → a.best ≡ b

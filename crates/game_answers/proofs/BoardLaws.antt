@@ -19,7 +19,7 @@ use Rattle.game_answers.specs.declared.boards.ShownBoard.{ShownBoard}
 use Rattle.game_answers.specs.Boards.{row_marks, board_marks, kinds_off, line_at, IsShownBoard}
 use Rattle.game_answers.proofs.BoardTexts.{told_board}
 
--- one row more
+-- one more row
 pub row_more : (rules : Rules) (board : List (Option Tile)) (row : ℕ) (rows : List (ArrayVec ℕ)) (more : ArrayVec ℕ) → items_of rows ≡ board_marks rules board row
     → more.items ≡ row_marks rules board row 15 → items_of (rows ++ more ∷ []) ≡ board_marks rules board (row + 1)
 unfolding board_marks

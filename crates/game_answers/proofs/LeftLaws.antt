@@ -7,7 +7,7 @@ use Rattle.gcg_read.specs.declared.events.Seat.{Seat}
 use Rattle.game_answers.specs.declared.answers.EventAnswer.{EventAnswer}
 use Rattle.game_answers.specs.Leaving.{left_of, left_at, left_to}
 
--- one event more
+-- one more event
 pub left_more : (player : Seat) (events : List Event) (answers : List EventAnswer) (place : ℕ) (e : Event) (a : EventAnswer) (left more sum : ℤ) → length answers ≡ length events → place < length events
     → e ≡ get_or events place e → a ≡ get_or answers place a → left ≡ left_to player events answers place → more ≡ left_of player e a → sum ≡ left +ℤ more
     → sum ≡ left_to player events answers (place + 1)
@@ -20,7 +20,7 @@ left_more player events answers place e a left more sum many below read answer s
     ∙ ap (λ o. left_to player events answers place +ℤ left_at player (slice_get events place) o) (sym answered)
     ∙ ap (left_to player events answers) step
 
--- behind the last event
+-- after the last event
 pub left_in_all : (player : Seat) (events : List Event) (answers : List EventAnswer) (place : ℕ) (left : ℤ) → place ≡ length events → left ≡ left_to player events answers place
     → left ≡ left_to player events answers (length events)
 left_in_all player events answers place left last is = is ∙ ap (left_to player events answers) last

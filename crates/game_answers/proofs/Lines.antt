@@ -64,7 +64,7 @@ are_lines rules list r many answers d are (suc first) within =
     (are_lines rules list r many answers d are first (omega arith))
     (record { told = line_of r.players (slice_get r.events first) (slice_get answers first); is_told = at_place rules list r many first answers (get_or answers first d) are (omega arith) there; behind = refl }))
 
--- without a default: where there is an answer, it is one; else there are no events
+-- without a default: if there is an answer, it is one; otherwise there are no events
 by_list : (rules : Rules) (list : List (List ℕ)) (r : Record) (many : ℕ) (answers all : List EventAnswer) → all ≡ answers → AreAnswersTo rules list r.events many answers
     → Appends (AreEventLines rules list r many) [] (lines_to r.players r.events answers many)
 by_list rules list r many answers [] same are =

@@ -1,4 +1,4 @@
--- The best plays as values, and the lines that a report makes of them.
+-- The best plays as values, and the lines that a report makes from them.
 use Rattle.std.proofs.Common.{◌≡◌, ℕ, ℤ, ◌≤◌, List, [], ◌∷◌, ◌++◌, length, map, take, refl, ap, ◌∙◌, Option}
 use Rattle.std.specs.List.{flat_map}
 use Rattle.std.proofs.lemmas.List.{take_all}
@@ -13,12 +13,12 @@ use Rattle.game_report.proofs.Fronts.{fewer_plays}
 use Rattle.game_answers.specs.declared.plays.ScoredPlay.{ScoredPlay}
 use Rattle.game_answers.specs.Plays.{play_on, ArePlaysOn, AreBestPlays, told_line, told_text, plays_text}
 
--- all plays, once none is left
+-- all plays, when none is left
 pub all_plays : (board : List (Option Tile)) (plays : List (Play × ℤ)) (many : ℕ) (kept : List ScoredPlay) → length plays ≤ many → ArePlaysOn board (map seen_pair (take many plays)) kept
     → ArePlaysOn board (map seen_pair plays) kept
 all_plays board plays many kept all is = is ∙ ap (λ (ps : List (Play × ℤ)). map (play_on board) (map seen_pair ps)) (take_all many plays all)
 
--- the first so many of the plays that were kept are the first so many of all
+-- the first n of the plays that were kept are the first n of all
 pub front_best : (many n : ℕ) (rules : Rules) (list : List (List ℕ)) (board : List (Option Tile)) (rack : List ℕ) (kept seen : List Given) (plays : List ScoredPlay) → n ≤ many
     → AreFirstPlays many rules list board rack kept → seen ≡ kept → ArePlaysOn board (take n seen) plays → AreBestPlays n rules list board rack plays
 front_best many n rules list board rack kept seen plays few are same told =

@@ -1,4 +1,4 @@
--- What is found where the best plays before a line are asked for, and the report of it.
+-- What is found for a question about the best plays before a line, and its report.
 use Rattle.std.proofs.Common.{ℕ, List, Option, Some, None, inl, inr, refl, sym, subst}
 use Rattle.std.specs.Prelude.{slice_get}
 use Rattle.ref_tiles.specs.declared.rulebook.Rules.{Rules}

@@ -1,4 +1,4 @@
--- Verdicts on records with what is answered of their events, as `judge` answers them.
+-- Verdicts on records with what is answered for their events, as `judge` answers them.
 use Rattle.std.proofs.Common.{◌≡◌, ℕ, List, [], length, Option, Some, None, refl, sym, ap, ◌∙◌, subst}
 use Rattle.ref_tiles.specs.declared.rulebook.Rules.{Rules}
 use Rattle.gcg_read.specs.declared.events.Event.{Event}
@@ -32,7 +32,7 @@ use Rattle.game_answers.specs.Leaving.{AreLeft}
 use Rattle.game_answers.specs.Reports.{lines_to, report_by}
 use Rattle.game_answers.proofs.Lines.{lines_of_answers}
 
--- ---- what is told of a verdict, with the lines of the events
+-- ---- the report of a verdict, with the lines of the events
 
 legal_told : (rules : Rules) (words : List (List ℕ)) (r : Record) (v : Verdict) (lines : List ℕ) → v ≡ legal_verdict rules r.events → AreEventLines rules words r (length r.events) lines
     → IsToldLegal rules words r v (report_by v lines)

@@ -1,4 +1,4 @@
--- What is answered of each event of a record of which the rules allow every event.
+-- What is answered for each event of a record in which the rules allow every event.
 use Rattle.std.specs.Prelude.{◌≡◌, ℕ, ◌+◌, List, length, slice_get, option_map, Option, Some}
 use Rattle.ref_tiles.specs.declared.rulebook.Rules.{Rules}
 use Rattle.ref_play.specs.declared.placed.Placed.{Placed}
@@ -12,13 +12,13 @@ use Rattle.game_answers.specs.Given.{given_at}
 use Rattle.game_answers.specs.Letters.{word_of}
 use Rattle.event_notes.specs.Unlisted.{letters_in, unlisted_of}
 
--- the tiles of a play, where there is one
+-- the tiles of a play, if there is one
 abbrev pub tiles_in : Option Play → Option (List Placed)
 tiles_in play = option_map (λ (p : Play). p.tiles.items) play
 
--- An answer is that of the event at a place, counted from 0, where every event before it is allowed: its best play, by the state before it
--- and by what it gave; and by the state behind it, the tiles that it put down or took back, the word that the squares of its text show, and the words of a play that
--- stands which are not in the list.
+-- An answer is that of the event at a place, counted from 0, if every event before it is allowed: its best play, by the state before it and by what
+-- it gave; and by the state after it, the tiles that it put down or took back, the word that the squares of its text show, and the words of a play
+-- that stands which are not in the list.
 pub record IsAnswerAt (rules : Rules) (list : List (List ℕ)) (events : List Event) (place : ℕ) (a : EventAnswer) : Type 0 where
   pub event : Event
   pub stands : slice_get events place ≡ Some event

@@ -1,4 +1,4 @@
--- The text of a board, as it is written from its value alone.
+-- The text of a board, as it is written only from its value.
 use Rattle.std.specs.Prelude.{ℕ, ℤ, ◌+◌, List, [], ◌∷◌, ◌++◌, codes, decimal, take, drop, Option, Some, None}
 use Rattle.std.specs.Fmt.{signed_decimal}
 use Rattle.std.specs.List.{flat_map}
@@ -7,12 +7,12 @@ use Rattle.gcg_read.specs.declared.players.Player.{Player}
 use Rattle.game_board.specs.Texts.{end_text, row_name, columns_line, marks_lines, short_nick, stated_rack, counted_kind}
 use Rattle.game_answers.specs.declared.boards.ShownBoard.{ShownBoard}
 
--- which board it is, by the line of the event before which it is
+-- which board it is, by the line of the event that it comes before
 abbrev pub heading_of : (line : Option ℕ) → List ℕ
 heading_of None = codes "board after the last event"
 heading_of (Some line) = codes "board before line " ++ decimal line
 
--- the line of a row by its marks, each behind a space
+-- the line of a row by its marks, each after a space
 abbrev pub told_row : (row : ℕ) → (marks : List ℕ) → List ℕ
 told_row row marks = row_name row ++ flat_map (λ mark. 32 ∷ mark ∷ []) marks ++ 10 ∷ []
 

@@ -20,7 +20,7 @@ use Rattle.engine.specs.TopBefore.{shown_rack}
 use Rattle.game_answers.specs.declared.boards.ShownBoard.{ShownBoard}
 use Rattle.game_answers.specs.BoardTexts.{shown_text}
 
--- the mark of a square of a row: its tile, or its premium where it is empty
+-- the mark of a square of a row: its tile, or its premium if it is empty
 abbrev pub mark_at : Rules → List (Option Tile) → (row column : ℕ) → ℕ
 mark_at rules board row column = square_mark rules board (15 * row + column)
 
@@ -36,14 +36,14 @@ board_marks rules board many = map (λ row. row_marks rules board row 15) (range
 unfoldable pub kinds_off : Rules → List (Option Tile) → (many : ℕ) → List ℕ
 kinds_off rules board many = map (off_board rules board) (range_with_len 0 many)
 
--- the line of an event, where there is one
+-- the line of an event, if there is one
 abbrev pub line_at : Option Event → Option ℕ
 line_at None = None
 line_at (Some e) = Some e.line
 
--- The board to which the plays before a place are laid, as far as they can be: of the event there its line, why its play cannot be laid, and its
+-- The board on which the plays before a place are laid, as far as they can be: of the event there its line, why its play cannot be laid, and its
 -- rack; the mark of each square; the last totals of the players that are written before; and the tiles that are not on the board. The text that is
--- written from these alone is the one that `board` writes.
+-- written only from these is the one that `board` writes.
 pub record IsShownBoard (rules : Rules) (r : Record) (asked : ℕ) (b : ShownBoard) : Type 0 where
   pub end : ℕ
   pub laid : AreLaid r.events asked end b.fault
@@ -57,7 +57,7 @@ pub record IsShownBoard (rules : Rules) (r : Record) (asked : ℕ) (b : ShownBoa
   pub off_in_all : b.off_in_all ≡ all_off rules (board_before r.events end) 27
   pub told : IsShown rules r asked verdict.Done (shown_text b)
 
--- the board before the place that is asked for, where there is one
+-- the board before the place of the question, if there is one
 abbrev pub IsBoardAt : Rules → Record → (place : Option ℕ) → Option ShownBoard → Type 0
 IsBoardAt rules r None b = b ≡ None
 IsBoardAt rules r (Some place) None = ⊥

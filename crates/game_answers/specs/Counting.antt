@@ -14,7 +14,7 @@ IsCounted words (Err d) texts v report = ⊥
 done_later : IsLater verdict.Done
 done_later = record { rules = λ bad. cc; words = λ bad. cc; lexicon = λ bad. cc }
 
--- no answer is that an input before it is bad
+-- no answer is that an input before this one is bad
 pub counted_later : (words : List (List ℕ)) (x : Result ℕ Decision) (texts : List (List ℕ)) (v : Verdict) (report : List ℕ) → IsCounted words x texts v report → IsLater v
 counted_later words (Ok many) [] v report is = subst IsLater (sym is.1.verdict_is) done_later
 counted_later words (Ok many) (text ∷ rest) v report is = absurd is

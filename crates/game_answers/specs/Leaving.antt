@@ -9,14 +9,14 @@ use Rattle.event_notes.specs.declared.bests.TurnBest.{TurnBest}
 use Rattle.event_notes.specs.declared.bests.TurnBest.TheVariants as best
 use Rattle.game_answers.specs.declared.leaving.GameAnswers.{GameAnswers}
 
--- how many points more the best play of an event would have given, where it is known
+-- how many points more the best play of an event would have given, or 0 if it is not known
 abbrev pub more_in : TurnBest → ℤ
 more_in best.NoTurn = pos 0
 more_in best.NotShown = pos 0
 more_in best.NoPlay = pos 0
 more_in (best.Best b) = b.more
 
--- the same of the events of a player
+-- the same for the events of a player
 abbrev pub left_of : (player : Seat) → Event → EventAnswer → ℤ
 left_of player e a = if same_seat e.player player then more_in a.best else pos 0
 
@@ -30,7 +30,7 @@ abbrev pub left_to : (player : Seat) → List Event → List EventAnswer → (ma
 left_to player events answers zero = pos 0
 left_to player events answers (suc many) = left_to player events answers many +ℤ left_at player (slice_get events many) (slice_get answers many)
 
--- the sum over all events, where a number of 64 bits has it
+-- the sum over all events, if it fits in 64 bits
 abbrev pub IsLeftBy : (player : Seat) → List Event → List EventAnswer → Option ℤ → Type 0
 IsLeftBy player events answers None = ⊤
 IsLeftBy player events answers (Some left) = left ≡ left_to player events answers (length events)

@@ -14,8 +14,8 @@ use Rattle.gcg_read.specs.declared.events.EventKind.TheVariants as kind
 unfoldable pub shown_from : (board : List (Option Tile)) → (at : ℕ) → Dir → (many : ℕ) → List ℕ
 shown_from board at dir many = map (λ k. capital_shown (tile_at board (along dir at k))) (range_with_len 0 many)
 
--- The word of a play, by the board behind it: the letters that the squares of its text show. None of a text that leaves the board, which the
--- rules never allow, and none of other events.
+-- The word of a play, by the board after it: the letters that the squares of its text show. None if the text leaves the board, which the
+-- rules never allow, and none for other events.
 abbrev pub word_of : (board : List (Option Tile)) → EventKind → List ℕ
 word_of board (kind.Play at dir word) = if nat_lt 15 (place_of dir at + length word) then [] else shown_from board at dir (length word)
 word_of board kind.Pass = []

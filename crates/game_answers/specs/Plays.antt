@@ -14,7 +14,7 @@ use Rattle.game_answers.specs.declared.plays.ScoredPlay.{ScoredPlay}
 abbrev pub told_play : ScoredPlay → Written × ℤ
 told_play p = (written p.written, p.score)
 
--- the same of a play on a board
+-- the same for a play on a board
 abbrev pub play_on : (board : List (Option Tile)) → Given → Written × ℤ
 play_on board given = (notation_of board given.tiles, given.score)
 
@@ -22,15 +22,15 @@ play_on board given = (notation_of board given.tiles, given.score)
 abbrev pub ArePlaysOn : (board : List (Option Tile)) → List Given → List ScoredPlay → Type 0
 ArePlaysOn board given plays = map told_play plays ≡ map (play_on board) given
 
--- these are the best so many candidates by a rack on a board, best first: all of them where they are fewer
+-- these are the best `number` candidates by a rack on a board, best first: all of them if there are fewer
 abbrev pub AreBestPlays : (number : ℕ) → Rules → (list : List (List ℕ)) → (board : List (Option Tile)) → (rack : List ℕ) → List ScoredPlay → Type 0
 AreBestPlays number rules list board rack plays = (given : List Given) × AreFirstPlays number rules list board rack given × ArePlaysOn board given plays
 
--- how a report tells a play
+-- the text of a play in a report
 abbrev pub told_line : Written × ℤ → List ℕ
 told_line p = notation_text p.0 ++ 32 ∷ signed_decimal p.1 ++ 10 ∷ []
 
--- how a report tells plays: a line for each, or that there is none
+-- the text of plays in a report: a line for each, or that there is none
 abbrev pub told_text : List (Written × ℤ) → List ℕ
 told_text [] = codes "none\n"
 told_text (p ∷ more) = flat_map told_line (p ∷ more)

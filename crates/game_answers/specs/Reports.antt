@@ -1,4 +1,4 @@
--- The report of a judged game, as it is written from its value alone.
+-- The report of a judged game, as it is written only from its value.
 use Rattle.std.specs.Prelude.{ℕ, zero, suc, List, [], ◌∷◌, ◌++◌, codes, decimal, slice_get, Option, Some, None}
 use Rattle.std.specs.List.{flat_map}
 use Rattle.gcg_read.specs.declared.events.Event.{Event}
@@ -12,7 +12,7 @@ use Rattle.game_answers.specs.declared.answers.EventAnswer.{EventAnswer}
 use Rattle.event_notes.specs.Tellings.{best_told}
 use Rattle.event_notes.specs.Unlisted.{letters_in}
 
--- how a report tells words that are not in the list: ' unlisted' and each behind a space, or nothing where there are none
+-- the text of the words that are not in the list in a report: ' unlisted' and each after a space, or nothing if there are none
 abbrev pub unlisted_told : List (List ℕ) → List ℕ
 unlisted_told [] = []
 unlisted_told (word ∷ words) = codes " unlisted" ++ flat_map (λ w. 32 ∷ w) (word ∷ words)

@@ -25,15 +25,15 @@ verdict_of (found.Refused line why) = verdict.Illegal line (game.Rule why)
 verdict_of found.NoRack = verdict.BadRack
 verdict_of found.NoLine = verdict.BadLine
 
--- the report that is written from it alone
+-- the report that is written only from it
 abbrev pub plays_report : FoundPlays → List ℕ
 plays_report (found.Plays rack plays) = plays_text plays.items
 plays_report (found.Refused line why) = illegal_line line (game.Rule why)
 plays_report found.NoRack = bad_rack_line
 plays_report found.NoLine = bad_line_line
 
--- What is found before a place by the rack that is asked about, where there is one: the best plays by it, where the rules allow each event
--- before the place; else the first event that they do not allow.
+-- What is found before a place by the rack of the question, if there is one: the best plays by it, if the rules allow each event before
+-- the place; otherwise the first event that they do not allow.
 abbrev pub AreFoundBy : (number : ℕ) → Rules → (list : List (List ℕ)) → List Event → (place : ℕ) → (rack : Option (List ℕ)) → FoundPlays → Type 0
 AreFoundBy number rules list events place rack (found.Plays own plays) =
     (rack ≡ Some own) × AreAllowedTo rules list events place × AreBestPlays number rules list (tally_at rules events place).board own plays.items
@@ -41,18 +41,18 @@ AreFoundBy number rules list events place rack (found.Refused line why) = (own :
 AreFoundBy number rules list events place rack found.NoRack = rack ≡ None
 AreFoundBy number rules list events place rack found.NoLine = ⊥
 
--- the same of the place that is asked for, where there is one
+-- the same for the place of the question, if there is one
 abbrev pub AreFoundAt : (number : ℕ) → Rules → (list : List (List ℕ)) → (given : Option (List ℕ)) → List Event → (place : Option ℕ) → FoundPlays → Type 0
 AreFoundAt number rules list given events None x = x ≡ found.NoLine
 AreFoundAt number rules list given events (Some place) x = AreFoundBy number rules list events place (rack_asked given (slice_get events place)) x
 
--- What is found before a line of a record by the rack that is given, or by the one that the line shows: the report of it is the one that `top`
+-- What is found before a line of a record by the rack that is given, or by the one that the line shows: its report is the one that `top`
 -- writes.
 pub record AreTopPlays (number : ℕ) (before : Option ℕ) (rules : Rules) (list : List (List ℕ)) (given : Option (List ℕ)) (r : Record) (x : FoundPlays) : Type 0 where
   pub plays : AreFoundAt number rules list given r.events (place_asked r.events before) x
   pub told : IsToppedBefore number before rules list given r (verdict_of x) (plays_report x)
 
--- the same of the record that a text means, or the verdict that it means none
+-- the same for the record that a text means, or the verdict that it means none
 abbrev pub AreTopPlaysOf : (number : ℕ) → (before : Option ℕ) → Rules → (list : List (List ℕ)) → (given : Option (List ℕ)) → (text : List ℕ) → Result FoundPlays Decision → Type 0
 AreTopPlaysOf number before rules list given text (Ok x) = (r : Record) × (record_of text ≡ Ok r) × AreTopPlays number before rules list given r x
 AreTopPlaysOf number before rules list given text (Err d) = IsRecordOf text (Err d)

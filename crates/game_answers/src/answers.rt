@@ -1,4 +1,4 @@
-//! What is answered of each event.
+//! What is answered for each event.
 ghost use Rattle.std.specs.Prelude.{◌≡◌, ◌<◌, ◌+◌, length, slice_get, IfOk, OnOk};
 ghost use Rattle.std.specs.Option.{option_copied};
 ghost use Rattle.game_turns.specs.LatestEvents.{latest_tiles, standing_words};
@@ -26,20 +26,20 @@ use lex_list::WordList;
 use ref_play::{Play, Word};
 use std::alloc::{AllocError, Global};
 
-/// What is answered of an event.
+/// What is answered for an event.
 #[derive(Drop)]
 pub struct EventAnswer {
     /// What is said of the best play.
     pub best: TurnBest,
     /// The new tiles of a play, and those that a withdrawal took back.
     pub play: Option<Play>,
-    /// The word of a play, with the letters that it plays through; else none.
+    /// The word of a play, with the letters that it plays through; empty for other events.
     pub word: Word,
     /// The words of a play that stands which are not in the list.
     pub unlisted: Vec<SpelledWord>,
 }
 
-/// The event behind a place, where there is one.
+/// The event after a place, if there is one.
 #[tactic(auto, using(game_turns::proofs::PlaceLaws::copied_get))]
 pub(crate) fn event_behind(events: &[Event], place: usize) -> Option<&Event>
     requires { place < length events.now }
@@ -48,7 +48,7 @@ pub(crate) fn event_behind(events: &[Event], place: usize) -> Option<&Event>
     events.get(place + 1)
 }
 
-/// What the event at a place gave: its score; and nothing where it is a play that the next event takes back.
+/// What the event at a place gave: its score; and nothing if it is a play that the next event takes back.
 fn given_at(events: &[Event], place: usize, event: &Event) -> i32
     requires { place < length events.now }
     ensures { result ≡ given_at events.now place event.now }
@@ -60,8 +60,8 @@ fn given_at(events: &[Event], place: usize, event: &Event) -> i32
     }
 }
 
-/// What is said of the best play of an event of the record that gave so many points, by a search; `machine` stands before it. The board beside the
-/// game is brought up to the event.
+/// What is said of the best play of an event of the record that gave `gave` points, by a search; `machine` is before it. The board beside the game
+/// is updated up to the event.
 #[tactic(auto, using(crate::proofs::AnswerLaws::best_by_own))]
 fn find_best_at(
     passed: &Passed<'_>,
@@ -86,7 +86,7 @@ fn find_best_at(
     find_best_of_turn(rules, pair, machine, &beside.follow, event, gave, known)
 }
 
-/// What is said of the best play of an event of the record that gave so many points; `machine` stands before it. Only what is not known is looked for.
+/// What is said of the best play of an event of the record that gave `gave` points; `machine` is before it. It searches only for what is not known.
 fn best_at(
     passed: &Passed<'_>,
     pair: &Checked<'_>,
@@ -110,7 +110,7 @@ fn best_at(
     find_best_at(passed, pair, machine, beside, known, place, event, gave)
 }
 
-/// What is answered of an event, by its best play and the machine behind it.
+/// What is answered for an event, by its best play and the machine after it.
 fn answer_behind(
     alloc: Global,
     list: &WordList,
@@ -132,7 +132,7 @@ fn answer_behind(
     })
 }
 
-/// What is answered of the event at a place, which the machine takes.
+/// What is answered for the event at a place, which the machine takes.
 #[tactic(auto, using(crate::proofs::AnswerLaws::answer_is))]
 fn answer_at(
     alloc: Global,
@@ -162,10 +162,10 @@ fn answer_at(
     Ok(answer)
 }
 
-/// What is answered of each event of a record that passed, by its rules and the words of a pair. The best plays that are known are not looked for,
+/// What is answered for each event of a record that passed, by its rules and the words of a pair. Best plays that are known are not searched for,
 /// and those that are found are known from then on.
 ///
-/// It fails only where memory runs out.
+/// It fails only if memory runs out.
 #[tactic(auto, using(crate::proofs::AnswerLaws::answers_more))]
 pub fn answers_with(
     alloc: Global,
@@ -189,9 +189,9 @@ pub fn answers_with(
     Ok(answers)
 }
 
-/// The same where no best play is known.
+/// The same if no best play is known.
 ///
-/// It fails only where memory runs out.
+/// It fails only if memory runs out.
 pub fn answers_of(
     alloc: Global,
     passed: &Passed<'_>,

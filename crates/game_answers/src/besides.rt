@@ -1,4 +1,4 @@
-//! A board with its cross-sets, which is brought up to a game only where a search needs it.
+//! A board with its cross-sets, which is updated for a game only if a search needs it.
 ghost use Rattle.std.specs.Prelude.{◌≡◌, ◌<◌, ◌≤◌, length};
 ghost use Rattle.lex_check.specs.Pairs.{list_in};
 ghost use Rattle.game_notes.specs.Following.{Follows};
@@ -10,7 +10,7 @@ use gcg_read::{Event, EventKind};
 use lex_check::Checked;
 use ref_tiles::Rules;
 
-/// Lays the play of the event at a place, where there is one that the next event does not take back.
+/// Lays the play of the event at a place, if there is one that the next event does not take back.
 fn lay(rules: &Rules, pair: &Checked<'_>, events: &[Event], place: usize, follow: &mut Follow)
     requires place { place < length events.now }
     requires follows { Follows rules.now (list_in pair.now) follow.old }
@@ -45,11 +45,11 @@ fn lay_all(
     }
 }
 
-/// A board with its cross-sets beside a game: the plays of its first events are laid on it.
+/// A board with its cross-sets that is kept beside a game: the plays of its first events are laid on it.
 #[derive(Drop)]
 pub(crate) struct Beside {
     pub follow: Follow,
-    /// How many events it is up to.
+    /// How many events it has taken.
     place: usize,
 }
 

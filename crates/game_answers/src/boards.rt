@@ -24,12 +24,12 @@ use std::alloc::{AllocError, Global};
 /// The marks of the squares of a row.
 pub type RowMarks = ArrayVec<u8, SIDE>;
 
-/// The board of a record before one of its events, or behind the last.
+/// The board of a record before one of its events, or after the last.
 #[derive(Drop)]
 pub struct ShownBoard {
-    /// The line of the event; none behind the last event.
+    /// The line of the event; none after the last event.
     pub line: Option<u32>,
-    /// Why the play of the event cannot be laid, where it cannot.
+    /// Why the play of the event cannot be laid, if it cannot.
     pub fault: Option<PlayFault>,
     /// The marks of the squares, row by row, as [`square_mark`] has them.
     pub rows: Vec<RowMarks>,
@@ -37,9 +37,9 @@ pub struct ShownBoard {
     pub players: Players,
     /// The last total of the first player that is written before the event; 0 before the first.
     pub first: i32,
-    /// The same of the other player.
+    /// The same for the other player.
     pub second: i32,
-    /// The rack of the event, where its line shows one.
+    /// The rack of the event, if its line shows one.
     pub rack: Option<Counts>,
     /// How many tiles of each kind are not on the board, A to Z and then blanks.
     pub off: Vec<usize>,
@@ -81,7 +81,7 @@ fn board_marks(alloc: Global, rules: &Rules, board: &Board) -> Result<Vec<RowMar
     Ok(rows)
 }
 
-/// Whether a tile of the kind with this number lies on a square.
+/// Whether a tile of the kind with this number is on a square.
 fn is_of(cell: Option<Tile>, number: usize) -> bool
     ensures { result ≡ is_of number cell }
 {
@@ -124,7 +124,7 @@ fn kinds_off(alloc: Global, rules: &Rules, board: &Board) -> Result<Vec<usize>, 
     Ok(off)
 }
 
-/// The event at a place, where there is one.
+/// The event at a place, if there is one.
 #[tactic(auto, using(game_turns::proofs::PlaceLaws::copied_get))]
 fn event_at(events: &[Event], place: usize) -> Option<&Event>
     ensures { option_copied result ≡ slice_get events.now place }
@@ -132,7 +132,7 @@ fn event_at(events: &[Event], place: usize) -> Option<&Event>
     events.get(place)
 }
 
-/// The line of an event, where there is one.
+/// The line of an event, if there is one.
 fn line_of(event: Option<&Event>) -> Option<u32>
     ensures { result ≡ line_at (option_copied event.entry) }
 {
@@ -142,7 +142,7 @@ fn line_of(event: Option<&Event>) -> Option<u32>
     }
 }
 
-/// The board to which the plays before a place are laid.
+/// The board on which the plays before a place are laid.
 #[tactic(auto, using(crate::proofs::BoardLaws::is_shown))]
 fn board_at(
     alloc: Global,
@@ -171,7 +171,7 @@ fn board_at(
     })
 }
 
-/// The board before the place that is asked for, where there is one.
+/// The board before the place of the question, if there is one.
 fn board_on_line(
     alloc: Global,
     rules: &Rules,
@@ -186,7 +186,7 @@ fn board_on_line(
     }
 }
 
-/// The board of the record of a text, or the verdict that it is none.
+/// The board of the record of a text, or the verdict that it is not a record.
 fn board_from(
     alloc: Global,
     rules: &Rules,
@@ -203,15 +203,15 @@ fn board_from(
     Ok(Ok(shown))
 }
 
-/// Reads a record, and gives its board before the first event on a line or behind it, or without a line behind the last event: what
-/// [`run_board`](engine::run_board) shows, as a value. None where no event stands there. Or the verdict that names the first fault of the
-/// record.
+/// Reads a record, and gives its board before the first event on a line or after it, or without a line after the last event: what
+/// [`run_board`](engine::run_board) shows, as a value. None if there is no such event. Or the verdict that names the first fault of
+/// the record.
 ///
 /// The input is read to its end, or to one byte past 1 MiB and no further.
 ///
 /// # Errors
 ///
-/// `ReadFailed` comes only where the input failed; `NoMemory` where memory was refused.
+/// `ReadFailed` comes only if the input failed; `NoMemory` if memory was refused.
 pub fn shown_board<G: Input>(
     alloc: Global,
     rules: &Rules,

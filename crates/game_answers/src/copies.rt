@@ -4,7 +4,7 @@ ghost use Rattle.game_answers.specs.Answers.{tiles_in};
 
 use ref_play::Play;
 
-/// An equal play, where there is one.
+/// An equal play, if there is one.
 pub(crate) fn copied(play: Option<&Play>) -> Option<Play>
     ensures { tiles_in result ≡ option_map (λ p. p.now.tiles.items) play.entry }
 {

@@ -38,12 +38,12 @@ impl<S, W> Question<S, W, ()> for Counting {
     ghost later = { λ question rules words x texts v report is. counted_later words x texts v report is };
 }
 
-/// Reads the words of a list and the lexicon of them, in this order until one is bad: how many words there are, or the verdict that names the
-/// first fault. What [`run_check`](engine::run_check) tells of them, as a value.
+/// Reads the words of a list and their lexicon, in this order until one is bad: how many words there are, or the verdict that names the first
+/// fault. What [`run_check`](engine::run_check) reports, as a value.
 ///
 /// # Errors
 ///
-/// `ReadFailed` comes only where an input failed; `NoMemory` where memory was refused.
+/// `ReadFailed` comes only if an input failed; `NoMemory` if memory was refused.
 pub fn count_words<W: Input, L: Input>(
     alloc: Global,
     words: &mut W,

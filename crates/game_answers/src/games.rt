@@ -27,7 +27,7 @@ pub struct JudgedGame {
     pub events: Events,
     /// Whether the game is legal, and what is wrong with it.
     pub verdict: Verdict,
-    /// What is answered of the events, where the rules allow every one.
+    /// What is answered for the events, if the rules allow every one.
     pub answers: Option<GameAnswers>,
 }
 
@@ -53,7 +53,7 @@ fn judged_game(
     })
 }
 
-/// The judged game of the record of a text, or the verdict that it is none.
+/// The judged game of the record of a text, or the verdict that it is not a record.
 fn judged_from(
     alloc: Global,
     rules: &Rules,
@@ -74,14 +74,14 @@ fn judged_from(
     Ok(Ok(judged))
 }
 
-/// Reads the record of a game and judges it, as [`judge_game`] does. The best plays that are known are not looked for, and those that are found are
+/// Reads the record of a game and judges it, as [`judge_game`] does. Best plays that are known are not searched for, and those that are found are
 /// known from then on; what is found of the game does not depend on them.
 ///
 /// The input is read to its end, or to one byte past 1 MiB and no further.
 ///
 /// # Errors
 ///
-/// `ReadFailed` comes only where the input failed; `NoMemory` where memory was refused.
+/// `ReadFailed` comes only if the input failed; `NoMemory` if memory was refused.
 pub fn judge_game_with<G: Input>(
     alloc: Global,
     rules: &Rules,
@@ -99,15 +99,14 @@ pub fn judge_game_with<G: Input>(
     Ok(judged_from(alloc, rules, pair, &text, question, known)?)
 }
 
-/// Reads the record of a game and judges it, by the deal of the rule of completion alone or by a search: what
-/// [`run`](engine::run) or [`run_settled`](engine::run_settled) finds of it, as a value. Or the verdict that names the first fault of the
-/// record.
+/// Reads the record of a game and judges it, only by the deal of the rule of completion or by a search: what [`run`](engine::run) or
+/// [`run_settled`](engine::run_settled) finds, as a value. Or the verdict that names the first fault of the record.
 ///
 /// The input is read to its end, or to one byte past 1 MiB and no further.
 ///
 /// # Errors
 ///
-/// `ReadFailed` comes only where the input failed; `NoMemory` where memory was refused.
+/// `ReadFailed` comes only if the input failed; `NoMemory` if memory was refused.
 pub fn judge_game<G: Input>(
     alloc: Global,
     rules: &Rules,

@@ -1,4 +1,4 @@
-//! The verdict on a record, with what is answered of its events.
+//! The verdict on a record, with what is answered for its events.
 ghost use Rattle.std.specs.Prelude.{◌≡◌, IfOk, None};
 ghost use Rattle.game_turns.specs.{Passing.{rules_in, record_in}, Places.{AreAllowed}};
 ghost use Rattle.lex_check.specs.Pairs.{list_in};
@@ -18,7 +18,7 @@ use lex_check::Checked;
 use ref_tiles::Rules;
 use std::alloc::{AllocError, Global};
 
-/// A verdict on a record, with what is answered of its events.
+/// A verdict on a record, with what is answered for its events.
 #[derive(Drop)]
 pub(crate) struct Judged {
     pub verdict: Verdict,
@@ -39,7 +39,7 @@ fn refused(line: u32, fault: RuleFault) -> Judged
     }
 }
 
-/// The verdict on a record that passed, and what is answered of each event.
+/// The verdict on a record that passed, and what is answered for each event.
 #[tactic(auto, using(crate::proofs::VerdictLaws::judged_with))]
 fn judged_passed(
     alloc: Global,
@@ -61,7 +61,7 @@ fn judged_passed(
     })
 }
 
-/// The verdict on a record, and what is answered of each event where the rules allow every one.
+/// The verdict on a record, and what is answered for each event if the rules allow every one.
 #[tactic(auto, using(crate::proofs::VerdictLaws::judged_refused))]
 pub(crate) fn judge_record(
     alloc: Global,

@@ -7,18 +7,19 @@ use crate::answers::EventAnswer;
 use event_notes::TurnBest;
 use gcg_read::{Event, Seat, same_seat};
 
-/// What is answered of the events of a record of which the rules allow every event.
+/// What is answered for the events of a record in which the rules allow every event.
 #[derive(Drop)]
 pub struct GameAnswers {
     /// The answer of each event, in their order.
     pub events: Vec<EventAnswer>,
-    /// How many points more the best plays of the first player's turns would have given in all; none where no number of 64 bits has it.
+    /// How many points more the best plays of the first player's turns would have given in all; none if the number does not fit in
+    /// 64 bits.
     pub left_first: Option<i64>,
-    /// The same of the other player.
+    /// The same for the other player.
     pub left_second: Option<i64>,
 }
 
-/// How many points more the best play of an event would have given, where it is known.
+/// How many points more the best play of an event would have given, or 0 if it is not known.
 fn more_in(best: &TurnBest) -> i64
     ensures { result ≡ more_in best.now }
 {
@@ -28,7 +29,7 @@ fn more_in(best: &TurnBest) -> i64
     }
 }
 
-/// The same of an event of a player; 0 of other events.
+/// The same for an event of a player; 0 for other events.
 fn left_of(player: Seat, event: &Event, answer: &EventAnswer) -> i64
     ensures { result ≡ left_of player event.now answer.now }
 {

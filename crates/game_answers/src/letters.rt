@@ -10,7 +10,7 @@ use ref_board::{Board, Dir, SIDE, Square};
 use ref_play::{Word, along};
 use ref_tiles::Tile;
 
-/// The letter that a square shows, as a capital; 0 where it is empty.
+/// The letter that a square shows, as a capital; 0 if it is empty.
 fn capital_shown(cell: Option<Tile>) -> u8
     ensures { result ≡ capital_shown cell }
 {
@@ -33,7 +33,7 @@ fn shown_from(board: &Board, at: Square, dir: Dir, many: usize) -> Word
     word
 }
 
-/// The letters that the squares of a text show, where it stays on the board.
+/// The letters that the squares of a text show, if it stays on the board.
 fn shown_on(board: &Board, at: Square, dir: Dir, many: usize) -> Word
     ensures { result.items ≡ if nat_lt 15 (place_of dir at + many) then [] else shown_from board.now at dir many }
 {
@@ -43,7 +43,7 @@ fn shown_on(board: &Board, at: Square, dir: Dir, many: usize) -> Word
     shown_from(board, at, dir, many)
 }
 
-/// The word of a play, with the letters that it plays through, by the board behind it; none of other events.
+/// The word of a play, with the letters that it plays through, by the board after it; none for other events.
 pub fn word_of(board: &Board, kind: &EventKind) -> Word
     ensures { result.items ≡ word_of board.now kind.now }
 {

@@ -50,7 +50,7 @@ fn scored_plays(
     Ok(kept)
 }
 
-/// The first so many of some plays.
+/// The first `number` of some plays.
 fn first_of(plays: &[(Play, i32)], number: usize) -> &[(Play, i32)]
     ensures { result.now ≡ take number plays.now }
 {
@@ -61,7 +61,7 @@ fn first_of(plays: &[(Play, i32)], number: usize) -> &[(Play, i32)]
     }
 }
 
-/// The first so many of some plays on a board, with their scores.
+/// The first `number` of some plays on a board, with their scores.
 fn front_plays(
     alloc: Global,
     board: &Board,
@@ -74,16 +74,16 @@ fn front_plays(
     scored_plays(alloc, board, first_of(plays, number))
 }
 
-/// Up to so many plays are found with room for no more, since a search that keeps few plays leaves out more.
+/// Up to this number of plays come from a search that keeps no more, since a search that keeps fewer plays can leave out more.
 const FEW: usize = 10;
 
-/// How many plays [`best_plays`] gives at the most.
+/// The greatest number of plays that [`best_plays`] gives.
 const MANY: usize = 100;
 
-/// The best so many plays by a rack on a board, by some rules and by the words of a pair: the greatest score first, and of equal ones the
-/// first by their notations. There are fewer where there are fewer plays.
+/// The best `number` plays by a rack on a board, by some rules and by the words of a pair: the greatest score first, and plays of equal
+/// score by their notations. There are fewer if the rack allows fewer plays.
 ///
-/// It fails only where memory was refused.
+/// It fails only if memory was refused.
 pub fn best_plays(
     alloc: Global,
     rules: &Rules,

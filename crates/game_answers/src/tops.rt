@@ -20,7 +20,7 @@ use lex_check::Checked;
 use ref_tiles::{Counts, Rules};
 use std::alloc::{AllocError, Global};
 
-/// What is found where the best plays before a line are asked for.
+/// What is found for a question about the best plays before a line.
 #[derive(Drop)]
 pub enum FoundPlays {
     /// The best plays by a rack.
@@ -60,7 +60,7 @@ impl FoundPlays {
     }
 }
 
-/// The place that is asked for: that of a line, or behind the last event.
+/// The place of a line, or the end of the events.
 pub(crate) fn place_asked(events: &[Event], before: Option<u32>) -> Option<usize>
     ensures place { result ≡ place_asked events.now before }
     ensures within { IfSome result (λ place. place ≤ length events.now) }
@@ -71,7 +71,7 @@ pub(crate) fn place_asked(events: &[Event], before: Option<u32>) -> Option<usize
     }
 }
 
-/// The rack of an event, where it shows one.
+/// The rack of an event, if it shows one.
 pub(crate) fn shown_rack(event: Option<&Event>) -> Option<Counts>
     ensures { result ≡ shown_rack (option_copied event.entry) }
 {
@@ -81,7 +81,7 @@ pub(crate) fn shown_rack(event: Option<&Event>) -> Option<Counts>
     }
 }
 
-/// The rack that is asked about.
+/// The rack of the question: the given one, or else that of the event.
 fn rack_asked(given: Option<Counts>, event: Option<&Event>) -> Option<Counts>
     ensures { result ≡ rack_asked given (option_copied event.entry) }
 {
@@ -113,7 +113,7 @@ fn found_by(
     }
 }
 
-/// What is found before a place by the rack that is asked about.
+/// What is found before a place by the rack of the question.
 fn found_at(
     alloc: Global,
     asked: &AskedGame<'_>,
@@ -129,7 +129,7 @@ fn found_at(
     }
 }
 
-/// What is found before the line that is asked about.
+/// What is found before the line of the question.
 fn found_on_line(
     alloc: Global,
     asked: &AskedGame<'_>,
@@ -144,7 +144,7 @@ fn found_on_line(
     }
 }
 
-/// What is found in a record where the best plays before a line are asked for.
+/// What is found in a record for a question about the best plays before a line.
 #[tactic(auto, using(crate::proofs::TopLaws::tells_plays))]
 pub fn find_plays(
     alloc: Global,
@@ -157,7 +157,7 @@ pub fn find_plays(
     Ok(found)
 }
 
-/// What is found in the record of a text, or the verdict that it is none.
+/// What is found in the record of a text, or the verdict that it is not a record.
 fn plays_from(
     alloc: Global,
     rules: &Rules,
@@ -188,7 +188,7 @@ fn plays_from(
 ///
 /// # Errors
 ///
-/// `ReadFailed` comes only where the input failed; `NoMemory` where memory was refused.
+/// `ReadFailed` comes only if the input failed; `NoMemory` if memory was refused.
 pub fn top_plays<G: Input>(
     alloc: Global,
     rules: &Rules,

@@ -1,4 +1,4 @@
--- Texts and numbers with one more.
+-- Appending one more text or number.
 use Rattle.std.proofs.Common.{◌≡◌, ℕ, suc, ◌+◌, List, [], ◌∷◌, ◌++◌, Option, refl, sym, ap, ◌∙◌, arith}
 use Rattle.std.specs.List.{flat_map, range_with_len}
 use Rattle.std.proofs.lemmas.List.{append-nil, append_assoc}
@@ -10,7 +10,7 @@ use Rattle.ref_play.proofs.ScoreLemmas.{sum_range_more}
 use Rattle.game_board.specs.Texts.{cell_text, cells_text, row_line, rows_text, kind_text, kinds_text}
 use Rattle.game_board.specs.Tiles.{off_board, all_off}
 
--- ---- texts that are appended one after the other
+-- ---- texts that are appended one after another
 
 -- one more
 pub longer : (t a b c old new : List ℕ) → c ≡ a ++ b → old ≡ t ++ a → new ≡ old ++ b → new ≡ t ++ c
@@ -32,7 +32,7 @@ four t a b c d w x y z first second third fourth = two t ((a ++ b) ++ c) d y z (
 pub five : (t a b c d e v w x y z : List ℕ) → v ≡ t ++ a → w ≡ v ++ b → x ≡ w ++ c → y ≡ x ++ d → z ≡ y ++ e → z ≡ t ++ ((((a ++ b) ++ c) ++ d) ++ e)
 five t a b c d e v w x y z first second third fourth fifth = two t (((a ++ b) ++ c) ++ d) e y z (four t a b c d v w x y first second third fourth) fifth
 
--- one more text behind those of successive numbers
+-- one more text after those of successive numbers
 pub flat_more : (f : ℕ → List ℕ) (first many : ℕ) → flat_map f (range_with_len first (many + 1)) ≡ flat_map f (range_with_len first many) ++ f (first + many)
 flat_more f first many =
     let next : many + 1 ≡ suc many = omega arith in

@@ -1,4 +1,4 @@
--- One event more is laid.
+-- One more event is laid.
 use Rattle.std.proofs.Common.{◌≡◌, ℕ, ◌+◌, ◌<◌, Bool, true, false, List, [], ◌∷◌, ◌++◌, reverse, take, get_or, slice_get, Option, Some, None, refl, sym, ap, ◌∙◌, arith, ⊎_elim}
 use Rattle.std.proofs.lemmas.List.{take_more, reverse-append}
 use Rattle.std.proofs.lemmas.Bool.{cases_eq}
@@ -44,7 +44,7 @@ pub first_board : (events : List Event) → empty_board ≡ board_before events 
 unfolding board_before
 first_board events = sym (start_board (withdraws (slice_get events 0)))
 
--- ---- one event more
+-- ---- one more event
 
 with_one : (board : List (Option Tile)) (plays : List Stood) (player : Seat) (what : EventKind) → board_with plays ≡ board → board_with (played_on (board_with plays) player what ++ plays) ≡ laid_on board what
 with_one board plays player (kind.Play at dir word) same = ap (λ b. laid_on b (kind.Play at dir word)) same
@@ -56,7 +56,7 @@ with_one board plays player kind.Challenge same = same
 with_one board plays player kind.Time same = same
 with_one board plays player (kind.LastRack tiles) same = same
 
--- the board behind an event, whether or not a withdrawal comes next
+-- the board after an event, whether or not a withdrawal comes next
 board_more : (w : Bool) (e : Event) (past : List Event) → board_at w (e ∷ past) ≡ laid_on (board_with (standing (is_withdraw e.kind) past)) e.kind
 board_more true e past = with_one (board_with (standing (is_withdraw e.kind) past)) (standing (is_withdraw e.kind) past) e.player e.kind refl
 board_more false e past = with_one (board_with (standing (is_withdraw e.kind) past)) (standing (is_withdraw e.kind) past) e.player e.kind refl

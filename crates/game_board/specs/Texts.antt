@@ -1,4 +1,4 @@
--- The board of a record as a text of lines of 80 bytes at the most.
+-- The board of a record as a text of lines of at most 80 bytes.
 use Rattle.std.specs.Prelude.{ℕ, ◌+◌, ◌*◌, List, [], ◌∷◌, ◌++◌, Option, Some, None, codes, decimal, slice_get, take, nat_lt, if◌then◌else◌}
 use Rattle.std.specs.Fmt.{signed_decimal}
 use Rattle.std.specs.List.{flat_map, range_with_len}
@@ -29,7 +29,7 @@ place_text (Some e) = codes "board before line " ++ decimal e.line
 unfoldable pub refusal_text : PlayFault → List ℕ
 refusal_text why = codes ", whose play cannot be laid: " ++ name_of why
 
--- the same where it cannot
+-- the same if it cannot
 unfoldable pub end_text : Option PlayFault → List ℕ
 end_text None = 10 ∷ []
 end_text (Some why) = refusal_text why ++ 10 ∷ []
@@ -43,7 +43,7 @@ heading_text e why = place_text e ++ end_text why
 unfoldable pub row_name : (row : ℕ) → List ℕ
 row_name row = (if nat_lt row 9 then 32 ∷ [] else []) ++ decimal (row + 1)
 
--- the mark of a square of a row, behind a space
+-- the mark of a square of a row, after a space
 abbrev pub cell_text : Rules → List (Option Tile) → (row column : ℕ) → List ℕ
 cell_text rules board row column = 32 ∷ square_mark rules board (15 * row + column) ∷ []
 
@@ -71,15 +71,15 @@ squares_text rules board = columns_line ++ rows_text rules board 15 ++ marks_lin
 
 -- ---- the players
 
--- a nickname, of which 60 bytes are written at the most
+-- a nickname, of which at most 60 bytes are written
 unfoldable pub short_nick : List ℕ → List ℕ
 short_nick nick = take 60 nick
 
--- a player, and the last total that is written before a place
+-- a player, and the last total written before a place
 unfoldable pub player_line : Record → (place : ℕ) → Seat → List ℕ
 player_line r place seat = short_nick (player_of r.players seat).nick ++ 32 ∷ signed_decimal (had_before r.events seat place) ++ 10 ∷ []
 
--- the rack of an event, where its line has one
+-- the rack of an event, if its line has one
 abbrev pub stated_rack : Option (List ℕ) → List ℕ
 stated_rack None = []
 stated_rack (Some rack) = codes "rack " ++ tiles_text rack ++ 10 ∷ []
@@ -98,7 +98,7 @@ players_text r place =
 abbrev pub counted_kind : (number tiles : ℕ) → List ℕ
 counted_kind number tiles = 32 ∷ 32 ∷ kind_byte (kind_at number) ∷ 32 ∷ decimal tiles
 
--- a kind and how many of its tiles are not on the board; nine kinds stand on a line
+-- a kind and the number of its tiles that are not on the board; nine kinds are on a line
 abbrev pub kind_text : Rules → List (Option Tile) → (number : ℕ) → List ℕ
 kind_text rules board number = counted_kind number (off_board rules board number)
 
@@ -114,9 +114,9 @@ count_line rules board = codes "tiles not on the board: " ++ decimal (all_off ru
 abbrev pub off_text : Rules → List (Option Tile) → List ℕ
 off_text rules board = count_line rules board ++ kinds_line rules board 0 ++ kinds_line rules board 9 ++ kinds_line rules board 18
 
--- ---- all of it
+-- ---- the whole text
 
--- The board before the event at a place, whose play cannot be laid where there is a fault: which board it is, the squares, the
+-- The board before the event at a place, whose play cannot be laid if there is a fault: which board it is, the squares, the
 -- players with their totals and the rack of the line, and the tiles that are not on the board.
 unfoldable pub board_text : Rules → Record → (place : ℕ) → Option PlayFault → List ℕ
 board_text rules r place why =

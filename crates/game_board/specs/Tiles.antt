@@ -10,10 +10,10 @@ abbrev pub is_of : ℕ → Option Tile → Bool
 is_of number None = false
 is_of number (Some tile) = number_of tile.kind == number
 
--- how many tiles of a kind are not on the board: those of the game less those on the board, as far as they go
+-- the number of tiles of a kind that are not on the board: those of the game minus those on the board, or 0 if that is negative
 unfoldable pub off_board : Rules → List (Option Tile) → (number : ℕ) → ℕ
 off_board rules board number = slice_index rules.counts number - count_by (is_of number) board
 
--- how many tiles of all kinds are not on the board
+-- the number of tiles of all kinds that are not on the board
 unfoldable pub all_off : Rules → List (Option Tile) → (kinds : ℕ) → ℕ
 all_off rules board kinds = sum_by (off_board rules board) (range_with_len 0 kinds)

@@ -8,7 +8,7 @@ use gcg_read::{Event, EventKind};
 use ref_board::Board;
 use ref_play::{PlayFault, apply};
 
-/// The board with the play of an event, where it is one and can be laid.
+/// The board with the play of an event, if it is one and can be laid.
 ///
 /// # Errors
 ///
@@ -26,7 +26,7 @@ pub fn lay(board: &Board, kind: &EventKind) -> Result<Board, PlayFault>
     Ok(laid)
 }
 
-/// Whether the event behind a place takes the play there back.
+/// Whether the event after a place takes the play there back.
 #[tactic(auto, using(game_turns::proofs::PlaceLaws::copied_get))]
 fn is_taken_back(events: &[Event], place: usize) -> bool
     requires { place < length events.now }
@@ -35,27 +35,27 @@ fn is_taken_back(events: &[Event], place: usize) -> bool
     withdraws(events.get(place + 1))
 }
 
-/// The board behind an event: that before it where the event is taken back.
+/// The board after an event: that before it if the event is taken back.
 fn kept(old: &Board, laid: &Board, taken_back: bool) -> Board
     ensures { result ≡ if taken_back then old.now else laid.now }
 {
     if taken_back { *old } else { *laid }
 }
 
-/// The board of a record as far as its plays can be laid.
+/// The board of a record, as far as its plays can be laid.
 #[derive(Drop)]
 pub struct Laying {
     /// The board.
     pub board: Board,
-    /// The place of the event before which it is, counted from 0; that behind the last event is the number of events.
+    /// The place of the event before which this is the board, counted from 0; after the last event, the number of events.
     pub end: usize,
-    /// Why the play at the place cannot be laid, where that ended the laying.
+    /// Why the play at the place cannot be laid, if that ended the laying.
     pub fault: Option<PlayFault>,
 }
 
-/// Lays the plays of a record before a place, counted from 0. It ends at the first play whose text or placement has a fault,
-/// where there is one before the place. A play that is taken back comes off the board behind its withdrawal. Nothing else is
-/// asked of the events.
+/// Lays the plays of a record before a place, counted from 0. It ends at the first play whose text or placement has a fault, if
+/// there is one before the place. A play that is taken back comes off the board after its withdrawal. Nothing else about the events
+/// is checked.
 pub fn lay_plays(events: &[Event], place: usize) -> Laying
     requires { place ≤ length events.now }
     ensures end { result.end ≤ place }

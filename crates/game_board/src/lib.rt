@@ -1,7 +1,7 @@
-//! The board of a record, before one of its lines or after the last, and the same as a text.
+//! The board of a record, before one of its lines or after the last, as a value and as a text.
 //!
-//! [`place_of_line`] finds the event that a line means, [`lay_plays`] lays the plays before it, and [`board_text`] writes the
-//! board that they make. It needs no word list: nothing is asked of an event but that its play can be laid.
+//! [`place_of_line`] finds the event that a line means, [`lay_plays`] lays the plays before it, and [`board_text`] writes the board
+//! that they make. It needs no word list: the only requirement on an event is that its play can be laid.
 #![tactic(auto)]
 
 mod laying;

@@ -28,9 +28,9 @@ pub fn tile_mark(tile: &Tile) -> u8
     symbol_by(tile).byte()
 }
 
-/// The mark of a square: its tile by the letter that it shows, a capital for a letter tile and a small one for a blank; where
-/// it is empty its premium, `=` for a triple word, `-` for a double word, `"` for a triple letter, `'` for a double letter and
-/// `.` for none.
+/// The mark of a square: its tile by the letter that it shows, a capital for a letter tile and a small one for a blank; if it is
+/// empty, its premium: `=` for a triple word, `-` for a double word, `"` for a triple letter, `'` for a double letter and `.` for
+/// none.
 #[tactic(auto, unfolding(crate::specs::Marks::square_mark))]
 pub fn square_mark(rules: &Rules, board: &Board, square: Square) -> u8
     ensures { result ≡ square_mark rules.now board.now square }

@@ -4,7 +4,7 @@ ghost use Rattle.game_board.specs.Places.{place_of_line};
 
 use gcg_read::Event;
 
-/// The place of the first event on a line or behind it, counted from 0; none where every event stands before the line.
+/// The place of the first event on a line or after it, counted from 0; none if every event comes before the line.
 pub fn place_of_line(events: &[Event], line: u32) -> Option<usize>
     ensures place { result ≡ place_of_line events.now line }
     ensures within { IfSome result (λ place. place < length events.now) }

@@ -18,7 +18,7 @@ use ref_play::PlayFault;
 use ref_tiles::{Kind, Rules};
 use std::alloc::{AllocError, Global};
 
-/// How many bytes of a nickname are written at the most.
+/// The maximum number of bytes of a nickname that are written.
 const NICK: usize = 60;
 
 /// Appends that it is the board before a line.
@@ -58,7 +58,7 @@ fn push_refusal(text: &mut Vec<u8>, why: PlayFault) -> Result<(), AllocError>
     Ok(())
 }
 
-/// The same where it cannot, and the end of the line.
+/// Appends the same if it cannot, and the end of the line.
 #[tactic(auto, unfolding(crate::specs::Texts::end_text))]
 fn push_end(text: &mut Vec<u8>, why: Option<PlayFault>) -> Result<(), AllocError>
     ensures { OnOk result (text.new.items ≡ text.old.items ++ end_text why) }
@@ -72,7 +72,7 @@ fn push_end(text: &mut Vec<u8>, why: Option<PlayFault>) -> Result<(), AllocError
     Ok(())
 }
 
-/// The event at a place of a record, where there is one.
+/// The event at a place of a record, if there is one.
 #[tactic(auto, using(game_turns::proofs::PlaceLaws::copied_get))]
 fn event_at(game: &Record, place: usize) -> Option<&Event>
     ensures { option_copied result ≡ slice_get game.now.events place }
@@ -92,7 +92,7 @@ fn push_row_name(text: &mut Vec<u8>, row: usize) -> Result<(), AllocError>
     push_number(text, row + 1)
 }
 
-/// Appends the mark of a square behind a space.
+/// Appends the mark of a square after a space.
 fn push_cell(
     text: &mut Vec<u8>,
     rules: &Rules,
@@ -174,7 +174,7 @@ fn short_nick(nick: &[u8]) -> &[u8]
     }
 }
 
-/// Appends the line of a player, with the last total that is written before a place.
+/// Appends the line of a player, with the last total written before a place.
 #[tactic(auto, unfolding(crate::specs::Texts::player_line))]
 fn push_player(
     text: &mut Vec<u8>,
@@ -193,7 +193,7 @@ fn push_player(
     Ok(())
 }
 
-/// Appends the rack of an event, where its line has one.
+/// Appends the rack of an event, if its line has one.
 #[tactic(auto, unfolding(crate::specs::Texts::rack_text))]
 fn push_rack(text: &mut Vec<u8>, event: Option<&Event>) -> Result<(), AllocError>
     ensures { OnOk result (text.new.items ≡ text.old.items ++ rack_text (option_copied event.entry)) }
@@ -210,7 +210,7 @@ fn push_rack(text: &mut Vec<u8>, event: Option<&Event>) -> Result<(), AllocError
     Ok(())
 }
 
-/// Appends the byte of a kind and how many of its tiles are not on the board.
+/// Appends the byte of a kind and the number of its tiles that are not on the board.
 fn push_kind(text: &mut Vec<u8>, number: usize, off: usize) -> Result<(), AllocError>
     requires { number < 27 }
     ensures { OnOk result (text.new.items ≡ text.old.items ++ counted_kind number off) }
@@ -240,7 +240,7 @@ fn push_kinds(
     Ok(())
 }
 
-/// Appends how many tiles are not on the board.
+/// Appends the number of tiles that are not on the board.
 fn push_count(text: &mut Vec<u8>, rules: &Rules, board: &Board) -> Result<(), AllocError>
     ensures { OnOk result (text.new.items ≡ text.old.items ++ count_line rules.now board.now) }
 {
@@ -272,11 +272,11 @@ fn push_players(text: &mut Vec<u8>, game: &Record, place: usize) -> Result<(), A
     Ok(())
 }
 
-/// The board of a record as a text of lines of 80 bytes at the most: which board it is, and why laying ended where a play cannot
-/// be laid; the squares, with their rows and columns named; both players with their last totals as they are written, and the
-/// rack of the line; and the tiles that are not on the board.
+/// The board of a record as a text of lines of at most 80 bytes: which board it is, and why laying ended if a play cannot be laid;
+/// the squares, with their rows and columns named; both players with their last totals as they are written, and the rack of the
+/// line; and the tiles that are not on the board.
 ///
-/// It fails only where memory was refused.
+/// It fails only if memory runs out.
 pub fn board_text(
     alloc: Global,
     rules: &Rules,

@@ -15,7 +15,7 @@ fn is_of(cell: Option<Tile>, number: usize) -> bool
     }
 }
 
-/// How many tiles of a kind are on the board.
+/// The number of tiles of a kind on the board.
 fn laid_of(board: &Board, number: usize) -> usize
     ensures { result ≡ count_by (is_of number) board.now }
 {
@@ -26,7 +26,7 @@ fn laid_of(board: &Board, number: usize) -> usize
         .count()
 }
 
-/// How many tiles of a kind are not on the board: those of the game less those on the board, as far as they go.
+/// The number of tiles of a kind that are not on the board: those of the game minus those on the board, or 0 if that is negative.
 #[tactic(auto, unfolding(crate::specs::Tiles::off_board))]
 pub fn off_board(rules: &Rules, board: &Board, number: usize) -> usize
     requires { number < 27 }
@@ -37,7 +37,7 @@ pub fn off_board(rules: &Rules, board: &Board, number: usize) -> usize
     (numbers[number] as usize).saturating_sub(laid_of(board, number))
 }
 
-/// How many tiles of all kinds are not on the board.
+/// The number of tiles of all kinds that are not on the board.
 #[tactic(auto, using(crate::proofs::Lines::off_none, crate::proofs::Lines::off_more))]
 pub fn tiles_off(rules: &Rules, board: &Board) -> usize
     ensures { result ≡ all_off rules.now board.now 27 }

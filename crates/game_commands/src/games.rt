@@ -22,22 +22,22 @@ use std::rt::Runtime;
 use std::str;
 use watching::Front;
 
-/// No more plays are asked for than the engine gives.
+/// No more plays can be requested than the engine gives.
 const _: () = prove!(command_line::MOST_PLAYS as usize == MOST_PLAYS);
 
-/// How many plays are printed where no number is asked for.
+/// How many plays are printed if no number is given.
 const USUAL_PLAYS: u32 = 10;
 
-/// What is asked of a game.
+/// The request about a game.
 #[derive(Clone, Copy)]
 enum GameTask<'a> {
     /// Its verdict.
     Judge,
-    /// Its verdict, with a search for a deal where it would be unsettled.
+    /// Its verdict, with a search for a deal if it would be unsettled.
     Settle,
     /// The ten best plays with a rack after the last event.
     TopAtTheEnd(&'a [u8]),
-    /// So many of the best plays before a line.
+    /// The first of the best plays before a line, up to a number.
     TopBefore {
         rack: Option<&'a [u8]>,
         number: usize,
@@ -46,7 +46,7 @@ enum GameTask<'a> {
 }
 
 impl<'a> GameTask<'a> {
-    /// The rack that is named, where one is.
+    /// The rack that is named, if one is.
     fn rack(self) -> Option<&'a str> {
         let rack = match self {
             GameTask::Judge | GameTask::Settle => return None,
@@ -56,7 +56,7 @@ impl<'a> GameTask<'a> {
         str::from_utf8(rack).ok()
     }
 
-    /// Whether a game without events is asked about by mistake. The first plays of a game are asked for by an empty record.
+    /// Whether a request about a game without events is a mistake. The first plays of a game are those of an empty record.
     fn needs_events(self) -> bool {
         match self {
             GameTask::Judge | GameTask::Settle => true,
@@ -75,7 +75,7 @@ struct GameInputs<F, S> {
 }
 
 impl<F: Read + Drop, S: Read + Drop> GameInputs<F, S> {
-    /// Has the engine do what is asked of the game. The report goes to `out`.
+    /// Has the engine carry out the request. The report goes to `out`.
     fn ask<O: Output>(
         &mut self,
         alloc: Global,
@@ -131,7 +131,7 @@ impl<F: Read + Drop, S: Read + Drop> GameInputs<F, S> {
     }
 }
 
-/// Opens the rules text of a game, where there is one, its word list, its lexicon and its record, in this order.
+/// Opens the rules text of a game, if there is one, its word list, its lexicon and its record, in this order.
 fn open_game<'a, R: Runtime + AllocGlobal>(
     rt: &R,
     files: GameFiles<'a>,
@@ -147,7 +147,7 @@ fn open_game<'a, R: Runtime + AllocGlobal>(
     })
 }
 
-/// Opens the files of a game, and does what is asked of it. The report goes to standard output, and what may help to standard error.
+/// Opens the files of a game, and carries out the request. The report goes to standard output, and what may help to standard error.
 fn answer_game<'a, R: Runtime + AllocGlobal>(
     rt: &R,
     files: GameFiles<'a>,
@@ -175,7 +175,7 @@ fn answer_game<'a, R: Runtime + AllocGlobal>(
     Ok(verdict)
 }
 
-/// Says beside a report what is wrong with a file that is no game.
+/// Says besides a report what is wrong with a file that is not a game.
 fn advise<R: Runtime + AllocGlobal>(rt: &R, verdict: Verdict, name: &str, game: &Front) {
     match verdict {
         Verdict::BadRecord => advise_bad_record(rt, name, game),
@@ -186,8 +186,8 @@ fn advise<R: Runtime + AllocGlobal>(rt: &R, verdict: Verdict, name: &str, game: 
     }
 }
 
-/// Judges the game of a record, by the English rules or those of a text; a search for a deal settles it where that is asked
-/// for. The report goes to standard output.
+/// Judges the game of a record, by the English rules or those of a text; on request a search for a deal settles it. The
+/// report goes to standard output.
 pub fn judge<'a, R: Runtime + AllocGlobal>(
     rt: &R,
     settle: bool,
@@ -217,7 +217,7 @@ pub fn top<'a, R: Runtime + AllocGlobal>(
     answer_game(rt, files, top_task(plays))
 }
 
-/// What the command line asks of a game whose best plays it asks for.
+/// The request of a command line for best plays.
 fn top_task<'a>(plays: PlaysAsked<'a>) -> GameTask<'a> {
     match (plays.rack, plays.number, plays.before) {
         (Some(rack), None, None) => GameTask::TopAtTheEnd(rack.as_bytes()),
@@ -241,7 +241,7 @@ pub fn tidy<'a, R: Runtime + AllocGlobal>(rt: &R, game: &'a str) -> Result<Verdi
     Ok(verdict)
 }
 
-/// Says what may help beside the line of a fault of a rules text.
+/// Says what may help with a fault of a rules text, by its line.
 fn hint_rules<R: Runtime, F: Read + Drop>(rt: &R, line: &[u8], rules: &RulesFile<F>) {
     let known = Known {
         rules: rules_front(rules),
@@ -250,7 +250,7 @@ fn hint_rules<R: Runtime, F: Read + Drop>(rt: &R, line: &[u8], rules: &RulesFile
     give_hint(rt, line, &known);
 }
 
-/// Writes the board of a record to standard output, before a line where one is named, by the English rules or those of a text, which is
+/// Writes the board of a record to standard output, before a line if one is named, by the English rules or those of a text, which is
 /// opened first.
 pub fn board<'a, R: Runtime + AllocGlobal>(
     rt: &R,

@@ -13,7 +13,7 @@ use lex_file::Format;
 use std::io;
 use std::rt::Runtime;
 
-/// Whether a call came to this verdict.
+/// Whether this verdict is the result of a call.
 fn came_to(outcome: &Result<Verdict, RunFault>, verdict: Verdict) -> bool {
     match outcome {
         Ok(found) => *found == verdict,
@@ -21,7 +21,7 @@ fn came_to(outcome: &Result<Verdict, RunFault>, verdict: Verdict) -> bool {
     }
 }
 
-/// Writes the lexicon of a word list, or the line of the list's fault, to the output `out`. Standard error has that line too.
+/// Writes the lexicon of a word list, or the line of the list's fault, to the output `out`. Standard error gets that line too.
 pub fn build<'a, R: Runtime + AllocGlobal>(
     rt: &R,
     words: WordsFile<'a>,
@@ -63,7 +63,7 @@ pub fn check<'a, R: Runtime + AllocGlobal>(
     verdict_of(outcome, &inputs, UsedOutput::new(STANDARD_OUTPUT, &out))
 }
 
-/// Writes a lexicon in a format, or the line of the lexicon's fault, to the output `out`. Standard error has that line too.
+/// Writes a lexicon in a format, or the line of the lexicon's fault, to the output `out`. Standard error gets that line too.
 pub fn convert<'a, R: Runtime + AllocGlobal>(
     rt: &R,
     format: Format,

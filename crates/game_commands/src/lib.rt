@@ -1,4 +1,4 @@
-//! The commands that write the report of one call of the engine: of a game, of a board, of a lexicon.
+//! The commands that write the report of one call of the engine: about a game, a board or a lexicon.
 #![tactic(auto)]
 
 mod games;

@@ -12,10 +12,10 @@ use std::alloc::{AllocError, Global};
 use std::rt::Runtime;
 use word_rulings::{AskedWord, Ruling, rule_on_words};
 
-/// The report where a word is none of 2 to 15 letters.
+/// The report if a word does not have 2 to 15 letters.
 const BAD_WORD: &[u8] = b"bad word\n";
 
-/// The words that are asked about, or the first text that is none.
+/// The words that are asked about, or the first text that is not one.
 enum Asked<'a> {
     Words(Vec<AskedWord>),
     NoWord(&'a str),
@@ -53,7 +53,7 @@ fn lines_of(alloc: Global, words: &[AskedWord], ruling: &Ruling) -> Result<Vec<u
     Ok(lines)
 }
 
-/// Tells the ruling on words: of all together, or of each.
+/// Writes the ruling on words: on all together, or on each.
 fn tell<'a, R: Runtime + AllocGlobal>(
     rt: &R,
     words: &[AskedWord],
@@ -75,7 +75,7 @@ fn tell<'a, R: Runtime + AllocGlobal>(
     }
 }
 
-/// Reads a word list and its lexicon, and tells the ruling on words.
+/// Reads a word list and its lexicon, and writes the ruling on words.
 fn rule<'a, R: Runtime + AllocGlobal>(
     rt: &R,
     pair: PairFiles<'a>,
@@ -105,7 +105,7 @@ fn rule<'a, R: Runtime + AllocGlobal>(
     }
 }
 
-/// Says whether words are acceptable: in one line of all together, or in a line of each. Where a text is no word, nothing is opened.
+/// Says whether words are acceptable: in one line for all together, or in a line for each. If a text is not a word, nothing is opened.
 pub fn word<'a, R: Runtime + AllocGlobal>(
     rt: &R,
     pair: PairFiles<'a>,

@@ -1,4 +1,4 @@
--- Where every event of a record is allowed, the racks, the bag and the board have all the tiles at each step.
+-- If every event of a record is allowed, the racks, the bag and the board have all the tiles at each step.
 use Rattle.std.proofs.Common.{◌≡◌, ℕ, ◌+◌, ◌≤◌, Bool, true, false, List, [], ◌∷◌, length, sum, slice_get, refl, ap, ◌∙◌, arith, Option, Some, None, is_some, leb}
 use Rattle.std.specs.Prelude.{All, if◌then◌else◌}
 use Rattle.std.proofs.lemmas.Bool.{and_parts, leb-true}

@@ -12,7 +12,7 @@ use Rattle.deal_steps.specs.Piles.{joined}
 use Rattle.deal_steps.proofs.PileLaws.{length-table, get-table, length-joined, get-joined, length-no_tiles, get-no_tiles, same_numbers}
 use Rattle.game_deal.specs.Recorded.{has_kind, on_board, placed_tiles}
 
--- the squares of the tiles are empty, one after the other
+-- the squares of the tiles are empty, one after another
 abbrev pub AreFree : List (Option Tile) → List Placed → Type 0
 AreFree board [] = Unit {0}
 AreFree board (p ∷ ps) =

@@ -49,7 +49,7 @@ exchange_parts rules s e size none =
     let parts = or_parts (nat_lt rack size) (nat_lt s.bag size) (test_fails (nat_lt rack size || nat_lt s.bag size) fault.ExchangeSize fits.0) in
     (ltb-false rack size parts.0, ltb-false s.bag size parts.1)
 
--- the other player's, where one is out
+-- the last rack of the other player, if one is out
 other_rack_parts : (rules : Rules) (s : State) (e : Event) (tiles : List ℕ) (out : Seat) → check_other_rack rules s e tiles out ≡ None
     → sum tiles ≡ (side_of s.sides (other_seat out)).rack
 unfolding check_other_rack
@@ -61,7 +61,7 @@ other_rack_parts rules s e tiles out none =
     let whole = none_first size ending turn.1 in
     eqb-true (sum tiles) rack (not-false (sum tiles == rack) (test_fails (not (sum tiles == rack)) fault.LastRackSize whole.0))
 
--- the own one, after the zero run
+-- the player's own last rack, after the zero run
 own_rack_parts : (rules : Rules) (s : State) (e : Event) (tiles : List ℕ) → check_own_rack rules s e tiles ≡ None → sum tiles ≡ (side_of s.sides e.player).rack
 unfolding check_own_rack
 own_rack_parts rules s e tiles none =

@@ -13,7 +13,7 @@ use Rattle.deal_steps.specs.Piles.{table}
 use Rattle.deal_steps.proofs.PileLaws.{length-table, get-table, same_numbers, length-no_tiles, get-no_tiles}
 use Rattle.game_deal.specs.Recorded.{has_kind, on_board, placed_tiles}
 
--- one where the test holds
+-- one if the test holds
 abbrev one_if : Bool → ℕ
 one_if b = cond b 1 0
 
@@ -40,7 +40,7 @@ one_more f g n below more =
     omega arith)
     (cases_eq n k))
 
--- one item more
+-- one more item
 count_more : {X : Type 0} (p : X → Bool) (xs : List X) (i : ℕ) (x : X) → i < length xs → x ≡ get_or xs i x → count_by p (take (i + 1) xs) ≡ count_by p (take i xs) + one_if (p x)
 count_more {X = X} p xs i x within is =
     let f = λ (y : X). one_if (p y) in
@@ -73,7 +73,7 @@ full_cell cells i cell t within is tile =
     one_more (λ n. count_by (has_kind n) (take i cells)) (λ n. count_by (has_kind n) (take (i + 1) cells)) (number_of t.kind) (number_below t.kind)
     (λ k. count_more (has_kind k) cells i cell within is ∙ ap (λ (c : Option Tile). count_by (has_kind k) (take i cells) + one_if (has_kind k c)) tile)
 
--- there are no more of a kind than squares
+-- there are at most as many tiles of a kind as squares
 pub few_on_board : (cells : List (Option Tile)) (i : ℕ) (kind : Kind) → count_of (on_board (take i cells)) kind ≤ i
 unfolding on_board
 few_on_board cells i kind =

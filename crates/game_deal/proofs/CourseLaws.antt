@@ -1,4 +1,4 @@
--- Where every event of a record is allowed, its steps are a run.
+-- If every event of a record is allowed, its steps are a run.
 use Rattle.std.proofs.Common.{◌≡◌, ℕ, ℤ, ◌+◌, ◌<◌, ◌≤◌, Bool, true, false, List, [], ◌∷◌, ◌++◌, length, get_or, refl, ap, ◌∙◌, arith, Option, Some, None}
 use Rattle.std.proofs.lemmas.List.{length-set}
 use Rattle.ref_tiles.specs.declared.rulebook.Rules.{Rules}
@@ -58,7 +58,7 @@ abbrev pub ArePast : Rules → (list : List (List ℕ)) → (past : List Event) 
 ArePast rules list [] = Unit {0}
 ArePast rules list (e ∷ past) = IsNext rules list past e × ArePast rules list past
 
--- ---- what is known of an allowed play
+-- ---- what is known about an allowed play
 
 -- it has no fault, and its tiles are on the rack
 pub play_next : (rules : Rules) (list : List (List ℕ)) (past : List Event) (line : ℕ) (player : Seat) (rack : Option (List ℕ)) (dir : Dir) (at : ℕ) (word : List Symbol) (score total : ℤ)
@@ -123,7 +123,7 @@ standing_on_board rules list true (e ∷ past) allowed = standing_on_board rules
 standing_on_board rules list false (e ∷ past) allowed =
     with_play_on_board rules list past e.line e.player e.rack e.kind e.score e.total allowed.0 (standing_on_board rules list (is_withdraw e.kind) past allowed.1)
 
--- those that wait, beside the others
+-- those that wait, together with the others
 abbrev whole_board : (laid : List ℕ) → Racks → List ℕ
 whole_board laid waiting = joined laid (joined waiting.first waiting.second)
 

@@ -1,4 +1,4 @@
--- A deal is looked at step by step, from the first event of a record on.
+-- A deal is checked step by step, from the first event of a record on.
 use Rattle.std.proofs.Common.{◌≡◌, ◌↔◌, ℕ, suc, ◌+◌, ◌<◌, ◌≤◌, Bool, true, false, List, [], ◌∷◌, length, get_or, drop, drop-cons, add-one, IsTrue, refl, sym, ap, subst, ◌∙◌, arith, Some, slice_get}
 use Rattle.std.proofs.lemmas.Bool.{false≢true}
 use Rattle.std.proofs.lemmas.Option.{slice_get_within, get_or_from_slice_get}
@@ -83,7 +83,7 @@ not_behind passed own deal given rest i s held b by same is inside there behind 
     none_fits (FitsRecord passed deal) (λ fits.
     not_both b (FollowsTo (rules_in passed) s held (drop (i + 1) deal)) fails again (looked (rules_in passed) (steps_in passed) deal i s held is within here (whole.0 fits)).1)
 
--- one more step is looked at
+-- one more step is checked
 pub one_more : (passed : Passed) (own : Rules) (deal given rest : List Held) (i : ℕ) (s : Step) (held : Held) (b d : Bool) → own ≡ rules_in passed → given ≡ deal → slice_get (steps_in passed) i ≡ Some s
     → i < length given → held ≡ get_or given i held → rest ≡ drop (i + 1) given → FitsRecord passed deal ↔ FitsFrom (rules_in passed) (steps_in passed) deal i
     → b ≡ true → IsTrue b ↔ FitsAt own s held → d ≡ true → IsTrue d ↔ FollowsTo own s held rest
@@ -100,7 +100,7 @@ one_more passed own deal given rest i s held b d by same is inside there behind 
       λ later. whole.1 (joined (rules_in passed) (steps_in passed) deal i s held is within here fit again later),
     )
 
--- all steps are looked at
+-- all steps are checked
 pub all_fit : (passed : Passed) (deal : List Held) (events : List Event) (n m i : ℕ) → n ≡ length deal → m ≡ length events → events ≡ (record_in passed).events → n ≡ m → n ≤ i
     → FitsRecord passed deal ↔ FitsFrom (rules_in passed) (steps_in passed) deal i → IsTrue true ↔ FitsRecord passed deal
 all_fit passed deal events n m i size count same equal past whole =

@@ -1,4 +1,4 @@
--- The tiles of a play that no rule forbids: each is of a kind, and they are put on empty squares of the board.
+-- The tiles of a play that no rule forbids: each has a kind, and they are put on empty squares of the board.
 use Rattle.std.proofs.Common.{◌≡◌, ℕ, zero, suc, ◌+◌, ◌<◌, ◌≤◌, ◌==◌, ◌||◌, Bool, true, false, cond, nat_lt, nat_le, List, [], ◌∷◌, length, get_or, refl, ap, ◌∙◌, arith, ⊎_elim, Option, Some, None, is_some, sum, sum_by, count_by}
 use Rattle.std.specs.Prelude.{Contains}
 use Rattle.std.specs.List.{list_all, list_any, range_with_len}
@@ -31,7 +31,7 @@ use Rattle.deal_steps.proofs.PileLaws.{sum-table, sum_of_sums, sum_kinds_same}
 use Rattle.game_deal.specs.Recorded.{placed_tiles}
 use Rattle.game_deal.proofs.BoardLaws.{AreFree}
 
--- ---- each tile is of a kind
+-- ---- each tile has a kind
 
 abbrev counted : List Placed → ℕ → ℕ
 counted ps k = count_by (λ p. number_of p.tile.kind == k) ps
@@ -88,7 +88,7 @@ sum-placed ps = sum-table (counted ps) ∙ sum-counted ps
 
 -- ---- each is put on an empty square
 
--- a square behind which all others lie can be filled
+-- a square after which all others lie can be filled
 overlaps_same : (ps : List Placed) (board : List (Option Tile)) (square : ℕ) (t : Option Tile) → list_all (λ (p : Placed). nat_lt square p.square) ps ≡ true
     → overlaps board ps ≡ false → overlaps (with_tile board square t) ps ≡ false
 unfolding overlaps
@@ -130,7 +130,7 @@ are_free (p ∷ ps) board size within rising free =
 
 -- ---- a play without a fault
 
--- what a text without a fault keeps to
+-- what a text without a fault respects
 record IsNamedText (board : List (Option Tile)) (d : Dir) (at : ℕ) (word : List Symbol) : Type 0 where
   within : place_of d at + length word ≤ 15
   some : 1 ≤ length (placement_of board d at word)

@@ -51,7 +51,7 @@ plain_steps rules past [] none = tt
 plain_steps rules past (e ∷ events) none =
     (step_plain (tally rules (is_withdraw e.kind) past) e (withdraws (slice_get events 0)) none.0, plain_steps rules (e ∷ past) events none.1)
 
--- ---- by rules and steps that are given
+-- ---- by given rules and steps
 
 pub run_given : AllowedIsRun → (rules own : Rules) (list : List (List ℕ)) (events : List Event) (steps : List Step) → own ≡ rules → steps ≡ steps_of rules events → AreAllowed rules list events
     → IsRun own steps

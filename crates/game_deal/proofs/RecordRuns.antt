@@ -1,4 +1,4 @@
--- Where every event of a record is allowed, its steps are a run.
+-- If every event of a record is allowed, its steps are a run.
 use Rattle.std.proofs.Common.{◌≡◌, ℕ, ℤ, ◌+◌, ◌-◌, ◌<◌, ◌≤◌, min, Bool, true, false, List, [], ◌∷◌, ◌++◌, length, take, reverse, get_or, slice_get, refl, sym, ap, ◌∙◌, subst, arith, Option, Some, None, is_some, sum}
 use Rattle.std.specs.Prelude.{if◌then◌else◌}
 use Rattle.std.proofs.lemmas.Grind.{reverse_onto}
@@ -35,7 +35,7 @@ use Rattle.game_deal.proofs.PlacedLaws.{sum-placed}
 use Rattle.game_deal.proofs.CheckLaws.{exchange_parts, last_rack_parts}
 use Rattle.game_deal.proofs.CourseLaws.{course_at, ArePast, play_next, board_is}
 
--- ---- what each event may do, and what it makes of the course
+-- ---- what each event may do, and what it does to the course
 
 -- an act that the course allows, and that leads to the next course
 abbrev Goes : Rules → (before : Bool) → (past : List Event) → Act → Event → (w : Bool) → Type 0
@@ -63,7 +63,7 @@ time_goes : (rules : Rules) (past : List Event) (line : ℕ) (player : Seat) (ra
 time_goes rules past line player rack score total true = (refl, refl)
 time_goes rules past line player rack score total false = (refl, refl)
 
--- a pass, where a player is out or none is
+-- a pass, if a player is out or none is
 pass_goes : (rules : Rules) (past : List Event) (line : ℕ) (player : Seat) (rack : Option (List ℕ)) (score total : ℤ) (w out : Bool)
     → Goes rules false past (if out then act.Rests else act.Turns (stated rack) motion.Keeps) (made line player rack kind.Pass score total) w
 pass_goes rules past line player rack score total true true = (refl, refl)
@@ -130,7 +130,7 @@ bag_left whole laid n = omega arith
 drawn_is : (n used bag : ℕ) → used ≡ n → min n bag ≡ min used bag
 drawn_is n used bag e = ap (λ (k : ℕ). min k bag) (sym e)
 
--- the course behind a play that stands, by the rack of its player and the bag
+-- the course after a play that stands, by the rack of its player and the bag
 laid_course : (course : (rack bag : ℕ) → Course) (whole laid drawn own n used : ℕ) → used ≡ n → n ≤ 7 + drawn - own - 0
     → course (7 + drawn - own - 0 - used + min n (whole - laid)) (whole - laid - min n (whole - laid))
     ≡ course (7 + ((whole - laid - (whole - (n + laid))) + drawn) - (n + own) - 0) (whole - (n + laid))
@@ -162,7 +162,7 @@ lays_goes rules past line Second rack dir at word score total fits =
 restored : (rack n used : ℕ) → used ≡ n → n ≤ rack - 0 → rack - (n + 0) + used ≡ rack - 0
 restored rack n used e fits = omega arith
 
--- what is made of the size of the rack, where it has the tiles of the play again
+-- what is made from the size of the rack, if it has the tiles of the play again
 with_restored : {A : Type 0} (make : ℕ → A) (rack : ℕ) (ps : List Placed) → length ps ≤ rack - 0
     → make (rack - (length ps + 0) + sum (placed_tiles ps)) ≡ make (rack - 0)
 with_restored make rack ps fits = ap make (restored rack (length ps) (sum (placed_tiles ps)) (sum-placed ps) fits)
@@ -265,7 +265,7 @@ on_course rules list past e w before here =
       may = (goes rules list past e w before here).0;
     }
 
--- and the course behind it
+-- and the course after it
 course_behind : (rules : Rules) (list : List (List ℕ)) (past : List Event) (e : Event) (w : Bool) → ArePast rules list past → IsNext rules list past e
     → act_course (course_at rules (is_withdraw e.kind) past) (step_in (tally rules (is_withdraw e.kind) past) e w).player (step_in (tally rules (is_withdraw e.kind) past) e w).act
     ≡ course_at rules w (e ∷ past)
@@ -293,7 +293,7 @@ start_is : (rules : Rules) (w : Bool) → course_at rules w [] ≡ first_course 
 start_is rules true = let same : sum rules.counts - 14 - 0 ≡ sum rules.counts - 14 = omega arith in ap (λ (n : ℕ). record (first_course rules) { bag = n }) same
 start_is rules false = let same : sum rules.counts - 14 - 0 ≡ sum rules.counts - 14 = omega arith in ap (λ (n : ℕ). record (first_course rules) { bag = n }) same
 
--- the event behind a past is the one at its place
+-- the event after a past is the one at its place
 next_here : (rules : Rules) (list : List (List ℕ)) (past events : List Event) (e : Event) → AreAllowed rules list (reverse_aux past (e ∷ events)) → IsNext rules list past e
 next_here rules list past events e allowed =
     let all = reverse_aux past (e ∷ events) in
@@ -313,7 +313,7 @@ next_all : (rules : Rules) (list : List (List ℕ)) (past events : List Event) �
 next_all rules list past [] allowed = tt
 next_all rules list past (e ∷ events) allowed = (next_here rules list past events e allowed, next_all rules list (e ∷ past) events allowed)
 
--- where every event of a record is allowed, its steps are a run
+-- if every event of a record is allowed, its steps are a run
 pub allowed_runs : (rules : Rules) (list : List (List ℕ)) (events : List Event) → AreAllowed rules list events → IsRun rules (steps_of rules events)
 allowed_runs rules list events allowed =
     subst (λ c. IsRunFrom c (steps_of rules events)) (start_is rules (withdraws (slice_get events 0)))

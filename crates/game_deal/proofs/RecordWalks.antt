@@ -11,7 +11,7 @@ use Rattle.game_deal.proofs.StepLaws.{length-steps}
 pub steps_more : {X : Type 0} (steps : List X) (i : ℕ) (s : X) → slice_get steps i ≡ Some s → take (i + 1) steps ≡ take i steps ++ s ∷ []
 steps_more steps i s is = take_more steps i s (slice_get_within steps i s is) ∙ ap (λ x. take i steps ++ x ∷ []) (get_or_from_slice_get steps i s s is)
 
--- behind the last event
+-- after the last event
 pub at_end : (rules : Rules) (events given : List Event) (n i : ℕ) → given ≡ events → n ≡ length given → n ≤ i → length (steps_of rules events) ≤ i
 at_end rules events given n i same size past =
     let steps = length-steps rules [] events in

@@ -1,4 +1,4 @@
--- What a cut of the steps of a record says of its events.
+-- What a cut of the steps of a record says about its events.
 use Rattle.std.proofs.Common.{◌≡◌, ℕ, ◌+◌, ◌-◌, ◌<◌, List, [], length, take, get_or, refl, ap, sym, subst, ◌∙◌, arith}
 use Rattle.std.proofs.lemmas.Option.{slice_get_read}
 use Rattle.gcg_read.specs.declared.events.Event.{Event}

@@ -1,4 +1,4 @@
--- What a fault of the deals of a record tells.
+-- What a fault of the deals of a record says.
 use Rattle.std.specs.Prelude.{◌≡◌, Option, Some, None, IfSome}
 use Rattle.game_turns.specs.declared.passed.Passed.{Passed}
 use Rattle.deal_steps.specs.declared.faults.DealBound.{DealBound}
@@ -7,7 +7,7 @@ use Rattle.game_deal.specs.declared.faults.DealFault.{DealFault}
 use Rattle.game_deal.specs.declared.faults.DealFault.TheVariants as fault
 use Rattle.game_deal.specs.Bounded.{bound_in}
 
--- the bound that is exceeded; none where memory ran out
+-- the bound that is exceeded; none if memory ran out
 abbrev pub bound_told : DealFault → Option DealBound
 bound_told (fault.RackTooBig line) = Some (bound.RackTooBig line)
 bound_told (fault.TilesShort line kind) = Some (bound.TilesShort line kind)

@@ -50,12 +50,12 @@ abbrev pub taken_back_act : Option (List Placed) → Act
 taken_back_act None = act.Rests
 taken_back_act (Some tiles) = act.TakesBack (placed_tiles tiles)
 
--- whose rack a last rack is: the other player's once the player is out, else the own
+-- whose rack a last rack is: the other player's once the player is out, otherwise the player's own
 abbrev pub last_holder : (out : Option Seat) → Seat → Seat
 last_holder None player = player
 last_holder (Some out) player = other_seat out
 
--- What an event is to the racks. The pass after a player is out tells nothing, nor do challenges and time penalties.
+-- What an event means for the racks. The pass after a player is out says nothing, nor do challenges and time penalties.
 abbrev pub act_of : State → Event → EventKind → (withdrawn : Bool) → Act
 act_of s e (kind.Play at dir word) withdrawn = turn_of e (play_motion s.bag (placement_of s.board dir at word) withdrawn)
 act_of s e kind.Pass withdrawn = if is_some s.out then act.Rests else turn_of e motion.Keeps
@@ -66,7 +66,7 @@ act_of s e kind.Challenge withdrawn = act.Rests
 act_of s e kind.Time withdrawn = act.Rests
 act_of s e (kind.LastRack tiles) withdrawn = act.Ends (last_holder s.out e.player) tiles
 
--- the step of an event over the state before it
+-- the step of an event from the state before it
 unfoldable pub step_in : State → Event → (withdrawn : Bool) → Step
 step_in s e withdrawn =
     record {
@@ -80,7 +80,7 @@ step_in s e withdrawn =
       bag = s.bag;
     }
 
--- the steps of the events behind a past, the latest of which comes first
+-- the steps of the events after a past, whose latest event comes first
 abbrev pub steps_after : Rules → (past : List Event) → List Event → List Step
 steps_after rules past [] = []
 steps_after rules past (e ∷ events) =
@@ -90,7 +90,7 @@ steps_after rules past (e ∷ events) =
 abbrev pub steps_of : Rules → List Event → List Step
 steps_of rules events = steps_after rules [] events
 
--- a text that names a placement, where the event is a play
+-- if the event is a play, its text names a placement
 abbrev pub IsNamed : List (Option Tile) → EventKind → Type 0
 IsNamed board (kind.Play at dir word) = text_fault board dir at word ≡ None
 IsNamed board kind.Pass = Unit {0}

@@ -1,4 +1,4 @@
--- What is known of the deals of a record that passed.
+-- What is known about the deals of a record that passed.
 use Rattle.std.specs.Prelude.{◌≡◌, ℕ, ◌+◌, take, slice_get, Some}
 use Rattle.gcg_read.specs.declared.events.Event.{Event}
 use Rattle.game_turns.specs.declared.passed.Passed.{Passed}
@@ -10,8 +10,8 @@ use Rattle.game_deal.specs.declared.settling.Settled.{Settled}
 use Rattle.game_deal.specs.declared.settling.Settled.TheVariants as settled
 use Rattle.game_deal.specs.Bounded.{steps_in, FitsRecord}
 
--- No racks fit the steps up to and with an event on this line, and of the steps before it this is known: that some racks fit
--- them, or nothing.
+-- No racks fit the steps up to and including an event on this line, and this is known about the steps before it: that some racks
+-- fit them, or nothing.
 pub record EndsOnLine (passed : Passed) (line : ℕ) (earlier : Earlier) : Type 0 where
   pub place : ℕ
   pub event : Event

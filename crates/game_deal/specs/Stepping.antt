@@ -1,4 +1,4 @@
--- What contracts see of the steps that were made of a record.
+-- What contracts see of the steps made from a record.
 use Rattle.game_turns.specs.declared.passed.Passed.{Passed}
 use Rattle.game_deal.specs.declared.steps.Steps.{Steps}
 

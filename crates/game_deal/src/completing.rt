@@ -1,4 +1,4 @@
-//! The deal that a record is tried with first.
+//! The deal with which a record is tried first.
 ghost use Rattle.std.specs.Prelude.{◌≡◌, IfOk, IsSomeAnd};
 ghost use Rattle.game_turns.specs.Passing.{rules_in, record_in};
 ghost use Rattle.deal_completion.specs.Completion.{dealt};
@@ -15,10 +15,10 @@ use std::alloc::Global;
 /// Memory ran out.
 pub use std::alloc::AllocError as NoMemory;
 
-/// The deal that a record is tried with, by a fixed rule: each draw gives a player what the player's later lines ask
-/// for, and then tiles that the other player's lines do not ask for. None where a rack then lacks what a line asks for.
+/// The deal with which a record is tried, by a fixed rule: each draw gives a player what the player's later lines ask for, and then
+/// tiles that the other player's lines do not ask for. None if a rack then lacks what a line asks for.
 ///
-/// Where no event is an exchange of either kind there is a deal, and it fits.
+/// If no event is an exchange of either kind, there is a deal, and it fits.
 pub fn complete(alloc: Global, needs: &Needs<'_>) -> Result<Option<Deal>, NoMemory>
     ensures dealt { IfOk result (λ deal. deal ≡ dealt (rules_in (passed_of needs.now)) (steps_in (passed_of needs.now))) }
     ensures plain { IfOk result (λ deal. HaveNoExchange (record_in (passed_of needs.now)).events

@@ -1,4 +1,4 @@
-//! Why no deal can be sought for a record.
+//! Why a deal of a record cannot be searched for.
 ghost use Rattle.std.specs.Prelude.{◌≡◌, Some, None, IfOk, OnErr};
 ghost use Rattle.game_deal.specs.Faulty.{bound_told};
 
@@ -6,7 +6,7 @@ use deal_steps::DealBound;
 use ref_tiles::Kind;
 use std::alloc::AllocError;
 
-/// Why the needs of a record are not known: a bound that its racks exceed, or no memory.
+/// Why the needs of a record are not known: its racks exceed a bound, or memory ran out.
 #[derive(Clone, Copy, Debug, PartialEq, Eq)]
 pub enum DealFault {
     /// By this line a player has shown more tiles than came to the rack.
@@ -35,7 +35,7 @@ pub(crate) fn exceeds(bound: DealBound) -> DealFault
     }
 }
 
-/// The bound that is exceeded, where memory did not run out.
+/// The bound that is exceeded, if memory did not run out.
 pub fn exceeded_bound(fault: DealFault) -> Result<DealBound, AllocError>
     ensures bound { IfOk result (λ bound. bound_told fault ≡ Some bound) }
     ensures none { OnErr result (bound_told fault ≡ None) }

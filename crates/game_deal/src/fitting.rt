@@ -8,10 +8,10 @@ use game_turns::Passed;
 
 /// Whether a deal fits a record that passed. It takes no memory.
 ///
-/// It has the racks before each event. Tiles on the board and on both racks are those of the tile set, and all others
-/// are in the bag; racks and bag have the sizes that the turns leave. What a line states, uses or throws is on its
-/// player's rack, and a last rack is all that its holder has. A rack changes only by what its player uses and draws,
-/// and what is drawn was in the bag before the event, so thrown tiles do not come back in the same draw.
+/// It has the racks before each event. Tiles on the board and on both racks are those of the tile set, and all others are in the
+/// bag; racks and bag have the sizes that the turns leave. What a line states, uses or throws is on its player's rack, and a last
+/// rack is all that its holder has. A rack changes only by what its player uses and draws, and what is drawn was in the bag before
+/// the event, so thrown tiles do not come back in the same draw.
 pub fn fits(passed: &Passed<'_>, deal: &Deal) -> bool
     ensures { IsTrue result ↔ FitsRecord passed.now deal.now }
 {

@@ -1,5 +1,5 @@
-//! The deals of a record that passed: the bounds that its lines exceed, the deal that it is tried with, whether a deal
-//! fits it, and a search for one, or for a proof that there is none.
+//! The deals of a record that passed: the bounds that its lines exceed, the deal with which it is tried, whether a deal fits it,
+//! and a search for one, or for a proof that there is none.
 #![tactic(auto)]
 
 mod bounding;

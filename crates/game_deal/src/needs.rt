@@ -1,4 +1,4 @@
-//! What the lines of a record ask of the racks, where no bound is exceeded.
+//! What the lines of a record require of the racks, if no bound is exceeded.
 ghost use Rattle.std.specs.Prelude.{◌≡◌, ◌↔◌, IsTrue};
 ghost use Rattle.game_deal.specs.Bounded.{steps_in, IsBounded, FitsRecord};
 ghost use Rattle.game_deal.specs.Stepping.{passed_in};
@@ -7,8 +7,8 @@ use crate::steps::Steps;
 use deal_steps::{Deal, Step, fits as fits_steps};
 use game_turns::Passed;
 
-/// What the lines of a record that passed ask of the racks, where no bound is exceeded: the record with its rules and its
-/// list, and of each event its step, with the line, the holder and the tiles of a rack that is judged there.
+/// What the lines of a record that passed require of the racks, if no bound is exceeded: the record with its rules and its list,
+/// and for each event its step, with the line, the holder and the tiles of a rack that is judged there.
 #[derive(Drop)]
 pub struct Needs<'a> {
     pub(crate) steps: Steps<'a>,
@@ -33,7 +33,7 @@ impl<'a> Needs<'a> {
         self.steps.as_slice()
     }
 
-    /// Whether a deal fits the record: what [`fits`](crate::fits) tells, by the steps that are kept.
+    /// Whether a deal fits the record: what [`fits`](crate::fits) answers, by the steps that are kept.
     pub fn is_fitted_by(&self, deal: &Deal) -> bool
         ensures { IsTrue result ↔ FitsRecord (passed_of self.now) deal.now }
     {

@@ -1,4 +1,4 @@
-//! The step of an event, over the machine that took those before it.
+//! The step of an event, from the machine that took those before it.
 ghost use Rattle.std.specs.Prelude.{◌≡◌, ◌≤◌, None, length, is_some, if◌then◌else◌};
 ghost use Rattle.ref_play.specs.Texts.{placement_of, text_fault};
 ghost use Rattle.game_turns.specs.Machines.{state_of};
@@ -39,7 +39,7 @@ fn placed_tiles(placed: &[Placed]) -> Counts
     tiles
 }
 
-/// What a play is to the racks.
+/// What a play means for the racks.
 fn play_motion(bag: usize, placed: &[Placed], withdrawn: bool) -> Motion
     requires { length placed.now ≤ 7 }
     ensures { result ≡ play_motion bag placed.now withdrawn }
@@ -68,7 +68,7 @@ fn turn_of(event: &Event, motion: Motion) -> Act
     }
 }
 
-/// Whose rack a last rack is: the other player's once the player is out, else the own.
+/// Whose rack a last rack is: the other player's once the player is out, otherwise the player's own.
 fn last_holder(out: Option<Seat>, player: Seat) -> Seat
     ensures { result ≡ last_holder out player }
 {
@@ -98,7 +98,7 @@ fn play_act(
     turn_of(event, motion)
 }
 
-/// The act of a pass: after a player is out it tells nothing.
+/// The act of a pass: after a player is out it says nothing.
 fn pass_act(machine: &Machine, event: &Event) -> Act
     ensures { result ≡ (if is_some (state_of machine.now).out then act.Rests else turn_of event.now motion.Keeps) }
 {
@@ -118,7 +118,7 @@ fn withdraw_act(machine: &Machine) -> Act
     }
 }
 
-/// What an event is to the racks.
+/// What an event means for the racks.
 fn act_of(machine: &Machine, event: &Event, withdrawn: bool) -> Act
     requires { IsNamed (state_of machine.now).board event.now.kind }
     ensures { result ≡ act_of (state_of machine.now) event.now event.now.kind withdrawn }
@@ -139,8 +139,9 @@ fn act_of(machine: &Machine, event: &Event, withdrawn: bool) -> Act
     }
 }
 
-/// The step of an event, over the machine that took those before it: what the event is to the racks, and the tiles of the board and the
-/// sizes of racks and bag before it. `withdrawn` tells whether the next event takes this one back. The text of a play names a placement.
+/// The step of an event, from the machine that took those before it: what the event means for the racks, and the tiles of the board
+/// and the sizes of racks and bag before it. `withdrawn` says whether the next event takes this one back. The text of a play must
+/// name a placement.
 #[tactic(auto, unfolding(crate::specs::Recorded::step_in))]
 pub fn next_step(machine: &Machine, event: &Event, withdrawn: bool) -> Step
     requires { IsNamed (state_of machine.now).board event.now.kind }

@@ -12,16 +12,16 @@ use deal_search::{Earlier, Settling, settle as settle_steps};
 use deal_steps::Deal;
 use std::alloc::{AllocError, Global};
 
-/// What is known of the deals of a record.
+/// What is known about the deals of a record.
 #[derive(Debug, Drop)]
 pub enum Settled {
     /// This deal fits.
     Dealt(Deal),
-    /// No racks fit the steps up to and with the event on this line, and so there is no deal for the record.
+    /// No racks fit the steps up to and including the event on this line, so there is no deal for the record.
     NoDeal {
         /// The line, counted from 1.
         line: u32,
-        /// What is known of the steps before this event.
+        /// What is known about the steps before this event.
         earlier: Earlier,
     },
     /// Neither was found within the budget.
@@ -51,8 +51,8 @@ fn no_deal(needs: &Needs<'_>, cut: &Cut, earlier: Earlier) -> Settled
     }
 }
 
-/// Settles whether some deal fits a record. Where none does, the line is the first up to which the search finds a proof of it,
-/// and the answer tells whether racks fit the steps before it. It fails only where memory runs out.
+/// Settles whether some deal fits a record. If none does, the line is the first up to which the search finds a proof of it, and the
+/// answer says whether racks fit the steps before it. It fails only if memory runs out.
 pub fn settle(alloc: Global, needs: &Needs<'_>) -> Result<Settled, AllocError>
     ensures { IfOk result (IsSettledOf (passed_of needs.now)) }
 {

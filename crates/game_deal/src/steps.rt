@@ -7,7 +7,7 @@ use deal_steps::{Act, Motion, Step};
 use game_turns::Passed;
 use std::alloc::{AllocError, Global};
 
-/// The steps of a record that passed: for each event what it is to the racks.
+/// The steps of a record that passed: for each event, what it means for the racks.
 #[derive(Drop)]
 pub struct Steps<'a> {
     passed: &'a Passed<'a>,

@@ -8,7 +8,7 @@ use crate::recording::next_step;
 use deal_steps::Step;
 use game_turns::{Machine, Passed, withdraws};
 
-/// The step of the event at a place of a record that passed, from 0, over a machine that took those before it.
+/// The step of the event at a place of a record that passed, counted from 0, from a machine that took those before it.
 fn step_at(passed: &Passed<'_>, machine: &Machine, place: usize) -> Step
     requires place { place < length (record_in passed.now).events }
     requires before { IsAtPlace passed.now place machine.now }
@@ -18,7 +18,7 @@ fn step_at(passed: &Passed<'_>, machine: &Machine, place: usize) -> Step
     next_step(machine, &events[place], withdraws(events.get(place + 1)))
 }
 
-/// A machine that took no event yet.
+/// A machine that has not taken an event yet.
 pub fn starting(passed: &Passed<'_>) -> Machine
     ensures { IsAtPlace passed.now 0 result }
 {

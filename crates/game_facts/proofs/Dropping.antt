@@ -1,4 +1,4 @@
--- The lines of a text, one after the other.
+-- The lines of a text, one after another.
 use Rattle.std.proofs.Common.{◌≡◌, ℕ, zero, suc, ◌+◌, ◌-◌, ◌≤◌, List, [], ◌∷◌, length, drop, slice_get, Some, None, refl, sym, ap, ◌∙◌, arith}
 use Rattle.std.proofs.lemmas.List.{length-drop}
 use Rattle.std.proofs.lemmas.Option.{slice_get_past}
@@ -19,7 +19,7 @@ none_left xs k n e below =
     let none : length xs - k ≡ 0 = sym (ap length e ∙ length-drop k xs) in
     sym (slice_get_past xs n (omega (arith, none, below)))
 
--- a line is left, and those behind it
+-- a line is left, and those after it
 pub more_left : (xs rest ys : List (List ℕ)) (y : List ℕ) (k : ℕ) → rest ≡ drop k xs → rest ≡ y ∷ ys → ys ≡ drop (k + 1) xs
 more_left xs rest ys y k e is =
     let next : suc k ≡ k + 1 = omega arith in

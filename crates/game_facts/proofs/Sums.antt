@@ -18,7 +18,7 @@ use Rattle.ref_play.proofs.ScoreLemmas.{score_is}
 use Rattle.game_facts.specs.Words.{WordSum, word_square, squares_on, word_sum, word_sums, worth}
 use Rattle.game_facts.specs.Laws.{SumsAddUp}
 
--- a sum over what comes of a list is a sum over the list
+-- a sum over a mapped list is a sum over the list
 sum_of_map : {X Y : Type 0} (f : Y → ℕ) (g : X → Y) (xs : List X) → sum_by f (map g xs) ≡ sum_by (λ x. f (g x)) xs
 sum_of_map f g [] = refl
 sum_of_map f g (x ∷ xs) = sum_by-cons f (g x) (map g xs) ∙ ap (λ n. f (g x) + n) (sum_of_map f g xs) ∙ sym (sum_by-cons (λ y. f (g y)) x xs)

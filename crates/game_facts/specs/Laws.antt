@@ -8,8 +8,7 @@ use Rattle.ref_play.specs.declared.runs.Run.{Run}
 use Rattle.ref_play.specs.Scores.{bonus_score, score_of}
 use Rattle.game_facts.specs.Words.{WordSum, word_sum, word_sums, worth}
 
--- A word scores what its squares add, times the product of its word premiums; and a play scores what its words score, and the
--- bonus.
+-- A word scores what its squares add, times the product of its word premiums; and a play scores what its words score, plus the bonus.
 pub record SumsAddUp : Type 0 where
   pub word : (rules : Rules) (after : List (Option Tile)) (ps : List Placed) (run : Run)
       → (word_sum rules after ps run).score ≡ sum_by worth (word_sum rules after ps run).squares * (word_sum rules after ps run).factor

@@ -19,7 +19,7 @@ scores_at rules board word score spot =
 abbrev pub spots_along : Dir → (many : ℕ) → List Spot
 spots_along d many = map (λ k. record { dir = d; at = k }) (range_with_len 0 many)
 
--- those of them at which it is one
+-- those of them at which the text is such a play
 unfoldable pub scoring_along : Rules → (board : List (Option Tile)) → List Symbol → (score : ℤ) → Dir → (many : ℕ) → List Spot
 scoring_along rules board word score d many = filter (scores_at rules board word score) (spots_along d many)
 

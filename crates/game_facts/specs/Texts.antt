@@ -1,4 +1,4 @@
--- Where a text does not agree with the board, and how many tiles it puts down.
+-- Where a text does not agree with the board, and the number of tiles that it puts down.
 use Rattle.std.specs.Prelude.{◌≡◌, ℕ, ◌+◌, ◌<◌, nat_lt, not, Bool, true, false, List, length, Option, Some, None, slice_get, if◌then◌else◌}
 use Rattle.ref_tiles.specs.declared.tiles.Tile.{Tile}
 use Rattle.ref_tiles.specs.declared.symbols.Symbol.{Symbol}
@@ -23,12 +23,12 @@ misfits_at board d at word k = misfits (tile_at board (along d at k)) (slice_get
 abbrev pub FitsTo : (board : List (Option Tile)) → Dir → (at : ℕ) → List Symbol → (many : ℕ) → Type 0
 FitsTo board d at word many = (k : ℕ) → k < many → misfits_at board d at word k ≡ false
 
--- the place of the first symbol that does not agree with its square; none where each does, and where the text leaves the board
+-- the place of the first symbol that does not agree with its square; none if each does, or if the text leaves the board
 abbrev pub IsFirstMisfit : (board : List (Option Tile)) → Dir → (at : ℕ) → List Symbol → Option ℕ → Type 0
 IsFirstMisfit board d at word None = leaves_board d at word ≡ false → FitsTo board d at word (length word)
 IsFirstMisfit board d at word (Some k) =
     (leaves_board d at word ≡ false) × (k < length word) × (misfits_at board d at word k ≡ true) × FitsTo board d at word k
 
--- how many tiles a text puts down; none where it leaves the board
+-- the number of tiles that a text puts down; none if it leaves the board
 abbrev pub new_tiles : (board : List (Option Tile)) → Dir → (at : ℕ) → List Symbol → Option ℕ
 new_tiles board d at word = if leaves_board d at word then None else Some (length (placement_of board d at word))

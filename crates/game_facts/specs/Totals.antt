@@ -5,8 +5,8 @@ use Rattle.gcg_read.specs.declared.events.Seat.{Seat}
 use Rattle.gcg_read.specs.declared.events.Event.{Event}
 use Rattle.gcg_read.specs.Players.{same_seat}
 
--- The line of the latest event of a player with this score, of events from the latest back to the first. Where a total lacks as
--- much, it is right but for that event.
+-- The line of the latest event of a player with this score, in a list of events with the latest first. If a total is too low by
+-- that score, it is right except for that event.
 abbrev pub latest_with : Seat → (score : ℤ) → (past : List Event) → Option ℕ
 latest_with seat score [] = None
 latest_with seat score (e ∷ past) = if same_seat e.player seat && int_eq e.score score then Some e.line else latest_with seat score past

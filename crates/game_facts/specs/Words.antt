@@ -1,4 +1,4 @@
--- The words of a play, each with its squares and what it scores.
+-- The words of a play, each with its squares and its score.
 use Rattle.std.specs.Prelude.{ℕ, ◌*◌, List, map, Option, if◌then◌else◌}
 use Rattle.std.specs.List.{range_with_len}
 use Rattle.ref_tiles.specs.declared.tiles.Tile.{Tile}
@@ -29,7 +29,7 @@ word_square rules after ps square =
 unfoldable pub squares_on : Rules → (after : List (Option Tile)) → List Placed → Run → List WordSquare
 squares_on rules after ps run = map (λ k. word_square rules after ps (along run.dir run.start k)) (range_with_len 0 run.len)
 
--- a word with what it scores: the run that it stands on, its squares, the product of its word premiums, and its score
+-- a word with its score: its run, its squares, the product of its word premiums, and its score
 pub record WordSum : Type 0 where
   pub run : Run
   pub squares : List WordSquare

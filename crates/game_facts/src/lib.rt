@@ -1,4 +1,4 @@
-//! Facts about one line of a record, as values: the line as it stands in its text, the words of a play with what each of their squares
+//! Facts about one line of a record, as values: the line as it is in its text, the words of a play with what each of their squares
 //! adds, where a text does not agree with the board, where the same text has a score, and which turn a total leaves out.
 #![tactic(auto)]
 

@@ -5,7 +5,7 @@ ghost use Rattle.game_facts.specs.Lines.{line_of};
 
 use text_lines::{cut_line, without_mark};
 
-/// The line behind so many others.
+/// The line after `others` lines.
 fn line_behind(text: &[u8], others: u32) -> Option<&[u8]>
     ensures { option_map (λ line. line.now) result ≡ slice_get (lines_in (without_mark text.now)) others }
 {
@@ -22,7 +22,7 @@ fn line_behind(text: &[u8], others: u32) -> Option<&[u8]>
     }
 }
 
-/// The line of a text with a number, counted from 1, without its end. None where the text has fewer lines.
+/// The line of a text with a number, counted from 1, without its end. None if the text has fewer lines.
 pub fn line_of(text: &[u8], number: u32) -> Option<&[u8]>
     ensures { option_map (λ line. line.now) result ≡ line_of text.now number }
 {

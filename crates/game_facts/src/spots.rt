@@ -29,7 +29,7 @@ fn scores_at(rules: &Rules, board: &Board, word: &[Symbol], wanted: Points, spot
     }
 }
 
-/// Adds a spot, where a text is a legal play there with this score.
+/// Adds a spot, if a text is a legal play there with this score.
 fn push_spot(
     spots: &mut Vec<Spot>,
     rules: &Rules,
@@ -66,7 +66,7 @@ fn push_along(
 
 /// All spots of a board at which a text is a legal play with this score: across before down, and row by row.
 ///
-/// It fails only where memory runs out.
+/// It fails only if memory runs out.
 pub fn scoring_spots(
     alloc: Global,
     rules: &Rules,

@@ -1,4 +1,4 @@
-//! Where a text does not agree with the board, and how many tiles it puts down.
+//! Where a text does not agree with the board, and the number of tiles that it puts down.
 ghost use Rattle.std.specs.Prelude.{◌≡◌, ◌≤◌, ◌+◌, length};
 ghost use Rattle.ref_board.specs.Lines.{place_of};
 ghost use Rattle.game_facts.specs.Texts.{leaves_board, IsFirstMisfit, new_tiles};
@@ -15,7 +15,7 @@ fn leaves_board(at: Square, dir: Dir, word: &[Symbol]) -> bool
 }
 
 /// The place, counted from 0, of the first symbol of a text that does not agree with its square: a dot on an empty square, or a
-/// letter on a tile that shows another. None where each agrees, and where the text leaves the board.
+/// letter on a tile that shows another. None if each agrees, or if the text leaves the board.
 pub fn first_misfit(board: &Board, at: Square, dir: Dir, word: &[Symbol]) -> Option<usize>
     ensures { IsFirstMisfit board.now dir at word.now result }
 {
@@ -30,7 +30,7 @@ pub fn first_misfit(board: &Board, at: Square, dir: Dir, word: &[Symbol]) -> Opt
     None
 }
 
-/// How many tiles a text puts down: its letters on empty squares. None where it leaves the board.
+/// The number of tiles that a text puts down: its letters on empty squares. None if it leaves the board.
 pub fn new_tiles(board: &Board, at: Square, dir: Dir, word: &[Symbol]) -> Option<usize>
     ensures { result ≡ new_tiles board.now dir at word.now }
 {

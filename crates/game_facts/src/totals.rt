@@ -6,7 +6,7 @@ ghost use Rattle.game_facts.specs.Totals.{latest_with};
 
 use gcg_read::{Event, Seat, same_seat};
 
-/// The line that is found behind one event more.
+/// The line found after one more event.
 fn later(event: &Event, player: Seat, score: i32, found: Option<u32>) -> Option<u32>
     ensures { result ≡ if same_seat event.now.player player && int_eq event.now.score score then Some event.now.line else found }
 {
@@ -17,8 +17,8 @@ fn later(event: &Event, player: Seat, score: i32, found: Option<u32>) -> Option<
     }
 }
 
-/// The line of the latest event of a player with this score. Where the player's total lacks as much behind these events, it is right
-/// but for that one event.
+/// The line of the latest event of a player with this score. If the player's total is too low by that score after these events, it
+/// is right except for that one event.
 pub fn latest_with(events: &[Event], player: Seat, score: i32) -> Option<u32>
     ensures { result ≡ latest_with player score (reverse events.now) }
 {

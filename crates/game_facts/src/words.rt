@@ -1,4 +1,4 @@
-//! The words of a play, each with its squares and what it scores.
+//! The words of a play, each with its squares and its score.
 ghost use Rattle.std.specs.Prelude.{◌≡◌, ◌≤◌, length, map, All, if◌then◌else◌};
 ghost use Rattle.ref_tiles.specs.declared.premiums.Premium.TheVariants as premium;
 ghost use Rattle.ref_tiles.specs.Rulebook.{premium_at};
@@ -11,7 +11,7 @@ use ref_board::{Board, SIDE, Square};
 use ref_play::{Placed, Play, Run, along, covers, formed, points_on, run_score, words_factor};
 use ref_tiles::{Premium, Rules, Tile};
 
-/// How many words a play forms at the most: one along it, and one across each of its tiles.
+/// The maximum number of words of a play: one along it, and one across each of its tiles.
 const WORDS: usize = 8;
 
 /// A square of a word that a play forms. It adds the points, times the letter premium.
@@ -50,13 +50,13 @@ impl Default for WordSquare {
 /// A word that a play forms.
 #[derive(Drop)]
 pub struct ScoredWord {
-    /// The run of tiles that it stands on.
+    /// The run of its tiles.
     pub run: Run,
     /// Its squares, in the order of its letters.
     pub squares: ArrayVec<WordSquare, SIDE>,
     /// The product of the word premiums under its new tiles.
     pub factor: u32,
-    /// What it scores.
+    /// Its score.
     pub score: u32,
 }
 
@@ -79,7 +79,7 @@ impl Default for ScoredWord {
 /// The words of a play, up to eight.
 pub type ScoredWords = ArrayVec<ScoredWord, WORDS>;
 
-/// The premium that counts on a square, where its tile is new or old.
+/// The premium that counts on a square, by whether its tile is new.
 fn premium_under(rules: &Rules, square: Square, is_new: bool) -> Premium
     ensures { result ≡ if is_new then premium_at rules.now square else premium.Plain }
 {
@@ -151,8 +151,8 @@ fn words_on(rules: &Rules, after: &Board, tiles: &[Placed], runs: &[Run]) -> Sco
     words
 }
 
-/// The words that a legal play forms, each with its squares and what it scores: that of its direction first, where it has two
-/// letters, and then the cross words in the order of the new tiles. What they score, and the bonus, is what the play scores
+/// The words that a legal play forms, each with its squares and its score: that of its direction first, if it has two letters, and
+/// then the cross words in the order of the new tiles. Their scores, plus the bonus, are what the play scores
 /// ([`law_of_sums`](crate::law_of_sums)).
 #[tactic(auto, unfolding(crate::specs::Words::word_sums))]
 pub fn scored_words(rules: &Rules, board: &Board, play: &Play) -> ScoredWords

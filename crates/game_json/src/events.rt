@@ -72,7 +72,7 @@ impl EventObject {
         Ok(())
     }
 
-    /// Takes what is answered of the event.
+    /// Takes what is answered for the event.
     fn take_answer(&mut self, alloc: Global, answer: &EventAnswer) -> Result<(), AllocError> {
         self.word = text_unless_empty(alloc, answer.word.as_slice())?;
         if let Some(play) = &answer.play {
@@ -120,7 +120,7 @@ fn words_of(alloc: Global, words: &[SpelledWord]) -> Result<Vec<String>, AllocEr
     Ok(texts)
 }
 
-/// An event, with what is answered of it where that is known.
+/// An event, with what is answered for it if that is known.
 pub fn event_object(
     alloc: Global,
     players: &Players,

@@ -51,7 +51,7 @@ fn player_objects(alloc: Global, game: &JudgedGame) -> Result<Vec<PlayerObject>,
     Ok(players)
 }
 
-/// The events, each with what is answered of it.
+/// The events, each with what is answered for it.
 fn event_objects(
     alloc: Global,
     game: &JudgedGame,
@@ -68,7 +68,7 @@ fn event_objects(
     Ok(events)
 }
 
-/// Appends a judged game: the verdict, the players, and each event as it is written with what is answered of it.
+/// Appends a judged game: the verdict, the players, and each event as it is written with what is answered for it.
 pub fn push_judged_game(
     alloc: Global,
     text: &mut Vec<u8>,

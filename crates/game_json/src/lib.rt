@@ -1,4 +1,4 @@
-//! A judged game and the best plays as JSON, made of their values alone.
+//! A judged game and the best plays as JSON, made only from their values.
 #![tactic(auto)]
 
 mod events;

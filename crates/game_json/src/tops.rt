@@ -58,8 +58,8 @@ fn push_plays(
     push_object(alloc, text, &object)
 }
 
-/// Appends what is found where the best plays before a line are asked for: the rack and the plays, or the verdict that says why there are
-/// none.
+/// Appends what is found for a question about the best plays before a line: the rack and the plays, or the verdict that says why there
+/// are none.
 pub fn push_found_plays(
     alloc: Global,
     text: &mut Vec<u8>,

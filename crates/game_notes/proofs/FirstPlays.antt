@@ -1,4 +1,4 @@
--- What a sink of the first plays has once it took all candidates.
+-- What a sink of the first plays has after it has taken all candidates.
 use Rattle.std.proofs.Common.{ℤ, map, option_map, slice_get, ◌≡◌, ℕ, List, [], ◌∷◌, length, nat_le, Option, Some, Result, Ok, Err, IsOk, refl, sym, ap, ◌∙◌, subst}
 use Rattle.std.proofs.lemmas.Bool.{and_parts, leb-true}
 use Rattle.std.specs.Char.{is_ascii_uppercase}
@@ -26,12 +26,12 @@ added : {A : Type 0} (add : List A → A → List A) (kept xs : List A) → add_
 added add kept [] = refl
 added add kept (x ∷ xs) = added add (add kept x) xs
 
--- a sink that was not refused took all
+-- a sink that did not refuse took all
 took_all : {I X U E : Type 0} (add : I → X → I) (old : I) (xs : List X) (new : I) (r : Result U E) → IsOk r → Took add old xs new r → new ≡ add_all add old xs
 took_all add old xs new (Ok u) ok took = took
 took_all add old xs new (Err e) ok took = cc
 
--- the first plays are what a sink for the board has once it took all
+-- the first plays are what a sink for the board has after it has taken all candidates
 pub first_taken : {U E : Type 0} (n : ℕ) (rules : Rules) (words : List (List ℕ)) (board : List (Option Tile)) (rack : List ℕ) (all : List Given) (own : Option (List (Option Tile))) (old new : List Given) (r : Result U E)
     → length board ≡ 225 → AreAll rules words board rack all → own ≡ Some board → old ≡ [] → IsOk r → Took (add_ranked n own) old all new r → AreFirstPlays n rules words board rack new
 first_taken n rules words board rack all own old new r size are_all made none ok took =

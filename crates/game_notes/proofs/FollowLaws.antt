@@ -1,4 +1,4 @@
--- Cross-sets that are brought up to a play are right for the board with its tiles, and without them.
+-- Cross-sets that are updated for a play are right for the board with its tiles, and without them.
 use Rattle.std.proofs.Common.{◌≡◌, ℕ, List, [], ◌∷◌, length, Option, Some, None, refl, sym, ap, ◌∙◌}
 use Rattle.std.proofs.lemmas.List.{length-set}
 use Rattle.ref_tiles.specs.declared.tiles.Tile.{Tile}
@@ -23,7 +23,7 @@ lift_size : (ps : List Placed) (board : List (Option Tile)) → length board ≡
 lift_size [] board = refl
 lift_size (p ∷ ps) board = sym (length-set board p.square None) ∙ lift_size ps (with_tile board p.square None)
 
--- what a call promises that brings the cross-sets up to a play
+-- what a call promises that updates the cross-sets for a play
 abbrev BringsUp : Rules → List ℕ → List Placed → List (Option Tile) → Cross → Cross → Type 0
 BringsUp rules bytes ps after old new =
     (words : List (List ℕ)) (before : List (Option Tile)) → StandsFor (language_of bytes) words → DifferOn ps before after → IsRight rules words before old → IsRight rules words after new

@@ -5,8 +5,8 @@ use Rattle.ref_tiles.specs.declared.rulebook.Rules.{Rules}
 use Rattle.ref_play.specs.Best.{Given, AreAll}
 use Rattle.gen_sinks.specs.Ranks.{ranks_before, AreFirst}
 
--- The first so many of all candidates by a rack on a board, in the order of greater score and then of notation: all of
--- them where they are fewer.
+-- The first `n` of all candidates by a rack on a board, in the order of greater score and then of notation: all of them
+-- if there are fewer.
 pub record AreFirstPlays (n : ℕ) (rules : Rules) (words : List (List ℕ)) (board : List (Option Tile)) (rack : List ℕ) (plays : List Given) : Type 0 where
   pub all : List Given
   pub are_all : AreAll rules words board rack all

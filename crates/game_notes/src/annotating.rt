@@ -13,12 +13,12 @@ use ref_board::Board;
 use ref_play::Play;
 use ref_tiles::{Counts, Rules};
 
-/// The best play that a rack allows on a board by a list of words and its lexicon, with its score; none where there is no
+/// The best play that a rack allows on a board by a list of words and its lexicon, with its score; none if there is no
 /// play.
 ///
-/// It scores most, and of the plays that score as much it is the first by its notation: across before down, then by the
-/// first square, row by row, and then by the bytes of the text. The cross-sets are those of the board, which is left as it
-/// was. It takes no memory.
+/// It has the greatest score, and of the plays with that score it is the first by its notation: across before down, then
+/// by the first square, row by row, and then by the bytes of the text. The cross-sets are those of the board, which is not
+/// changed. It allocates nothing.
 pub fn annotate(
     rules: &Rules,
     pair: &Checked<'_>,

@@ -19,10 +19,10 @@ use ref_play::{Play, apply, undo};
 use ref_tiles::{Counts, Rules};
 
 /// A board and its cross-sets, which follow a game from its first play to its last. A play that is applied or taken back
-/// renews them around its own tiles only.
+/// updates them only around its own tiles.
 ///
-/// The calls ask for the rules and for the words that [`Follow::new`] got: by these the cross-sets are right for the board.
-/// They take no memory.
+/// The calls need the rules and the words that [`Follow::new`] got: by these the cross-sets are right for the board. They
+/// allocate nothing.
 #[derive(Drop)]
 pub struct Follow {
     board: Board,
@@ -49,16 +49,16 @@ impl Follow {
         &self.board
     }
 
-    /// The letters, A first, that make a listed word across a play of the direction through an empty square; all 26 where no
-    /// tile lies beside it across the play, and none at all on a square with a tile.
+    /// The cross-set of an empty square across a play of the direction: the letters, A first, that make a listed word
+    /// there; all 26 if no tile is next to the square across the play, and none on a square with a tile.
     pub fn mask(&self, dir: Dir, square: Square) -> [bool; 26]
         ensures { result ≡ (value_at (cross_of self.now) dir square).mask }
     {
         self.cross.mask(dir, square)
     }
 
-    /// The points of the tiles beside an empty square that would be in one word with a tile put there, across a play of the
-    /// direction. Blanks count 0, and no premium counts.
+    /// The points of the tiles next to an empty square that would be in one word with a tile put there, across a play of
+    /// the direction. Blanks count 0, and no premium counts.
     pub fn side(&self, dir: Dir, square: Square) -> u16
         ensures { result ≡ (value_at (cross_of self.now) dir square).side }
     {
@@ -90,8 +90,8 @@ impl Follow {
         self.cross.after_play(rules, &self.board, pair.file(), play);
     }
 
-    /// The best play that a rack allows on the board, with its score; none where there is no play. It scores most, and of the
-    /// plays that score as much it is the first by its notation.
+    /// The best play that a rack allows on the board, with its score; none if there is no play. It has the greatest score,
+    /// and of the plays with that score it is the first by its notation.
     pub fn annotate(&self, rules: &Rules, pair: &Checked<'_>, rack: &Counts) -> Option<(Play, i32)>
         requires { Follows rules.now (list_in pair.now) self.now }
         ensures { IsAnnotation rules.now (list_in pair.now) (board_of self.now) rack.now (option_map seen_pair result) }
@@ -100,8 +100,8 @@ impl Follow {
         annotate(rules, pair, &mut board, rack, &self.cross)
     }
 
-    /// The ten best plays that a rack allows on the board, best first: those that score most, and of those that score as much
-    /// the first by their notations. There are fewer where there are fewer plays.
+    /// The ten best plays that a rack allows on the board, best first: by score, and plays of equal score by their notations.
+    /// There are fewer if the rack allows fewer plays.
     pub fn top(&self, rules: &Rules, pair: &Checked<'_>, rack: &Counts) -> Top<MANY>
         requires { Follows rules.now (list_in pair.now) self.now }
         ensures made_for { ⟦<Top<10> as Sink>⟧.made_for result ≡ Some (board_of self.now) }

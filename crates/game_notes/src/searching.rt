@@ -1,4 +1,4 @@
-//! The best plays by a lexicon, however many are asked for.
+//! The best plays by a lexicon, for any number of them.
 ghost use Rattle.std.specs.Prelude.{◌≡◌, ℕ, List, Some};
 ghost use Rattle.lex_list.specs.RotatedPaths.{StandsFor};
 ghost use Rattle.lex_check.specs.Pairs.{list_in};
@@ -57,14 +57,13 @@ fn first_by<L: PathLex, const N: usize>(
     ensures first { AreFirstPlays N rules.now list.now board.old rack.now (⟦<Top<N> as Sink>⟧.items result) }
     ensures board { board.new ≡ board.old }
 {
-    // What reads the length of a list knows what a word list is.
+    // The prover learns from the call of `len` what a word list is.
     let _words = list.len();
     first_plays(rules, list, lex, board, rack, cross)
 }
 
-/// The best N plays that a rack allows on a board by the words of a pair, best first: those that score most, and of those that
-/// score as much the first by their notations. The cross-sets are those of the board, which is left as it was. It takes no
-/// memory.
+/// The best N plays that a rack allows on a board by the words of a pair, best first: by score, and plays of equal score by
+/// their notations. The cross-sets are those of the board, which is not changed. It allocates nothing.
 #[tactic(auto, using(crate::proofs::FirstPlays::file_stands))]
 pub fn best_plays<const N: usize>(
     rules: &Rules,

@@ -11,8 +11,8 @@ use lex_check::Checked;
 use ref_board::Board;
 use ref_tiles::{Counts, Rules};
 
-/// The best so many plays that a rack allows on a board, by the words of a list and their lexicon, best first, as [`top`] gives
-/// ten. There are fewer where there are fewer plays.
+/// The best N plays that a rack allows on a board, by the words of a list and their lexicon, best first, as [`top`] gives ten.
+/// There are fewer if the rack allows fewer plays.
 pub fn top_many<const N: usize>(
     rules: &Rules,
     pair: &Checked<'_>,
@@ -30,8 +30,8 @@ pub fn top_many<const N: usize>(
 /// How many plays [`top`] gives.
 pub const MANY: usize = 10;
 
-/// The ten best plays that a rack allows on a board, by the words of a list and their lexicon, best first: those that score
-/// most, and of those that score as much the first by their notations. There are fewer where there are fewer plays.
+/// The ten best plays that a rack allows on a board, by the words of a list and their lexicon, best first: by score, and
+/// plays of equal score by their notations. There are fewer if the rack allows fewer plays.
 pub fn top(rules: &Rules, pair: &Checked<'_>, board: &Board, rack: &Counts) -> Top<MANY>
     ensures { AreTop rules.now (list_in pair.now) board.now rack.now (⟦<Top<10> as Sink>⟧.items result) }
 {

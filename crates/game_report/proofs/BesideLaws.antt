@@ -1,4 +1,4 @@
--- A board that follows a record stands beside the state of its game from place to place.
+-- A board that follows a record is that of the state of its game at each place.
 use Rattle.std.proofs.Common.{◌≡◌, ℕ, ◌+◌, ◌<◌, Bool, true, false, List, [], length, Some, None, sym, ap, ◌∙◌, subst, get_or}
 use Rattle.ref_tiles.specs.declared.rulebook.Rules.{Rules}
 use Rattle.ref_board.specs.declared.directions.Dir.{Dir}
@@ -42,7 +42,7 @@ start_together rules own other_own words events machine follow same same_too by 
       beside = start_beside rules own other_own words (state_of machine) follow same same_too start none follows;
     }
 
--- and behind the last
+-- and after the last
 pub board_at_the_end : (rules : Rules) (words : List (List ℕ)) (events : List Event) (place : ℕ) (machine : Machine) (follow : Follow) → StandAt rules words events place machine follow
     → place ≡ length events → board_of follow ≡ (tally_at rules events (length events)).board
 board_at_the_end rules words events place machine follow stand last =
@@ -51,7 +51,7 @@ board_at_the_end rules words events place machine follow stand last =
 pub follows_at : (rules : Rules) (words : List (List ℕ)) (events : List Event) (place : ℕ) (machine : Machine) (follow : Follow) → StandAt rules words events place machine follow → Follows rules words follow
 follows_at rules words events place machine follow stand = stand.beside.follows
 
--- what an event did, where the board stands beside the state before it
+-- what an event did, if the board is that of the state before it
 pub record Step (rules : Rules) (words : List (List ℕ)) (s t : State) (follow : Follow) (withdraw : Bool) : Type 0 where
   pub moves : Moves s t withdraw (latest_tiles t.latest)
   pub beside : StandsBeside rules words s follow

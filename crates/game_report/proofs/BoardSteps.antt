@@ -132,7 +132,7 @@ event_moves : (rules : Rules) (list : List (List ℕ)) (s t : State) (e : Event)
 unfolding after
 event_moves rules list s t e w size none is = subst (λ (x : State). Moves s x (is_withdraw e.kind) (latest_tiles x.latest)) is (kind_moves rules list s e e.kind w size none)
 
--- the event at a place of a record of which all events are allowed
+-- the event at a place of a record in which all events are allowed
 pub moves_at : (rules : Rules) (list : List (List ℕ)) (events : List Event) (place : ℕ) (e : Event) → AreAllowed rules list events → place < length events → slice_get events place ≡ Some e
     → length (tally_at rules events place).board ≡ 225
     → Moves (tally_at rules events place) (tally_at rules events (place + 1)) (is_withdraw e.kind) (latest_tiles (tally_at rules events (place + 1)).latest)

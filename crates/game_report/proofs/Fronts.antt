@@ -1,4 +1,4 @@
--- The first so many of the best plays.
+-- The first of the best plays, up to a number.
 use Rattle.std.proofs.Common.{◌≡◌, ℕ, ℤ, ◌≤◌, List, get_or, take, map, Contains, ap, subst, ◌∙◌, arith, Option}
 use Rattle.std.proofs.lemmas.List.{length-map, get_or-map}
 use Rattle.std.proofs.lemmas.List.Elements.{All-contains}
@@ -27,7 +27,7 @@ legal_plays n rules list board rack kept plays are same place scored below =
     (All-contains (λ (given : Given). IsCandidate list board rack given.tiles × (given ≡ given_of rules board given.tiles)) are.all (seen_pair (get_or plays place scored)) are.are_all.sound
     (are.first.some (seen_pair (get_or plays place scored)) there)).0.legal
 
--- the lines of the first so many of the plays that were kept tell the first so many of all
+-- the lines of the first n of the plays that were kept are those of the first n of all
 pub front_told : (many n : ℕ) (rules : Rules) (list : List (List ℕ)) (board : List (Option Tile)) (rack : List ℕ) (kept seen : List Given) (text : List ℕ) → n ≤ many
     → AreFirstPlays many rules list board rack kept → seen ≡ kept → text ≡ top_text board (take n seen) → TellsFirst n rules list board rack text
 front_told many n rules list board rack kept seen text few are same told =

@@ -16,7 +16,7 @@ use Rattle.lex_list.specs.Words.{is_listed}
 use Rattle.game_report.specs.BestPlays.{TellsBest, TellsBestAt, Appends}
 use Rattle.game_report.specs.EventLines.{unlisted_word, unlisted_text, line_with, event_line, lines_from, IsEventLine, AreEventLines}
 
--- one more line behind those from a place on
+-- one more line after those from a place on
 lines_more : (rules : Rules) (list : List (List ℕ)) (r : Record) (place : ℕ) (best : List (List ℕ)) (told : List ℕ)
     → lines_from rules list r place (best ++ told ∷ []) ≡ lines_from rules list r place best ++ event_line rules list r (place + length best) told
 lines_more rules list r place [] told =
@@ -28,7 +28,7 @@ lines_more rules list r place (first ∷ best) told =
     ∙ sym (append_assoc (event_line rules list r place first) (lines_from rules list r (place + 1) best) (event_line rules list r (place + 1 + length best) told))
     ∙ ap (λ n. (event_line rules list r place first ++ lines_from rules list r (place + 1) best) ++ event_line rules list r n told) same
 
--- what is told at each place, with one more
+-- what is said at each place, with one more
 told_more : (rules : Rules) (list : List (List ℕ)) (r : Record) (many : ℕ) (best : List (List ℕ)) (told : List ℕ) → length best ≡ many
     → ((place : ℕ) → place < many → TellsBestAt rules list r.events place (slice_index_or best place [])) → TellsBestAt rules list r.events many told
     → (place : ℕ) → place < many + 1 → TellsBestAt rules list r.events place (slice_index_or (best ++ told ∷ []) place [])
@@ -43,7 +43,7 @@ told_more rules list r many best told count each tells place below =
     subst (λ t. TellsBestAt rules list r.events place t) (sym there) (each place (omega arith)))
     (cases_eq place many)
 
--- one more line behind those so far
+-- one more line after those so far
 pub one_more_line : (rules : Rules) (list : List (List ℕ)) (r : Record) (start old new : List ℕ) (place : ℕ) → Appends (AreEventLines rules list r place) start old → Appends (IsEventLine rules list r place) old new
     → Appends (AreEventLines rules list r (place + 1)) start new
 one_more_line rules list r start old new place lines line =
@@ -81,7 +81,7 @@ same_start rules false = refl
 pub start_of_game : (rules : Rules) (events : List Event) (s : State) → s ≡ tally rules false [] → s ≡ tally_at rules events 0
 start_of_game rules events s start = start ∙ same_start rules (withdraws (slice_get events 0))
 
--- the words that are told as not listed
+-- the words that are said not to be in the list
 pub some_unlisted : (list words : List (List ℕ)) (start old new : List ℕ) → false ≡ list_all (is_listed list) words → old ≡ start ++ codes " unlisted" → new ≡ old ++ flat_map (unlisted_word list) words
     → new ≡ start ++ unlisted_text list words
 unfolding unlisted_text
@@ -92,7 +92,7 @@ pieces : (start head blank event best unlisted end : List ℕ)
     → ((((start ++ (head ++ blank)) ++ event) ++ best) ++ unlisted) ++ end ≡ start ++ (((head ++ (blank ++ event)) ++ (best ++ unlisted)) ++ end)
 pieces start head blank event best unlisted end = simp append_assoc refl
 
--- the parts of a line, one behind the other
+-- the parts of a line, one after the other
 parts : (start line nick event best unlisted : List ℕ)
     → ((((start ++ (line ++ 32 ∷ nick ++ 32 ∷ [])) ++ event) ++ best) ++ unlisted) ++ 10 ∷ [] ≡ start ++ (line ++ 32 ∷ nick ++ 32 ∷ event ++ (best ++ unlisted) ++ 10 ∷ [])
 parts start line nick event best unlisted = pieces start (line ++ 32 ∷ nick) (32 ∷ []) event best unlisted (10 ∷ [])
@@ -113,7 +113,7 @@ read_there shown events place e same below read =
 known : (events : List Event) (place : ℕ) (e f : Event) → slice_get events place ≡ Some e → slice_get events place ≡ Some f → e ≡ f
 known events place e f a b = let both : Some e ≡ Some f = sym a ∙ b in cc
 
--- The line of an event, whose parts were appended one behind the other. `game` is the record as it was lent.
+-- The line of an event, whose parts were appended one after the other. `game` is the record as it was lent.
 pub line_is : (rules : Rules) (list : List (List ℕ)) (game r : Record) (place : ℕ) (s : State) (shown : List Event) (e : Event) (nick start headed evented bested worded new : List ℕ) (words : List (List ℕ))
     → game ≡ r → s ≡ tally_at rules r.events place → place < length r.events → shown ≡ game.events → e ≡ get_or shown place e → nick ≡ (player_of game.players e.player).nick
     → headed ≡ start ++ (decimal e.line ++ 32 ∷ nick ++ 32 ∷ []) → HoldsAt (λ event. evented ≡ headed ++ event_text_of event) game.events place

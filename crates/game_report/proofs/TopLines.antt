@@ -23,7 +23,7 @@ text_of_some : (board : List (Option Tile)) (plays : List (Play × ℤ)) → len
 text_of_some board [] some = absurd (some refl)
 text_of_some board (scored ∷ more) some = refl
 
--- the lines of all plays, of which there are some
+-- the lines of all plays, if there are any
 pub lines_of_all : (board : List (Option Tile)) (plays : List (Play × ℤ)) (many : ℕ) (text : List ℕ) → length plays ≢ 0 → length plays ≤ many
     → text ≡ flat_map (play_line board) (map seen_pair (take many plays)) → text ≡ top_text board (map seen_pair plays)
 lines_of_all board plays many text some all is =
@@ -38,7 +38,7 @@ plays_are_legal rules list board rack kept plays are same place scored below =
     (All-contains (λ (given : Given). IsCandidate list board rack given.tiles × (given ≡ given_of rules board given.tiles)) are.all (seen_pair (get_or plays place scored)) are.are_all.sound
     (are.first.some (seen_pair (get_or plays place scored)) there)).0.legal
 
--- the text that tells them
+-- the text that has them
 pub tells_top : (rules : Rules) (list : List (List ℕ)) (board there : List (Option Tile)) (rack : List ℕ) (kept : List Given) (plays : List (Play × ℤ)) (text : List ℕ) → board ≡ there
     → AreTop rules list board rack kept → map seen_pair plays ≡ kept → text ≡ top_text board (map seen_pair plays) → TellsTop rules list there rack text
 tells_top rules list board there rack kept plays text at are same told =

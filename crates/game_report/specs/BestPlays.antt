@@ -1,4 +1,4 @@
--- What the line of an event tells of the best play.
+-- What the line of an event says of the best play.
 use Rattle.std.specs.Prelude.{◌≡◌, ℕ, ◌==◌, Bool, true, false, List, [], ◌∷◌, ◌++◌, sum, codes, Option, Some, None, is_none, slice_get, if◌then◌else◌}
 use Rattle.std.specs.Fmt.{signed_decimal}
 use Rattle.ref_tiles.specs.declared.tiles.Tile.{Tile}
@@ -14,7 +14,7 @@ use Rattle.game_turns.specs.Seats.{side_of}
 use Rattle.game_turns.specs.Tallies.{State, tally_at}
 
 -- Whether the line of an event shows the rack of a turn: that of a play, also of one that is taken back, of an exchange, or
--- of a pass. The pass after a player is out is no turn, and the line of a withdrawal shows no rack of its own.
+-- of a pass. The pass after a player is out is not a turn, and the line of a withdrawal shows no rack of its own.
 abbrev pub is_judged : (out : Option Seat) → EventKind → Bool
 is_judged out (kind.Play at dir word) = true
 is_judged out kind.Pass = is_none out
@@ -22,12 +22,12 @@ is_judged out (kind.Exchange tiles) = true
 is_judged out (kind.ExchangeUnknown n) = true
 is_judged out other = false
 
--- a stated rack, where it has this many tiles
+-- a stated rack, if it has this many tiles
 abbrev pub whole_rack : (size : ℕ) → Option (List ℕ) → Option (List ℕ)
 whole_rack size None = None
 whole_rack size (Some rack) = if sum rack == size then Some rack else None
 
--- the rack that a line states, where it is full: where it has as many tiles as the player holds
+-- the rack that a line states, if it is full: if it has as many tiles as the player holds
 abbrev pub full_rack : State → Event → Option (List ℕ)
 full_rack s e = whole_rack (side_of s.sides e.player).rack e.rack
 
@@ -35,26 +35,26 @@ full_rack s e = whole_rack (side_of s.sides e.player).rack e.rack
 abbrev pub notation_text : Written → List ℕ
 notation_text w = play_text w.at w.dir w.word
 
--- what is told of the best play, or of none
+-- the text of the best play, or of none
 abbrev pub best_text : List (Option Tile) → Option Given → List ℕ
 best_text board None = codes " best none"
 best_text board (Some given) = codes " best " ++ notation_text (notation_of board given.tiles) ++ 32 ∷ signed_decimal given.score
 
--- a full rack tells the best play on the board, or that there is none; ' best -' says that the rack is not full
+-- a full rack gives the best play on the board, or that there is none; ' best -' says that the rack is not full
 abbrev pub TellsByRack : Rules → (list : List (List ℕ)) → (board : List (Option Tile)) → Option (List ℕ) → List ℕ → Type 0
 TellsByRack rules list board None told = told ≡ codes " best -"
 TellsByRack rules list board (Some rack) told = (answer : Option Given) × IsAnnotation rules list board rack answer × (told ≡ best_text board answer)
 
--- what the line of an event tells of the best play, by the state before the event
+-- what the line of an event says of the best play, by the state before the event
 pub record TellsBest (rules : Rules) (list : List (List ℕ)) (s : State) (e : Event) (told : List ℕ) : Type 0 where
   pub judged : is_judged s.out e.kind ≡ true → TellsByRack rules list s.board (full_rack s e) told
   pub silent : is_judged s.out e.kind ≡ false → told ≡ []
 
--- the same of the event at a place of a record, counted from 0
+-- the same for the event at a place of a record, counted from 0
 abbrev pub TellsBestAt : Rules → (list : List (List ℕ)) → List Event → ℕ → List ℕ → Type 0
 TellsBestAt rules list events place told = (e : Event) → slice_get events place ≡ Some e → TellsBest rules list (tally_at rules events place) e told
 
--- what was told is appended
+-- the text is appended
 pub record Appends (IsTold : List ℕ → Type 0) (old new : List ℕ) : Type 0 where
   pub told : List ℕ
   pub is_told : IsTold told

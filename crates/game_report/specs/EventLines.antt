@@ -12,11 +12,11 @@ use Rattle.game_turns.specs.LatestEvents.{standing_words}
 use Rattle.game_turns.specs.Tallies.{tally_at}
 use Rattle.game_report.specs.BestPlays.{TellsBestAt}
 
--- a word behind a space, where it is not in the list
+-- a word after a space, if it is not in the list
 abbrev pub unlisted_word : (list : List (List ℕ)) → List ℕ → List ℕ
 unlisted_word list word = if is_listed list word then [] else 32 ∷ word
 
--- ' unlisted' and the words that are not in the list, each behind a space; nothing where all are in it
+-- ' unlisted' and the words that are not in the list, each after a space; nothing if all are in it
 unfoldable pub unlisted_text : (list : List (List ℕ)) → List (List ℕ) → List ℕ
 unlisted_text list words = if list_all (is_listed list) words then [] else codes " unlisted" ++ flat_map (unlisted_word list) words
 
@@ -25,24 +25,24 @@ line_with players None told = []
 line_with players (Some event) told =
     decimal event.line ++ 32 ∷ (player_of players event.player).nick ++ 32 ∷ event_text_of event ++ told ++ 10 ∷ []
 
--- N NICK EVENT SCORE TOTAL, what is told of the best play, and of a play that stands its words that are not in the list: the
--- line of the event at a place, counted from 0, N its line in the record
+-- N NICK EVENT SCORE TOTAL, what is said of the best play, and for a play that stands its words that are not in the list:
+-- the line of the event at a place, counted from 0, N its line in the record
 unfoldable pub event_line : Rules → (list : List (List ℕ)) → Record → ℕ → (best : List ℕ) → List ℕ
 event_line rules list r place best =
     line_with r.players (slice_get r.events place) (best ++ unlisted_text list (standing_words (tally_at rules r.events (place + 1)).latest))
 
--- that line, with what it tells of the best play
+-- that line, with what it says of the best play
 pub record IsEventLine (rules : Rules) (list : List (List ℕ)) (r : Record) (place : ℕ) (line : List ℕ) : Type 0 where
   pub best : List ℕ
   pub tells : TellsBestAt rules list r.events place best
   pub is : line ≡ event_line rules list r place best
 
--- the lines of events from a place on, one for each text that tells of a best play
+-- the lines of events from a place on, one for each text about a best play
 abbrev pub lines_from : Rules → (list : List (List ℕ)) → Record → ℕ → (best : List (List ℕ)) → List ℕ
 lines_from rules list r place [] = []
 lines_from rules list r place (told ∷ best) = event_line rules list r place told ++ lines_from rules list r (place + 1) best
 
--- The lines of the first events of a record, with what each tells of the best play.
+-- The lines of the first events of a record, with what each says of the best play.
 pub record AreEventLines (rules : Rules) (list : List (List ℕ)) (r : Record) (many : ℕ) (lines : List ℕ) : Type 0 where
   pub best : List (List ℕ)
   pub count : length best ≡ many

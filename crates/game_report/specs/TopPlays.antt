@@ -31,10 +31,10 @@ AreLegal board plays = All (λ (scored : Play × ℤ). IsLegal board scored.0.ti
 abbrev pub board_after : Rules → List Event → List (Option Tile)
 board_after rules events = (tally_at rules events (length events)).board
 
--- the text tells the best so many candidates by a rack on a board
+-- the text has the best `n` candidates by a rack on a board
 abbrev pub TellsFirst : ℕ → Rules → (list : List (List ℕ)) → (board : List (Option Tile)) → (rack : List ℕ) → (text : List ℕ) → Type 0
 TellsFirst number rules list board rack text = (plays : List Given) × AreFirstPlays number rules list board rack plays × (text ≡ top_text board plays)
 
--- the text tells the ten best candidates by a rack on a board
+-- the text has the ten best candidates by a rack on a board
 abbrev pub TellsTop : Rules → (list : List (List ℕ)) → (board : List (Option Tile)) → (rack : List ℕ) → (text : List ℕ) → Type 0
 TellsTop rules list board rack text = (plays : List Given) × AreTop rules list board rack plays × (text ≡ top_text board plays)

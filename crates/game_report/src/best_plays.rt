@@ -1,4 +1,4 @@
-//! The best play of a turn, as its line tells it.
+//! The best play of a turn, as the line of its event gives it.
 ghost use Rattle.std.specs.{Prelude.{◌≡◌, ◌++◌, ◌∷◌, OnOk, option_map}, Fmt.{signed_decimal}};
 ghost use Rattle.ref_play.specs.{Legality.{IsLegal}, Notations.{notation_of}, Best.{IsAnnotation}};
 ghost use Rattle.game_turns.specs.{Machines.{state_of}, Passing.{rules_in}};
@@ -17,7 +17,7 @@ use ref_play::{Play, notation};
 use ref_tiles::{Counts, Rules};
 use std::alloc::AllocError;
 
-/// Whether the line of an event shows the rack of a turn, where this player is out, or none, before it.
+/// Whether the line of an event shows the rack of a turn, if this player, or none, is out before it.
 pub fn is_judged(kind: &EventKind, out: Option<Seat>) -> bool
     ensures { result ≡ is_judged out kind.now }
 {
@@ -29,7 +29,7 @@ pub fn is_judged(kind: &EventKind, out: Option<Seat>) -> bool
     }
 }
 
-/// The rack that a line states, where it has as many tiles as its player holds.
+/// The rack that a line states, if it has as many tiles as its player holds.
 pub fn full_rack(machine: &Machine, event: &Event) -> Option<Counts>
     ensures { result ≡ full_rack (state_of machine.now) event.now }
 {
@@ -78,7 +78,7 @@ fn push_best_play(
     }
 }
 
-/// Appends what the line of an event tells of the best play; `machine` stands before the event, and `follow` beside it.
+/// Appends what the line of an event says of the best play; `machine` is before the event, and `follow` has its board.
 pub fn push_best(
     text: &mut Vec<u8>,
     passed: &Passed<'_>,

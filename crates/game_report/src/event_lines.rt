@@ -18,7 +18,7 @@ use lex_list::WordList;
 use ref_play::Word;
 use std::alloc::AllocError;
 
-/// Appends the number of a line, a nickname and a blank behind each.
+/// Appends the number of a line and a nickname, and a space after each.
 fn push_heading(text: &mut Vec<u8>, line: u32, nick: &[u8]) -> Result<(), AllocError>
     ensures { OnOk result (text.new.items ≡ text.old.items ++ (decimal line ++ 32 ∷ nick.now ++ 32 ∷ [])) }
 {
@@ -29,7 +29,7 @@ fn push_heading(text: &mut Vec<u8>, line: u32, nick: &[u8]) -> Result<(), AllocE
     Ok(())
 }
 
-/// Appends a space and a word, where it is not in the list.
+/// Appends a space and a word, if it is not in the list.
 fn push_word(text: &mut Vec<u8>, list: &WordList, word: &Word) -> Result<(), AllocError>
     ensures { OnOk result (text.new.items ≡ text.old.items ++ unlisted_word list.now word.now.items) }
 {
@@ -40,7 +40,7 @@ fn push_word(text: &mut Vec<u8>, list: &WordList, word: &Word) -> Result<(), All
     text.extend_from_slice(word.as_slice())
 }
 
-/// Appends ` unlisted` and the words that are not in the list; nothing where all are in it.
+/// Appends ` unlisted` and the words that are not in the list; nothing if all are in it.
 #[tactic(auto, using(crate::proofs::ReportLines::some_unlisted), unfolding(crate::specs::EventLines::unlisted_text))]
 fn push_unlisted(text: &mut Vec<u8>, list: &WordList, words: &[Word]) -> Result<(), AllocError>
     ensures { OnOk result (text.new.items ≡ text.old.items ++ unlisted_text list.now (items_of words.now)) }
@@ -56,7 +56,7 @@ fn push_unlisted(text: &mut Vec<u8>, list: &WordList, words: &[Word]) -> Result<
 }
 
 /// Appends the line of the event at a place, and takes the event: the number of its line, the nickname, the event, its score
-/// and the total, what is told of the best play, and then the words that are not in the list.
+/// and the total, what is said of the best play, and then the words that are not in the list.
 #[tactic(auto, using(crate::proofs::ReportLines::line_is))]
 fn push_event_line(
     text: &mut Vec<u8>,
@@ -102,12 +102,12 @@ fn push_lines(text: &mut Vec<u8>, passed: &Passed<'_>, pair: &Checked<'_>) -> Re
 }
 
 /// Appends the lines of all events of a record that passed, by its rules and the word list of a pair: a line `N NICK EVENT SCORE
-/// TOTAL` for each, N its line in the record. Behind that of a play, an exchange or a pass stands ` best NOTATION SCORE`
-/// with the play that scores most by the stated rack, of several the first by their notations; ` best none` where there is
-/// no legal play with words of the list; ` best -` where the stated rack is not the whole rack. Behind that of a play that
-/// stands then come ` unlisted` and its words that are not in the list, where there are some.
+/// TOTAL` for each, N its line in the record. The line of a play, an exchange or a pass goes on with ` best NOTATION SCORE`, the
+/// play that scores most by the stated rack, or the first of several by their notations; with ` best none` if there is no legal
+/// play with words of the list; with ` best -` if the stated rack is not the whole rack. The line of a play that stands ends
+/// with ` unlisted` and its words that are not in the list, if there are any.
 ///
-/// It fails only where memory was refused, and then `text` is as it was.
+/// It fails only if memory was refused, and then `text` is as it was.
 pub fn push_event_lines(
     text: &mut Vec<u8>,
     passed: &Passed<'_>,

@@ -1,5 +1,5 @@
 //! The lines of a legal game's report: each event as the record has it, the best play of each turn, and the words of a play
-//! that are not in the list. And the lines of the best plays on the board after a record.
+//! that are not in the list; and the lines of the best plays on the board after a record.
 #![tactic(auto)]
 
 mod best_plays;

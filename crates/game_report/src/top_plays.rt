@@ -42,9 +42,9 @@ fn push_play_line(text: &mut Vec<u8>, board: &Board, scored: &(Play, i32)) -> Re
     Ok(())
 }
 
-/// The lines of plays, one `NOTATION SCORE` for each, in their order; `none` where there are none.
+/// The lines of plays, one `NOTATION SCORE` for each, in their order; `none` if there are none.
 ///
-/// It fails only where memory was refused.
+/// It fails only if memory was refused.
 fn top_lines(alloc: Global, board: &Board, plays: &[(Play, i32)]) -> Result<Vec<u8>, AllocError>
     requires { AreLegal board.now plays.now }
     ensures { IfOk result (λ text. text.items ≡ top_text board.now (map seen_pair plays.now)) }
@@ -60,10 +60,10 @@ fn top_lines(alloc: Global, board: &Board, plays: &[(Play, i32)]) -> Result<Vec<
 }
 
 /// The ten best plays by a rack on the board after a record that passed, by its rules and by the words of a pair, one line
-/// `NOTATION SCORE` for each: the greatest score first, and of equal ones the first by their notations; `none` where there
-/// is no legal play with words of the list.
+/// `NOTATION SCORE` for each: the greatest score first, and plays of equal score by their notations; `none` if there is no
+/// legal play with words of the list.
 ///
-/// It fails only where memory was refused.
+/// It fails only if memory was refused.
 pub fn top_report(
     alloc: Global,
     passed: &Passed<'_>,
@@ -78,13 +78,13 @@ pub fn top_report(
     top_lines(alloc, follow.board(), plays.items())
 }
 
-/// How many plays [`best_lines`] gives at the most.
+/// The greatest number of plays that [`best_lines`] gives.
 pub const MOST_PLAYS: usize = 100;
 
-/// Up to so many plays are found with room for no more, since a search that keeps few plays leaves out more.
+/// Up to this number of plays come from a search that keeps no more, since a search that keeps fewer plays can leave out more.
 const FEW: usize = 10;
 
-/// The first so many of some plays.
+/// The first `number` of some plays.
 fn first_of(plays: &[(Play, i32)], number: usize) -> &[(Play, i32)]
     ensures { result.now ≡ take number plays.now }
 {
@@ -95,7 +95,7 @@ fn first_of(plays: &[(Play, i32)], number: usize) -> &[(Play, i32)]
     }
 }
 
-/// The lines of the first so many of some plays.
+/// The lines of the first `number` of some plays.
 fn front_lines(
     alloc: Global,
     board: &Board,
@@ -108,10 +108,10 @@ fn front_lines(
     top_lines(alloc, board, first_of(plays, number))
 }
 
-/// The best so many plays by a rack on a board, by some rules and by the words of a pair, one line `NOTATION SCORE` for each, as
-/// [`top_report`] has ten of them.
+/// The best `number` plays by a rack on a board, by some rules and by the words of a pair, one line `NOTATION SCORE` for each,
+/// as [`top_report`] gives ten.
 ///
-/// It fails only where memory was refused.
+/// It fails only if memory was refused.
 pub fn best_lines(
     alloc: Global,
     rules: &Rules,

@@ -17,7 +17,7 @@ set_twice [] place x y = refl
 set_twice (e ∷ events) zero x y = refl
 set_twice (e ∷ events) (suc place) x y = ap (λ (rest : List Event). e ∷ rest) (set_twice events place x y)
 
--- one event more has its number
+-- one more event has its number
 one_more : (events : List Event) (numbers : List Numbers) (place : ℕ) (n : Numbers) (e : Event) → slice_get numbers place ≡ Some n
     → slice_get (renumbered events (take place numbers)) place ≡ Some e
     → renumbered events (take (suc place) numbers) ≡ set (renumbered events (take place numbers)) place (with_numbers e n)
@@ -35,7 +35,7 @@ take_none : {X : Type 0} (place : ℕ) → take {A = X} place [] ≡ []
 take_none zero = refl
 take_none (suc place) = refl
 
--- behind the last event nothing is changed
+-- after the last event nothing is changed
 none_more : (events : List Event) (numbers : List Numbers) (place : ℕ) → slice_get (renumbered events (take place numbers)) place ≡ None
     → renumbered events (take (suc place) numbers) ≡ renumbered events (take place numbers)
 none_more [] numbers place none = refl
@@ -63,7 +63,7 @@ both_set events scored totalled place n (Some e) is of_score past_score of_total
     let there : slice_get scored place ≡ Some x = ap (λ es. slice_get es place) made ∙ set_there events place e x is in
     of_total x there ∙ ap (λ es. set es place (with_numbers e n)) made ∙ set_twice events place x (with_numbers e n) ∙ sym (some e is)
 
--- one place more
+-- one more place
 pub renumbered_more : (initial : List Event) (numbers : List Numbers) (place : ℕ) (n : Numbers) (events scored totalled : List Event)
     → place < length numbers → n ≡ get_or numbers place n → events ≡ renumbered initial (take place numbers)
     → ((e : Event) → slice_get events place ≡ Some e → scored ≡ set events place (record e { score = n.score }))

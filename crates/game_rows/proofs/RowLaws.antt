@@ -12,7 +12,7 @@ use Rattle.game_sheets.proofs.Sheets.{tally_kept}
 use Rattle.game_rows.specs.declared.rows.Row.{Row}
 use Rattle.game_rows.specs.Rows.{IsRowAt, AreRowsTo}
 
--- ---- lists with one item more
+-- ---- lists with one more item
 
 append_within : {X : Type 0} (xs : List X) (x y : X) (k : ℕ) → slice_get (xs ++ x ∷ []) k ≡ Some y → k < length xs → slice_get xs k ≡ Some y
 append_within [] x y k is within = absurd (omega arith)
@@ -31,7 +31,7 @@ append_long (z ∷ xs) x = let rest = append_long xs x in omega (arith, rest)
 
 -- ---- rows
 
--- what is made of an event behind a row does not change it
+-- what is done to an event after a row does not change the row
 row_kept : (rules : Rules) (list : List (List ℕ)) (written a b : List Event) (place k : ℕ) (row : Row) → IsMendedAt a b place → k < place → IsRowAt rules list written a k row
     → IsRowAt rules list written b k row
 row_kept rules list written a b place k row is below at =
@@ -72,7 +72,7 @@ no_item k x there = cc
 pub no_rows : (rules : Rules) (list : List (List ℕ)) (events : List Event) → AreRowsTo rules list events events 0 []
 no_rows rules list events = record { as_many = refl; each = λ k x there. absurd (no_item k x there) }
 
--- one row more
+-- one more row
 pub rows_more : (rules : Rules) (list : List (List ℕ)) (written a b : List Event) (place : ℕ) (rows more : List Row) (row : Row) → AreRowsTo rules list written a place rows
     → IsMendedAt a b place → IsRowAt rules list written b place row → more ≡ rows ++ row ∷ [] → AreRowsTo rules list written b (place + 1) more
 rows_more rules list written a b place rows more row are is at pushed =
@@ -82,7 +82,7 @@ rows_more rules list written a b place rows more row are is at pushed =
       each = λ k x there. each_more rules list written a b place rows row are is at k x there (below_or_past k (length rows));
     })
 
--- the rows so far, where the event at the next place was changed
+-- the rows so far, if the event at the next place was changed
 pub rows_kept : (rules : Rules) (list : List (List ℕ)) (written a b : List Event) (place : ℕ) (rows : List Row) → AreRowsTo rules list written a place rows → IsMendedAt a b place
     → AreRowsTo rules list written b place rows
 rows_kept rules list written a b place rows are is =

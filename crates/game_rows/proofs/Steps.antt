@@ -31,12 +31,12 @@ use Rattle.game_rows.proofs.RowLaws.{no_rows, rows_more, rows_kept}
 
 -- ---- the first refusal so far
 
--- the first event that is refused as it is written; where there was none, the events are still as they are written
+-- the first event that is refused as it is written; if there was none, the events are still as they are written
 abbrev pub IsToldSoFar : Rules → (list : List (List ℕ)) → (written events : List Event) → Option Refusal → Type 0
 IsToldSoFar rules list written events None = events ≡ written
 IsToldSoFar rules list written events (Some refusal) = IsFirstRefusal rules list written refusal.line refusal.why
 
--- what is told of one event more
+-- what is said about one more event
 told_more : (rules : Rules) (list : List (List ℕ)) (written a b : List Event) (place : ℕ) (e : Event) (earlier : Option Refusal) (why : Option RuleFault)
     → IsUpTo rules list written a place → IsMendedAt a b place → slice_get b place ≡ Some e → IsToldSoFar rules list written a earlier
     → fault_at rules list a place ≡ why → (why ≡ None → b ≡ a) → place < length written → IsToldSoFar rules list written b (first_refusal earlier e.line why)
@@ -54,7 +54,7 @@ told_more rules list written a b place e None (Some why) up is stands so_far tol
       earlier = λ k below. ap (λ es. fault_at rules list es k) (sym so_far) ∙ up.allowed k below;
     }
 
--- ---- a walk that is under way
+-- ---- a walk under way
 
 -- The events before a place were taken: each has its right numbers, and there is a row for each.
 pub record IsUnderWay (rules : Rules) (list : List (List ℕ)) (written events : List Event) (place : ℕ) (machine : Machine) (rows : List Row) (refused : Option Refusal) : Type 0 where
@@ -65,7 +65,7 @@ pub record IsUnderWay (rules : Rules) (list : List (List ℕ)) (written events :
   pub so_far : IsToldSoFar rules list written events refused
   pub points : KeepPoints written events
 
--- what came of the event at the place
+-- the outcome of the event at the place
 pub record IsTakenAt (list : List (List ℕ)) (a b : List Event) (place : ℕ) (old new : Machine) (as_written left : Option RuleFault) : Type 0 where
   pub mended : IsMendedAt a b place
   pub points : KeepPoints a b
@@ -90,7 +90,7 @@ refused_now rules list written a b place old new rows refused as_written left e 
     told_more rules list written a b place e refused as_written under.up taken.mended stands under.so_far
     (fault_before rules (rules_of old) list a place (state_of old) as_written under.by under.state taken.fails) taken.same within
 
--- ---- one event more
+-- ---- one more event
 
 -- the row of the event at a place, by the machine that took it
 pub record IsRowBy (list : List (List ℕ)) (own event : Event) (machine : Machine) (row : Row) : Type 0 where
@@ -135,7 +135,7 @@ step_more law rules list written a b place old new rows more refused next as_wri
       points = points_through written a b under.points taken.points;
     }
 
--- ---- where it ends
+-- ---- where the walk ends
 
 pub at_first : (rules : Rules) (list : List (List ℕ)) (events : List Event) (machine : Machine) → rules_of machine ≡ rules → state_of machine ≡ tally_at rules events 0 → KeepPoints events events
     → IsUnderWay rules list events events 0 machine [] None
@@ -257,12 +257,12 @@ ends_renumbered rules list written right end (Some stop) ends = ends.stops.befor
 pub walk_renumbered : (rules : Rules) (list : List (List ℕ)) (written right : List Event) (walk : Walk) → IsWalk rules list written right walk → AreRenumbered written right
 walk_renumbered rules list written right walk is = ends_renumbered rules list written right is.end walk.stopped is.ends
 
--- ---- what is read of the events
+-- ---- what is read from the events
 
 pub first_item : (events items : List Event) (place : ℕ) (e : Event) → place < length events → items ≡ events → e ≡ get_or items place e → slice_get events place ≡ Some e
 first_item events items place e within same read = slice_get_read events (length events) place e refl within (read ∙ ap (λ es. get_or es place e) same)
 
--- an event of a walk that is under way
+-- an event of a walk under way
 pub record IsOwn (events : List Event) (place : ℕ) : Type 0 where
   pub event : Event
   pub stands : slice_get events place ≡ Some event
@@ -278,7 +278,7 @@ pub item_there : (rules : Rules) (list : List (List ℕ)) (written a b items : L
 item_there rules list written a b items place machine rows refused e under is within same read =
     first_item b items place e (subst (λ n. place < n) (sym (is.renumbered.as_many ∙ under.up.renumbered.as_many)) within) same read
 
--- the game behind a row
+-- the game after a row
 pub behind_row : (rules : Rules) (list : List (List ℕ)) (written right : List Event) (walk : Walk) (place : ℕ) (row : Row) → IsWalk rules list written right walk → slice_get walk.rows.items place ≡ Some row
     → state_of row.behind ≡ tally_at rules right (place + 1)
 behind_row rules list written right walk place row is there = (is.rows.each place row there).behind

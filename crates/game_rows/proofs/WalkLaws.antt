@@ -1,4 +1,4 @@
--- What a walk says of a record that it went through, and of the corrected one.
+-- What a walk says about a record that it went through, and about the corrected one.
 use Rattle.std.proofs.Common.{◌≡◌, ℕ, ◌+◌, List, length, slice_get, Option, Some, None, refl, sym, ap, ◌∙◌, subst}
 use Rattle.ref_tiles.specs.declared.rulebook.Rules.{Rules}
 use Rattle.gcg_read.specs.declared.events.Event.{Event}
@@ -20,12 +20,12 @@ all_right : (rules : Rules) (list : List (List ℕ)) (written right : List Event
 all_right rules list written right end None none ends = ends.0 ∙ sym ends.1.renumbered.as_many
 all_right rules list written right end (Some stop) none ends = cc
 
--- where the correction does not stop, the walk went through the corrected events
+-- if the correction does not stop, the walk went through the corrected events
 pub through_right : (rules : Rules) (list : List (List ℕ)) (written right : List Event) (walk : Walk) → IsWalk rules list written right walk → walk.stopped ≡ None → GoesThrough rules list right walk
 through_right rules list written right walk is none =
     through rules list written right is.end walk (all_right rules list written right is.end walk.stopped none is.ends) is.start is.rows
 
--- where no event is refused, it went through the events as they are written
+-- if no event is refused, it went through the events as they are written
 pub through_written : (rules : Rules) (list : List (List ℕ)) (written right : List Event) (walk : Walk) → IsWalk rules list written right walk → walk.refused ≡ None
     → GoesThrough rules list written walk
 through_written rules list written right walk is none =
@@ -51,7 +51,7 @@ pub through_unrefused : (rules : Rules) (list : List (List ℕ)) (written right 
     → GoesThrough rules list right walk
 through_unrefused rules list written right walk is none = through_right rules list written right walk is (none_stopped walk.stopped none)
 
--- the game behind the last row, or the start where there is none
+-- the game after the last row, or the start if there is none
 pub end_of_rows : (rules : Rules) (list : List (List ℕ)) (events : List Event) (walk : Walk) (last : ℕ) (row : Row) → GoesThrough rules list events walk → slice_get walk.rows.items last ≡ Some row
     → last + 1 ≡ length walk.rows.items → state_of row.behind ≡ tally_at rules events (length events)
 end_of_rows rules list events walk last row goes there is_last =

@@ -1,4 +1,4 @@
--- The wrong numbers of a sheet, by the numbers that are written.
+-- The wrong numbers of a sheet, from the written numbers.
 use Rattle.std.proofs.Common.{◌≡◌, ℕ, ℤ, zero, suc, ◌+◌, ◌<◌, List, [], ◌∷◌, ◌++◌, length, take, get_or, slice_get, Option, Some, refl, sym, ap, ◌∙◌, subst, arith}
 use Rattle.std.specs.Option.{unwrap_or}
 use Rattle.std.specs.List.{flat_map, range_with_len}
@@ -39,7 +39,7 @@ had_is events totals Second has = ap (λ o. unwrap_or o (pos 0)) has.second
 pub had_there : (events : List Event) (place : ℕ) (totals : Totals) (player : Seat) → HasTotals (take place events) totals → had_of totals player ≡ had_before events player place
 had_there events place totals player has = had_is (take place events) totals player has
 
--- one total more
+-- one more total
 pub totals_more : (right : List Event) (numbers : List Numbers) (place : ℕ) (e : Event) (n : Numbers) (old new : Totals) → place < length numbers → place < length right
     → e ≡ get_or right place e → n ≡ get_or numbers place n → HasTotals (take place (renumbered right numbers)) old
     → new.first ≡ total_behind (with_numbers e n) First old.first → new.second ≡ total_behind (with_numbers e n) Second old.second
@@ -75,7 +75,7 @@ both_wrong right numbers place e n totals items first second had in_numbers in_r
     ∙ append_assoc items (wrong_score x e) (wrong_sum (had_before events e.player place) x)
     ∙ ap (λ xs. items ++ xs) (sym (wrong_here events right place x e there of_right))
 
--- ---- one place more
+-- ---- one more place
 
 range_last : {A : Type 0} (f : ℕ → List A) (a n : ℕ) → flat_map f (range_with_len a (suc n)) ≡ flat_map f (range_with_len a n) ++ f (a + n)
 range_last f a zero = append-nil (f a) ∙ ap f (omega arith)
@@ -96,7 +96,7 @@ wrong_more written right place front old new so_far added =
     ∙ ap (λ k. front ++ (wrong_to written right place ++ wrong_at written right k)) start
     ∙ ap (λ xs. front ++ xs) (sym (range_last (wrong_at written right) 0 place) ∙ ap (wrong_to written right) (sym step))
 
--- and behind the last
+-- and after the last
 pub all_wrong : (right : List Event) (numbers : List Numbers) (place : ℕ) (front new : List WrongNumber) → new ≡ front ++ wrong_to (renumbered right numbers) right place → place ≡ length right
     → new ≡ front ++ wrong_lines (renumbered right numbers) right
 unfolding wrong_lines

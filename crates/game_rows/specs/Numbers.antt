@@ -11,7 +11,7 @@ numbers_in e = record { score = e.score; total = e.total }
 abbrev pub with_numbers : Event → Numbers → Event
 with_numbers e n = record e { score = n.score; total = n.total }
 
--- events with these numbers, one behind the other; those for which there are none as they are
+-- events with these numbers, in order; those for which there are none stay as they are
 abbrev pub renumbered : List Event → List Numbers → List Event
 renumbered [] numbers = []
 renumbered (e ∷ events) [] = e ∷ events

@@ -1,4 +1,4 @@
--- What a walk tells of events that the rules do not allow.
+-- What a walk says about events that the rules do not allow.
 use Rattle.std.specs.Prelude.{◌≡◌, ℕ, List, Option, Some, None, length}
 use Rattle.ref_tiles.specs.declared.rulebook.Rules.{Rules}
 use Rattle.gcg_read.specs.declared.events.Event.{Event}
@@ -9,7 +9,7 @@ use Rattle.game_rows.specs.declared.refusals.Refusal.{Refusal}
 use Rattle.game_rows.specs.declared.refusals.Stop.{Stop}
 use Rattle.game_rows.specs.Numbers.{numbers_in}
 
--- the first refusal, where another event may be refused behind it
+-- the first refusal: the earlier one if there is one, otherwise that of this event if it is refused
 abbrev pub first_refusal : Option Refusal → (line : ℕ) → Option RuleFault → Option Refusal
 first_refusal (Some refusal) line why = Some refusal
 first_refusal None line (Some why) = Some (record { line = line; why = why })
@@ -32,7 +32,7 @@ pub record StopsThere (rules : Rules) (list : List (List ℕ)) (written right : 
   pub numbers : stop.numbers ≡ numbers_in stops.event
   pub none : (other : List Event) → HavePoints other → IsCorrection rules list written other → ⊥
 
--- where the correction ends: behind the last event, or where it stops
+-- where the correction ends: after the last event, or where it stops
 abbrev pub EndsAt : Rules → (list : List (List ℕ)) → (written right : List Event) → (end : ℕ) → Option Stop → Type 0
 EndsAt rules list written right end None = (end ≡ length written) × IsCorrection rules list written right
 EndsAt rules list written right end (Some stop) = StopsThere rules list written right end stop

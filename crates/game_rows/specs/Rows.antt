@@ -1,4 +1,4 @@
--- What a row says of an event: the tally of the game behind it.
+-- What a row says about an event: the tally of the game after it.
 use Rattle.std.specs.Prelude.{◌≡◌, ℕ, ◌+◌, List, slice_get, length, Some}
 use Rattle.std.specs.List.{list_all}
 use Rattle.ref_tiles.specs.declared.rulebook.Rules.{Rules}
@@ -10,8 +10,8 @@ use Rattle.game_turns.specs.LatestEvents.{standing_words}
 use Rattle.game_rows.specs.declared.rows.Row.{Row}
 use Rattle.game_rows.specs.Numbers.{numbers_in}
 
--- A row is that of the event at a place, counted from 0: it has the numbers of the event as it is written and as it should be, and the
--- game behind it is the tally at the next place.
+-- A row is that of the event at a place, counted from 0: it has the numbers of the event as it is written and as it should be, and
+-- the game after it is the tally at the next place.
 pub record IsRowAt (rules : Rules) (list : List (List ℕ)) (written right : List Event) (place : ℕ) (row : Row) : Type 0 where
   pub own : Event
   pub event : Event

@@ -7,7 +7,7 @@ use Rattle.game_turns.specs.Tallies.{State}
 use Rattle.game_sheets.specs.Corrections.{IsLeft}
 use Rattle.game_sheets.specs.Mending.{IsRefusedAt}
 
--- where it is refused, no number cures that, and it has the numbers that it is refused with
+-- if it is refused, no number cures that, and it has the numbers with which it is refused
 abbrev pub LeavesIt : Rules → (list : List (List ℕ)) → State → (old new : List Event) → (place : ℕ) → Option RuleFault → Type 0
 LeavesIt rules list s old new place None = ⊤
 LeavesIt rules list s old new place (Some why) = IsLeft why × IsRefusedAt rules list s old new place

@@ -7,7 +7,7 @@ use Rattle.gcg_read.specs.declared.events.Event.{Event}
 use Rattle.game_sheets.specs.LastTotals.{later, last_total}
 use Rattle.game_rows.specs.declared.totals.Totals.{Totals}
 
--- the last total of a player behind one event more
+-- the last total of a player after one more event
 abbrev pub total_behind : Event → Seat → Option ℤ → Option ℤ
 total_behind e player total = later (last_total player (e ∷ [])) total
 

@@ -9,8 +9,8 @@ use Rattle.game_rows.specs.declared.walking.Walk.{Walk}
 use Rattle.game_rows.specs.Refusals.{IsToldRefusal, EndsAt}
 use Rattle.game_rows.specs.Rows.{AreRowsTo, HaveRows}
 
--- A walk over events as they are written, beside the same events with their right numbers. It has a row for each event up to where
--- the correction ends, and tells the first event that is refused as it is written; where none is, nothing is changed.
+-- A walk over events as they are written, together with the same events with their right numbers. It has a row for each event up to
+-- where the correction ends, and names the first event that is refused as it is written; if none is, nothing is changed.
 pub record IsWalk (rules : Rules) (list : List (List ℕ)) (written right : List Event) (walk : Walk) : Type 0 where
   pub end : ℕ
   pub allowed : AreAllowedTo rules list right end

@@ -23,10 +23,10 @@ pub struct Audited {
     pub walk: Walk,
 }
 
-/// Walks over the events of a sheet and corrects them: all numbers that are wrong, in the order of the sheet, and behind them the last
-/// totals that are wrong, where the sheet has a correction.
+/// Walks over the events of a sheet and corrects them: all wrong numbers, in the order of the sheet, and after them the wrong last
+/// totals, if the sheet has a correction.
 ///
-/// It fails only where memory runs out.
+/// It fails only if memory runs out.
 pub fn audit(
     alloc: Global,
     rules: &Rules,

@@ -1,8 +1,8 @@
 //! One walk over a record: what each event did, with the numbers that the rules give.
 //!
-//! [`walk_and_correct`] takes the events of a record one by one and gives each its right score and total, up to the first event that is refused
-//! whatever its numbers are. It keeps a [`Row`] for each event that it took. [`walk_as_written`] does the same and leaves the events as
-//! they are written.
+//! [`walk_and_correct`] takes the events of a record one by one and gives each its right score and total, up to the first event
+//! that is refused whatever its numbers are. It keeps a [`Row`] for each event that it took. [`walk_as_written`] does the same and
+//! leaves the events as they are written.
 #![tactic(auto)]
 
 mod auditing;

@@ -8,7 +8,7 @@ use std::alloc::{AllocError, Global};
 /// The score and the total of an event.
 #[derive(Clone, Copy, Debug, PartialEq, Eq)]
 pub struct Numbers {
-    /// What the event scores.
+    /// The score of the event.
     pub score: Points,
     /// The player's total after it.
     pub total: Points,
@@ -26,7 +26,7 @@ pub(crate) fn numbers_in(event: &Event) -> Numbers
 
 /// The numbers of the events.
 ///
-/// It fails only where memory runs out.
+/// It fails only if memory runs out.
 pub fn numbers_of(alloc: Global, events: &[Event]) -> Result<Vec<Numbers>, AllocError>
     ensures { IfOk result (λ numbers. numbers.items ≡ map numbers_in events.now) }
 {
@@ -37,7 +37,7 @@ pub fn numbers_of(alloc: Global, events: &[Event]) -> Result<Vec<Numbers>, Alloc
     Ok(numbers)
 }
 
-/// Gives the first events these numbers, and leaves the events behind them as they are.
+/// Gives the first events these numbers, and leaves the events after them as they are.
 pub fn renumber(events: &mut Events, numbers: &[Numbers])
     ensures { events.new ≡ renumbered events.old numbers.now }
 {

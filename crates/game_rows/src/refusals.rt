@@ -19,11 +19,11 @@ pub struct Refusal {
 pub struct Stop {
     /// The event, and why it is refused.
     pub refusal: Refusal,
-    /// The numbers that it is refused with.
+    /// The numbers with which it is refused.
     pub numbers: Numbers,
 }
 
-/// The first refusal, where another event may be refused behind it.
+/// The first refusal: the earlier one if there is one, otherwise that of this event if it is refused.
 pub fn first_refusal(earlier: Option<Refusal>, line: u32, why: Option<RuleFault>) -> Option<Refusal>
     ensures { result ≡ first_refusal earlier line why }
 {

@@ -1,4 +1,4 @@
-//! What a walk keeps of an event.
+//! What a walk keeps about an event.
 
 use crate::numbers::Numbers;
 use game_turns::Machine;
@@ -10,7 +10,7 @@ pub struct Row {
     pub written: Numbers,
     /// Its numbers as the rules give them.
     pub right: Numbers,
-    /// The game behind it: the board, what the players have, and of a play its tiles and its words, its score and whether it stands.
+    /// The game after it: the board, what the players have, and for a play its tiles, its words, its score and whether it stands.
     pub behind: Machine,
     /// Whether each word that it leaves on the board is in the word list.
     pub listed: bool,

@@ -11,7 +11,7 @@ use game_turns::{Machine, RuleFault};
 use gcg_read::Events;
 use lex_list::WordList;
 
-/// What came of an event.
+/// The outcome of an event.
 #[derive(Clone, Copy)]
 pub struct Taken {
     /// Why it is refused as it is written.
@@ -20,7 +20,7 @@ pub struct Taken {
     pub left: Option<RuleFault>,
 }
 
-/// Takes the event at a place, with the numbers that the rules give where its own are wrong.
+/// Takes the event at a place, with the numbers that the rules give if its own are wrong.
 pub fn take_right(
     machine: &mut Machine,
     events: &mut Events,

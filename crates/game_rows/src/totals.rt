@@ -8,7 +8,7 @@ ghost use Rattle.game_rows.specs.Totals.{total_behind, total_of, had_of};
 use crate::numbers::Numbers;
 use gcg_read::{Event, Points, Seat, same_seat};
 
-/// The last total of each player, where there is one.
+/// The last total of each player, if there is one.
 #[derive(Drop)]
 pub struct Totals {
     /// That of the first player.
@@ -17,7 +17,7 @@ pub struct Totals {
     pub second: Option<Points>,
 }
 
-/// The last total of a player behind one event more, which has these numbers.
+/// The last total of a player after one more event, which has these numbers.
 fn total_behind(event: &Event, own: &Numbers, player: Seat, total: Option<Points>) -> Option<Points>
     ensures { result ≡ total_behind (with_numbers event.now own.now) player total }
 {
@@ -61,7 +61,7 @@ impl Totals {
         }
     }
 
-    /// Notes the total of one event more, which has these numbers.
+    /// Records the total of one more event, which has these numbers.
     pub fn note(&mut self, event: &Event, own: &Numbers)
         ensures first { self.new.first ≡ total_behind (with_numbers event.now own.now) seat.First self.old.first }
         ensures second { self.new.second ≡ total_behind (with_numbers event.now own.now) seat.Second self.old.second }

@@ -23,11 +23,11 @@ use std::alloc::{AllocError, Global};
 pub struct Walk {
     /// The game before the first event.
     pub start: Machine,
-    /// What each event did, up to where the correction ends.
+    /// What each event did, up to the end of the correction.
     pub rows: Vec<Row>,
     /// The first event that is refused as it is written.
     pub refused: Option<Refusal>,
-    /// Where the correction stops.
+    /// Where the correction stops, if it does.
     pub stopped: Option<Stop>,
 }
 
@@ -39,7 +39,7 @@ impl Walk {
     ghost use Rattle.game_rows.specs.Refusals.{refusal_of};
     ghost use Rattle.game_rows.specs.Walks.{GoesThrough};
 
-    /// The game before the event at a place, counted from 0, and behind the last row; none behind that.
+    /// The game before the event at a place, counted from 0, or after the last row; none after that.
     pub fn before(&self, place: usize) -> Option<&Machine>
         ensures { (rules : Rules) (list : List (List ℕ)) (written right : List Event) → IsWalk rules list written right self.now
             → IfSome result (λ machine. state_of machine.now ≡ tally_at rules right place) }
@@ -53,7 +53,7 @@ impl Walk {
         }
     }
 
-    /// The game behind the last row, or at its start where there is no row.
+    /// The game after the last row, or at its start if there is no row.
     pub fn end(&self) -> &Machine
         ensures { (rules : Rules) (list : List (List ℕ)) (events : List Event) → GoesThrough rules list events self.now
             → state_of result.now ≡ tally_at rules events (length events) }
@@ -66,7 +66,7 @@ impl Walk {
         &rows[many - 1].behind
     }
 
-    /// The event that is refused with its right numbers too: the one at which the correction stops.
+    /// The event that is refused even with its right numbers: the one at which the correction stops.
     pub fn refused_for_good(&self) -> Option<Refusal>
         ensures { result ≡ refusal_of self.now.stopped }
     {
@@ -77,7 +77,7 @@ impl Walk {
     }
 }
 
-/// The row of an event that was taken, by its numbers as they are written.
+/// The row of an event that was taken, given its numbers as they are written.
 fn row_of(own: &Numbers, event: &Event, machine: &Machine, list: &WordList) -> Row
     ensures written { result.written ≡ own.now }
     ensures right { result.right ≡ numbers_in event.now }
@@ -111,7 +111,7 @@ fn stop_at(event: &Event, why: RuleFault) -> Stop
 /// Takes the events one by one, and gives each the score and the total that the rules give, up to the first event that is refused
 /// whatever its numbers are; from there on the events stay as they were.
 ///
-/// It fails only where memory runs out.
+/// It fails only if memory runs out.
 pub fn walk_and_correct(
     alloc: Global,
     rules: &Rules,
@@ -149,9 +149,9 @@ pub fn walk_and_correct(
     })
 }
 
-/// The same walk; behind it the events are as they are written.
+/// The same walk; afterwards the events are as they are written.
 ///
-/// It fails only where memory runs out.
+/// It fails only if memory runs out.
 pub fn walk_as_written(
     alloc: Global,
     rules: &Rules,

@@ -1,4 +1,4 @@
-//! The wrong numbers of a sheet, by the numbers that are written and the events with the right ones.
+//! The wrong numbers of a sheet, from the written numbers and the events with the right ones.
 ghost use Rattle.std.specs.Prelude.{◌≡◌, ◌+◌, ◌++◌, ◌<◌, List, length, OnOk, None, take};
 ghost use Rattle.gcg_read.specs.Numerals.{IsPoints};
 ghost use Rattle.game_sheets.specs.WrongNumbers.{wrong_score, wrong_sum, wrong_at, wrong_lines, wrong_total_of, wrong_totals};
@@ -12,7 +12,7 @@ use game_sheets::{WrongNumber, last_total};
 use gcg_read::{Event, Points, Seat};
 use std::alloc::AllocError;
 
-/// Adds the score of an event, where it is not the right one.
+/// Adds the score of an event, if it is not the right one.
 fn push_score(wrong: &mut Vec<WrongNumber>, own: &Numbers, right: &Event) -> Result<(), AllocError>
     ensures { OnOk result (wrong.new.items ≡ wrong.old.items ++ wrong_score (with_numbers right.now own.now) right.now) }
 {
@@ -26,7 +26,7 @@ fn push_score(wrong: &mut Vec<WrongNumber>, own: &Numbers, right: &Event) -> Res
     Ok(())
 }
 
-/// Adds the total of an event, where it is not what the player had and the score.
+/// Adds the total of an event, if it is not what the player had plus the score.
 fn push_sum(
     wrong: &mut Vec<WrongNumber>,
     own: &Numbers,
@@ -47,7 +47,7 @@ fn push_sum(
     Ok(())
 }
 
-/// Adds what is wrong at a place, and notes the total that is written there.
+/// Adds what is wrong at a place, and records the total written there.
 #[tactic(auto, using(crate::proofs::WrongRows::both_wrong))]
 fn push_wrong(
     wrong: &mut Vec<WrongNumber>,
@@ -70,7 +70,7 @@ fn push_wrong(
     Ok(())
 }
 
-/// Adds the wrong scores and sums, in the order of the sheet, and gives the last totals that are written.
+/// Adds the wrong scores and sums, in the order of the sheet, and returns the last written totals.
 pub fn push_lines(
     wrong: &mut Vec<WrongNumber>,
     totals: &mut Totals,
@@ -89,7 +89,7 @@ pub fn push_lines(
     Ok(())
 }
 
-/// Adds the last total of a player, where it is not the right one.
+/// Adds the last total of a player, if it is not the right one.
 fn push_total(
     wrong: &mut Vec<WrongNumber>,
     player: Seat,

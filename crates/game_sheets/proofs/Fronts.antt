@@ -43,11 +43,11 @@ pub all_themselves : (events : List Event) → AreRenumbered events events
 all_themselves events =
     record { as_many = refl; each = λ place a b of_a of_b. subst (IsRenumbered a) (same_Some a b (sym of_a ∙ of_b)) (itself a) }
 
--- an event of one list, where another has as many
+-- an event of one list, if another has as many events
 there : (xs ys : List Event) (place : ℕ) (x : Event) → length xs ≡ length ys → slice_get xs place ≡ Some x → slice_get ys place ≡ Some (get_or ys place x)
 there xs ys place x as_many is = slice_get-get_or ys place x (subst (λ n. place < n) as_many (slice_get_within xs place x is))
 
--- two lists that have the events of one
+-- two lists that renumber the events of one
 pub both_renumbered : (written a b : List Event) → AreRenumbered written a → AreRenumbered written b → AreRenumbered a b
 both_renumbered written a b of_a of_b =
     record {
@@ -58,7 +58,7 @@ both_renumbered written a b of_a of_b =
           through x w y (back w x (of_a.each place w x at at_a)) (of_b.each place w y at at_b);
     }
 
--- renumbered once and again
+-- renumbered twice
 pub all_through : (a b d : List Event) → AreRenumbered a b → AreRenumbered b d → AreRenumbered a d
 all_through a b d is on =
     record {
@@ -88,7 +88,7 @@ same_tally rules a b place like same =
     ap (λ w. tally rules w (reverse (take place b))) (same_withdrawal a b place like)
     ∙ ap (λ past. tally rules (withdraws (slice_get a place)) (reverse past)) same
 
--- Where both are allowed up to a place, they agree up to it.
+-- If the events of both are allowed up to a place, they agree up to it.
 pub fronts_agree : (rules : Rules) (list : List (List ℕ)) (a b : List Event) (end : ℕ) → AreRenumbered a b → end ≤ length a → AreAllowedTo rules list a end → AreAllowedTo rules list b end
     → take end b ≡ take end a
 fronts_agree rules list a b zero like within of_a of_b = refl
@@ -118,7 +118,7 @@ one_correction rules list written a b of_a of_b =
     let agree = fronts_agree rules list a b (length a) like (omega arith) of_a.allowed (λ k below. of_b.allowed k (subst (λ n. k < n) (sym like.as_many) below)) in
     sym (take_all (length a) a (omega arith)) ∙ sym agree ∙ ap (λ n. take n b) (sym like.as_many) ∙ take_all (length b) b (omega arith)
 
--- Where the correction stops at a fault that no number cures, there is none that a record can write.
+-- If the correction stops at a fault that no number cures, there is no correction that a record can write.
 pub no_correction : (rules : Rules) (list : List (List ℕ)) (written right other : List Event) (place : ℕ) (e : Event) (f : RuleFault)
     → AreRenumbered written right → AreAllowedTo rules list right place → slice_get right place ≡ Some e → fault_at rules list right place ≡ Some f → IsLeft f
     → HavePoints other → IsCorrection rules list written other → ⊥

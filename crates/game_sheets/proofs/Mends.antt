@@ -35,7 +35,7 @@ set_elsewhere (d ∷ rest) zero (suc k) x other = refl
 set_elsewhere (d ∷ rest) (suc place) zero x other = refl
 set_elsewhere (d ∷ rest) (suc place) (suc k) x other = set_elsewhere rest place k x (λ same. other (ap suc same))
 
--- ---- nothing, one number, and one behind another
+-- ---- nothing, one number, and one after another
 
 pub unchanged : (events : List Event) (place : ℕ) → IsMendedAt events events place
 unchanged events place = record { renumbered = all_themselves events; others = λ k other. refl }
@@ -82,7 +82,7 @@ total_is fault.TooManyUsed right e = cc
 
 -- ---- an event whose total is wrong, and one whose score is
 
--- a fault that is told is of an event
+-- a fault in an answer is that of an event
 record IsFaulty (rules : Rules) (list : List (List ℕ)) (s : State) (o : Option Event) (why : RuleFault) : Type 0 where
   event : Event
   is : o ≡ Some event
@@ -117,7 +117,7 @@ total_set rules list s events new place why right total told named same made =
       told = there_of rules list s events new place e x of.is (made e of.is) ∙ cured;
     }
 
--- with the right score, nothing but the total is wrong
+-- with the right score, only the total is wrong
 pub record IsScored (rules : Rules) (list : List (List ℕ)) (s : State) (old new : List Event) (place : ℕ) : Type 0 where
   pub mended : IsMendedAt old new place
   pub told : (why : RuleFault) → fault_of_event rules list s (slice_get new place) ≡ Some why → right_score why ≡ None
@@ -145,7 +145,7 @@ never : (rules : Rules) (list : List (List ℕ)) (s : State) (o : Option Event) 
 never rules list s o P (Ok x) none told = tt
 never rules list s o P (Err why) none told = absurd (some_fault why (sym told ∙ none))
 
--- where the event is taken with the right total, nothing is owed of a refusal
+-- if the event is taken with the right total, nothing remains to be shown about a refusal
 pub total_taken : (rules : Rules) (list : List (List ℕ)) (s : State) (events new : List Event) (place : ℕ) (why : RuleFault) (right total : ℤ) (P : RuleFault → Type 0) (result : Result ⊤ RuleFault)
     → fault_of_event rules list s (slice_get events place) ≡ Some why → right_total why ≡ Some right → total ≡ right
     → ((e : Event) → slice_get events place ≡ Some e → new ≡ set events place (record e { total = total }))

@@ -1,4 +1,4 @@
--- What the numbers of an event can be where the rules allow it, and what cures a wrong one.
+-- What the numbers of an event can be if the rules allow it, and what cures a wrong one.
 use Rattle.std.proofs.Common.{◌≡◌, ℕ, ℤ, Bool, true, false, not, List, Option, Some, None, inl, inr, refl, sym, ap, ◌∙◌}
 use Rattle.std.specs.Prelude.{◌+ℤ◌, ◌⊎◌}
 use Rattle.std.specs.Option.{option_or}
@@ -40,7 +40,7 @@ told_fault false f g e = cc
 
 -- ---- the two checks of numbers
 
--- where both are right, the total is the player's total before and the score
+-- if both are right, the total is the player's total before plus the score
 sum_of_right : (before score total : ℤ) → total_wrong before score total ≡ None → total ≡ before +ℤ score
 sum_of_right before score total e = same_number total (before +ℤ score) (fault.WrongTotal (before +ℤ score)) e
 
@@ -61,7 +61,7 @@ score_or_total true before x t y u r f tested same right wrong =
     inr (total_named before x t y u f ((Decides-int_eq y r).0 (sym tested) ∙ sym same) right wrong)
 score_or_total false before x t y u r f tested same right wrong = inl (ap right_number (sym (same_Some (fault.WrongScore r) f wrong)) ∙ ap Some (sym same))
 
--- Of numbers beside others that are right, what is wrong names one of these.
+-- If one number is wrong and the others are right, the fault names one of these.
 numbers_named : (o : Option ℤ) (before x t y u : ℤ) (f : RuleFault) → (o ≡ None → y ≡ x) → score_wrong o x ≡ None → total_wrong before x t ≡ None
     → numbers_wrong o before y u ≡ Some f → (right_number f ≡ Some x) ⊎ (right_number f ≡ Some t)
 numbers_named None before x t y u f given of_score of_total wrong = inr (total_named before x t y u f (given refl) of_total wrong)
@@ -104,7 +104,7 @@ right_is_right before score r same =
 
 -- ---- events
 
--- where the first part names no number, a number is named by the second
+-- if the first part names no number, a number is named by the second
 second_names : (a b : Option RuleFault) (f : RuleFault) (r : ℤ) → NamesNone a → option_or a b ≡ Some f → right_number f ≡ Some r → (a ≡ None) × (b ≡ Some f)
 second_names None b f r plain e named = (refl, e)
 second_names (Some g) b f r plain e named = absurd (some_fault r (sym named ∙ plain f e))
@@ -115,7 +115,7 @@ numbers_told rules list s e f r wrong named =
     second_names (front rules list s e.player e.score e.kind) (numbers_wrong (kind_score rules s e.kind) (side_of s.sides e.player).total e.score e.total) f r
     (front_plain rules list s e.player e.score e.kind) (sym (shape rules list s e) ∙ wrong) named
 
--- what is known of an event that the rules allow
+-- what is known about an event that the rules allow
 pub record IsRight (rules : Rules) (list : List (List ℕ)) (s : State) (e : Event) : Type 0 where
   pub before : front rules list s e.player e.score e.kind ≡ None
   pub score : score_wrong (kind_score rules s e.kind) e.score ≡ None
@@ -138,7 +138,7 @@ same_event a b is score total =
     ∙ ap (λ x. record b { line = a.line; player = a.player; rack = a.rack; kind = a.kind; score = x }) score
     ∙ ap (λ x. record a { total = x }) total
 
--- the numbers of an event, where its kind and its player are those of another
+-- the numbers of an event, if its kind and its player are those of another
 checks_alike : (rules : Rules) (s : State) (a b : Event) → IsRenumbered a b
     → numbers_wrong (kind_score rules s b.kind) (side_of s.sides b.player).total b.score b.total ≡ numbers_wrong (kind_score rules s a.kind) (side_of s.sides a.player).total b.score b.total
 checks_alike rules s a b is =
@@ -154,7 +154,7 @@ front_alike rules list s a b is =
 score_alike : (rules : Rules) (s : State) (a b : Event) → IsRenumbered a b → kind_score rules s a.kind ≡ None → b.score ≡ a.score
 score_alike rules s a b is none = is.given (given_or_not rules s a.kind none)
 
--- Of one event with different numbers the rules allow one alone.
+-- Of all numbers that one event may have, the rules allow only one.
 pub same_where_allowed : (rules : Rules) (list : List (List ℕ)) (s : State) (a b : Event) → IsRenumbered a b → fault_in rules list s a ≡ None → fault_in rules list s b ≡ None → b ≡ a
 same_where_allowed rules list s a b is of_a of_b =
     let own = all_right rules list s a of_a in
@@ -172,7 +172,7 @@ either_named : (f : RuleFault) (x t : ℤ) → IsLeft f → (right_number f ≡ 
 either_named f x t left (inl named) of_x of_t = left x named of_x
 either_named f x t left (inr named) of_x of_t = left t named of_t
 
--- Where the rules allow an event with numbers that a record can write, a number cures each fault of it with others.
+-- If the rules allow an event with numbers that a record can write, each fault of it with other numbers is cured by a number.
 pub cured : (rules : Rules) (list : List (List ℕ)) (s : State) (a b : Event) (f : RuleFault) → IsRenumbered a b → fault_in rules list s a ≡ None → HasPoints a
     → fault_in rules list s b ≡ Some f → IsLeft f → ⊥
 cured rules list s a b f is of_a points of_b left =
@@ -186,7 +186,7 @@ cured rules list s a b f is of_a points of_b left =
 
 -- ---- what cures
 
--- A wrong score is cured by the one that is told: then at most the total is wrong.
+-- A wrong score is cured by the one that the fault names: then at most the total is wrong.
 pub score_cures : (rules : Rules) (list : List (List ℕ)) (s : State) (e : Event) (r : ℤ) → fault_in rules list s e ≡ Some (fault.WrongScore r)
     → fault_in rules list s (record e { score = r }) ≡ total_wrong (side_of s.sides e.player).total r e.total
 score_cures rules list s e r wrong =
@@ -197,13 +197,13 @@ score_cures rules list s e r wrong =
     shape rules list s (record e { score = r }) ∙ ap (λ o. option_or o (numbers_wrong (kind_score rules s e.kind) before r e.total)) passed
     ∙ ap (λ o. numbers_wrong o before r e.total) right ∙ ap (λ o. option_or o (total_wrong before r e.total)) (own_number r (fault.WrongScore r))
 
--- and a score that is wrong is none that is given
+-- and a score that is wrong is not one that is given
 pub wrong_not_given : (rules : Rules) (list : List (List ℕ)) (s : State) (e : Event) (r : ℤ) → fault_in rules list s e ≡ Some (fault.WrongScore r) → is_given e.kind ≡ true → ⊥
 wrong_not_given rules list s e r wrong =
     let told = numbers_told rules list s e (fault.WrongScore r) r wrong refl in
     ruled_not_given rules s e.kind r (score_named (kind_score rules s e.kind) (side_of s.sides e.player).total e.score e.total r told.1)
 
--- A wrong total is cured by the one that is told.
+-- A wrong total is cured by the one that the fault names.
 pub total_cures : (rules : Rules) (list : List (List ℕ)) (s : State) (e : Event) (r : ℤ) → fault_in rules list s e ≡ Some (fault.WrongTotal r)
     → fault_in rules list s (record e { total = r }) ≡ None
 total_cures rules list s e r wrong =

@@ -1,5 +1,4 @@
--- What the checks of an event ask, in two parts: those before the numbers, which never name a number, and those of the
--- score and the total.
+-- The checks of an event in two parts: those before the numbers, which never name a number, and those of the score and the total.
 use Rattle.std.proofs.Common.{◌≡◌, ℕ, ℤ, pos, neg_ℤ, ◌*◌, ◌==◌, ◌&&◌, ◌||◌, Bool, true, false, not, nat_lt, List, [], ◌∷◌, ◌++◌, length, sum, Option, Some, None, refl, sym, ap, ◌∙◌, subst}
 use Rattle.std.specs.Prelude.{◌+ℤ◌, option_map}
 use Rattle.std.proofs.lemmas.Option.{same_Some}
@@ -34,7 +33,7 @@ first_of_two : {F : Type 0} (a b : Option F) → first_fault (a ∷ b ∷ []) �
 first_of_two None b = first_of_one b
 first_of_two (Some why) b = refl
 
--- the two last checks come behind all others
+-- the two last checks come after all others
 two_last : {F : Type 0} (checks : List (Option F)) (a b : Option F) → first_fault (checks ++ a ∷ b ∷ []) ≡ option_or (first_fault checks) (option_or a b)
 two_last [] a b = first_of_two a b
 two_last (None ∷ checks) a b = two_last checks a b
@@ -51,7 +50,7 @@ or_three (Some why) b c = refl
 
 -- ---- the two parts
 
--- the score that the rules give, where they give one
+-- the score that the rules give, if they give one
 abbrev pub score_wrong : Option ℤ → ℤ → Option RuleFault
 score_wrong None score = None
 score_wrong (Some right) score = check_score score right
@@ -122,7 +121,7 @@ abbrev pub rack_score : (points : ℕ) → Option Seat → ℤ
 rack_score points (Some out) = pos (2 * points)
 rack_score points None = neg_ℤ (pos points)
 
--- the score that the rules give an event of a kind; none where it is taken as it is written
+-- the score that the rules give an event of a kind; none if it is taken as it is written
 abbrev pub kind_score : Rules → State → EventKind → Option ℤ
 kind_score rules s (kind.Play at dir word) = Some (text_score rules s.board dir at word)
 kind_score rules s kind.Pass = Some (pos 0)
@@ -224,7 +223,7 @@ shape rules list s e =
     first_of_two awaited (check_kind rules list s e e.kind) ∙ ap (option_or awaited) (kind_shape rules list s e e.kind)
     ∙ or_three awaited (kind_front rules list s e.player e.score e.kind) (numbers_wrong (kind_score rules s e.kind) (side_of s.sides e.player).total e.score e.total)
 
--- ---- of which the front hangs on no number but on a score that is given, and names none
+-- ---- the front depends on no number except a given score, and names none
 
 kind_front_same : (rules : Rules) (list : List (List ℕ)) (s : State) (player : Seat) (k : EventKind) (a b : ℤ) → (is_given k ≡ true → a ≡ b)
     → kind_front rules list s player a k ≡ kind_front rules list s player b k
@@ -266,7 +265,7 @@ ruled_not_given rules s kind.Challenge right e given = some_fault right (sym e)
 ruled_not_given rules s kind.Time right e given = some_fault right (sym e)
 ruled_not_given rules s (kind.LastRack tiles) right e given = not_both given
 
--- a fault that names no number, where there is one
+-- a fault that names no number, if there is one
 abbrev pub NamesNone : Option RuleFault → Type 0
 NamesNone o = (why : RuleFault) → o ≡ Some why → right_number why ≡ None
 

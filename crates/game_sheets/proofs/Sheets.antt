@@ -30,7 +30,7 @@ same_take {X} (x ∷ xs) (y ∷ ys) (suc k) same =
     let tail : take k xs ≡ take k ys = same_take xs ys k (λ j below. same (suc j) (omega arith)) in
     ap (λ (z : X). z ∷ take k xs) head ∙ ap (λ (zs : List X). y ∷ zs) tail
 
--- what is before a place is not touched there
+-- what is before a place is not changed there
 front_kept : (a b : List Event) (place k : ℕ) → IsMendedAt a b place → k ≤ place → take k b ≡ take k a
 front_kept a b place k is within = same_take b a k (λ j below. is.others j (λ same. absurd (omega (arith, same))))
 
@@ -44,7 +44,7 @@ fault_kept rules list a b place k is below =
     ap (λ s. fault_of_event rules list s (slice_get b k)) (tally_kept rules a b place k is (omega arith))
     ∙ ap (fault_of_event rules list (tally_at rules a k)) (is.others k (λ same. absurd (omega (arith, same))))
 
--- the fault of the event at the place, which is told of the state there
+-- the fault of the event at the place, by the state there
 pub fault_mended : (rules own : Rules) (list : List (List ℕ)) (a b : List Event) (place : ℕ) (s : State) (o : Option RuleFault) → IsMendedAt a b place
     → own ≡ rules → s ≡ tally_at rules a place → o ≡ fault_of_event own list s (slice_get b place) → fault_at rules list b place ≡ o
 unfolding fault_at
@@ -138,7 +138,7 @@ pub item_there : (rules : Rules) (list : List (List ℕ)) (written a b items : L
 item_there rules list written a b items place e up is within same read =
     slice_get_read b (length b) place e refl (subst (λ n. place < n) (sym (is.renumbered.as_many ∙ up.renumbered.as_many)) within) (read ∙ ap (λ es. get_or es place e) same)
 
--- the numbers that it is refused with, by the tally there
+-- the numbers with which it is refused, by the tally there
 pub numbers_there : (rules own_rules : Rules) (list : List (List ℕ)) (a b : List Event) (place : ℕ) (s : State) (own e : Event) → IsMendedAt a b place → own_rules ≡ rules
     → s ≡ tally_at rules a place → IsRefusedAt own_rules list s a b place → slice_get a place ≡ Some own → slice_get b place ≡ Some e
     → HasRefusedNumbers rules list (tally_at rules b place) own e
@@ -146,7 +146,7 @@ numbers_there rules own_rules list a b place s own e is same_rules same_state re
     subst (λ t. HasRefusedNumbers rules list t own e) (same_state ∙ sym (tally_kept rules a b place place is (omega arith)))
     (subst (λ r. HasRefusedNumbers r list s own e) same_rules (refused.numbers own e stood stands))
 
--- where an event stays refused, whatever its numbers
+-- an event stays refused, whatever its numbers
 pub stopped : (rules : Rules) (list : List (List ℕ)) (written a b items : List Event) (place : ℕ) (e : Event) (machine : Machine) (why : RuleFault) → IsUpTo rules list written a place
     → IsMendedAt a b place → place < length written → items ≡ b → e ≡ get_or items place e → rules_of machine ≡ rules → state_of machine ≡ tally_at rules a place
     → Some why ≡ fault_of_event (rules_of machine) list (state_of machine) (slice_get b place) → IsLeft why

@@ -13,13 +13,13 @@ later_later : (one two three : Option ℤ) → later one (later two three) ≡ l
 later_later None two three = refl
 later_later (Some total) two three = refl
 
--- the last total of a list and of one event behind it
+-- the last total of a list and of one event after it
 pub total_behind : (player : Seat) (events : List Event) (e : Event) → last_total player (events ++ e ∷ []) ≡ later (last_total player (e ∷ [])) (last_total player events)
 total_behind player [] e = sym (later_none (last_total player (e ∷ [])))
 total_behind player (d ∷ events) e =
     ap (λ t. later t (last_total player (d ∷ []))) (total_behind player events e) ∙ sym (later_later (last_total player (e ∷ [])) (last_total player events) (last_total player (d ∷ [])))
 
--- behind one event more
+-- after one more event
 pub total_more : (player : Seat) (events : List Event) (place : ℕ) (e : Event) (total : Option ℤ) → place < length events → e ≡ get_or events place e
     → total ≡ last_total player (take place events) → later (last_total player (e ∷ [])) total ≡ last_total player (take (place + 1) events)
 total_more player events place e total within there so_far =

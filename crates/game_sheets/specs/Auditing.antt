@@ -1,4 +1,4 @@
--- What an audit says of a sheet: its correction, as far as it goes, and the numbers that are wrong.
+-- What an audit says about a sheet: its correction, as far as it goes, and the numbers that are wrong.
 use Rattle.std.specs.Prelude.{◌≡◌, ◌⊎◌, ℕ, List, ◌++◌}
 use Rattle.ref_tiles.specs.declared.rulebook.Rules.{Rules}
 use Rattle.gcg_read.specs.declared.events.Event.{Event}
@@ -12,8 +12,7 @@ pub record IsCorrected (rules : Rules) (list : List (List ℕ)) (written right :
   pub correction : IsCorrection rules list written right
   pub all : wrong ≡ wrong_lines written right ++ wrong_totals written right
 
--- no numbers that a record can write make it a correction: its wrong scores as far as the rules allow the events, and its
--- wrong sums
+-- no numbers that a record can write correct the sheet: the wrong scores as far as the rules allow the events, and the wrong sums
 pub record HasNoCorrection (rules : Rules) (list : List (List ℕ)) (written right : List Event) (wrong : List WrongNumber) : Type 0 where
   pub line : ℕ
   pub why : RuleFault

@@ -12,14 +12,14 @@ use Rattle.game_turns.specs.Tallies.{State, tally_at}
 use Rattle.game_turns.specs.Checks.{fault_in}
 use Rattle.game_turns.specs.Places.{fault_at, AreAllowed, AreAllowedTo}
 
--- Whether the score of an event is taken as it is written: the rules allow more than one bonus for a challenge, and more than
--- one penalty for time. Of every other event they give the score.
+-- Whether the score of an event is taken as it is written: the rules allow more than one bonus for a challenge, and more than one
+-- penalty for time. For every other event they give the score.
 abbrev pub is_given : EventKind → Bool
 is_given kind.Challenge = true
 is_given kind.Time = true
 is_given other = false
 
--- the same event, with another score or total or with its own
+-- the same event, with its own score and total or with others
 pub record IsRenumbered (written right : Event) : Type 0 where
   pub line : right.line ≡ written.line
   pub player : right.player ≡ written.player
@@ -45,11 +45,11 @@ pub record HasPoints (e : Event) : Type 0 where
 abbrev pub HavePoints : List Event → Type 0
 HavePoints events = (place : ℕ) (e : Event) → slice_get events place ≡ Some e → HasPoints e
 
--- the new events have numbers that a record can write where the old ones have
+-- the new events have numbers that a record can write if the old ones have
 pub record KeepPoints (old new : List Event) : Type 0 where
   pub points : HavePoints old → HavePoints new
 
--- The sheet is corrected up to a place, and behind it as it was written.
+-- The sheet is corrected up to a place; after it, it is as it was written.
 pub record IsCorrectedTo (rules : Rules) (list : List (List ℕ)) (written right : List Event) (end : ℕ) : Type 0 where
   pub renumbered : AreRenumbered written right
   pub allowed : AreAllowedTo rules list right end
@@ -69,18 +69,18 @@ right_total rest = None
 abbrev pub right_number : RuleFault → Option ℤ
 right_number why = option_or (right_score why) (right_total why)
 
--- A fault that no number cures which a record can write: it names none, or one that is too large.
+-- A fault that cannot be cured by a number that a record can write: it names none, or one that is too large.
 abbrev pub IsLeft : RuleFault → Type 0
 IsLeft why = (right : ℤ) → right_number why ≡ Some right → IsPoints right → ⊥
 
--- The numbers of the event at which a correction stops, beside the same event as it is written, by the state before it. Its total
--- is the one that is written. So is its score, but where the rules refuse that as a wrong score, it may be the one that they give.
+-- The numbers of the event at which a correction stops, and the same event as it is written, by the state before it. Its total is
+-- the written one. So is its score, but if the rules refuse that as a wrong score, it may be the one that they give.
 pub record HasRefusedNumbers (rules : Rules) (list : List (List ℕ)) (s : State) (written refused : Event) : Type 0 where
   pub total : refused.total ≡ written.total
   pub score : (refused.score ≡ written.score) ⊎ (fault_in rules list s written ≡ Some (fault.WrongScore refused.score))
 
 -- The correction stops at the event on a line: it is refused with this fault, which no number cures. The events before it are
--- corrected, and those behind it are as they were written.
+-- corrected, and those after it are as they were written.
 pub record StopsAt (rules : Rules) (list : List (List ℕ)) (written right : List Event) (line : ℕ) (why : RuleFault) : Type 0 where
   pub place : ℕ
   pub event : Event

@@ -4,12 +4,12 @@ use Rattle.gcg_read.specs.Players.{same_seat}
 use Rattle.gcg_read.specs.declared.events.Seat.{Seat}
 use Rattle.gcg_read.specs.declared.events.Event.{Event}
 
--- the later of two totals, where both are there
+-- the later of two totals, if there are both
 abbrev pub later : Option ℤ → Option ℤ → Option ℤ
 later (Some total) earlier = Some total
 later None earlier = earlier
 
--- the last total that is written for a player
+-- the last total written for a player
 abbrev pub last_total : Seat → List Event → Option ℤ
 last_total player [] = None
 last_total player (e ∷ events) = later (last_total player events) (if same_seat e.player player then Some e.total else None)

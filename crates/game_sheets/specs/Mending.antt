@@ -1,4 +1,4 @@
--- What is made of one event of a sheet.
+-- What is done to one event of a sheet.
 use Rattle.std.specs.Prelude.{◌≡◌, ℕ, ◌+◌, List, slice_get, Option, Some, None}
 use Rattle.ref_tiles.specs.declared.rulebook.Rules.{Rules}
 use Rattle.gcg_read.specs.declared.events.Event.{Event}
@@ -6,16 +6,16 @@ use Rattle.game_turns.specs.Tallies.{State, withdraws}
 use Rattle.game_turns.specs.Changes.{after}
 use Rattle.game_sheets.specs.Corrections.{AreRenumbered, HasRefusedNumbers}
 
--- the events, that at a place with its own numbers or with others
+-- the events, the one at a place with its own numbers or with others
 pub record IsMendedAt (old new : List Event) (place : ℕ) : Type 0 where
   pub renumbered : AreRenumbered old new
   pub others : (k : ℕ) → (k ≡ place → ⊥) → slice_get new k ≡ slice_get old k
 
--- the event at a place with the numbers that it is refused with, by the state before it
+-- the event at a place with the numbers with which it is refused, by the state before it
 pub record IsRefusedAt (rules : Rules) (list : List (List ℕ)) (s : State) (old new : List Event) (place : ℕ) : Type 0 where
   pub numbers : (e x : Event) → slice_get old place ≡ Some e → slice_get new place ≡ Some x → HasRefusedNumbers rules list s e x
 
--- the state after an event, where there is one, and the next event
+-- the state after an event, if there is one, and the next event
 abbrev pub after_event : Rules → State → Option Event → (next : Option Event) → State
 after_event rules s None next = s
 after_event rules s (Some e) next = after rules s e (withdraws next)

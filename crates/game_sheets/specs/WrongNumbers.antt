@@ -1,4 +1,4 @@
--- The wrong numbers of a sheet, beside its correction.
+-- The wrong numbers of a sheet, found by comparing it with its correction.
 use Rattle.std.specs.Prelude.{ℕ, ℤ, pos, ◌+ℤ◌, List, [], ◌∷◌, ◌++◌, take, length, min, slice_get, Option, Some, None, if◌then◌else◌}
 use Rattle.std.specs.List.{flat_map, range_with_len}
 use Rattle.std.specs.Option.{unwrap_or}
@@ -18,7 +18,7 @@ had_before events player place = unwrap_or (last_total player (take place events
 abbrev pub wrong_score : (written right : Event) → List WrongNumber
 wrong_score written right = if int_eq written.score right.score then [] else (wrong.Score written.line written.score right.score ∷ [])
 
--- a total that is not what the player had and the score, as they are written
+-- a total that is not what the player had plus the score, as they are written
 abbrev pub wrong_sum : (had : ℤ) → Event → List WrongNumber
 wrong_sum had e = if int_eq e.total (had +ℤ e.score) then [] else (wrong.Sum e.line e.total (had +ℤ e.score) ∷ [])
 
@@ -35,7 +35,7 @@ wrong_at written right place = wrong_of written place (slice_get written place) 
 unfoldable pub wrong_lines : (written right : List Event) → List WrongNumber
 wrong_lines written right = flat_map (wrong_at written right) (range_with_len 0 (min (length written) (length right)))
 
--- the last total of a player, where it is not the right one
+-- the last total of a player, if it is not the right one
 abbrev pub wrong_total_of : Seat → Option ℤ → Option ℤ → List WrongNumber
 wrong_total_of player (Some written) (Some right) = if int_eq written right then [] else (wrong.Total player written right ∷ [])
 wrong_total_of player None o = []

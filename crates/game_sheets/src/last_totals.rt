@@ -4,7 +4,7 @@ ghost use Rattle.game_sheets.specs.LastTotals.{last_total, later};
 
 use gcg_read::{Event, Points, Seat, same_seat};
 
-/// The last total of a player behind one event more.
+/// The last total of a player after one more event.
 fn total_behind(event: &Event, player: Seat, total: Option<Points>) -> Option<Points>
     ensures { result ≡ later (last_total player (event.now ∷ [])) total }
 {
@@ -15,7 +15,7 @@ fn total_behind(event: &Event, player: Seat, total: Option<Points>) -> Option<Po
     }
 }
 
-/// The last total that is written for a player, or none where no event is the player's.
+/// The last total written for a player, or none if no event is the player's.
 pub fn last_total(events: &[Event], player: Seat) -> Option<Points>
     ensures { result ≡ last_total player events.now }
 {

@@ -32,7 +32,7 @@ fn right_total(fault: &RuleFault) -> Option<i32>
     }
 }
 
-/// Takes the event at a place as it is written; nothing where there is no event.
+/// Takes the event at a place as it is written; nothing if there is no event.
 ///
 /// # Errors
 ///
@@ -56,7 +56,7 @@ pub fn take(
     Ok(())
 }
 
-/// Takes the event at a place, with the right total where its own is wrong. Where it is refused, it has its own.
+/// Takes the event at a place, with the right total if its own is wrong. If it is refused, it keeps its own.
 fn take_with_total(
     machine: &mut Machine,
     events: &mut Events,
@@ -107,12 +107,12 @@ fn take_with_score(
     take_with_total(machine, events, place, list)
 }
 
-/// Takes the event at a place, with the score and the total that the rules give where its own are wrong. Where it is refused,
-/// no other number of it would be taken; it then has its own total, and its own score where that is not the wrong number.
+/// Takes the event at a place, with the score and the total that the rules give if its own are wrong. If it is refused, no other
+/// number of it would be accepted; it then has its own total, and its own score if that is not the wrong number.
 ///
 /// # Errors
 ///
-/// The first check that fails with the numbers that the event has then.
+/// The first check that fails with the numbers that the event then has.
 pub fn mend(
     machine: &mut Machine,
     events: &mut Events,

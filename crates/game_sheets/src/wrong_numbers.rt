@@ -13,16 +13,16 @@ pub enum WrongNumber {
     Score {
         /// The line of its event, counted from 1.
         line: u32,
-        /// The score that is written.
+        /// The score as written.
         written: i32,
         /// The score that the rules give.
         right: i32,
     },
-    /// A total is not the player's last total and the score, as they are written.
+    /// A total is not the player's last total plus the score, as they are written.
     Sum {
         /// The line of its event, counted from 1.
         line: u32,
-        /// The total that is written.
+        /// The total as written.
         written: i32,
         /// The sum of the player's last total and the score.
         right: i32,
@@ -31,7 +31,7 @@ pub enum WrongNumber {
     Total {
         /// The player.
         player: Seat,
-        /// The last total that is written.
+        /// The last total as written.
         written: i32,
         /// The last total by the rules.
         right: i32,

@@ -1,4 +1,4 @@
--- What is known of an event that the rules allow, and that the state after it is the tally at the next place.
+-- What is known about an event that the rules allow, and that the state after it is the tally at the next place.
 use Rattle.std.proofs.Common.{◌≡◌, ℕ, ◌≤◌, Bool, true, false, not, ◌||◌, nat_lt, List, [], ◌∷◌, length, Option, Some, None, refl}
 use Rattle.std.specs.Prelude.{option_map, neg_ℤ}
 use Rattle.std.specs.List.{list_all}

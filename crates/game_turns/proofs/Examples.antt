@@ -45,7 +45,7 @@ event_by player what score total = record { line = 1; player = player; rack = No
 abbrev play : ℕ → List ℕ → EventKind
 play at word = kind.Play at Across (symbols_of word)
 
--- how many of each kind some letters are
+-- the number of tiles of each kind among some letters
 abbrev tiles : List ℕ → List ℕ
 tiles letters = counted (filter_map kind_of letters)
 
@@ -76,7 +76,7 @@ other_rack total = event_by First (kind.LastRack (tiles (codes "ADEORTW"))) (pos
 abbrev ended : List Event
 ended = retains ∷ other_rack (pos 88) ∷ []
 
--- The list of what stands before the event behind these.
+-- The list of what comes before the event after these.
 abbrev behind : List Event → List Event
 behind events = reverse events
 
@@ -184,7 +184,7 @@ unfinished_after_one_rack : is_complete english (behind (six_passes ++ event_by 
 unfolding english english_premiums short most_tiles letter_at empty_board stretches_on runs_along words_formed letters_of fault_of overlaps has_gap has_no_tile misses_centre is_too_short is_apart text_cells placement_of text_fault mismatches is_open_ended score_of letters_score words_factor is_listed counted tally fault_at
 unfinished_after_one_rack = refl
 
--- ---- faults, the first place being 0
+-- ---- faults; the first place is 0
 word_is_allowed : fault_at english listed (word_and_at) 0 ≡ None
 unfolding english english_premiums short most_tiles letter_at empty_board stretches_on runs_along words_formed letters_of fault_of overlaps has_gap has_no_tile misses_centre is_too_short is_apart text_cells placement_of text_fault mismatches is_open_ended score_of letters_score words_factor is_listed counted tally fault_at fault_in check_play play_fault text_score check_pass check_exchange check_withdraw check_challenge check_time check_last_rack check_other_rack check_own_rack points_in is_bonus is_penalty
 word_is_allowed = refl

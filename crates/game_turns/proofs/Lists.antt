@@ -16,6 +16,6 @@ any_more p n last h e = sym (ap (list_any p) (range_step n last h) ∙ ap (λ b.
 pub any_here : (p : ℕ → Bool) (n last : ℕ) → n < last + 1 → p n ≡ true → list_any p (range_with_len n (last + 1 - n)) ≡ true
 any_here p n last h e = ap (list_any p) (range_step n last h) ∙ ap (λ b. b || list_any p (range_with_len (n + 1) (last + 1 - (n + 1)))) e
 
--- the most points that so many tiles of a kind can have
+-- the most points that a number of tiles of a kind can have
 pub points_limit : (count points : ℕ) → count ≤ 255 → points ≤ 99 → count * points ≤ 25245
 points_limit count points h g = mul-le-mul h g

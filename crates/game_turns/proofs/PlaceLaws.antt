@@ -78,7 +78,7 @@ allowed_more rules list events end before here place below =
     (λ (ne : place ≡ end → ⊥). before place (omega arith))
     (cases_eq place end)
 
--- a step of a machine from the tally at a place: its answer tells the fault there
+-- a step of a machine from the tally at a place: its answer gives the fault there
 pub fault_told : (rules : Rules) (list : List (List ℕ)) (events : List Event) (place : ℕ) (e : Event) (machine : Machine) (o : Option RuleFault)
     → place < length events → e ≡ get_or events place e → rules_of machine ≡ rules → state_of machine ≡ tally_at rules events place
     → fault_in (rules_of machine) list (state_of machine) e ≡ o → fault_at rules list events place ≡ o

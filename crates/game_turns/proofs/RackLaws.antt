@@ -18,7 +18,7 @@ use Rattle.game_turns.specs.LatestEvents.{waiting_tiles, FitRacks, HoldsLatest}
 abbrev SameRacks : Sides → Sides → Type 0
 SameRacks old new = (seat : Seat) → (side_of new seat).rack ≡ (side_of old seat).rack
 
--- racks that stay fit where no play awaits its withdrawal
+-- racks that stay fit if no play awaits its withdrawal
 idle_racks : (old new : Sides) (event : LatestEvent) → SameRacks old new → FitRacks old event → FitRacks new latest.Other
 idle_racks old new event same fit seat = let s = same seat in let f = fit seat in omega arith
 
@@ -55,7 +55,7 @@ rack_other sides First Second rack e = refl
 rack_other sides Second First rack e = refl
 rack_other sides Second Second rack e = cc
 
--- one player's rack is changed to a number that leaves room for what awaits
+-- one player's rack is changed to a number that leaves room for the tiles of a play that awaits its withdrawal
 fit_rack : (sides new : Sides) (old event : LatestEvent) (seat : Seat) (rack : ℕ) → FitRacks sides old → rack + waiting_tiles seat event ≤ 7
     → ((other : Seat) → same_seat seat other ≡ false → waiting_tiles other event ≡ 0) → new ≡ with_rack sides seat rack → FitRacks new event
 fit_rack sides new old event First rack fit here none is =
@@ -69,7 +69,7 @@ fit_rack sides new old event Second rack fit here none is =
       | Second ↦ here
     ])
 
--- a play that stands awaits nothing
+-- no play that stands awaits a withdrawal
 stands_none : (laid : Laid) (seat : Seat) → laid.stands ≡ true → waiting_tiles seat (latest.Played laid) ≡ 0
 stands_none laid seat e = ap (λ b. if not b && same_seat laid.player seat then length laid.play.tiles.items else 0) e
 

@@ -22,7 +22,7 @@ use Rattle.game_turns.specs.Tallies.{State, tally, out_at, idle_turns, mover_at,
 use Rattle.game_turns.specs.Seats.{with_rack}
 use Rattle.game_turns.specs.Changes.{after, after_pass, after_standing, after_waiting, after_withdraw, after_idle, after_idle_pass, after_challenge, after_time, after_last_rack}
 
--- counted up to a limit, one by one
+-- counting one by one up to a limit
 run_more : (limit n : ℕ) → min limit (min limit n + 1) ≡ min limit (n + 1)
 run_more limit n = omega arith
 
@@ -34,7 +34,7 @@ one_idle : (rules : Rules) (past : List Event) (s : State)
     → record s { zero_run = min rules.zero_limit (min rules.zero_limit (idle_turns rules false past) + 1) } ≡ record s { zero_run = min rules.zero_limit (idle_turns rules false past + 1) }
 one_idle rules past s = ap (λ (z : ℕ). record s { zero_run = z }) (run_more rules.zero_limit (idle_turns rules false past))
 
--- an event of these parts
+-- an event with these parts
 abbrev pub made : ℕ → Seat → Option (List ℕ) → EventKind → ℤ → ℤ → Event
 made line player rack what score total = record { line = line; player = player; rack = rack; kind = what; score = score; total = total }
 
@@ -42,7 +42,7 @@ made line player rack what score total = record { line = line; player = player; 
 abbrev IsMore : Rules → List Event → Event → (withdrawn : Bool) → Type 0
 IsMore rules past e w = after rules (tally rules false past) e w ≡ tally rules w (e ∷ past)
 
--- it is so for each player, whether a withdrawal stands behind the event or none
+-- this holds for each player, whether or not a withdrawal comes after the event
 each_way : (rules : Rules) (past : List Event) (e : Seat → Event) → IsMore rules past (e First) true → IsMore rules past (e First) false
     → IsMore rules past (e Second) true → IsMore rules past (e Second) false → (player : Seat) (w : Bool) → IsMore rules past (e player) w
 each_way rules past e a b c d First true = a
@@ -80,7 +80,7 @@ unknown_more rules past line player rack n score total w =
     let one = λ (p : Seat) (v : Bool). one_idle rules past (tally rules v (made line p rack (kind.ExchangeUnknown n) score total ∷ past)) in
     each_way rules past (λ p. made line p rack (kind.ExchangeUnknown n) score total) (one First true) (one First false) (one Second true) (one Second false) player w
 
--- a state with what a pass makes of the mover, of the run and of the pass after a player is out, by who is out before it
+-- a state with what a pass does to the mover, to the run and to the pass after a player is out, by who is out before it
 abbrev passed_with : State → Rules → List Event → Seat → Option Seat → State
 passed_with t rules past player o =
     record t {
@@ -109,11 +109,11 @@ pass_more rules past line Second rack score total false (Some x) e = ap (passed_
 
 -- ---- plays
 
--- the bag after so many tiles are drawn from it, as far as it goes
+-- the bag after a number of tiles are drawn from it, or all if it has fewer
 bag_falls : (whole laid n : ℕ) → whole - laid - min n (whole - laid) ≡ whole - (n + laid)
 bag_falls whole laid n = omega arith
 
--- the rack after so many tiles were laid and drawn
+-- the rack after a number of tiles were laid and drawn
 rack_refills : (whole laid drawn own n : ℕ) → n ≤ 7 + drawn - own
     → 7 + drawn - own - 0 - n + min n (whole - laid) ≡ 7 + ((whole - laid - (whole - (n + laid))) + drawn) - (n + own)
 rack_refills whole laid drawn own n fits = omega arith
@@ -128,7 +128,7 @@ rack_waits rack n = omega arith
 rack_restored : (rack n : ℕ) → n ≤ rack → rack - (n + 0) + n ≡ rack - 0
 rack_restored rack n fits = omega arith
 
--- who is out after a play by a player, where these are the bag and the rack
+-- who is out after a play by a player, if these are the bag and the rack
 abbrev out_with : Seat → Option Seat → ℕ → ℕ → Option Seat
 out_with player before bag rack = if bag == 0 && rack == 0 then Some player else before
 
@@ -148,7 +148,7 @@ laid_at past dir at word = placement_of (board_at false past) dir at word
 abbrev pub play_made : ℕ → Seat → Option (List ℕ) → Dir → ℕ → List Symbol → ℤ → ℤ → Event
 play_made line player rack dir at word score total = made line player rack (kind.Play at dir word) score total
 
--- a state behind a play that stands, as the change makes it and as it is read from the events
+-- a state after a play that stands, as the change makes it and as it is read from the events
 played_from : (seat : Seat) (before : Option Seat) (whole laid own drawn n limit : ℕ) (t : State) → n ≤ 7 + drawn - own
     → record t {
       sides = with_rack t.sides seat (7 + drawn - own - 0 - n + min n (whole - laid));
@@ -191,7 +191,7 @@ play_stands rules past line Second rack dir at word score total fits =
     played_from Second (out_after rules plays) (sum rules.counts - 14) (tiles_laid plays) (laid_by Second plays) (drawn_by rules Second plays) (length (laid_at past dir at word)) rules.zero_limit
     (tally rules false ((play_made line Second rack dir at word score total) ∷ past)) (omega arith)
 
--- a state behind a play that awaits its withdrawal, as the change makes it and as it is read from the events
+-- a state after a play that awaits its withdrawal, as the change makes it and as it is read from the events
 waits_from : (seat : Seat) (rack n : ℕ) (t : State) → record t { sides = with_rack t.sides seat (rack - 0 - n) } ≡ record t { sides = with_rack t.sides seat (rack - (n + 0)) }
 waits_from seat rack n t = ap (λ (r : ℕ). record t { sides = with_rack t.sides seat r }) (rack_waits rack n)
 
@@ -216,7 +216,7 @@ withdrawn_alike t a b x y u v boards sides runs =
 abbrev pub withdraw_made : ℕ → Seat → Option (List ℕ) → ℤ → ℤ → Event
 withdraw_made line player rack score total = made line player rack kind.Withdraw score total
 
--- a state behind a withdrawal, as the change makes it and as it is read from the events
+-- a state after a withdrawal, as the change makes it and as it is read from the events
 withdrawn_from : TakingBackRestores → (rules : Rules) (past : List Event) (seat : Seat) (dir : Dir) (at : ℕ) (word : List Symbol) (t : State)
     → length (laid_at past dir at word) ≤ rack_after rules seat (standing false past)
     → overlaps (board_at false past) (laid_at past dir at word) ≡ false

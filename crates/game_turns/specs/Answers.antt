@@ -1,16 +1,16 @@
--- How an answer tells a fault, and what becomes of the machine that gives it.
+-- How an answer gives a fault, and what becomes of the machine that gives it.
 use Rattle.std.specs.Prelude.{◌≡◌, Option, Some, None, Result, Ok, Err, OnOk, OnErr}
 use Rattle.game_turns.specs.declared.faults.RuleFault.{RuleFault}
 use Rattle.game_turns.specs.declared.machine.Machine.{Machine}
 use Rattle.game_turns.specs.Machines.{rules_of, state_of}
 use Rattle.game_turns.specs.Tallies.{State}
 
--- an answer tells this fault, or none
+-- an answer gives this fault, or none
 abbrev pub Tells : {A : Type 0} → Result A RuleFault → Option RuleFault → Type 0
 Tells (Ok _) fault = fault ≡ None
 Tells (Err why) fault = fault ≡ Some why
 
--- A machine takes an event where there is no fault, and then is in this state. With a fault it is as it was.
+-- If there is no fault, the machine takes the event and is then in this state. With a fault it is as it was.
 pub record Takes {A : Type 0} (result : Result A RuleFault) (old new : Machine) (fault : Option RuleFault) (after : State) : Type 0 where
   pub told : Tells result fault
   pub state : OnOk result (state_of new ≡ after)

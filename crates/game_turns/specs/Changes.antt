@@ -1,4 +1,4 @@
--- What an event that the rules allow makes of a state, and what its turn was.
+-- What an event that the rules allow does to a state, and what its turn was.
 use Rattle.std.specs.Prelude.{ℕ, ◌+◌, ◌-◌, ◌==◌, ◌&&◌, ◌||◌, min, not, Bool, true, false, length, Option, Some, None, is_some, if◌then◌else◌}
 use Rattle.ref_tiles.specs.declared.rulebook.Rules.{Rules}
 use Rattle.ref_play.specs.Placements.{with_tiles, without_tiles}
@@ -25,7 +25,7 @@ after_scored s e = record s { sides = scored s e; latest = other }
 abbrev pub longer_run : Rules → State → ℕ
 longer_run rules s = min rules.zero_limit (s.zero_run + 1)
 
--- the tiles that a player draws for a play: as many as were laid, as far as the bag goes
+-- the tiles that a player draws for a play: as many as were laid, or as many as the bag has if it has fewer
 abbrev pub drawn_for : State → LatestPlay → ℕ
 drawn_for s p = min (length p.tiles) s.bag
 
@@ -33,8 +33,7 @@ drawn_for s p = min (length p.tiles) s.bag
 abbrev pub rack_refilled : State → Event → LatestPlay → ℕ
 rack_refilled s e p = (side_of s.sides e.player).rack - length p.tiles + drawn_for s p
 
--- A play that stands: its tiles are on the board, and its player draws. A player with an empty rack and an empty bag is
--- out.
+-- A play that stands: its tiles are on the board, and its player draws. A player with an empty rack and an empty bag is out.
 unfoldable pub after_standing : State → Event → LatestPlay → State
 after_standing s e p =
     record s {
@@ -65,7 +64,7 @@ unfoldable pub after_idle : Rules → State → Event → State
 after_idle rules s e =
     record s { sides = scored s e; mover = Some (other_seat e.player); zero_run = longer_run rules s; latest = other }
 
--- a pass after the other player is out, which is no turn
+-- a pass after the other player is out, which is not a turn
 unfoldable pub after_idle_pass : State → Event → State
 after_idle_pass s e = record s { sides = scored s e; idle_pass = true; latest = other }
 
@@ -94,7 +93,7 @@ unfoldable pub after_time : State → Event → State
 after_time s e =
     record s { sides = with_side (scored s e) e.player (record (side_of (scored s e) e.player) { timed = true }); latest = other }
 
--- a last rack: the game is complete where a player is out, or where another last rack stands
+-- a last rack: the game is complete if a player is out, or if another last rack stands
 unfoldable pub after_last_rack : State → Event → State
 after_last_rack s e =
     record s {
@@ -113,11 +112,11 @@ after_kind rules s e kind.Challenge withdrawn = after_challenge s e
 after_kind rules s e kind.Time withdrawn = after_time s e
 after_kind rules s e (kind.LastRack tiles) withdrawn = after_last_rack s e
 
--- The state after an event that the rules allow; a withdrawal stands behind it, or none does.
+-- The state after an event that the rules allow; `withdrawn` says whether a withdrawal comes after it.
 unfoldable pub after : Rules → State → Event → (withdrawn : Bool) → State
 after rules s e withdrawn = after_kind rules s e e.kind withdrawn
 
--- what the event was: whether a turn, how many tiles its player had before it, and whether a play that stands
+-- what the event was: whether it was a turn, the number of tiles that its player had before it, and whether it was a play that stands
 unfoldable pub turn_of : State → Event → (withdrawn : Bool) → Turn
 turn_of s e withdrawn =
     record {

@@ -1,4 +1,4 @@
--- The checks of each kind of event in their order, over the state of a game. The first that fails is the fault.
+-- The checks of each kind of event, in order, over the state of a game. The first that fails is the fault.
 use Rattle.std.specs.Prelude.{ℕ, ℤ, pos, negsuc, neg_ℤ, ◌+◌, ◌*◌, ◌%◌, ◌+ℤ◌, ◌==◌, ◌&&◌, ◌||◌, nat_lt, nat_le, not, Bool, true, false, List, [], ◌∷◌, length, sum, sum_by, count_by, Option, Some, None, option_map, is_some, slice_index}
 use Rattle.std.specs.List.{list_all, list_any, range_with_len}
 use Rattle.std.specs.Option.{option_or}
@@ -24,7 +24,7 @@ use Rattle.game_turns.specs.Seats.{same_seat, may_move, side_of}
 use Rattle.game_turns.specs.Standing.{is_withdraw}
 use Rattle.game_turns.specs.Tallies.{State, Latest, played, taken_back, other}
 
--- ---- what the checks ask
+-- ---- what the checks need
 
 -- Turns are over once a player is out, a penalty of the zero run stands, or the game is complete.
 abbrev pub is_over : State → Bool
@@ -38,7 +38,7 @@ may_idle_after (Some out) player = not (same_seat out player)
 abbrev pub may_idle : State → Seat → Bool
 may_idle s player = may_idle_after s.out player && not s.idle_pass && not s.complete
 
--- the fault of a text, and where it has none that of the placement that it names
+-- the fault of a text, and if it has none, that of the placement that it names
 unfoldable pub play_fault : List (Option Tile) → Dir → ℕ → List Symbol → Option PlayFault
 play_fault board dir at word = option_or (text_fault board dir at word) (fault_of dir board (placement_of board dir at word))
 
@@ -50,7 +50,7 @@ text_score rules board dir at word = pos (score_of rules board (placement_of boa
 unfoldable pub points_in : Rules → List ℕ → ℕ
 points_in rules tiles = sum_by (λ k. slice_index tiles k * slice_index rules.points k) (range_with_len 0 26)
 
--- tiles have no more points: 26 letters, 255 tiles of each, 99 points a tile
+-- the most points that tiles can have: 26 letters, 255 tiles of each, 99 points for each tile
 abbrev pub most_points : ℕ
 most_points = 656370
 
@@ -67,7 +67,7 @@ unfoldable pub is_penalty : ℕ → ℤ → Bool
 is_penalty step (pos n) = false
 is_penalty step (negsuc k) = (k + 1) % step == 0
 
--- how many of the words are listed
+-- the number of the words that are listed
 abbrev pub listed_in : List (List ℕ) → List (List ℕ) → ℕ
 listed_in list words = count_by (is_listed list) words
 
@@ -77,7 +77,7 @@ listed_in list words = count_by (is_listed list) words
 abbrev pub check_score : ℤ → ℤ → Option RuleFault
 check_score score expected = fails (not (int_eq score expected)) (fault.WrongScore expected)
 
--- the total after the event: what its player had, and its score
+-- the total after the event: what its player had, plus its score
 abbrev pub total_after : State → Event → ℤ
 total_after s e = (side_of s.sides e.player).total +ℤ e.score
 
@@ -107,7 +107,7 @@ check_pass s e =
     ∷ check_score e.score (pos 0)
     ∷ check_total s e ∷ [])
 
--- an exchange of so many tiles
+-- an exchange of this number of tiles
 unfoldable pub check_exchange : Rules → State → Event → ℕ → Option RuleFault
 check_exchange rules s e size =
     first_fault (
@@ -146,7 +146,7 @@ check_time rules s e =
     fails (not (is_penalty rules.time_step e.score) || (side_of s.sides e.player).timed) fault.BadTime
     ∷ check_total s e ∷ [])
 
--- The last rack of the other player, where this one is out: its points are doubled.
+-- The last rack of the other player, if this one is out: its points are doubled.
 unfoldable pub check_other_rack : Rules → State → Event → (tiles : List ℕ) → (out : Seat) → Option RuleFault
 check_other_rack rules s e tiles out =
     first_fault (
@@ -155,7 +155,7 @@ check_other_rack rules s e tiles out =
     ∷ check_score e.score (pos (2 * points_in rules tiles))
     ∷ check_total s e ∷ [])
 
--- The own last rack, after the zero run: its points are lost.
+-- The player's own last rack, after the zero run: its points are lost.
 unfoldable pub check_own_rack : Rules → State → Event → (tiles : List ℕ) → Option RuleFault
 check_own_rack rules s e tiles =
     first_fault (
@@ -168,7 +168,7 @@ check_own_rack rules s e tiles =
 abbrev pub is_stale : Rules → State → Bool
 is_stale rules s = nat_le rules.zero_limit s.zero_run || s.sides.first.ended || s.sides.second.ended
 
--- a last rack of a game that is not complete, where a player is out, where none is and the zero run is reached, and else
+-- a last rack of a game that is not complete: if a player is out, if none is and the zero run is reached, and otherwise
 abbrev pub check_due_rack : Rules → State → Event → (tiles : List ℕ) → (out : Option Seat) → (stale : Bool) → Option RuleFault
 check_due_rack rules s e tiles (Some out) stale = check_other_rack rules s e tiles out
 check_due_rack rules s e tiles None true = check_own_rack rules s e tiles
@@ -195,7 +195,7 @@ interrupts (played p) player what = not p.stands && not (is_withdraw what && sam
 interrupts (taken_back tiles) player what = false
 interrupts other player what = false
 
--- The first check of an event that fails in a state; none where the rules allow the event.
+-- The first check of an event that fails in a state; none if the rules allow the event.
 unfoldable pub fault_in : Rules → (list : List (List ℕ)) → State → Event → Option RuleFault
 fault_in rules list s e =
     first_fault (fails (interrupts s.latest e.player e.kind) fault.NothingToWithdraw ∷ check_kind rules list s e e.kind ∷ [])

@@ -28,13 +28,13 @@ latest_tiles (played p) = Some p.tiles
 latest_tiles (taken_back tiles) = Some tiles
 latest_tiles other = None
 
--- the words of the latest event, where it is a play
+-- the words of the latest event, if it is a play
 abbrev pub latest_words : Latest → List (List ℕ)
 latest_words (played p) = p.words
 latest_words (taken_back tiles) = []
 latest_words other = []
 
--- the words of the latest event, where it is a play that stands
+-- the words of the latest event, if it is a play that stands
 abbrev pub standing_words : Latest → List (List ℕ)
 standing_words (played p) = if p.stands then p.words else []
 standing_words (taken_back tiles) = []
@@ -46,7 +46,7 @@ waiting_tiles seat (latest.Played laid) = if not laid.stands && same_seat laid.p
 waiting_tiles seat (latest.TakenBack play) = 0
 waiting_tiles seat latest.Other = 0
 
--- no player has more than seven tiles, also once a play is taken back
+-- no player has more than seven tiles, even once a play is taken back
 abbrev pub FitRacks : Sides → LatestEvent → Type 0
 FitRacks sides event = (seat : Seat) → (side_of sides seat).rack + waiting_tiles seat event ≤ 7
 

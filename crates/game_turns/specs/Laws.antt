@@ -6,7 +6,7 @@ use Rattle.game_turns.specs.Tallies.{tally_at, withdraws}
 use Rattle.game_turns.specs.Places.{AreAllowedTo}
 use Rattle.game_turns.specs.Changes.{after}
 
--- where the events up to a place are allowed, that one included, what it makes of the tally there is the tally at the next
+-- if the events up to and including a place are allowed, what that event makes of the tally there is the tally at the next place
 abbrev pub NextTallyIsAfter : Type 0
 NextTallyIsAfter =
     (rules : Rules) (list : List (List ℕ)) (events : List Event) (place : ℕ) (event : Event) → slice_get events place ≡ Some event

@@ -5,7 +5,7 @@ use Rattle.game_turns.specs.declared.machine.Machine.{Machine}
 use Rattle.game_turns.specs.Tallies.{State}
 use Rattle.game_turns.specs.LatestEvents.{latest_of}
 
--- the rules that the game is judged by
+-- the rules by which the game is judged
 abbrev pub rules_of : Machine → Rules
 rules_of machine = machine.rules
 
@@ -24,7 +24,7 @@ state_of machine =
       latest = latest_of machine.latest;
     }
 
--- a machine that judges by the same rules is in this state now
+-- a machine with the same rules is now in this state
 pub record Becomes (old new : Machine) (after : State) : Type 0 where
   pub state : state_of new ≡ after
   pub rules : rules_of new ≡ rules_of old

@@ -10,8 +10,8 @@ abbrev pub fault_of_event : Rules → (list : List (List ℕ)) → State → Opt
 fault_of_event rules list s None = None
 fault_of_event rules list s (Some e) = fault_in rules list s e
 
--- The first check that fails at a place of a record, counted from 0, over the tally there; none where the event at the
--- place is allowed, and behind the last event.
+-- The first check that fails at a place of a record, counted from 0, over the tally there; none if the event at the place is
+-- allowed, or after the last event.
 unfoldable pub fault_at : Rules → (list : List (List ℕ)) → List Event → ℕ → Option RuleFault
 fault_at rules list events place = fault_of_event rules list (tally_at rules events place) (slice_get events place)
 
@@ -32,11 +32,11 @@ pub record IsFirstRefusal (rules : Rules) (list : List (List ℕ)) (events : Lis
   pub fails : fault_at rules list events place ≡ Some why
   pub earlier : AreAllowedTo rules list events place
 
--- the first event that is not allowed, where it stands before a place
+-- the first event that is not allowed, if it comes before a place
 pub record IsRefusedBefore (rules : Rules) (list : List (List ℕ)) (events : List Event) (end : ℕ) (line : ℕ) (why : RuleFault) : Type 0 where
   pub first : IsFirstRefusal rules list events line why
   pub before : first.place < end
 
--- whether the game is complete behind the last event
+-- whether the game is complete after the last event
 abbrev pub is_finished : Rules → List Event → Bool
 is_finished rules events = (tally_at rules events (length events)).complete

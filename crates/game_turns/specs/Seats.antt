@@ -6,7 +6,7 @@ pub use Rattle.gcg_read.specs.Players.{same_seat}
 use Rattle.game_turns.specs.declared.sides.Side.{Side}
 use Rattle.game_turns.specs.declared.sides.Sides.{Sides}
 
--- whether the next turn may be the player's: before the first turn it is either player's
+-- whether the next turn may be the player's: before the first turn it may be either player's
 abbrev pub may_move : Option Seat → Seat → Bool
 may_move None seat = true
 may_move (Some mover) seat = same_seat mover seat

@@ -1,8 +1,8 @@
 -- The plays of a game that stand, the board with their tiles, the bag and the racks.
 --
--- The past of a place is the list of the events before it, the latest first. A play stands unless the event directly
--- after it is a withdrawal; for the latest play of a past that is the event at the place. So what is said of a place is
--- a function of its past and of whether a withdrawal stands there.
+-- The past of a place is the list of the events before it, the latest first. A play stands unless the event directly after it is a
+-- withdrawal; for the latest play of a past that is the event at the place. So what is said about a place is a function of its past
+-- and of whether the event at the place is a withdrawal.
 use Rattle.std.specs.Prelude.{ℕ, ◌+◌, ◌-◌, ◌==◌, ◌&&◌, Bool, true, false, List, [], ◌∷◌, ◌++◌, length, sum, Option, Some, None, if◌then◌else◌}
 use Rattle.ref_tiles.specs.declared.tiles.Tile.{Tile}
 use Rattle.ref_tiles.specs.declared.rulebook.Rules.{Rules}
@@ -30,7 +30,7 @@ abbrev pub board_with : List Stood → List (Option Tile)
 board_with [] = empty_board
 board_with (play ∷ plays) = with_tiles (board_with plays) play.tiles
 
--- the play of an event on a board; none where it is no play
+-- the play of an event on a board; none if it is not a play
 abbrev pub played_on : List (Option Tile) → Seat → EventKind → List Stood
 played_on board player (kind.Play at dir word) = record { player = player; tiles = placement_of board dir at word } ∷ []
 played_on board player kind.Pass = []
@@ -41,7 +41,7 @@ played_on board player kind.Challenge = []
 played_on board player kind.Time = []
 played_on board player (kind.LastRack tiles) = []
 
--- plays, and that of an event, where it is one
+-- plays, and that of an event, if it is one
 abbrev pub with_play : Seat → EventKind → List Stood → List Stood
 with_play player what plays = played_on (board_with plays) player what ++ plays
 
@@ -51,7 +51,7 @@ standing withdrawn [] = []
 standing true (e ∷ past) = standing (is_withdraw e.kind) past
 standing false (e ∷ past) = with_play e.player e.kind (standing (is_withdraw e.kind) past)
 
--- the latest event where it is a play that does not stand
+-- the latest event if it is a play that does not stand
 abbrev pub waiting : (withdrawn : Bool) (past : List Event) → List Stood
 waiting false past = []
 waiting true [] = []
@@ -61,28 +61,28 @@ waiting true (e ∷ past) = played_on (board_with (standing (is_withdraw e.kind)
 abbrev pub board_at : (withdrawn : Bool) (past : List Event) → List (Option Tile)
 board_at withdrawn past = board_with (waiting withdrawn past ++ standing withdrawn past)
 
--- the tiles of plays
+-- the number of tiles of plays
 abbrev pub tiles_laid : List Stood → ℕ
 tiles_laid [] = 0
 tiles_laid (play ∷ plays) = length play.tiles + tiles_laid plays
 
--- the tiles of one player's plays
+-- the number of tiles of one player's plays
 abbrev pub laid_by : Seat → List Stood → ℕ
 laid_by seat [] = 0
 laid_by seat (play ∷ plays) = if same_seat play.player seat then length play.tiles + laid_by seat plays else laid_by seat plays
 
--- the bag after plays: all tiles but two racks and those on the board, as far as they go
+-- the bag after plays: all tiles except two racks and those on the board, or none
 abbrev pub bag_after : Rules → List Stood → ℕ
 bag_after rules plays = sum rules.counts - 14 - tiles_laid plays
 
--- what one player drew: the fall of the bag at each of the player's plays
+-- the number of tiles that one player drew: the fall of the bag at each of the player's plays
 abbrev pub drawn_by : Rules → Seat → List Stood → ℕ
 drawn_by rules seat [] = 0
 drawn_by rules seat (play ∷ plays) =
     if same_seat play.player seat then (bag_after rules plays - bag_after rules (play ∷ plays)) + drawn_by rules seat plays
     else drawn_by rules seat plays
 
--- a player's rack after plays: seven tiles and those drawn, less those laid
+-- a player's rack after plays: seven tiles plus those drawn, minus those laid
 abbrev pub rack_after : Rules → Seat → List Stood → ℕ
 rack_after rules seat plays = 7 + drawn_by rules seat plays - laid_by seat plays
 

@@ -1,5 +1,5 @@
--- The tally of a game at a place of its record: what the events before the place come to. Each part is read from the
--- list of these events by itself.
+-- The tally of a game at a place of its record: what the events before the place add up to. Each part is read from the list of
+-- these events by itself.
 use Rattle.std.specs.Prelude.{ℕ, ℤ, pos, ◌+◌, ◌+ℤ◌, min, ◌&&◌, ◌||◌, not, Bool, true, false, List, [], ◌∷◌, Option, Some, None, is_some, is_none, reverse, take, slice_get, if◌then◌else◌}
 use Rattle.ref_tiles.specs.declared.tiles.Tile.{Tile}
 use Rattle.ref_tiles.specs.declared.rulebook.Rules.{Rules}
@@ -38,8 +38,8 @@ abbrev pub is_last_rack : EventKind → Bool
 is_last_rack (kind.LastRack tiles) = true
 is_last_rack other = false
 
--- Whether an event is a turn: a play that stands, a withdrawal, an exchange of either kind, or a pass. A pass after a
--- player is out is none.
+-- Whether an event is a turn: a play that stands, a withdrawal, an exchange of either kind, or a pass. A pass after a player is out
+-- is not a turn.
 abbrev pub is_turn : (withdrawn : Bool) (out : Option Seat) → EventKind → Bool
 is_turn withdrawn out (kind.Play at dir word) = not withdrawn
 is_turn withdrawn out kind.Pass = is_none out
@@ -61,14 +61,14 @@ abbrev pub total_at : Seat → (past : List Event) → ℤ
 total_at seat [] = pos 0
 total_at seat (e ∷ past) = if same_seat e.player seat then total_at seat past +ℤ e.score else total_at seat past
 
--- who has the next turn: either player before the first turn, else the other than the player of the latest turn
+-- who has the next turn: either player before the first turn, otherwise the opponent of the player of the latest turn
 abbrev pub mover_at : Rules → (withdrawn : Bool) (past : List Event) → Option Seat
 mover_at rules withdrawn [] = None
 mover_at rules withdrawn (e ∷ past) =
     if is_turn withdrawn (out_at rules (is_withdraw e.kind) past) e.kind then Some (other_seat e.player)
     else mover_at rules (is_withdraw e.kind) past
 
--- how many turns there were since the latest play that stands
+-- the number of turns since the latest play that stands
 abbrev pub idle_turns : Rules → (withdrawn : Bool) (past : List Event) → ℕ
 idle_turns rules withdrawn [] = 0
 idle_turns rules withdrawn (e ∷ past) =
@@ -76,7 +76,7 @@ idle_turns rules withdrawn (e ∷ past) =
     else (if is_turn withdrawn (out_at rules (is_withdraw e.kind) past) e.kind then idle_turns rules (is_withdraw e.kind) past + 1
     else idle_turns rules (is_withdraw e.kind) past)
 
--- the zero run: their number, counted up to its limit
+-- the zero run: that number, up to the limit
 abbrev pub zero_run_at : Rules → (withdrawn : Bool) (past : List Event) → ℕ
 zero_run_at rules withdrawn past = min rules.zero_limit (idle_turns rules withdrawn past)
 
@@ -114,8 +114,7 @@ side_at rules seat withdrawn past =
 
 -- ---- the latest event
 
--- A play that was the latest event: its player, its new tiles, the words that it forms and its score, and whether it
--- stands.
+-- A play that was the latest event: its player, its new tiles, the words that it forms and its score, and whether it stands.
 pub record LatestPlay : Type 0 where
   pub player : Seat
   pub tiles : List Placed
@@ -134,7 +133,7 @@ latest_play rules board player dir at word stands =
       stands = stands;
     }
 
--- what a record says of the latest event: a play, a withdrawal with the tiles that it took back, or anything else
+-- what a record says about the latest event: a play, a withdrawal with the tiles that it took back, or anything else
 pub data Latest : Type 0 where
   played : LatestPlay → Latest
   taken_back : List Placed → Latest
@@ -160,7 +159,7 @@ abbrev pub latest_at : Rules → (withdrawn : Bool) (past : List Event) → Late
 latest_at rules withdrawn [] = other
 latest_at rules withdrawn (e ∷ past) = latest_event rules withdrawn e.player e.kind past
 
--- ---- all of it
+-- ---- the whole tally
 
 -- The state of a game between two events.
 pub record State : Type 0 where
@@ -189,7 +188,7 @@ tally rules withdrawn past =
       latest = latest_at rules withdrawn past;
     }
 
--- whether a withdrawal stands at a place; none stands where there is no event
+-- whether the event at a place is a withdrawal; not if there is no event
 abbrev pub withdraws : Option Event → Bool
 withdraws None = false
 withdraws (Some e) = is_withdraw e.kind

@@ -1,4 +1,4 @@
-//! Whether two games stand alike: nothing that the rules look at differs.
+//! Whether two games are alike: nothing that the rules look at differs.
 ghost use Rattle.std.specs.Prelude.{◌≡◌, ◌↔◌, length, IsTrue};
 ghost use Rattle.ref_play.specs.Words.{items_of};
 ghost use Rattle.game_turns.specs.LatestEvents.{play_of, latest_of};
@@ -122,7 +122,7 @@ fn is_same_player(player: Option<Seat>, other: Option<Seat>) -> bool
     }
 }
 
-/// Whether both players have the same.
+/// Whether both players have the same total, rack and flags.
 fn is_same_side(side: Side, other: Side) -> bool
     ensures { IsTrue result ↔ (side ≡ other) }
 {
@@ -132,7 +132,7 @@ fn is_same_side(side: Side, other: Side) -> bool
         && side.ended == other.ended
 }
 
-/// Whether each player has the same.
+/// Whether each player has the same in both.
 fn are_same_sides(sides: Sides, others: Sides) -> bool
     ensures { IsTrue result ↔ (sides ≡ others) }
 {
@@ -153,7 +153,7 @@ impl Laid {
 }
 
 impl LatestEvent {
-    /// Whether the same is left of both.
+    /// Whether both keep the same of the latest event.
     fn is_like(&self, other: &LatestEvent) -> bool
         ensures { IsTrue result ↔ (latest_of self.now ≡ latest_of other.now) }
     {
@@ -178,7 +178,7 @@ impl Machine {
         is_same_player(self.mover, other.mover) && is_same_player(self.out, other.out)
     }
 
-    /// Whether both games have the same numbers of tiles in the bag and of idle turns, and are complete or not alike.
+    /// Whether both games have the same numbers of tiles in the bag and of idle turns, and are both complete or both not.
     fn has_counts_of(&self, other: &Machine) -> bool
         ensures { IsTrue result ↔ (self.now.bag ≡ other.now.bag) × (self.now.zero_run ≡ other.now.zero_run)
             × (self.now.idle_pass ≡ other.now.idle_pass) × (self.now.complete ≡ other.now.complete) }
@@ -189,7 +189,7 @@ impl Machine {
             && self.complete == other.complete
     }
 
-    /// Whether both games are in the same state, so that the same events may follow and do the same.
+    /// Whether both games are in the same state, so that the same events may follow and have the same effect.
     pub fn is_like(&self, other: &Machine) -> bool
         ensures { IsTrue result ↔ (state_of self.now ≡ state_of other.now) }
     {

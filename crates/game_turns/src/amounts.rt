@@ -19,7 +19,7 @@ pub fn points_in(rules: &Rules, tiles: &Counts) -> u32
     points
 }
 
-/// Whether an amount is the bonus for 1, 2 or more words, up to so many.
+/// Whether an amount is the bonus for 1, 2 or more words, up to `words`.
 #[tactic(auto, unfolding(crate::specs::Checks::is_bonus))]
 pub fn is_bonus(unit: u8, words: usize, amount: i32) -> bool
     requires { words ≤ 8 }

@@ -1,4 +1,4 @@
-//! What each kind of event makes of a state.
+//! What each kind of event does to a state.
 ghost use Rattle.std.specs.Prelude.{◌≡◌, ◌+◌, ◌==◌, ◌&&◌, ◌≤◌, min, true, false, length, Some, if◌then◌else◌};
 ghost use Rattle.ref_play.specs.Legality.{IsLegal};
 ghost use Rattle.game_turns.specs.Seats.{side_of};
@@ -12,7 +12,7 @@ use gcg_read::{Event, Seat};
 use ref_play::{apply, undo};
 use std::mem::replace;
 
-/// Who is out after a play by a player that leaves this bag and this rack.
+/// Who is out after a play that leaves this bag and this rack.
 fn out_after(player: Seat, before: Option<Seat>, bag: usize, rack: usize) -> Option<Seat>
     ensures { result ≡ (if bag == 0 && rack == 0 then Some player else before) }
 {

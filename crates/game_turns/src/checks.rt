@@ -1,4 +1,4 @@
-//! The checks of each kind of event, in their order.
+//! The checks of each kind of event, in order.
 ghost use Rattle.std.specs.Prelude.{◌≡◌, ◌≤◌, ◌≤ℤ◌, ◌*◌, neg_ℤ, pos, true, false, length, sum, Some, IfOk, IfErr, OnOk};
 ghost use Rattle.ref_play.specs.Legality.{IsLegal};
 ghost use Rattle.ref_play.specs.Texts.{placement_of};
@@ -20,7 +20,7 @@ use ref_board::{Board, Dir, Square};
 use ref_play::{Play, PlayFault, from_text, judge, score, words};
 use ref_tiles::{Counts, Symbol};
 
-/// The play that a text names, where it is legal.
+/// The play that a text names, if it is legal.
 #[tactic(auto, unfolding(crate::specs::Checks::play_fault))]
 pub fn legal_play(board: &Board, at: Square, dir: Dir, word: &[Symbol]) -> Result<Play, PlayFault>
     ensures fault { IfErr result (λ why. play_fault board.now dir at word.now ≡ Some why) }
@@ -47,7 +47,7 @@ fn check_score(points: Points, expected: i32) -> Result<(), RuleFault>
 impl Machine {
     ghost use Rattle.game_turns.specs.Machines.{state_of};
 
-    /// Whether turns are over.
+    /// Whether the turns are over.
     fn is_over(&self) -> bool
         ensures { result ≡ is_over (state_of self.now) }
     {
@@ -81,7 +81,7 @@ impl Machine {
         self.sides.of(event.player).total.value() + event.score.value()
     }
 
-    /// Checks that the total is what the player had and the event's score.
+    /// Checks that the total is what the player had plus the event's score.
     fn check_total(&self, event: &Event) -> Result<(), RuleFault>
         ensures told { Tells result (check_total (state_of self.now) event.now) }
         ensures total { OnOk result (event.now.total ≡ total_after (state_of self.now) event.now) }
@@ -149,7 +149,7 @@ impl Machine {
         self.check_total(event)
     }
 
-    /// Checks an exchange of so many tiles.
+    /// Checks an exchange of this number of tiles.
     #[tactic(auto, unfolding(crate::specs::Checks::check_exchange))]
     pub(crate) fn check_exchange(&self, event: &Event, size: usize) -> Result<(), RuleFault>
         ensures told { Tells result (check_exchange self.now.rules (state_of self.now) event.now size) }
@@ -235,7 +235,7 @@ impl Machine {
         self.check_total(event)
     }
 
-    /// Checks the last rack of the other player, where a player is out.
+    /// Checks the last rack of the other player, if a player is out.
     #[tactic(auto, unfolding(crate::specs::Checks::check_other_rack))]
     fn check_other_rack(&self, event: &Event, tiles: &Counts, out: Seat) -> Result<(), RuleFault>
         ensures told { Tells result
@@ -252,7 +252,7 @@ impl Machine {
         self.check_total(event)
     }
 
-    /// Checks the own last rack, after the zero run.
+    /// Checks the player's own last rack, after the zero run.
     #[tactic(auto, unfolding(crate::specs::Checks::check_own_rack))]
     fn check_own_rack(&self, event: &Event, tiles: &Counts) -> Result<(), RuleFault>
         ensures told { Tells result (check_own_rack self.now.rules (state_of self.now) event.now tiles.now) }
@@ -297,7 +297,7 @@ fn doubled(points: u32) -> i32
     (2 * points) as i32
 }
 
-/// What the own last rack costs.
+/// What the player's own last rack costs.
 fn lost(points: u32) -> i32
     requires { points ≤ most_points }
     ensures { result ≡ neg_ℤ (pos points) }

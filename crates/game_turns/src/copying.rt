@@ -1,4 +1,4 @@
-//! Copies of a machine, which keep a game as it stands at a place.
+//! Copies of a machine, which keep a game as it is at a place.
 ghost use Rattle.std.specs.Prelude.{◌≡◌, ◌≤◌, length};
 ghost use Rattle.ref_play.specs.Words.{items_of};
 ghost use Rattle.game_turns.specs.LatestEvents.{play_of, latest_of};
@@ -8,7 +8,7 @@ use crate::machine::Machine;
 use arrayvec::ArrayVec;
 use ref_play::{Word, Words};
 
-/// A word of the same letters.
+/// A word with the same letters.
 fn same_word(letters: &[u8]) -> Word
     requires { length letters.now ≤ 15 }
     ensures { result.items ≡ letters.now }
@@ -33,7 +33,7 @@ fn same_words(words: &[Word]) -> Words
 }
 
 impl Laid {
-    /// An equal play.
+    /// A copy of the play.
     fn copy(&self) -> Laid
         ensures { play_of result ≡ play_of self.now }
     {
@@ -48,7 +48,7 @@ impl Laid {
 }
 
 impl LatestEvent {
-    /// The same of an equal play.
+    /// A copy of the latest event.
     fn copy(&self) -> LatestEvent
         ensures { latest_of result ≡ latest_of self.now }
     {
@@ -63,7 +63,7 @@ impl LatestEvent {
 impl Machine {
     ghost use Rattle.game_turns.specs.Machines.{rules_of, state_of};
 
-    /// A machine by the same rules, in the same state.
+    /// A machine with the same rules, in the same state.
     pub fn copy(&self) -> Machine
         ensures rules { rules_of result ≡ rules_of self.now }
         ensures state { state_of result ≡ state_of self.now }

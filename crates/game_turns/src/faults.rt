@@ -6,7 +6,7 @@ use ref_play::PlayFault;
 pub enum RuleFault {
     /// The turn is the other player's.
     NotYourTurn,
-    /// The text names no play, or the play is not legal.
+    /// The text does not name a play, or the play is not legal.
     Play(PlayFault),
     /// The score is not this one.
     WrongScore(i32),
@@ -14,9 +14,9 @@ pub enum RuleFault {
     WrongTotal(i32),
     /// There is no play of this player to take back; or there is one, and the event is something else.
     NothingToWithdraw,
-    /// The play that is taken back forms listed words alone.
+    /// The play that is taken back forms only listed words.
     WithdrawnValid,
-    /// The challenged play forms no listed word.
+    /// The challenged play does not form a listed word: it is a phony.
     BonusOnPhony,
     /// There is no play of this player to challenge, or its listed words do not give this bonus.
     BadBonus,
@@ -28,7 +28,7 @@ pub enum RuleFault {
     GameOver,
     /// No last rack is due yet.
     NotOver,
-    /// The last rack has more or fewer tiles than that.
+    /// The last rack has more or fewer tiles than the rack that it should be.
     LastRackSize,
     /// The penalty is not a multiple of the step, or it is the player's second.
     BadTime,

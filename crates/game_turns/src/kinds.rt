@@ -30,7 +30,7 @@ pub fn withdraws(next: Option<&Event>) -> bool
     }
 }
 
-/// Whether an event is a turn, where this player is out, or none, before it.
+/// Whether an event is a turn, if this player, or nobody, is out before it.
 pub fn is_turn(kind: &EventKind, out: Option<Seat>, withdrawn: bool) -> bool
     ensures { result ≡ is_turn withdrawn out kind.now }
 {

@@ -1,4 +1,4 @@
-//! What the latest event was, with what the next one may need of it.
+//! The latest event, with what the next one may need to know of it.
 ghost use Rattle.std.specs.Prelude.{pos, ◌≤ℤ◌};
 
 use gcg_read::Seat;
@@ -7,13 +7,13 @@ use ref_play::{Play, Words};
 /// A play on the board that was the latest event.
 #[derive(Drop)]
 pub struct Laid {
-    /// Whose play it is.
+    /// The player who made it.
     pub player: Seat,
     /// Its new tiles.
     pub play: Play,
     /// The words that it forms.
     pub words: Words,
-    /// What it scores.
+    /// Its score.
     pub score: i32,
     /// Whether it stands; if not, it awaits its withdrawal.
     pub stands: bool,

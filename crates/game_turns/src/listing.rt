@@ -1,4 +1,4 @@
-//! How many of the words of a play are listed.
+//! The number of listed words of a play.
 ghost use Rattle.std.specs.Prelude.{◌≡◌, ◌≤◌, length};
 ghost use Rattle.std.specs.List.{list_all, list_any};
 ghost use Rattle.lex_list.specs.Words.{is_listed};
@@ -32,7 +32,7 @@ pub fn any_listed(list: &WordList, words: &[Word]) -> bool
     false
 }
 
-/// How many of the words are listed.
+/// The number of the words that are listed.
 pub fn listed_in(list: &WordList, words: &[Word]) -> usize
     ensures number { result ≡ listed_in list.now (items_of words.now) }
     ensures bound { result ≤ length words.now }

@@ -1,4 +1,4 @@
-//! The machine of the turns, and what it tells of a game.
+//! The machine of the turns, and what it says about a game.
 ghost use Rattle.std.specs.Prelude.{◌≡◌, [], false, option_map};
 ghost use Rattle.ref_play.specs.Words.{items_of};
 ghost use Rattle.game_turns.specs.Seats.{side_of};
@@ -59,14 +59,14 @@ impl Machine {
         &self.board
     }
 
-    /// How many tiles are on a player's rack.
+    /// The number of tiles on a player's rack.
     pub fn rack_size(&self, player: Seat) -> usize
         ensures { result ≡ (side_of (state_of self.now).sides player).rack }
     {
         self.sides.of(player).rack
     }
 
-    /// How many tiles are in the bag.
+    /// The number of tiles in the bag.
     pub fn bag_size(&self) -> usize
         ensures { result ≡ (state_of self.now).bag }
     {
@@ -87,14 +87,14 @@ impl Machine {
         self.complete
     }
 
-    /// The player who is out: whose play emptied the rack while the bag was empty.
+    /// The player who is out: the one whose play emptied the rack while the bag was empty.
     pub fn out(&self) -> Option<Seat>
         ensures { result ≡ (state_of self.now).out }
     {
         self.out
     }
 
-    /// How many turns there were since the latest play that stands, up to the limit of the rules.
+    /// The number of turns since the latest play that stands, up to the limit of the rules.
     pub fn idle_turns(&self) -> usize
         ensures { result ≡ (state_of self.now).zero_run }
     {
@@ -115,7 +115,7 @@ impl Machine {
         self.sides.of(player).timed
     }
 
-    /// The new tiles of the latest event where it is a play, and those that it took back where it is a
+    /// The new tiles of the latest event if it is a play, and those that it took back if it is a
     /// withdrawal.
     pub fn last_play(&self) -> Option<&Play>
         ensures { option_map (λ play. play.now.tiles.items) result ≡ latest_tiles (state_of self.now).latest }
@@ -127,7 +127,7 @@ impl Machine {
         }
     }
 
-    /// The words that the latest event forms where it is a play, in the order of `words`; else none.
+    /// The words that the latest event forms if it is a play, in the order of `words`; otherwise none.
     pub fn latest_words(&self) -> &[Word]
         ensures { items_of result.now ≡ latest_words (state_of self.now).latest }
     {
@@ -137,7 +137,7 @@ impl Machine {
         }
     }
 
-    /// The words that the latest event forms where it is a play that stands, in the order of `words`; else none.
+    /// The words that the latest event forms if it is a play that stands, in the order of `words`; otherwise none.
     pub fn standing_words(&self) -> &[Word]
         ensures { items_of result.now ≡ standing_words (state_of self.now).latest }
     {

@@ -6,7 +6,7 @@ use gcg_read::Record;
 use lex_list::WordList;
 use ref_tiles::Rules;
 
-/// A record of which the rules allow every event, with the rules and the word list by which they do.
+/// A record all of whose events the rules allow, with the rules and the word list by which they do.
 #[derive(Drop)]
 pub struct Passed<'a> {
     pub(crate) rules: &'a Rules,
@@ -20,7 +20,7 @@ pub struct Passed<'a> {
 impl<'a> Passed<'a> {
     ghost use Rattle.game_turns.specs.Passing.{rules_in, record_in, list_in};
 
-    /// A record whose events were judged before, one by one: the rules allow each.
+    /// A record whose events were already judged, one by one: the rules allow each.
     pub fn of_allowed(
         rules: &'a Rules,
         game: &'a Record,

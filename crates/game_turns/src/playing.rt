@@ -1,4 +1,4 @@
-//! Going through the events of a record, to its end or to the first refusal.
+//! Goes through the events of a record, to its end or to the first refusal.
 ghost use Rattle.std.specs.Prelude.{◌≡◌, ◌↔◌, ◌+◌, ◌<◌, ◌≤◌, length, slice_get, IsOk, IfOk, OnOk, IfErr};
 ghost use Rattle.std.specs.Option.{option_copied};
 ghost use Rattle.game_turns.specs.Tallies.{tally_at};
@@ -23,7 +23,7 @@ fn refusal_of(event: &Event, fault: RuleFault) -> (u32, RuleFault)
     (event.line, fault)
 }
 
-/// The event behind a place of a record, where there is one.
+/// The event after a place of a record, if there is one.
 #[tactic(auto, using(crate::proofs::PlaceLaws::copied_get))]
 pub(crate) fn event_behind(events: &[Event], place: usize) -> Option<&Event>
     requires { place < length events.now }
@@ -32,12 +32,12 @@ pub(crate) fn event_behind(events: &[Event], place: usize) -> Option<&Event>
     events.get(place + 1)
 }
 
-/// The machine behind the events before a place of a record, counted from 0: the game as it stands there.
+/// The machine after the events before a place of a record, counted from 0: the game as it is there.
 ///
 /// # Errors
 ///
-/// The first event before the place that the rules do not allow, and the first check that fails there. Nothing is asked of
-/// the events at the place and behind it.
+/// The first event before the place that the rules do not allow, and the first check that fails there. The events at the place and
+/// after it are not judged.
 pub fn play_events(
     rules: &Rules,
     events: &[Event],
@@ -60,13 +60,13 @@ pub fn play_events(
     Ok(machine)
 }
 
-/// The board before a place of a record, counted from 0, or behind its last event: the tiles of the plays that stand, and of
-/// the play before the place where it awaits its withdrawal.
+/// The board before a place of a record, counted from 0, or after its last event: the tiles of the plays that stand, and those of
+/// the play before the place if it awaits its withdrawal.
 ///
 /// # Errors
 ///
-/// The first event before the place that the rules do not allow, and the first check that fails there. Nothing is asked of
-/// the events at the place and behind it.
+/// The first event before the place that the rules do not allow, and the first check that fails there. The events at the place and
+/// after it are not judged.
 pub fn board_before(
     rules: &Rules,
     events: &[Event],
@@ -82,10 +82,10 @@ pub fn board_before(
     Ok(*machine.board())
 }
 
-/// Judges the events of a record in their order, by rules and a word list.
+/// Judges the events of a record in order, by rules and a word list.
 ///
-/// Where the rules allow every event, the record has passed; else the answer is the line of the first event that
-/// they do not allow, and the first check that fails there.
+/// If the rules allow every event, the record has passed; otherwise the answer is the line of the first event that they do not
+/// allow, and the first check that fails there.
 pub fn play_through<'a>(
     rules: &'a Rules,
     game: &'a Record,

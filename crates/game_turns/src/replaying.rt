@@ -1,4 +1,4 @@
-//! Going through a record that passed once more, event by event.
+//! Replays a record that passed, event by event.
 ghost use Rattle.std.specs.Prelude.{◌≡◌, ◌+◌, ◌<◌, length};
 ghost use Rattle.game_turns.specs.Machines.{rules_of, state_of};
 ghost use Rattle.game_turns.specs.Tallies.{tally_at};
@@ -11,7 +11,7 @@ use crate::playing::event_behind;
 impl Passed<'_> {
     ghost use Rattle.game_turns.specs.Passing.{rules_in, record_in, list_in};
 
-    /// Takes the event at a place of the record, from 0, on a machine that took those before it.
+    /// Takes the event at a place of the record, counted from 0, with a machine that took those before it.
     pub fn take_event(&self, machine: &mut Machine, place: usize)
         requires place { place < length (record_in self.now).events }
         requires rules { rules_of machine.old ≡ rules_in self.now }

@@ -4,7 +4,7 @@ ghost use Rattle.game_turns.specs.Seats.{may_move};
 
 use gcg_read::{Seat, same_seat};
 
-/// Whether the next turn may be the player's: at the start it is either player's.
+/// Whether the next turn may be the player's: at the start it may be either player's.
 pub fn may_move(mover: Option<Seat>, seat: Seat) -> bool
     ensures { result ≡ may_move mover seat }
 {

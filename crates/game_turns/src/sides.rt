@@ -1,4 +1,4 @@
-//! What a game keeps of each player.
+//! What a game keeps for each player.
 ghost use Rattle.std.specs.Prelude.{◌≡◌, pos, true, false};
 
 use gcg_read::{Points, Seat};
@@ -8,7 +8,7 @@ use gcg_read::{Points, Seat};
 pub struct Side {
     /// The running total.
     pub total: Points,
-    /// How many tiles are on the rack.
+    /// The number of tiles on the rack.
     pub rack: usize,
     /// Whether a time penalty stands.
     pub timed: bool,
@@ -64,7 +64,7 @@ impl Sides {
         }
     }
 
-    /// Gives a player another total.
+    /// Sets a player's total.
     pub fn set_total(&mut self, seat: Seat, total: Points)
         ensures { self.new ≡ with_total self.old seat total }
     {
@@ -74,7 +74,7 @@ impl Sides {
         }
     }
 
-    /// Gives a player a rack of so many tiles.
+    /// Sets the number of tiles on a player's rack.
     pub fn set_rack(&mut self, seat: Seat, rack: usize)
         ensures { self.new ≡ with_rack self.old seat rack }
     {
@@ -84,7 +84,7 @@ impl Sides {
         }
     }
 
-    /// Notes a time penalty of a player.
+    /// Records a time penalty of a player.
     pub fn set_timed(&mut self, seat: Seat)
         ensures { self.new ≡ with_side self.old seat (record (side_of self.old seat) { timed = true }) }
     {
@@ -94,7 +94,7 @@ impl Sides {
         }
     }
 
-    /// Notes a last rack of a player.
+    /// Records a last rack of a player.
     pub fn set_ended(&mut self, seat: Seat)
         ensures { self.new ≡ with_side self.old seat (record (side_of self.old seat) { ended = true }) }
     {

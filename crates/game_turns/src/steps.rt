@@ -56,7 +56,7 @@ impl Machine {
         Ok(())
     }
 
-    /// An exchange of so many tiles.
+    /// An exchange of this number of tiles.
     fn take_exchange(&mut self, event: &Event, size: usize) -> Result<(), RuleFault>
         ensures { Takes result self.old self.new
             (check_exchange (rules_of self.old) (state_of self.old) event.now size)
@@ -124,7 +124,7 @@ impl Machine {
         }
     }
 
-    /// Takes an event where the rules allow it. A withdrawal stands behind it, or none does.
+    /// Takes an event if the rules allow it. `withdrawn` says whether a withdrawal comes after it.
     fn take(&mut self, event: &Event, withdrawn: bool, list: &WordList) -> Result<(), RuleFault>
         ensures { Takes result self.old self.new
             (check_kind (rules_of self.old) list.now (state_of self.old) event.now event.now.kind)
@@ -156,8 +156,8 @@ impl Machine {
         }
     }
 
-    /// Judges the next event of a game, and takes it where the rules allow it. A play stands unless `next`, the
-    /// event directly behind it, is a withdrawal. The list says which words are valid; it matters for withdrawals
+    /// Judges the next event of a game, and takes it if the rules allow it. A play stands unless `next`, the
+    /// event directly after it, is a withdrawal. The list says which words are valid; it matters for withdrawals
     /// and for the bonus of a challenge.
     ///
     /// The fault is the first check that fails. A refused event leaves the machine as it was.

@@ -15,7 +15,7 @@ use Rattle.gcg_notes.specs.Notes.{note_line, noted, with_notes}
 use Rattle.gcg_notes.proofs.Events.{at_line}
 use Rattle.gcg_notes.proofs.Walks.{moved_length, moved_more, Moved, moved_event, note_skipped}
 
--- the lines give a record as this one, but for the numbers of lines
+-- the lines give the same record as this one, except for the numbers of lines
 pub record Reads (lines : List (List ℕ)) (before : Players) (other : List Event) (m : ℕ) (r : Record) : Type 0 where
   pub new : Record
   pub read : record_from (so_far before other) m lines ≡ Ok new
@@ -26,7 +26,7 @@ one_more : (players : Players) (other : List Event) (m : ℕ) (line : List ℕ) 
     → Reads lines next.players next.events (m + 1) r → Reads (line ∷ lines) players other m r
 one_more players other m line lines next r h k = record { new = k.new; read = go_on players m line lines other next k.new h k.read; players = k.players; events = k.events }
 
--- what is shown of the lines behind one
+-- what is shown about the lines after one
 abbrev Goes : (lines : List (List ℕ)) → (n : ℕ) → Record → Type 0
 Goes lines n r =
     (players : Players) (done other : List Event) (notes : List (List ℕ)) (m : ℕ) → record_from (so_far players done) n (map without_return lines) ≡ Ok r → AreMoved done other
@@ -36,7 +36,7 @@ none_left : (lines : List (List ℕ)) → with_notes [] lines ≡ lines
 none_left [] = refl
 none_left (line ∷ lines) = refl
 
--- a line that is no event gets no note
+-- a line that is not an event gets no note
 stays : (line : List ℕ) (lines notes : List (List ℕ)) → is_event_line line ≡ false → with_notes notes (line ∷ lines) ≡ line ∷ with_notes notes lines
 stays line lines [] e = ap (λ l. line ∷ l) (sym (none_left lines))
 stays line lines (note ∷ notes) e = rw e refl
@@ -53,7 +53,7 @@ step_passed line lines n r next go players done other notes m e one rest moved =
     subst (λ l. Reads (map without_return l) players other m r) (sym (stays line lines notes e))
     (one_more players other m (without_return line) (map without_return (with_notes notes lines)) (so_far next.players other) r p.1 more)
 
--- what is shown behind an event
+-- what is shown after an event
 abbrev Behind : (lines : List (List ℕ)) → (next r : Record) → (other : List Event) → Type 0
 Behind lines next r other = (notes : List (List ℕ)) (m : ℕ) → Reads (map without_return (with_notes notes lines)) next.players other m r
 

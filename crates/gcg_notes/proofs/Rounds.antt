@@ -26,7 +26,7 @@ pub of_event : (all : List (List ℕ)) (note : List ℕ) (notes : List (List ℕ
     → with_notes all (line ∷ lines) ≡ first_noted all line ++ with_notes notes lines
 of_event all note notes line same e lines = rw same (rw e refl)
 
--- the same by the notes that are left, where there are none, and where the line is not that of an event
+-- the notes that are left, if there are none, or if the line is not that of an event
 pub none_left_of : (o : Option (Bor (List ℕ))) (line : List ℕ) → o ≡ None → (lines : List (List ℕ)) → with_notes (parts_behind o) (line ∷ lines) ≡ first_noted (parts_behind o) line ++ with_notes [] lines
 none_left_of o line none lines =
     subst (λ p. with_notes (parts_behind p) (line ∷ lines) ≡ first_noted (parts_behind p) line ++ with_notes [] lines) (sym none) (of_none line lines)
@@ -36,7 +36,7 @@ pub some_left_of : (o : Option (Bor (List ℕ))) (left : Bor (List ℕ)) (line :
 some_left_of o left line some e lines =
     subst (λ p. with_notes (parts_behind p) (line ∷ lines) ≡ first_noted (parts_behind p) line ++ with_notes (raw_lines left.now) lines) (sym some) (of_other (raw_lines left.now) line e lines)
 
--- ---- what is written of it
+-- ---- what is written
 
 pub written_alone : (out line : List ℕ) → out ++ line ≡ out ++ join_with_byte 10 (first_noted [] line)
 written_alone out line = refl
@@ -54,7 +54,7 @@ pub written_event : (out : List ℕ) (all : List (List ℕ)) (note : List ℕ) (
 written_event out all note notes line same e =
     append_assoc out line (note_behind line note) ∙ ap (λ l. out ++ l) (joined_note line note ∙ rw same (rw e refl))
 
--- ---- the lines behind it
+-- ---- the lines after it
 
 joined : (x : List ℕ) (xs : List (List ℕ)) (y : List ℕ) (ys : List (List ℕ)) → join_with_byte 10 ((x ∷ xs) ++ y ∷ ys) ≡ join_with_byte 10 (x ∷ xs) ++ 10 ∷ join_with_byte 10 (y ∷ ys)
 joined x [] y ys = refl

@@ -14,7 +14,7 @@ use Rattle.gcg_notes.specs.Laws.{AreMoved}
 use Rattle.gcg_notes.specs.Notes.{return_of, note_line}
 use Rattle.gcg_notes.proofs.Events.{at_line, entry_moved}
 
--- ---- events that may stand on other lines
+-- ---- events that may be on other lines
 
 pub moved_length : (olds news : List Event) → AreMoved olds news → length news ≡ length olds
 moved_length [] [] h = refl

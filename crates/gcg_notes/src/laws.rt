@@ -1,7 +1,7 @@
-//! The laws of a sheet with notes. The function does nothing: its contract is the laws.
+//! The laws of a sheet with notes. The function does nothing: its contract states the laws.
 ghost use Rattle.gcg_notes.specs.Laws.{IsReadWithNotes, IsOnlyNoted};
 
-/// A sheet with notes gives the same record, and is the sheet as it was given but for the lines of the notes.
+/// A sheet with notes gives the same record, and except for the lines of the notes it is the sheet as it was.
 pub fn law_of_notes()
     ensures reads { IsReadWithNotes }
     ensures rest { IsOnlyNoted }

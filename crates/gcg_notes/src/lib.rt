@@ -1,7 +1,7 @@
-//! The text of a sheet with notes: behind the line of an event a line `#note` is put in, and nothing else is changed.
+//! The text of a sheet with notes: a line `#note` is inserted after the line of an event, and nothing else is changed.
 //!
-//! [`push_with_notes`] writes it. [`law_of_notes`] says that it gives the same record, and that without the lines that were put in it
-//! is the sheet as it was given.
+//! [`push_with_notes`] writes it. [`law_of_notes`] says that it gives the same record, and that without the inserted lines it is
+//! the sheet as it was.
 #![tactic(auto)]
 
 mod laws;

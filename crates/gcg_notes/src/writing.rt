@@ -9,7 +9,7 @@ use gcg_numbers::{cut_raw_line, is_event_line, push_mark};
 use std::alloc::AllocError;
 use text_lines::without_mark;
 
-/// Appends an LF and the line of a note, which ends in a CR if the line before it does; nothing where the note is empty.
+/// Appends an LF and the line of a note, which ends in a CR if the line before it does; nothing if the note is empty.
 fn push_note(out: &mut Vec<u8>, line: &[u8], note: &[u8]) -> Result<(), AllocError>
     ensures { OnOk result (out.new.items ≡ out.old.items ++ note_behind line.now note.now) }
 {
@@ -24,7 +24,7 @@ fn push_note(out: &mut Vec<u8>, line: &[u8], note: &[u8]) -> Result<(), AllocErr
     Ok(())
 }
 
-/// Appends a line of a sheet and, if it is that of an event, the first of the notes; gives the notes that are left.
+/// Appends a line of a sheet and, if it is that of an event, the first of the notes; returns the notes that are left.
 #[tactic(auto, using(crate::proofs::Rounds::none_left_of, crate::proofs::Rounds::some_left_of))]
 fn push_next<'a>(
     out: &mut Vec<u8>,
@@ -46,12 +46,12 @@ fn push_next<'a>(
     Ok(note.after)
 }
 
-/// Appends the text of a sheet with notes: each line of `notes` is that of one event, in order, and stands behind it as a line
+/// Appends the text of a sheet with notes: each line of `notes` belongs to one event, in order, and comes after its line as a line
 /// `#note`; an empty one is left out. Nothing else is changed.
 ///
 /// # Errors
 ///
-/// Memory was refused.
+/// Memory ran out.
 #[tactic(auto, using(crate::proofs::Rounds::one_line_more, crate::proofs::Rounds::at_the_end), unfolding(crate::specs::Notes::text_with_notes))]
 pub fn push_with_notes(out: &mut Vec<u8>, text: &[u8], notes: &[u8]) -> Result<(), AllocError>
     ensures { OnOk result (out.new.items ≡ out.old.items ++ text_with_notes notes.now text.now) }

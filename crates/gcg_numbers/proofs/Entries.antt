@@ -22,7 +22,7 @@ use Rattle.gcg_numbers.proofs.Scored.{HasTwo, score_of, total_of, fields_two, fi
 use Rattle.gcg_numbers.proofs.Events.{event_other}
 use Rattle.gcg_numbers.proofs.Heads.{head_other}
 
--- ---- an event has two fields at least
+-- ---- an event has at least two fields
 
 pub record Two (text : List ℕ) : Type 0 where
   pub t : Last
@@ -68,7 +68,7 @@ event_with heading text e new other read = let two = two_of heading text e read 
 
 -- ---- the entry
 
--- what an entry comes from
+-- where an entry comes from
 pub record Entered (so_far : Record) (line : ℕ) (text : List ℕ) (ne : NamedEvent) : Type 0 where
   pub head : Named
   pub seat : Seat

@@ -35,7 +35,7 @@ coded_other heading rack code s t u v e score total read p q =
     let a = stepped (ok_or (code_of code) why.Code) _ e read in
     rw a.1.0 (scored_other heading rack a.0 s t u v e score total a.1.1 p q)
 
--- two steps that go on in the same way
+-- two steps that continue in the same way
 pub two_steps : {A B : Type 0} (a : Result A Why) (b : Result B Why) (f g : A → B → Result Event Why) (e d : Event) → ((x : A) (y : B) → f x y ≡ Ok e → g x y ≡ Ok d)
     → (a >>= λ x. b >>= λ y. f x y) ≡ Ok e → (a >>= λ x. b >>= λ y. g x y) ≡ Ok d
 two_steps (Ok x) (Ok y) f g e d more read = more x y read
@@ -71,7 +71,7 @@ five_other heading a b c s t u v e score total read p q =
     let r = stepped (ok_or (rack_of a) why.Rack) _ e read in
     rw r.1.0 (played_other heading (Some r.0) b c s t u v e score total r.1.1 p q)
 
--- the same event with the numbers that its last two fields say then
+-- the same event with the numbers that its last two fields then give
 pub event_other : (heading : Heading) (fields : List (List ℕ)) (s t u v : List ℕ) (e : Event) (score total : ℤ)
     → event_of heading ((fields ++ s ∷ []) ++ t ∷ []) ≡ Ok e → points_of u ≡ Some score → points_of v ≡ Some total
     → event_of heading ((fields ++ u ∷ []) ++ v ∷ []) ≡ Ok (with_points e score total)

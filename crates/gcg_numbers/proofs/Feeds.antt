@@ -1,4 +1,4 @@
--- No LF comes into a line by other numbers, and lines that are joined fall apart again.
+-- Other numbers bring no LF into a line, and joined lines can be cut apart again.
 use Rattle.std.proofs.Common.{◌≡◌, ℕ, ℤ, ◌-◌, ◌==◌, Bool, true, false, eqb, List, [], ◌∷◌, ◌++◌, length, take, Option, Some, None, if◌then◌else◌, arith, refl, sym, ap, subst, ◌∙◌}
 use Rattle.std.specs.List.{slice_split, ends_with, join_with_byte}
 use Rattle.std.specs.Fmt.{signed_decimal}

@@ -1,4 +1,4 @@
--- The fields of a text that is put together.
+-- The fields of a joined text.
 use Rattle.std.proofs.Common.{◌≡◌, ℕ, ◌<◌, Bool, true, false, List, [], ◌∷◌, ◌++◌, length, arith, refl, sym, ap, ◌∙◌}
 use Rattle.std.specs.List.{filter, slice_split, onto_first}
 use Rattle.std.proofs.lemmas.List.{append-nil, append_assoc}
@@ -27,7 +27,7 @@ pub split_append : (p : ℕ → Bool) (xs : List ℕ) (y : ℕ) (ys : List ℕ) 
 split_append p [] y ys e = slice_split-cons_yes p y ys e
 split_append p (x ∷ xs) y ys e = split_by p x xs y ys (p x) refl (split_append p xs y ys e)
 
--- a blank parts fields
+-- a blank separates fields
 fields_append : (xs : List ℕ) (b : ℕ) (ys : List ℕ) → IsBlank b → fields_of (xs ++ b ∷ ys) ≡ fields_of xs ++ fields_of ys
 unfolding fields_of
 fields_append xs b ys e = ap (filter is_filled) (split_append is_blank xs b ys e) ∙ filter-append is_filled (slice_split is_blank xs) (slice_split is_blank ys)
@@ -57,7 +57,7 @@ ends_each [] h = tt
 ends_each (b ∷ []) h = h.0
 ends_each (a ∷ b ∷ rest) h = ends_each (b ∷ rest) h.1
 
--- what ends in a byte that is no blank
+-- what ends in a byte that is not a blank
 pub not_ends : (xs field : List ℕ) → 0 < length field → Each (Fails is_blank) field → EndsBlank (xs ++ field) → ⊥
 not_ends [] [] some h e = absurd (omega arith)
 not_ends [] (f ∷ []) some h e = let no = h.0 in absurd cc
@@ -83,7 +83,7 @@ fields_by xs ys front last e h =
     let two : fields_of (front ++ last ∷ []) ≡ fields_of front = fields_append front last [] h ∙ ap (λ l. fields_of front ++ l) (no_fields [] tt) ∙ append-nil (fields_of front) in
     rw (e, one, two) refl
 
--- what ends in a blank has no part in the field behind it
+-- what ends in a blank has no part in the field after it
 pub fields_behind : (xs ys : List ℕ) → EndsBlank xs → fields_of (xs ++ ys) ≡ fields_of xs ++ fields_of ys
 fields_behind [] ys h = ap (λ l. l ++ fields_of ys) (sym (no_fields [] tt))
 fields_behind (x ∷ xs) ys h = let e = ended x xs h in fields_by (x ∷ xs) ys e.front e.last e.whole e.blank

@@ -73,6 +73,6 @@ head_by change text head (inr c) e =
     ap (λ l. head_of (behind_colon change l)) c.whole ∙ ap head_of (changed_cut change c.before c.after c.first) ∙ head_cut c.before (change c.after) c.first in
     changed ∙ two.1 ∙ ap (λ l. Some (record head { after = change l })) (sym two.0)
 
--- the nickname stays, and what stands behind its colon is changed
+-- the nickname stays, and what follows its colon is changed
 pub head_other : (change : List ℕ → List ℕ) (text : List ℕ) (head : Named) → head_of text ≡ Some head → head_of (behind_colon change text) ≡ Some (record head { after = change head.after })
 head_other change text head e = head_by change text head (cut text) e

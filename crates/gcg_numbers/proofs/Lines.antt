@@ -87,13 +87,13 @@ lines_left : (lines : List (List ℕ)) → lines_with [] lines ≡ lines
 lines_left [] = refl
 lines_left (line ∷ lines) = refl
 
--- what is shown of the lines behind one
+-- what is shown about the lines after one
 abbrev Goes : (lines : List (List ℕ)) → (n : ℕ) → Record → Type 0
 Goes lines n r =
     (players : Players) (done other more news : List Event) → record_from (so_far players done) n (map without_return lines) ≡ Ok r → length other ≡ length done
     → r.events ≡ done ++ more → AreOther more news → record_from (so_far players other) n (map without_return (lines_with news lines)) ≡ Ok (so_far r.players (other ++ news))
 
--- a line that is no event stays
+-- a line that is not an event stays
 stays : (line : List ℕ) (lines : List (List ℕ)) (news : List Event) → is_event_line line ≡ false → lines_with news (line ∷ lines) ≡ line ∷ lines_with news lines
 stays line lines [] e = ap (λ l. line ∷ l) (sym (lines_left lines))
 stays line lines (new ∷ news) e = rw e refl

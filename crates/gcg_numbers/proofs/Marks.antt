@@ -1,4 +1,4 @@
--- A sheet with other numbers begins with a byte order mark where it did.
+-- A sheet with other numbers begins with a byte order mark if it did.
 use Rattle.std.proofs.Common.{◌≡◌, ℕ, suc, ◌-◌, ◌==◌, ◌&&◌, Bool, true, false, eqb, List, [], ◌∷◌, ◌++◌, length, take, drop, if◌then◌else◌, arith, refl, ap, subst, ◌∙◌}
 use Rattle.std.specs.List.{slice_split, starts_with, join_with_byte}
 use Rattle.std.proofs.lemmas.Bool.Decides.{nat_tests}

@@ -16,7 +16,7 @@ use Rattle.gcg_numbers.proofs.Lasts.{IsCut, IsLastOf, last_is}
 use Rattle.gcg_numbers.proofs.Scored.{HasTwo, number_has, total_of}
 use Rattle.gcg_numbers.proofs.Heads.{changed_cut}
 
--- a line whose text behind its first colon has two fields at least
+-- a line whose text after its first colon has at least two fields
 pub record IsNumbered (line : List ℕ) : Type 0 where
   pub before : List ℕ
   pub after : List ℕ
@@ -26,13 +26,13 @@ pub record IsNumbered (line : List ℕ) : Type 0 where
   pub first : Each (Fails is_colon) before
   pub two : HasTwo after t s
 
--- ---- what stands behind another number
+-- ---- what follows another number
 
 some_back : (xs ys : List ℕ) → 0 < length xs → 0 < length (xs ++ ys)
 some_back [] ys some = absurd (omega arith)
 some_back (x ∷ xs) ys some = omega arith
 
--- a number that is written anew, and what stands behind it
+-- a number that is written anew, and what follows it
 anew : (z : ℤ) (back : List ℕ) → IsPoints z → (field : List ℕ) → returns (field ++ back) ≡ false → returns (signed_decimal z ++ back) ≡ false
 anew z [] points field e = ap returns (append-nil (signed_decimal z)) ∙ ends_in_ink (signed_decimal z) (ink_total z points)
 anew z (b ∷ back) points field e = ends_behind (signed_decimal z) (b ∷ back) (omega arith) ∙ sym (ends_behind field (b ∷ back) (omega arith)) ∙ e

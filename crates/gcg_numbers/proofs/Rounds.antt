@@ -28,14 +28,14 @@ none_left (line ∷ lines) = refl
 pub of_none : (line : List ℕ) (lines : List (List ℕ)) → lines_with [] (line ∷ lines) ≡ first_with [] line ∷ lines_with [] lines
 of_none line lines = ap (λ l. line ∷ l) (sym (none_left lines))
 
--- ---- the lines behind it
+-- ---- the lines after it
 
 joined_of : (first : List ℕ) (event : Event) (events : List Event) (next : List ℕ) (lines : List (List ℕ)) (b : Bool) → is_event_line next ≡ b
     → join_with_byte 10 (first ∷ lines_with (event ∷ events) (next ∷ lines)) ≡ first ++ 10 ∷ join_with_byte 10 (lines_with (event ∷ events) (next ∷ lines))
 joined_of first event events next lines true e = rw e refl
 joined_of first event events next lines false e = rw e refl
 
--- lines with numbers are as many, so that an LF stands behind the first
+-- there are as many lines with numbers as lines, so an LF comes after the first
 joined : (first : List ℕ) (events : List Event) (next : List ℕ) (lines : List (List ℕ))
     → join_with_byte 10 (first ∷ lines_with events (next ∷ lines)) ≡ first ++ 10 ∷ join_with_byte 10 (lines_with events (next ∷ lines))
 joined first [] next lines = refl
@@ -54,7 +54,7 @@ pub at_the_end : (out line : List ℕ) (events left : List Event) → ((all : Li
     → out ++ first_with events line ≡ out ++ join_with_byte 10 (lines_with events (line ∷ []))
 at_the_end out line events left each = ap (λ l. out ++ join_with_byte 10 l) (sym (each []))
 
--- where there is no event left
+-- there is no event left
 pub of_nothing : (events : List Event) (line : List ℕ) → None ≡ slice_get events 0 → (lines : List (List ℕ)) → lines_with events (line ∷ lines) ≡ first_with events line ∷ lines_with events lines
 of_nothing [] line h lines = of_none line lines
 of_nothing (event ∷ events) line h lines = absurd cc

@@ -20,7 +20,7 @@ number_by : (P : List ℕ → Type 0) (field text : List ℕ) (b : Bool) → P f
 number_by P field text true h k = h
 number_by P field text false h k = k
 
--- what holds of both holds of the number
+-- what holds for both holds for the number
 pub number_has : (P : List ℕ → Type 0) (field : List ℕ) (right : ℤ) (text : List ℕ) → P field → P text → P (number_text field right text)
 number_has P field right text h k = number_by P field text (says (points_of field) right) h k
 
@@ -37,12 +37,12 @@ number_says field right text p = says_by field text right (says (points_of field
 
 -- ---- the fields
 
--- behind a score there is a blank, where a text goes on
+-- after a score there is a blank if the text goes on
 back_some : (front field back : List ℕ) → 0 < length field → Each (Fails is_blank) field → EndsBlank (front ++ (field ++ back)) → 0 < length back
 back_some front field [] some ink h = absurd (not_ends front field some ink (subst EndsBlank (ap (λ l. front ++ l) (append-nil field)) h))
 back_some front field (b ∷ back) some ink h = omega arith
 
--- the two numbers of an event as its line has them then
+-- the two numbers of an event as its line then has them
 abbrev pub score_of : Last → Event → List ℕ
 score_of s event = number_text s.field event.score (score_text event.score)
 
@@ -63,7 +63,7 @@ parts_with event t s score total ends some ink back cut =
     fields_with (s.front ++ (score_of s event ++ s.back)) (total_of t event) t.back front t_some t_ink back
     ∙ ap (λ l. l ++ total_of t event ∷ []) (fields_with s.front (score_of s event) s.back cut.front s_some s_ink cut.back)
 
--- a text of two fields at least, the last two of which are these
+-- a text of at least two fields, the last two of which are these
 pub record HasTwo (text : List ℕ) (t s : Last) : Type 0 where
   pub last : last_field text ≡ Some t
   pub before : last_field t.front ≡ Some s

@@ -1,4 +1,4 @@
--- A text has one last field.
+-- The last field of a text is unique.
 use Rattle.std.proofs.Common.{◌≡◌, ℕ, zero, suc, ⊎_elim, ◌+◌, ◌-◌, ◌<◌, ◌≤◌, Bool, true, false, get_or, List, [], ◌∷◌, ◌++◌, length, take, drop, slice_index, Some, None, arith, refl, sym, ap, subst, ◌∙◌}
 use Rattle.std.proofs.lemmas.List.{length-take, length-drop, take_more, get_or-take, take-append-drop, drop-take, drop-drop, take_rest}
 use Rattle.std.proofs.lemmas.Bool.{cases_lt}

@@ -58,7 +58,7 @@ add_other players done other n text next new a many is =
     add_with players other n (behind_colon (with_numbers new) text) (record { nick = a.entry.nick; event = new }) read
     ∙ ap (λ p. Ok (so_far p (other ++ new ∷ []))) (ap (λ seat. seated players seat a.entry.nick) (same_player a.entry.event new is) ∙ sym a.after)
 
--- a line that is no event adds no event, whatever its number is
+-- a line that is not an event adds no event, whatever its number is
 naming_by : (players : Players) (done other : List Event) (n m : ℕ) (o : Option Naming) (next : Record) → with_naming (so_far players done) n o ≡ Ok next
     → (next.events ≡ done) × (with_naming (so_far players other) m o ≡ Ok (so_far next.players other))
 naming_by players done other n m None next h =
@@ -122,7 +122,7 @@ same_byte a b e = grind (arith, nat_tests)
 pub no_colon : (byte : ℕ) → (byte == 62) ≡ true → (byte == 58) ≡ false
 no_colon byte is_event = rw (same_byte byte 62 is_event) refl
 
--- the line of an event has two fields at least behind its colon
+-- the line of an event has at least two fields after its colon
 numbered_by : (byte : ℕ) (text : List ℕ) (head : Named) → (byte == 62) ≡ true → head_of text ≡ Some head → Two head.after → Each (Fails (λ b. b == 58)) text ⊎ Colon text → IsNumbered (byte ∷ text)
 numbered_by byte text head is_event headed two (inl none) = absurd (no_head text head none headed)
 numbered_by byte text head is_event headed two (inr c) =

@@ -1,4 +1,4 @@
--- What is seen of a last field, and bytes that are all blanks, or none of which is one.
+-- The view of a last field, and bytes that are all blanks, or none of which is a blank.
 use Rattle.std.specs.Prelude.{◌≡◌, ℕ, Bool, List, [], ◌∷◌, Option, Some, None}
 use Rattle.text_lines.specs.Fields.{is_blank}
 use Rattle.gcg_numbers.specs.declared.cutting.Last.{Last as Found}

@@ -1,4 +1,4 @@
--- What a reader makes of a sheet with other numbers.
+-- What a reader reads from a sheet with other numbers.
 use Rattle.std.specs.Prelude.{◌≡◌, ◌≤◌, ℕ, List, [], ◌∷◌, length, Ok}
 use Rattle.gcg_read.specs.declared.events.Event.{Event}
 use Rattle.gcg_read.specs.declared.records.Record.{Record}
@@ -19,7 +19,7 @@ AreOther [] (new ∷ news) = ⊥
 AreOther (old ∷ olds) [] = ⊥
 AreOther (old ∷ olds) (new ∷ news) = IsOther old new × AreOther olds news
 
--- A sheet with the numbers of other events reads as the record with these events, on the same lines, where it is not too long.
+-- A sheet with the numbers of other events reads as the record with those events, on the same lines, if it is not too long.
 abbrev pub IsReadWithNumbers : Type 0
 IsReadWithNumbers =
     (text : List ℕ) (r : Record) (events : List Event) → record_of text ≡ Ok r → AreOther r.events events → length (text_with events text) ≤ most_bytes

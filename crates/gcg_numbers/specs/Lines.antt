@@ -9,12 +9,12 @@ use Rattle.gcg_numbers.specs.Numbers.{line_with, is_event_line}
 abbrev pub is_colon : ℕ → Bool
 is_colon byte = byte == 58
 
--- the lines of what stands behind an LF
+-- the lines of what follows an LF
 abbrev pub parts_behind : Option (Bor (List ℕ)) → List (List ℕ)
 parts_behind None = []
 parts_behind (Some after) = slice_split is_feed after.now
 
--- a line with the numbers of the first event, where it is an event line and there is one
+-- a line with the numbers of the first event, if it is an event line and there is one
 abbrev pub first_with : List Event → List ℕ → List ℕ
 first_with [] line = line
 first_with (event ∷ events) line = if is_event_line line then line_with event line else line

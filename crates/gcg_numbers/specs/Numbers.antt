@@ -1,5 +1,5 @@
--- The text of a sheet with other numbers: in each event line the score and the total are replaced where they are not the given ones, and
--- nothing else is changed.
+-- The text of a sheet with other numbers: in each event line the score and the total are replaced if they are not the given ones,
+-- and nothing else is changed.
 use Rattle.std.specs.Prelude.{ℕ, ℤ, ◌-◌, Bool, false, eqb, ◌==◌, List, [], ◌∷◌, ◌++◌, length, take, Option, Some, None, if◌then◌else◌}
 use Rattle.std.specs.List.{slice_split, starts_with, ends_with, join_with_byte}
 use Rattle.std.specs.Ordering.{int_eq}
@@ -12,13 +12,13 @@ use Rattle.gcg_write.specs.Fields.{score_text}
 
 -- ---- the last field of a text
 
--- the last field of a text, what stands before it, and the blanks behind it
+-- the last field of a text, what comes before it, and the blanks after it
 pub record Last : Type 0 where
   pub front : List ℕ
   pub field : List ℕ
   pub back : List ℕ
 
--- the same where one more byte stands at the front
+-- the same with one more byte at the front
 abbrev pub longer : (byte : ℕ) → (front field back : List ℕ) → Last
 longer byte [] field back =
     if is_blank byte then record { front = byte ∷ []; field = field; back = back } else record { front = []; field = byte ∷ field; back = back }
@@ -28,19 +28,19 @@ abbrev pub last_from : (byte : ℕ) → (text : List ℕ) → Option Last → Op
 last_from byte text None = if is_blank byte then None else Some (record { front = []; field = byte ∷ []; back = text })
 last_from byte text (Some last) = Some (longer byte last.front last.field last.back)
 
--- none where all bytes are blanks
+-- none if all bytes are blanks
 abbrev pub last_field : List ℕ → Option Last
 last_field [] = None
 last_field (byte ∷ text) = last_from byte text (last_field text)
 
 -- ---- numbers
 
--- whether what a field says is this number
+-- whether a field gives this number
 abbrev pub says : Option ℤ → ℤ → Bool
 says None right = false
 says (Some written) right = int_eq written right
 
--- a number as its field has it where that is right, and else as it is written in records
+-- a number as its field has it if that is right, and otherwise as records write it
 abbrev pub number_text : (field : List ℕ) → (right : ℤ) → (text : List ℕ) → List ℕ
 number_text field right text = if says (points_of field) right then field else text
 
@@ -59,12 +59,12 @@ with_numbers event text = with_total text event (last_field text)
 
 -- ---- lines
 
--- a text in which what stands behind the first colon (58) is changed
+-- a text in which what follows the first colon (58) is changed
 abbrev pub behind_colon : (List ℕ → List ℕ) → List ℕ → List ℕ
 behind_colon change [] = []
 behind_colon change (byte ∷ text) = if byte == 58 then byte ∷ change text else byte ∷ behind_colon change text
 
--- a line that is changed, but for a CR (13) at its end
+-- a line that is changed, except for a CR (13) at its end
 abbrev pub in_line : (List ℕ → List ℕ) → List ℕ → List ℕ
 in_line change line = if ends_with eqb line (13 ∷ []) then change (take (length line - 1) line) ++ 13 ∷ [] else change line
 
@@ -77,7 +77,7 @@ abbrev pub is_event_line : List ℕ → Bool
 is_event_line [] = false
 is_event_line (byte ∷ text) = byte == 62
 
--- The lines of a sheet with the numbers of events: the event lines get those of one event after the other.
+-- The lines of a sheet with the numbers of events: each event line gets those of one event, in order.
 abbrev pub lines_with : List Event → List (List ℕ) → List (List ℕ)
 lines_with events [] = []
 lines_with [] (line ∷ lines) = line ∷ lines

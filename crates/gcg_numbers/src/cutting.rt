@@ -4,14 +4,14 @@ ghost use Rattle.text_lines.specs.Fields.{is_blank};
 ghost use Rattle.gcg_numbers.specs.Fields.{seen, AreOf};
 ghost use Rattle.gcg_numbers.specs.Numbers.{last_field};
 
-/// The last field of a text, what stands before it, and the blanks behind it.
+/// The last field of a text, what comes before it, and the blanks after it.
 #[derive(Clone, Copy)]
 pub struct Last<'a> {
-    /// What stands before the field: nothing, or it ends in a blank.
+    /// What comes before the field; it is empty or ends in a blank.
     pub front: &'a [u8],
     /// The field, which has a byte and no blank.
     pub field: &'a [u8],
-    /// The blanks behind the field.
+    /// The blanks after the field.
     pub back: &'a [u8],
 }
 
@@ -22,7 +22,7 @@ fn is_blank(byte: u8) -> bool
     byte == b' ' || byte == b'\t'
 }
 
-/// How many bytes of a text stand before those at its end that are blanks, or that are none.
+/// The number of bytes of a text before its last bytes that are all blanks, or none of which is a blank.
 fn count_before(text: &[u8], blank: bool) -> usize
     ensures bound { result ≤ length text.now }
     ensures behind { AreOf blank (drop result text.now) }
@@ -35,7 +35,7 @@ fn count_before(text: &[u8], blank: bool) -> usize
     end
 }
 
-/// The last field of a text; none where all bytes are blanks.
+/// The last field of a text; none if all bytes are blanks.
 pub fn last_field(text: &[u8]) -> Option<Last<'_>>
     ensures { seen result ≡ last_field text.now }
 {

@@ -1,5 +1,5 @@
-//! The text of a sheet with other scores and totals: nothing but these numbers is changed, so that titles, notes, blanks and ends of
-//! lines stay as they were given.
+//! The text of a sheet with other scores and totals: only these numbers are changed, so titles, notes, blanks and line ends stay as
+//! they were.
 //!
 //! [`push_with_numbers`] writes it, and [`law_of_numbers`] says that it reads as the record with these numbers.
 #![tactic(auto)]

@@ -30,7 +30,7 @@ fn push_signed(out: &mut Vec<u8>, score: Points) -> Result<(), AllocError>
     push_number(out, score.value())
 }
 
-/// Appends a score: the field as it is where it is right.
+/// Appends a score: the field as it is if it is right.
 fn push_score(out: &mut Vec<u8>, field: &[u8], right: Points) -> Result<(), AllocError>
     ensures { OnOk result (out.new.items ≡ out.old.items ++ number_text field.now right (score_text right)) }
 {
@@ -40,7 +40,7 @@ fn push_score(out: &mut Vec<u8>, field: &[u8], right: Points) -> Result<(), Allo
     push_signed(out, right)
 }
 
-/// Appends a total: the field as it is where it is right.
+/// Appends a total: the field as it is if it is right.
 fn push_total(out: &mut Vec<u8>, field: &[u8], right: Points) -> Result<(), AllocError>
     ensures { OnOk result (out.new.items ≡ out.old.items ++ number_text field.now right (signed_decimal right)) }
 {

@@ -1,4 +1,4 @@
-//! The lines of a sheet as they stand: each but for its LF, with the CR that may be before that.
+//! The lines of a sheet as they are written: each without its LF, but with the CR that may be before that.
 ghost use Rattle.std.specs.Prelude.{◌≡◌, ◌<◌, ◌++◌, ◌∷◌, length, IfSome, OnOk};
 ghost use Rattle.std.specs.List.{position, slice_split};
 ghost use Rattle.text_lines.specs.Lines.{is_feed};
@@ -8,12 +8,12 @@ ghost use Rattle.gcg_numbers.specs.Numbers.{is_event_line, mark_of};
 use bstr::ByteSlice;
 use std::alloc::AllocError;
 
-/// The first line of a text, and the text behind it.
+/// The first line of a text, and the text after it.
 #[derive(Clone, Copy)]
 pub struct RawLine<'a> {
     /// The line, which has no LF.
     pub line: &'a [u8],
-    /// What is behind its LF; none where the text ends with the line.
+    /// What is after its LF; none if the text ends with the line.
     pub after: Option<&'a [u8]>,
 }
 
@@ -50,11 +50,11 @@ pub fn is_event_line(line: &[u8]) -> bool
     line.starts_with(b">")
 }
 
-/// Appends the byte order mark of a text, where it has one.
+/// Appends the byte order mark of a text, if it has one.
 ///
 /// # Errors
 ///
-/// Memory was refused.
+/// Memory ran out.
 pub fn push_mark(out: &mut Vec<u8>, text: &[u8]) -> Result<(), AllocError>
     ensures { OnOk result (out.new.items ≡ out.old.items ++ mark_of text.now) }
 {

@@ -19,7 +19,7 @@ fn find_colon(line: &[u8]) -> Option<usize>
     line.find_byte(b':')
 }
 
-/// Appends the text of an event line with the numbers of its event, which stand behind the first colon.
+/// Appends the text of an event line with the numbers of its event, which come after the first colon.
 #[tactic(auto, using(crate::proofs::Colons::none, crate::proofs::Colons::there))]
 fn push_behind_colon(out: &mut Vec<u8>, line: &[u8], event: &Event) -> Result<(), AllocError>
     ensures { OnOk result (out.new.items ≡ out.old.items ++ behind_colon (with_numbers event.now) line.now) }
@@ -35,7 +35,7 @@ fn push_behind_colon(out: &mut Vec<u8>, line: &[u8], event: &Event) -> Result<()
 ///
 /// # Errors
 ///
-/// Memory was refused.
+/// Memory ran out.
 #[tactic(auto, unfolding(crate::specs::Numbers::line_with))]
 pub fn push_line_with(out: &mut Vec<u8>, line: &[u8], event: &Event) -> Result<(), AllocError>
     ensures { OnOk result (out.new.items ≡ out.old.items ++ line_with event.now line.now) }
@@ -50,8 +50,8 @@ pub fn push_line_with(out: &mut Vec<u8>, line: &[u8], event: &Event) -> Result<(
     }
 }
 
-/// Appends a line of a sheet with the numbers of the first of the events, where it is an event line and there is one; gives how many
-/// events that are.
+/// Appends a line of a sheet with the numbers of the first of the events, if it is an event line and there is an event; returns the
+/// number of events used.
 #[tactic(auto, using(crate::proofs::Rounds::of_event, crate::proofs::Rounds::of_none, crate::proofs::Rounds::of_other))]
 fn push_next(out: &mut Vec<u8>, line: &[u8], events: &[Event]) -> Result<usize, AllocError>
     ensures bound { IfOk result (λ taken. taken ≤ length events.now) }
@@ -70,12 +70,12 @@ fn push_next(out: &mut Vec<u8>, line: &[u8], events: &[Event]) -> Result<usize, 
     Ok(0)
 }
 
-/// Appends the text of a sheet with the scores and the totals of events, the first of which is that of the first event line. Only these
-/// numbers are changed, and only where they are not written so already.
+/// Appends the text of a sheet with the scores and the totals of events, the first of which belongs to the first event line. Only
+/// these numbers are changed, and only if they are not already written so.
 ///
 /// # Errors
 ///
-/// Memory was refused.
+/// Memory ran out.
 #[tactic(auto, using(crate::proofs::Rounds::one_line_more, crate::proofs::Rounds::at_the_end), unfolding(crate::specs::Numbers::text_with))]
 pub fn push_with_numbers(out: &mut Vec<u8>, text: &[u8], events: &[Event]) -> Result<(), AllocError>
     ensures { OnOk result (out.new.items ≡ out.old.items ++ text_with events.now text.now) }

@@ -56,7 +56,7 @@ end_none text h =
     let none : length text - suffix_len is_blank text ≡ 0 = omega (arith, all) in
     rw none refl
 
--- the last byte that is no blank is the last that is kept
+-- the last byte that is not a blank is the last that is kept
 pub end_some : (text : List ℕ) (i : ℕ) → IsLastByte (not_in (32 ∷ 9 ∷ [])) text (Some i) → take (i + 1) text ≡ end_trimmed text
 end_some text i h =
     let here : is_blank (get_or text (i + 1 - 1) 0) ≡ false = ap (λ n. is_blank (get_or text n 0)) (omega arith) ∙ filled_there (get_or text i 0) h.1 in

@@ -80,7 +80,7 @@ first_faults : Agree (
 unfolding record_of record_from with_line with_event entry_of head_of fields_of lines_in with_pragma naming_of names_of players_with event_of played_of scored_of coded_of dashed_of bracketed_of counted letter_at
 first_faults = refl
 
--- A mark at the front, lines that are read over and are counted, a CR at each end, tabs, a column before its row,
+-- A mark at the front, lines that are ignored and are counted, a CR at each end, tabs, a column before its row,
 -- brackets, a minus sign and leading zeros; and then a third nickname.
 abbrev good_lines : List ℕ
 good_lines = (0xef ∷ 0xbb ∷ 0xbf ∷ codes "#player1 X") ++ (13 ∷ 10 ∷ 10 ∷ codes "> X : 08E WORD 16 16") ++ (13 ∷ 10 ∷ codes ">B:") ++ (9 ∷ codes "? a15")
@@ -102,7 +102,7 @@ third_player : record_of (good_lines ++ (10 ∷ codes ">C: x")) ≡ fails_as 5 w
 unfolding record_of record_from with_line with_event with_pragma naming_of names_of players_with entry_of head_of fields_of lines_in event_of played_of scored_of coded_of dashed_of bracketed_of counted letter_at
 third_player = refl
 
--- an event after the last that a record may have
+-- an event after the last one that a record may have
 too_many : (r : Record) (line : ℕ) (text : List ℕ) (e : Event) → entry_of (record r { events = replicate 1000 e }) line text ≡ Err why.TooManyEvents
 unfolding entry_of
 too_many r line text e = refl

@@ -49,7 +49,7 @@ line_number so_far n (byte ∷ text) fault e =
     picked (byte == 62) (with_event so_far n text) (if byte == 35 then with_pragma so_far n text else Ok so_far) fault n (event_line so_far n text fault)
     (picked (byte == 35) (with_pragma so_far n text) (Ok so_far) fault n (pragma_line so_far n text fault) (λ went_well. absurd cc)) e
 
--- ---- one line more
+-- ---- one more line
 
 same : (x y : Record) → (let r : Result Record ReadFault = Ok x in r) ≡ Ok y → x ≡ y
 same x y e = cc

@@ -29,7 +29,7 @@ module _ {A B E : Type 0} where
   after Q P (Ok x) f h g = g x h
   after Q P (Err w) f h g = tt
 
-  -- where what the first step gives does not matter
+  -- the same if what the first step gives does not matter
   behind : (P : B → Type 0) (r : Result A E) (f : A → Result B E) → ((x : A) → IfOk (f x) P) → IfOk (r >>= f) P
   behind P (Ok x) f g = g x
   behind P (Err w) f g = tt
@@ -88,7 +88,7 @@ entry_line so_far line text =
     (λ player. after (IsOn line) (HasEventOn line) (event_of (record { line = line; player = player }) (fields_of head.after)) _
     (event_line (record { line = line; player = player }) (fields_of head.after)) (λ event on. on))))
 
--- ---- one line more
+-- ---- one more line
 
 abbrev Rises : Record → Type 0
 Rises r = AllPairs (λ a b. a.line < b.line) r.events

@@ -6,7 +6,7 @@ use Rattle.std.proofs.lemmas.List.{take-append-drop, length-append}
 use Rattle.std.proofs.lemmas.List.Elements.{filter-append}
 use Rattle.std.proofs.lemmas.List.Filters.{length-filter_more}
 
--- a filter keeps no less of the whole than of a front and the element behind it
+-- a filter keeps at least as much of the whole as of a front and the element after it
 pub filter_over : {X : Type 0} (p : X → Bool) (xs : List X) (i : ℕ) (d : X) → i < length xs → p (get_or xs i d) ≡ true
     → length (filter p (take i xs)) + 1 ≤ length (filter p xs)
 filter_over p xs i d lt here =
@@ -19,7 +19,7 @@ cons_option_len : {Y : Type 0} (o : Option Y) (ys : List Y) → length (cons_opt
 cons_option_len None ys = omega arith
 cons_option_len (Some y) ys = omega arith
 
--- nothing gives more than one element each
+-- at most one element is given for each element
 pub filter_map_len : {X Y : Type 0} (h : X → Option Y) (xs : List X) → length (filter_map h xs) ≤ length xs
 filter_map_len h [] = omega arith
 filter_map_len h (x ∷ xs) = omega (arith, cons_option_len (h x) (filter_map h xs), filter_map_len h xs)

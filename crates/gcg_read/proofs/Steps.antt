@@ -1,4 +1,4 @@
--- Lines read one after the other.
+-- Lines read one after another.
 use Rattle.std.proofs.Common.{◌≡◌, ℕ, ◌+◌, ◌<◌, arith, List, [], ◌∷◌, length, Result, Ok, Err, sym, ap, ◌∙◌, refl, ◌⊎◌, inl, inr}
 use Rattle.gcg_read.specs.declared.faults.ReadFault.{ReadFault}
 use Rattle.gcg_read.specs.declared.records.Record.{Record}

@@ -1,4 +1,4 @@
--- How a text falls into lines, a line into fields, and what stands before its colon.
+-- How a text falls into lines, a line into fields, and what comes before its colon.
 use Rattle.std.specs.Prelude.{ℕ, Bool, ◌==◌, List, [], ◌∷◌, Option, Some, None, is_some, if◌then◌else◌}
 use Rattle.std.specs.List.{position, before_first, after_first}
 use Rattle.text_lines.specs.declared.fields.Field.{Field}
@@ -10,7 +10,7 @@ unfoldable pub use Rattle.text_lines.specs.Fields.{fields_of}
 abbrev pub is_colon : ℕ → Bool
 is_colon byte = byte == 58
 
--- a nickname and the text behind its colon
+-- a nickname and the text after its colon
 pub record Named : Type 0 where
   pub nick : List ℕ
   pub after : List ℕ
@@ -21,13 +21,13 @@ named_by [] after = None
 named_by (nick ∷ []) after = Some (record { nick = nick; after = after })
 named_by (nick ∷ field ∷ fields) after = None
 
--- the nickname before the first colon, and the text behind that; none where there is no such nickname
+-- the nickname before the first colon, and the text after that; none if there is no such nickname
 unfoldable pub head_of : List ℕ → Option Named
 head_of text = if is_some (position is_colon text) then named_by (fields_of (before_first is_colon text)) (after_first is_colon text) else None
 
 -- ---- what the reader cuts off
 
--- the nickname, and what stands behind its colon
+-- the nickname, and what follows its colon
 abbrev pub head_in : Option Field → Option Named
 head_in None = None
 head_in (Some head) = Some (record { nick = head.bytes.now; after = head.after.now })

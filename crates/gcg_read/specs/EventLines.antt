@@ -39,8 +39,8 @@ coded_of heading rack code score total = do
 abbrev pub has_digit : List ℕ → Bool
 has_digit bytes = list_any is_ascii_digit bytes
 
--- Three fields are a code without a rack. Four are a play without a rack where the first has a digit, and
--- else a code with a rack. Five are a play with a rack.
+-- Three fields are a code without a rack. Four are a play without a rack if the first has a digit, and otherwise a code with a
+-- rack. Five are a play with a rack.
 unfoldable pub event_of : Heading → List (List ℕ) → Result Event Why
 event_of heading (a ∷ b ∷ c ∷ []) = coded_of heading None a b c
 event_of heading (a ∷ b ∷ c ∷ d ∷ []) =

@@ -18,11 +18,11 @@ name_of why.Number = codes "Number"
 name_of why.Code = codes "Code"
 name_of why.NoMemory = codes "NoMemory"
 
--- want of memory lies on no line
+-- lack of memory is not on a line
 abbrev pub no_memory : ReadFault
 no_memory = record { line = 0; why = why.NoMemory }
 
--- the steps of a reading one after the other, up to the first that fails
+-- the steps of a reading in order, up to the first that fails
 infixl 10 ◌>>=◌
 abbrev pub ◌>>=◌ : {A B E : Type 0} → Result A E → (A → Result B E) → Result B E
 (Ok x) >>= f = f x
@@ -33,12 +33,12 @@ abbrev pub on_line : {A : Type 0} → ℕ → Result A Why → Result A ReadFaul
 on_line line (Ok x) = Ok x
 on_line line (Err w) = Err (record { line = line; why = w })
 
--- What is answered is the meaning of the text, or its first fault, or want of memory.
+-- The answer is the meaning of the text, or its first fault, or lack of memory.
 abbrev pub Gives : {A : Type 0} → Result A ReadFault → Result A ReadFault → Type 0
 Gives (Ok x) meaning = meaning ≡ Ok x
 Gives (Err fault) meaning = (fault ≡ no_memory) ⊎ (meaning ≡ Err fault)
 
--- The same of a change: `new` is what the text makes of the value, unless the call fails.
+-- The same for a change: `new` is what the text makes of the value, unless the call fails.
 abbrev pub Makes : {A : Type 0} → A → Result (Unit {0}) ReadFault → Result A ReadFault → Type 0
 Makes new (Ok _) meaning = meaning ≡ Ok new
 Makes new (Err fault) meaning = (fault ≡ no_memory) ⊎ (meaning ≡ Err fault)

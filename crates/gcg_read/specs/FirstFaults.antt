@@ -1,4 +1,4 @@
--- Which fault of a text is told: the first by line.
+-- Which fault of a text is reported: the first by line.
 use Rattle.std.specs.Prelude.{◌≡◌, ℕ, ◌+◌, ◌≤◌, List, ◌∷◌, ◌++◌, length, Ok, Err}
 use Rattle.gcg_read.specs.declared.faults.ReadFault.{ReadFault}
 use Rattle.gcg_read.specs.declared.records.Record.{Record}
@@ -17,6 +17,6 @@ pub record IsFirstFault (lines : List (List ℕ)) (fault : ReadFault) : Type 0 w
   pub number : fault.line ≡ length before + 1
   pub fails : with_line so_far (length before + 1) line ≡ Err fault
 
--- where a text that is not too long has no meaning, its fault is that of the first line that has one
+-- if a text that is not too long has no meaning, its fault is that of the first line that has one
 abbrev pub FaultIsFirst : Type 0
 FaultIsFirst = (text : List ℕ) (fault : ReadFault) → length text ≤ most_bytes → record_of text ≡ Err fault → IsFirstFault (lines_of text) fault

@@ -24,7 +24,7 @@ abbrev pub other_seat : Seat → Seat
 other_seat First = Second
 other_seat Second = First
 
--- whether both seats are one
+-- whether both seats are the same
 abbrev pub same_seat : Seat → Seat → Bool
 same_seat First First = true
 same_seat First Second = false
@@ -40,7 +40,7 @@ with_player players Second player = record players { second = player }
 abbrev pub is_unnamed : Player → Bool
 is_unnamed player = length player.nick == 0
 
--- The seat of a nickname: of the player who has it, else of the first player who has none.
+-- The seat of a nickname: of the player who has it, or else of the first player who has none.
 abbrev pub seat_for : Players → List ℕ → Option Seat
 seat_for players nick =
     if bytes_eq players.first.nick nick then Some First
@@ -48,11 +48,11 @@ seat_for players nick =
     else (if is_unnamed players.first then Some First
     else (if is_unnamed players.second then Some Second else None)))
 
--- the player with this nickname, where there is none yet
+-- the player with this nickname, if there is none yet
 abbrev pub with_nick : Player → List ℕ → Player
 with_nick player nick = if is_unnamed player then record player { nick = nick } else player
 
--- the players with this nickname in a seat, where there is none yet
+-- the players with this nickname in a seat, if there is none yet
 abbrev pub seated : Players → Seat → List ℕ → Players
 seated players First nick = record players { first = with_nick players.first nick }
 seated players Second nick = record players { second = with_nick players.second nick }

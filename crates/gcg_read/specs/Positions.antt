@@ -23,7 +23,7 @@ abbrev pub down_of : ℕ → List ℕ → Option Position
 down_of letter digits =
     option_and_then (λ row. option_map (λ column. record { at = square_in row column; dir = Down }) (column_of letter)) (row_in digits)
 
--- What begins with a digit is a row and then a column, and all else a column and then a row.
+-- What begins with a digit is a row and then a column, and anything else a column and then a row.
 abbrev pub position_of : List ℕ → Option Position
 position_of [] = None
 position_of (byte ∷ bytes) =

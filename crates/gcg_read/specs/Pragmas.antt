@@ -24,7 +24,7 @@ trimmed text = end_trimmed (front_trimmed text)
 abbrev pub is_nick : List ℕ → Bool
 is_nick nick = not (length nick == 0) && not (list_any is_colon nick)
 
--- the player whom the word behind '#' speaks of
+-- the player that the word after '#' names
 abbrev pub seat_named : List ℕ → Option Seat
 seat_named word =
     if bytes_eq word (codes "player1") then Some First
@@ -43,7 +43,7 @@ names_of text seat =
     then Some (record { seat = seat; nick = before_first is_blank text; full = trimmed (after_first is_blank text) })
     else None
 
--- The player that a pragma names, behind its '#': "player1" or "player2", a blank, and the names. None where it
+-- The player that a pragma names, after its '#': "player1" or "player2", a blank, and the names. None if it
 -- is another pragma, or has no nickname.
 unfoldable pub naming_of : List ℕ → Option Naming
 naming_of text =

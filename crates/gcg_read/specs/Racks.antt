@@ -12,6 +12,6 @@ is_tile byte = is_some (kind_of byte)
 abbrev pub is_rack : List ℕ → Bool
 is_rack bytes = nat_le 1 (length bytes) && nat_le (length bytes) 7 && list_all is_tile bytes
 
--- the tiles of a rack, how many of each kind
+-- the tiles of a rack: the number of each kind
 abbrev pub rack_of : List ℕ → Option (List ℕ)
 rack_of bytes = if is_rack bytes then Some (counted (filter_map kind_of bytes)) else None

@@ -32,8 +32,8 @@ pub record NamedEvent : Type 0 where
   pub nick : List ℕ
   pub event : Event
 
--- The event of a line, behind its '>': a record has so many events at most, a nickname stands before the first
--- colon and is that of one of two players, and the fields behind it say the event.
+-- The event of a line, after its '>': the record has fewer than `most_events` events, a nickname comes before the first colon and
+-- is that of one of two players, and the fields after it say the event.
 unfoldable pub entry_of : Record → ℕ → List ℕ → Result NamedEvent Why
 entry_of so_far line text =
     if nat_le most_events (length so_far.events) then Err why.TooManyEvents
@@ -43,34 +43,33 @@ entry_of so_far line text =
       event ← event_of (record { line = line; player = player }) (fields_of head.after)
       Ok (record { nick = head.nick; event = event }))
 
--- the record with the event of one more line, behind its '>'
+-- the record with the event of one more line, after its '>'
 unfoldable pub with_event : Record → ℕ → List ℕ → Result Record ReadFault
 with_event so_far line text = do
   entry ← on_line line (entry_of so_far line text)
   Ok (record { players = seated so_far.players entry.event.player entry.nick; events = so_far.events ++ entry.event ∷ [] })
 
--- The players with the names of a pragma: a player who has names keeps them, and the nickname of a player is not
--- that of the other.
+-- The players with the names of a pragma: a player who has names keeps them, and the nickname of a player is not that of the other.
 unfoldable pub players_with : Players → Naming → Result Players Why
 players_with players naming =
     if not (is_unnamed (player_of players naming.seat)) then Ok players
     else (if bytes_eq (player_of players (other_seat naming.seat)).nick naming.nick then Err why.ThirdPlayer
     else Ok (with_player players naming.seat (record { nick = naming.nick; full = naming.full })))
 
--- the record with the names of a pragma, where it gives some
+-- the record with the names of a pragma, if it gives some
 abbrev pub with_naming : Record → ℕ → Option Naming → Result Record ReadFault
 with_naming so_far line None = Ok so_far
 with_naming so_far line (Some naming) = do
   players ← on_line line (players_with so_far.players naming)
   Ok (record so_far { players = players })
 
--- The record with the pragma of one more line, behind its '#'. Names count before the first event only.
+-- The record with the pragma of one more line, after its '#'. Names count before the first event only.
 unfoldable pub with_pragma : Record → ℕ → List ℕ → Result Record ReadFault
 with_pragma so_far line text =
     if length so_far.events == 0 then with_naming so_far line (naming_of text) else Ok so_far
 
 -- The record with one more line. A line that begins with '>' (62) is an event, one that begins with '#' (35) is
--- a pragma, and every other line is read over.
+-- a pragma, and every other line is ignored.
 unfoldable pub with_line : Record → ℕ → List ℕ → Result Record ReadFault
 with_line so_far line [] = Ok so_far
 with_line so_far line (byte ∷ text) =

@@ -28,6 +28,6 @@ is_text bytes = nat_le 1 (length bytes) && nat_le (length bytes) 15 && list_all 
 abbrev pub bare_text_of : List ℕ → Option (List Symbol)
 bare_text_of bytes = if is_text bytes then Some (symbols_of bytes) else None
 
--- every bracket is passed over, and 1 to 15 letters and dots remain
+-- every bracket is ignored, and 1 to 15 letters and dots remain
 abbrev pub text_of : List ℕ → Option (List Symbol)
 text_of bytes = bare_text_of (bare bytes)

@@ -1,4 +1,4 @@
-//! The codes of events that are no plays.
+//! The codes of events that are not plays.
 ghost use Rattle.std.specs.Prelude.{◌≡◌};
 ghost use Rattle.gcg_read.specs.Codes.{unknown_of, dashed_of, bracketed_of, code_of};
 
@@ -6,11 +6,10 @@ use crate::events::EventKind;
 use crate::racks::{MAX_TILES, read_rack};
 use text_lines::numeral;
 
-/// What the code of an event says that is no play; none for bytes that are no code.
+/// What the code of an event that is not a play says; none for bytes that are not a code.
 ///
-/// A `-` is a pass and `--` a withdrawal. A `-` with tiles or with one digit from 1 to 7 behind it is an exchange
-/// of these tiles or of that many. `(challenge)` is a bonus, `(time)` a penalty, and tiles in round brackets are
-/// a last rack.
+/// A `-` is a pass and `--` a withdrawal. A `-` followed by tiles, or by one digit from 1 to 7, is an exchange of these tiles or of
+/// that number of tiles. `(challenge)` is a bonus, `(time)` a penalty, and tiles in round brackets are a last rack.
 pub fn read_code(code: &[u8]) -> Option<EventKind>
     ensures { result ≡ code_of code.now }
 {
@@ -21,7 +20,7 @@ pub fn read_code(code: &[u8]) -> Option<EventKind>
     }
 }
 
-/// What stands behind the `-` of a code.
+/// What follows the `-` of a code.
 #[tactic(auto, unfolding(crate::specs::Codes::dashed_of))]
 fn read_dashed(bytes: &[u8]) -> Option<EventKind>
     ensures { result ≡ dashed_of bytes.now }
@@ -39,7 +38,7 @@ fn read_dashed(bytes: &[u8]) -> Option<EventKind>
     }
 }
 
-/// What stands in the round brackets of a code.
+/// What is in the round brackets of a code.
 #[tactic(auto, unfolding(crate::specs::Codes::bracketed_of))]
 fn read_bracketed(bytes: &[u8]) -> Option<EventKind>
     ensures { result ≡ bracketed_of bytes.now }
@@ -56,7 +55,7 @@ fn read_bracketed(bytes: &[u8]) -> Option<EventKind>
     }
 }
 
-/// How many tiles one digit says that are exchanged, 1 to 7; none for any other bytes.
+/// The number of exchanged tiles that one digit gives, 1 to 7; none for any other bytes.
 fn read_number(digit: &[u8]) -> Option<u8>
     ensures { result ≡ unknown_of digit.now }
 {

@@ -11,8 +11,8 @@ fn find_colon(text: &[u8]) -> Option<usize>
     text.iter().position(|byte| *byte == b':')
 }
 
-/// The nickname before the first colon of a text, which is the only field there, with the text behind the colon. None where
-/// there is no colon, no field or a second one.
+/// The nickname before the first colon of a text, which must be the only field there, with the text after the colon. None if there
+/// is no colon, no field or more than one.
 pub fn read_head(text: &[u8]) -> Option<Field<'_>>
     ensures { head_of text.now ≡ head_in result }
 {

@@ -33,11 +33,11 @@ struct Start<'a> {
     second: &'a [u8],
     /// The third.
     third: &'a [u8],
-    /// The text behind them.
+    /// The text after them.
     after: &'a [u8],
 }
 
-/// The first three fields of a text, where it has so many.
+/// The first three fields of a text, if it has three.
 fn read_start(text: &[u8]) -> Option<Start<'_>>
     ensures { MatchOption result (length (fields_of text.now) < 3)
         (λ start. fields_of text.now ≡ start.first.now ∷ start.second.now ∷ start.third.now ∷ fields_of start.after.now) }
@@ -53,7 +53,7 @@ fn read_start(text: &[u8]) -> Option<Start<'_>>
     })
 }
 
-/// The event that the text behind a nickname says.
+/// The event that the text after a nickname says.
 #[tactic(auto, using(crate::proofs::Fields::too_few), unfolding(crate::specs::EventLines::event_of))]
 pub fn read_event(heading: Heading, text: &[u8]) -> Result<Event, Why>
     ensures { result ≡ event_of heading (fields_of text.now) }
@@ -117,7 +117,7 @@ fn read_four(
     read_coded(heading, Some(rack), second, third, fourth)
 }
 
-/// Whether a byte is a digit.
+/// Whether one of the bytes is a digit.
 fn has_digit(bytes: &[u8]) -> bool
     ensures { result ≡ has_digit bytes.now }
 {

@@ -12,9 +12,9 @@ use std::marker::Model;
 /// One of the two players of a game.
 #[derive(Clone, Copy, Debug, PartialEq, Eq)]
 pub enum Seat {
-    /// Player 1, whom a `#player1` pragma names before the first event, and else the first new nickname.
+    /// Player 1, whom a `#player1` pragma names before the first event, otherwise the first new nickname.
     First,
-    /// Player 2, whom a `#player2` pragma names before the first event, and else the next new nickname.
+    /// Player 2, whom a `#player2` pragma names before the first event, otherwise the next new nickname.
     Second,
 }
 
@@ -58,7 +58,7 @@ pub enum EventKind {
     Pass,
     /// The player exchanged these tiles.
     Exchange(Counts),
-    /// The player exchanged that many tiles, which are not known.
+    /// The player exchanged this number of tiles, which are not known.
     ExchangeUnknown(u8),
     /// The play before was taken back.
     Withdraw,
@@ -77,13 +77,13 @@ pub struct Event {
     pub line: u32,
     /// The player that the line names.
     pub player: Seat,
-    /// The rack, where the line has one.
+    /// The rack, if the line has one.
     pub rack: Option<Counts>,
     /// What happened.
     pub kind: EventKind,
     /// What the event scores.
     pub score: Points,
-    /// The player's total after it, as the line says it.
+    /// The player's total after it, as the line states it.
     pub total: Points,
 }
 
@@ -123,7 +123,7 @@ impl Events {
         self.items.as_slice()
     }
 
-    /// How many events there are.
+    /// The number of events.
     pub fn len(&self) -> usize
         ensures { result ≡ length self.now }
     {
@@ -137,7 +137,7 @@ impl Events {
         self.items.is_empty()
     }
 
-    /// Gives the event at a place another score. Where there is no event, nothing is changed.
+    /// Sets the score of the event at a place. If there is no event there, nothing changes.
     pub fn set_score(&mut self, place: usize, score: Points)
         ensures there { IsChangedAt self.old place (λ (e : Event). record e { score = score }) self.new }
         ensures past { slice_get self.old place ≡ None → self.new ≡ self.old }
@@ -147,7 +147,7 @@ impl Events {
         }
     }
 
-    /// Gives the event at a place another total. Where there is no event, nothing is changed.
+    /// Sets the total of the event at a place. If there is no event there, nothing changes.
     pub fn set_total(&mut self, place: usize, total: Points)
         ensures there { IsChangedAt self.old place (λ (e : Event). record e { total = total }) self.new }
         ensures past { slice_get self.old place ≡ None → self.new ≡ self.old }
@@ -157,7 +157,7 @@ impl Events {
         }
     }
 
-    /// Puts an event behind the others. It fails only where memory runs out, and then the events stay.
+    /// Appends an event. It fails only if memory runs out, and then the events stay as they were.
     pub fn push(&mut self, event: Event) -> Result<(), AllocError>
         ensures pushed { OnOk result (self.new ≡ self.old ++ event ∷ []) }
         ensures refused { OnErr result (self.new ≡ self.old) }

@@ -3,19 +3,19 @@ ghost use Rattle.std.specs.Prelude.{◌≡◌};
 
 use std::alloc::AllocError;
 
-/// Why a record has no meaning, in the order in which the faults of one line are looked for: `Position` and
-/// `Word`, or `Code` in their place, come before `Number`.
+/// Why a record has no meaning, in the order in which the faults of one line are checked: `Position` and `Word`, or `Code` in their
+/// place, come before `Number`.
 #[derive(Clone, Copy, Debug, PartialEq, Eq)]
 pub enum Why {
-    /// The record has more than 1,048,576 bytes. This is looked for before all else.
+    /// The record has more than 1,048,576 bytes. This is checked before all else.
     TooLong,
     /// The line is the event after the 1,000th.
     TooManyEvents,
-    /// No colon stands behind the nickname, or there is no nickname, or it has a blank inside.
+    /// No colon comes after the nickname, or there is no nickname, or it has a blank inside.
     NoColon,
     /// The nickname of an event is a third one, or that of a pragma is the other player's.
     ThirdPlayer,
-    /// Behind the colon stand fewer than 3 fields or more than 5.
+    /// Fewer than 3 fields or more than 5 come after the colon.
     Fields,
     /// The rack is not 1 to 7 of A to Z and `?`.
     Rack,
@@ -23,9 +23,9 @@ pub enum Why {
     Position,
     /// The word, without its round brackets, is not 1 to 15 letters and dots.
     Word,
-    /// The score or the total is not 1 to 6 digits behind an optional sign.
+    /// The score or the total is not 1 to 6 digits after an optional sign.
     Number,
-    /// What stands in place of a position and a word is no code: not `-` or `--`, not `-` with 1 to 7 tiles or
+    /// What is in place of a position and a word is not a code: not `-` or `--`, not `-` with 1 to 7 tiles or
     /// with one digit from 1 to 7, not `(challenge)` or `(time)`, and not 1 to 7 tiles in round brackets.
     Code,
     /// Memory ran out.
@@ -58,7 +58,7 @@ impl Why {
 /// The first fault of a record.
 #[derive(Clone, Copy, Debug, PartialEq, Eq)]
 pub struct ReadFault {
-    /// The line of the fault, counted from 1; 0 for `TooLong` and `NoMemory`, which lie on no line.
+    /// The line of the fault, counted from 1; 0 for `TooLong` and `NoMemory`, which are not on a line.
     pub line: u32,
     /// What is wrong there.
     pub why: Why,
@@ -67,7 +67,7 @@ pub struct ReadFault {
 impl ReadFault {
     ghost use Rattle.gcg_read.specs.Faults.{no_memory};
 
-    /// Want of memory, which lies on no line.
+    /// Lack of memory, which is not on a line.
     pub fn no_memory() -> ReadFault
         ensures { result ≡ no_memory }
     {

@@ -3,7 +3,7 @@
 //! The format is the Poslfit GCG specification, <https://www.poslfit.com/scrabble/gcg/>, in a profile of
 //! this project's own. A line that begins with `>` is an event: a play, or one of the codes `-`, `--`, `-` with
 //! tiles or with a number of them, `(challenge)`, `(time)` and a last rack in round brackets. The pragmas
-//! `#player1` and `#player2` before the first event name the players. Every other line is read over.
+//! `#player1` and `#player2` before the first event name the players. Every other line is ignored.
 #![tactic(auto)]
 
 mod codes;

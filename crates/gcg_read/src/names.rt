@@ -28,7 +28,7 @@ impl Name {
         }
     }
 
-    /// A name with a copy of these bytes. It fails only where memory runs out.
+    /// A name with a copy of these bytes. It fails only if memory runs out.
     pub fn copied(alloc: Global, bytes: &[u8]) -> Result<Name, AllocError>
         ensures { IfOk result (λ name. name ≡ bytes.now) }
     {

@@ -1,4 +1,4 @@
-//! The players of a record, and whom a nickname means.
+//! The players of a record, and which of them a nickname means.
 ghost use Rattle.std.specs.Prelude.{◌≡◌, OnOk, OnErr, not};
 
 use crate::events::Seat;
@@ -6,12 +6,12 @@ use crate::names::Name;
 use crate::pragmas::Naming;
 use std::alloc::{AllocError, Global};
 
-/// What a record says of a player. A player without a nickname has the empty one.
+/// What a record says about a player. A player without a nickname has the empty one.
 #[derive(Debug, Drop)]
 pub struct Player {
     /// The nickname, by which event lines name the player.
     pub nick: Name,
-    /// The full name, empty where the record gives none.
+    /// The full name, empty if the record gives none.
     pub full: Name,
 }
 
@@ -44,8 +44,7 @@ impl Player {
         !self.nick.as_bytes().is_empty()
     }
 
-    /// Gives the player this nickname, where there is none yet. It fails only where memory runs out, and
-    /// then the player stays.
+    /// Gives the player this nickname, if there is none yet. It fails only if memory runs out, and then the player stays as it was.
     fn take_nick(&mut self, alloc: Global, nick: &[u8]) -> Result<(), AllocError>
         ensures named { OnOk result (self.new ≡ with_nick self.old nick.now) }
         ensures refused { OnErr result (self.new ≡ self.old) }
@@ -80,8 +79,7 @@ impl Players {
         }
     }
 
-    /// The seat of a nickname: of the player who has it, else of the first player who has none; none where
-    /// both players have others.
+    /// The seat of a nickname: of the player who has it, or else of the first player who has none; none if both players have others.
     pub(crate) fn seat_for(&self, nick: &[u8]) -> Option<Seat>
         ensures { result ≡ seat_for self.now nick.now }
     {
@@ -100,8 +98,7 @@ impl Players {
         }
     }
 
-    /// Gives the player that a pragma names its names. It fails only where memory runs out, and then the players
-    /// stay.
+    /// Gives the names in a pragma to the player that it names. It fails only if memory runs out, and then the players stay as they were.
     pub(crate) fn take_names(&mut self, alloc: Global, naming: Naming<'_>) -> Result<(), AllocError>
         ensures named { OnOk result (self.new ≡ with_player self.old naming.entry.seat
             (record { nick = naming.entry.nick.now; full = naming.entry.full.now })) }
@@ -118,8 +115,8 @@ impl Players {
         Ok(())
     }
 
-    /// Gives the player in a seat this nickname, where there is none yet. It fails only where memory runs
-    /// out, and then the players stay.
+    /// Gives the player in a seat this nickname, if there is none yet. It fails only if memory runs out, and then the players stay
+    /// as they were.
     pub(crate) fn take_nick(
         &mut self,
         alloc: Global,

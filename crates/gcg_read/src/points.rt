@@ -25,7 +25,7 @@ impl Model for Points {
 }
 
 impl Points {
-    /// The number; none where it is not from -999,999 to 999,999.
+    /// The number; none if it is not from -999,999 to 999,999.
     pub fn new(value: i32) -> Option<Points>
         ensures there { IsSome result ↔ IsPoints value }
         ensures value { IfSome result (λ p. p ≡ value) }

@@ -15,7 +15,7 @@ pub struct Naming<'a> {
     pub seat: Seat,
     /// The nickname, which has a byte, no blank and no colon.
     pub nick: &'a [u8],
-    /// The full name, empty where there is none.
+    /// The full name, empty if there is none.
     pub full: &'a [u8],
 }
 
@@ -26,9 +26,9 @@ struct Halves<'a> {
     after: &'a [u8],
 }
 
-/// The names that a pragma gives a player, behind its `#`: the word `player1` or `player2`, a blank, a nickname,
-/// and after a blank the full name, which is the rest of the line and may be missing. None where the pragma is
-/// another one, or has no nickname or one with a colon.
+/// The names that a pragma gives a player, from the text after its `#`: the word `player1` or `player2`, a blank, a nickname, and
+/// after a blank the full name, which is the rest of the line and may be missing. None if the pragma is another one, or has no
+/// nickname or one with a colon.
 #[tactic(auto, unfolding(crate::specs::Pragmas::naming_of))]
 pub fn read_naming(text: &[u8]) -> Option<Naming<'_>>
     ensures { naming_of text.now ≡ naming_in result }
@@ -54,7 +54,7 @@ fn read_names(text: &[u8], seat: Seat) -> Option<Naming<'_>>
     })
 }
 
-/// The player whom the word behind `#` speaks of.
+/// The player that the word after `#` names.
 fn seat_named(word: &[u8]) -> Option<Seat>
     ensures { result ≡ seat_named word.now }
 {
@@ -67,7 +67,7 @@ fn seat_named(word: &[u8]) -> Option<Seat>
     }
 }
 
-/// Whether the bytes are a nickname: they are not empty, and no colon is among them.
+/// Whether the bytes are a nickname: they are not empty and have no colon.
 fn is_nick(bytes: &[u8]) -> bool
     ensures { result ≡ is_nick bytes.now }
 {

@@ -4,7 +4,7 @@ ghost use Rattle.gcg_read.specs.Racks.{rack_of};
 
 use ref_tiles::{Counts, Kind};
 
-/// The most tiles of a rack.
+/// The maximum number of tiles of a rack.
 pub const MAX_TILES: usize = 7;
 
 /// The rack that the bytes write, 1 to 7 of A to Z and `?` in any order; none for any other bytes.

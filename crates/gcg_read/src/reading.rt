@@ -13,10 +13,10 @@ use crate::records::Record;
 use std::alloc::Global;
 use text_lines::{Lines, without_mark};
 
-/// The most bytes of a record.
+/// The maximum number of bytes of a record.
 pub const MAX_BYTES: usize = 1_048_576;
 
-/// The most events of a record.
+/// The maximum number of events of a record.
 pub const MAX_EVENTS: usize = 1_000;
 
 /// An event and the nickname of its player.
@@ -29,9 +29,8 @@ struct Entry<'a> {
 /// Reads a game record, and gives its players and events, or its first fault: the first by line, and on a line
 /// the first in the order of [`Why`].
 ///
-/// A line that begins with `>` is an event. The first pragma `#player1` and the first `#player2` before it name
-/// the players; one without a nickname, or whose nickname has a colon, does not count. Every other line is read
-/// over.
+/// A line that begins with `>` is an event. The first pragma `#player1` and the first `#player2` before it name the players; one
+/// without a nickname, or whose nickname has a colon, does not count. Every other line is ignored.
 #[tactic(auto, unfolding(crate::specs::Records::record_of))]
 pub fn read(alloc: Global, bytes: &[u8]) -> Result<Record, ReadFault>
     ensures { Gives result (record_of bytes.now) }
@@ -72,8 +71,7 @@ fn take_line(alloc: Global, so_far: &mut Record, line: u32, text: &[u8]) -> Resu
     }
 }
 
-/// Reads a pragma, behind its `#`, into a record. It counts where it is the first that names its player and no
-/// event stands before it.
+/// Reads a pragma, after its `#`, into a record. It counts if it is the first that names its player and no event comes before it.
 #[tactic(auto, unfolding(crate::specs::Records::with_pragma, crate::specs::Records::players_with))]
 fn take_pragma(alloc: Global, so_far: &mut Record, line: u32, text: &[u8]) -> Result<(), ReadFault>
     ensures { Makes so_far.new result (with_pragma so_far.old line text.now) }
@@ -98,7 +96,7 @@ fn take_pragma(alloc: Global, so_far: &mut Record, line: u32, text: &[u8]) -> Re
     Ok(())
 }
 
-/// Reads an event line, behind its `>`, into a record.
+/// Reads an event line, after its `>`, into a record.
 #[tactic(auto, unfolding(crate::specs::Records::with_event))]
 fn take_event(alloc: Global, so_far: &mut Record, line: u32, text: &[u8]) -> Result<(), ReadFault>
     ensures { Makes so_far.new result (with_event so_far.old line text.now) }
@@ -114,7 +112,7 @@ fn take_event(alloc: Global, so_far: &mut Record, line: u32, text: &[u8]) -> Res
     Ok(())
 }
 
-/// The event of a line, behind its `>`, and the nickname that it names.
+/// The event of a line, after its `>`, and the nickname that it names.
 #[tactic(auto, unfolding(crate::specs::Records::entry_of))]
 fn read_entry<'a>(so_far: &Record, line: u32, text: &'a [u8]) -> Result<Entry<'a>, Why>
     ensures { IsEntry result (entry_of so_far.now line text.now) }

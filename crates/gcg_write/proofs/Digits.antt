@@ -52,7 +52,7 @@ numeral_decimal most n some small fits =
     )
     (ap Some facts.1)
 
--- digits behind no sign
+-- digits after no sign
 unsigned : (digits : List ℕ) → 0 < length digits → Each IsDigit digits → points_of digits ≡ option_map pos (numeral 6 digits)
 unsigned [] some h = absurd (omega arith)
 unsigned (d ∷ ds) some h = let low = h.0.0 in let high = h.0.1 in grind (arith, nat_tests)

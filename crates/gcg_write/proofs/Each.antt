@@ -1,4 +1,4 @@
--- A fact of each byte of a text.
+-- A fact about each byte of a text.
 use Rattle.std.proofs.Common.{ℕ, zero, suc, List, [], ◌∷◌, ◌++◌, take, drop, replicate}
 
 abbrev pub Each : {X : Type 0} → (X → Type 0) → List X → Type 0

@@ -57,7 +57,7 @@ pub record IsEvent (e : Event) : Type 0 where
   pub score : IsPoints e.score
   pub total : IsPoints e.total
 
--- ---- ink: bytes that are no blank and end no line
+-- ---- ink: bytes that are not blanks and do not end a line
 
 abbrev pub IsInk : ℕ → Type 0
 IsInk byte = 33 ≤ byte
@@ -204,7 +204,7 @@ unfolding played_of
 played_again heading rack at dir word score total c h k =
     rw (position_again at dir c.0, word_again word c.1 c.2) (scored_again heading rack (kind.Play at dir word) score total h k)
 
--- the fields of an event, behind the colon
+-- the fields of an event, after the colon
 abbrev fields_behind : Option (List ℕ) → EventKind → ℤ → ℤ → List (List ℕ)
 fields_behind rack what score total = fields_of (32 ∷ (rack_text rack ++ (kind_text what ++ 32 ∷ points_text score total)))
 
@@ -255,7 +255,7 @@ any_event heading rack kind.Challenge score total r c h k = code_event heading r
 any_event heading rack kind.Time score total r c h k = code_event heading rack kind.Time score total r c h k
 any_event heading rack (kind.LastRack tiles) score total r c h k = code_event heading rack (kind.LastRack tiles) score total r c h k
 
--- what is written behind the colon says the event
+-- what is written after the colon gives the event
 pub event_again : (heading : Heading) (e : Event) → IsEvent e
     → event_of heading (fields_of (32 ∷ (rack_text e.rack ++ event_text_of e))) ≡ Ok (event_at heading e.rack e.kind e.score e.total)
 unfolding event_text_of
@@ -334,7 +334,7 @@ event_read heading (a ∷ b ∷ c ∷ d ∷ f ∷ []) e is =
     played_read heading (Some one.0) b c d f e (rack_read a one.0 (given (rack_of a) why.Rack one.0 one.1.0)) one.1.1
 event_read heading (a ∷ b ∷ c ∷ d ∷ f ∷ g ∷ rest) e is = absurd cc
 
--- ---- what holds of ink and of blanks holds of the parts of an event line
+-- ---- what holds for ink and for blanks holds for the parts of an event line
 
 ink_each : (p : ℕ → Bool) → ((byte : ℕ) → IsInk byte → Fails p byte) → (bytes : List ℕ) → Each IsInk bytes → Each (Fails p) bytes
 ink_each p ink bytes h = each_weaken IsInk (Fails p) bytes ink h

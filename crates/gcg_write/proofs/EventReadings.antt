@@ -97,7 +97,7 @@ event_line_again players done n e h own room =
     ap (with_event so_far n) (tail_is nick (rack_text e.rack) (event_text_of e))
     ∙ rw (entry_again players done n e h own room, seated_again players e.player nick own.1) refl
 
--- the lines of events, and an empty one behind them
+-- the lines of events, and an empty one after them
 pub events_again : (players : Players) (done events : List Event) (n : ℕ) → ArePlayers players → Each (IsOf players) events
     → length done + length events ≤ 1000
     → record_from (record { players = players; events = done }) n (map (event_line players) events ++ [] ∷ [])

@@ -1,4 +1,4 @@
--- What the outcome of a test says of its parts.
+-- What the outcome of a test says about its parts.
 use Rattle.std.proofs.Common.{◌≡◌, ℕ, ◌≤◌, Bool, true, false, not, ◌&&◌, ◌||◌, ◌⊎◌, inl, inr, nat_le, Option, Some, None, is_some, Result, Ok, Err, if◌then◌else◌, arith, refl}
 use Rattle.std.proofs.lemmas.Bool.Decides.{nat_tests}
 use Rattle.gcg_read.specs.Faults.{◌>>=◌, on_line}
@@ -32,7 +32,7 @@ pub chained : {X Y : Type 0} (f : X → Option Y) (o : Option X) (y : Y) → opt
 chained f None y e = absurd cc
 chained f (Some x) y e = (x, (refl, e))
 
--- a step that went well, and what was done with it
+-- a step that succeeded, and what was done with its result
 pub stepped : {A B E : Type 0} (r : Result A E) (f : A → Result B E) (y : B) → (r >>= f) ≡ Ok y → (x : A) × ((r ≡ Ok x) × (f x ≡ Ok y))
 stepped (Ok x) f y e = (x, (refl, e))
 stepped (Err w) f y e = absurd cc

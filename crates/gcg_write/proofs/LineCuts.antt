@@ -40,7 +40,7 @@ end_of (x ∷ xs) ys some =
     let back : suc (length (xs ++ ys)) - 1 ≡ length (xs ++ ys) = omega arith in
     ap (λ k. drop k (x ∷ (xs ++ ys))) back ∙ last_bytes x (xs ++ ys) (some_behind xs ys some) ∙ end_of xs ys some
 
--- what is behind decides how a line ends
+-- what follows decides how a line ends
 pub ends_behind : (xs ys : List ℕ) → 0 < length ys → returns (xs ++ ys) ≡ returns ys
 ends_behind xs ys some = ap (pointwise eqb (13 ∷ [])) (end_of xs ys some)
 
@@ -80,7 +80,7 @@ no_mark_lines [] h = refl
 no_mark_lines ([] ∷ lines) h = absurd h.0.leads
 no_mark_lines ((byte ∷ bytes) ∷ lines) h = no_mark byte ((bytes ++ 10 ∷ []) ++ text_of_lines lines) h.0.leads
 
--- written lines are cut again, and an empty one stands behind them
+-- written lines are cut again, and an empty one comes after them
 pub lines_again : (lines : List (List ℕ)) → Each IsLine lines → lines_of (text_of_lines lines) ≡ lines ++ [] ∷ []
 unfolding lines_in
 lines_again lines h =

@@ -19,7 +19,7 @@ use Rattle.gcg_write.proofs.Each.{Each, each_weaken}
 use Rattle.gcg_write.proofs.Splitting.{Fails, first_place, no_place}
 use Rattle.gcg_write.proofs.Parts.{take_front, drop_more}
 
--- a byte of a nickname: no blank, no LF and no colon
+-- a byte of a nickname: not a blank, an LF or a colon
 abbrev pub IsNickByte : ℕ → Type 0
 IsNickByte byte = Fails is_blank byte × Fails is_feed byte × Fails is_colon byte
 
@@ -138,7 +138,7 @@ named_lines pragma p e = rw e refl
 pub is_named : (p : Player) → is_unnamed p ≡ false → 0 < length p.nick
 is_named p e = grind (arith, nat_tests)
 
--- one line more
+-- one more line
 pub line_read : (so_far next : Record) (n : ℕ) (line : List ℕ) (rest : List (List ℕ)) → with_line so_far n line ≡ Ok next
     → record_from so_far n (line ∷ rest) ≡ record_from next (n + 1) rest
 unfolding record_from

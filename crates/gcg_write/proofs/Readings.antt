@@ -40,7 +40,7 @@ split_step : (P : ℕ → Type 0) (p : ℕ → Bool) (b : Bool) (x : ℕ) (xs : 
 split_step P p true x xs h k = (tt, k)
 split_step P p false x xs h k = onto_each P x (slice_split p xs) h k
 
--- what holds of each byte holds in each part
+-- what holds for each byte holds for each byte of each part
 split_each : (P : ℕ → Type 0) (p : ℕ → Bool) (xs : List ℕ) → Each P xs → Each (Each P) (slice_split p xs)
 split_each P p [] h = (tt, tt)
 split_each P p (x ∷ xs) h = split_step P p (p x) x xs h.0 (split_each P p xs h.1)
@@ -63,14 +63,14 @@ before_step p false x xs e h =
     let P : ℕ → Type 0 = λ k. Each (Fails p) (take k (x ∷ xs)) in
     subst P same (e, h)
 
--- nothing passes before the first that does
+-- no byte before the first that passes the test passes it
 before_each : (p : ℕ → Bool) (xs : List ℕ) → Each (Fails p) (before_first p xs)
 before_each p [] = tt
 before_each p (x ∷ xs) = before_step p (p x) x xs refl (before_each p xs)
 
 -- ---- fields
 
--- a field has a byte and no blank, and what holds of each byte of the text holds of its own
+-- a field has a byte and no blank, and what holds for each byte of the text holds for its own bytes
 abbrev IsField : (ℕ → Type 0) → List ℕ → Type 0
 IsField P field = (0 < length field) × Each (Fails is_blank) field × Each P field
 
@@ -274,7 +274,7 @@ players_named players naming next h names e =
           (new_players players naming.seat naming.nick naming.full h names apart.0)
     ]
 
--- ---- one line more
+-- ---- one more line
 
 empty_events : (events : List Event) → (length events == 0) ≡ true → events ≡ []
 empty_events [] e = refl

@@ -13,7 +13,7 @@ use Rattle.gcg_write.proofs.EventReadings.{IsOf}
 use Rattle.gcg_write.proofs.Readings.{record_read}
 use Rattle.gcg_write.proofs.Records.{IsRecord, record_again}
 
--- ---- a fact of each item, place by place
+-- ---- a fact about each item, place by place
 
 each_at : {X : Type 0} (P : X → Type 0) (xs : List X) (place : ℕ) (x : X) → Each P xs → slice_get xs place ≡ Some x → P x
 each_at P [] place x all is = absurd cc
@@ -36,7 +36,7 @@ event_rescored players a b same own =
     } in
     (event, subst (λ seat. 0 < length (player_of players seat).nick) (sym same.player) own.1)
 
--- the event of the old record at the place of one of the new
+-- the event of the old record at the place of one of the new record
 there : (xs ys : List Event) (place : ℕ) (x : Event) → length xs ≡ length ys → slice_get xs place ≡ Some x → slice_get ys place ≡ Some (get_or ys place x)
 there xs ys place x as_many is = slice_get-get_or ys place x (subst (λ n. place < n) as_many (slice_get_within xs place x is))
 

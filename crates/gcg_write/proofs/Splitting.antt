@@ -9,7 +9,7 @@ use Rattle.gcg_write.proofs.Each.{Each}
 abbrev pub Fails : (ℕ → Bool) → ℕ → Type 0
 Fails p x = p x ≡ false
 
--- where nothing passes, the text is one part
+-- if nothing passes, the text is a single part
 pub split_one : (p : ℕ → Bool) (xs : List ℕ) → Each (Fails p) xs → slice_split p xs ≡ xs ∷ []
 split_one p [] h = refl
 split_one p (x ∷ xs) h = slice_split-cons_no p x xs h.0 ∙ ap (onto_first x) (split_one p xs h.1)
@@ -38,12 +38,12 @@ pub field_one : (xs : List ℕ) → 0 < length xs → Each (Fails is_blank) xs �
 unfolding fields_of
 field_one xs some h = rw (split_one is_blank xs h, filled xs some) refl
 
--- a field and those behind the blank that ends it
+-- a field and those after the blank that ends it
 pub field_more : (xs ys : List ℕ) → 0 < length xs → Each (Fails is_blank) xs → fields_of (xs ++ 32 ∷ ys) ≡ xs ∷ fields_of ys
 unfolding fields_of
 field_more xs ys some h = rw (split_next is_blank xs 32 ys h refl, filled xs some) refl
 
--- a blank at the front is passed over
+-- a blank at the front is ignored
 pub field_behind : (ys : List ℕ) → fields_of (32 ∷ ys) ≡ fields_of ys
 unfolding fields_of
 field_behind ys = refl

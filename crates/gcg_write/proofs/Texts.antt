@@ -40,7 +40,7 @@ normal_parts r =
     ∙ ap (λ t. t ++ text_of_lines (map (event_line r.players) r.events)) (flat_map-append (λ (line : List ℕ). line ++ 10 ∷ []) one two)
     ∙ ap (λ t. text_of_lines one ++ text_of_lines two ++ t) (lines_of_events r.players r.events)
 
--- the normal form behind an output, part by part
+-- the normal form after an output, part by part
 pub normal_behind : (out : List ℕ) (r : Record)
     → out ++ normal_of r ≡ out ++ text_of_lines (player_lines (codes "#player1 ") r.players.first)
     ++ text_of_lines (player_lines (codes "#player2 ") r.players.second) ++ events_text r.players r.events

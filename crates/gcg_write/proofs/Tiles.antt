@@ -58,12 +58,12 @@ all_tiles : (bytes : List ℕ) → Each IsTileByte bytes → list_all is_tile by
 all_tiles [] h = refl
 all_tiles (byte ∷ bytes) h = rw (h.0.2, all_tiles bytes h.1) refl
 
--- ---- how many of a kind there are
+-- ---- the number of tiles of a kind
 
 abbrev is_number : ℕ → Kind → Bool
 is_number n k = eqb (number_of k) n
 
--- the tiles of a number that these bytes write
+-- the number of tiles of a kind that these bytes write
 abbrev written : ℕ → List ℕ → ℕ
 written n bytes = count_by (is_number n) (filter_map kind_of bytes)
 
@@ -112,7 +112,7 @@ tiles_step counts n h =
       | inr other ↦ let tells = other.0 in let apart = other.1 in grind (arith, nat_tests)
     ]
 
--- each kind is written as often as it is there
+-- each kind is written as often as there are tiles of it
 written_tiles : (counts : List ℕ) (n : ℕ) → n < 27 → written n (tiles_text counts) ≡ get_or counts n 0
 written_tiles counts n h =
     written_append n (letters_to counts 26) (replicate (get_or counts 26 0) 63)
@@ -134,7 +134,7 @@ rack_again counts rack =
     rw (le_true 1 (length (tiles_text counts)) rack.some, le_true (length (tiles_text counts)) 7 rack.few, all_tiles (tiles_text counts) (tiles_bytes counts))
     (ap Some (counted_tiles counts rack.kinds))
 
--- ---- how many tiles there are
+-- ---- the number of tiles
 
 total : (ℕ → ℕ) → ℕ → ℕ
 total f zero = 0

@@ -6,7 +6,7 @@ use Rattle.gcg_write.proofs.Parts.{drop_front}
 use Rattle.gcg_read.specs.Cutting.{is_blank}
 use Rattle.gcg_read.specs.Pragmas.{front_trimmed, end_trimmed, trimmed}
 
--- no more of them behind those at the front
+-- after those at the front there are none left
 front_step : (p : ℕ → Bool) (b : Bool) (x : ℕ) (xs : List ℕ) → p x ≡ b → prefix_len p (drop (prefix_len p xs) xs) ≡ 0
     → prefix_len p (drop (cond b (1 + prefix_len p xs) 0) (x ∷ xs)) ≡ 0
 front_step p true x xs e h = ap (λ k. prefix_len p (drop k (x ∷ xs))) (let same : 1 + prefix_len p xs ≡ suc (prefix_len p xs) = omega arith in same) ∙ h
@@ -34,7 +34,7 @@ prefix_le : (p : ℕ → Bool) (xs : List ℕ) → prefix_len p xs ≤ length xs
 prefix_le p [] = omega arith
 prefix_le p (x ∷ xs) = let before = prefix_le p xs in prefix_step p (p x) xs before
 
--- the other way round, a front is what is left behind
+-- reversed, a front is what is left after the rest
 reverse_take : (n : ℕ) (xs : List ℕ) → n ≤ length xs → reverse (take (length xs - n) xs) ≡ drop n (reverse xs)
 reverse_take n xs h =
     let front = take (length xs - n) xs in

@@ -13,7 +13,7 @@ use Rattle.gcg_read.specs.declared.events.EventKind.TheVariants as kind
 abbrev pub letter_text : List ℕ → ℕ → List ℕ
 letter_text counts n = replicate (slice_index counts n) (65 + n)
 
--- the tiles of so many letters from A on
+-- the tiles of the first `many` letters, from A on
 unfoldable pub letters_to : List ℕ → ℕ → List ℕ
 letters_to counts many = flat_map (letter_text counts) (range_with_len 0 many)
 

@@ -8,12 +8,12 @@ use Rattle.gcg_read.specs.Numerals.{IsPoints}
 use Rattle.gcg_read.specs.Records.{record_of}
 use Rattle.gcg_write.specs.Normal.{player_lines, normal_of}
 
--- the same events on lines one below the other, the first of which has this number
+-- the same events on successive lines, the first of which has this number
 abbrev pub renumbered : ℕ → List Event → List Event
 renumbered line [] = []
 renumbered line (event ∷ events) = record event { line = line } ∷ renumbered (line + 1) events
 
--- the line of the first event in the normal form: those of the players stand above it
+-- the line of the first event in the normal form: those of the players come before it
 abbrev pub first_line : Record → ℕ
 first_line r = 1 + length (player_lines (codes "#player1 ") r.players.first) + length (player_lines (codes "#player2 ") r.players.second)
 
@@ -25,8 +25,8 @@ normal_record r = record r { events = renumbered (first_line r) r.events }
 abbrev pub EndsInNoReturn : Player → Type 0
 EndsInNoReturn player = (ends_with eqb player.nick (13 ∷ []) ≡ false) × (ends_with eqb player.full (13 ∷ []) ≡ false)
 
--- The normal form of a record that was read says the same record but for the numbers of its lines, which are those
--- of the normal form, where it is short enough to be read and no name ends in CR.
+-- The normal form of a record that was read gives the same record except for the numbers of its lines, which are those of the
+-- normal form, if it is short enough to be read and no name ends in CR.
 abbrev pub IsReadAgain : Type 0
 IsReadAgain =
     (text : List ℕ) (r : Record) → record_of text ≡ Ok r → EndsInNoReturn r.players.first → EndsInNoReturn r.players.second
@@ -42,7 +42,7 @@ pub record IsRescored (old new : Event) : Type 0 where
   pub score : IsPoints new.score
   pub total : IsPoints new.total
 
--- the same players, and the same events but for their lines, scores and totals
+-- the same players, and the same events except for their lines, scores and totals
 pub record HasOtherPoints (old new : Record) : Type 0 where
   pub players : new.players ≡ old.players
   pub as_many : length new.events ≡ length old.events
@@ -53,7 +53,7 @@ abbrev pub IsReadWithPoints : Type 0
 IsReadWithPoints =
     (text : List ℕ) (r : Record) → record_of text ≡ Ok r → (place : ℕ) (e : Event) → slice_get r.events place ≡ Some e → IsPoints e.score × IsPoints e.total
 
--- The normal form of a record that was read and then got other scores and totals says that record, in the same way.
+-- The normal form of a record that was read and then got other scores and totals gives that record, in the same way.
 abbrev pub IsRescoredReadAgain : Type 0
 IsRescoredReadAgain =
     (text : List ℕ) (old new : Record) → record_of text ≡ Ok old → HasOtherPoints old new → EndsInNoReturn new.players.first

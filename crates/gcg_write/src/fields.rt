@@ -10,7 +10,7 @@ use ref_board::{Dir, Square};
 use ref_tiles::{Counts, Kind, Letter, Symbol};
 use std::alloc::AllocError;
 
-/// Appends a byte so many times.
+/// Appends a byte the given number of times.
 fn push_times(byte: u8, times: u8, out: &mut Vec<u8>) -> Result<(), AllocError>
     ensures done { OnOk result (out.new.items ≡ out.old.items ++ replicate times byte) }
     ensures kept { IsFront out.old.items out.new.items }
@@ -42,7 +42,7 @@ pub fn push_tiles(tiles: &Counts, out: &mut Vec<u8>) -> Result<(), AllocError>
     push_times(Kind::Blank.byte(), tiles.count(Kind::Blank), out)
 }
 
-/// Appends where a play begins: row and column of one across, column and row of one down.
+/// Appends the position at which a play begins: row and column for one across, column and row for one down.
 fn push_position(at: Square, dir: Dir, out: &mut Vec<u8>) -> Result<(), AllocError>
     ensures done { OnOk result (out.new.items ≡ out.old.items ++ position_text at dir) }
     ensures kept { IsFront out.old.items out.new.items }
@@ -73,7 +73,7 @@ fn push_word(word: &[Symbol], out: &mut Vec<u8>) -> Result<(), AllocError>
     Ok(())
 }
 
-/// Appends where a play begins and its text.
+/// Appends the position at which a play begins, and its text.
 pub fn push_play(at: Square, dir: Dir, word: &[Symbol], out: &mut Vec<u8>) -> Result<(), AllocError>
     ensures done { OnOk result (out.new.items ≡ out.old.items ++ play_text at dir word.now) }
     ensures kept { IsFront out.old.items out.new.items }
@@ -83,7 +83,7 @@ pub fn push_play(at: Square, dir: Dir, word: &[Symbol], out: &mut Vec<u8>) -> Re
     push_word(word, out)
 }
 
-/// Appends a number with its sign, also where it is 0 or above.
+/// Appends a number with its sign, even if it is 0 or above.
 fn push_signed(points: Points, out: &mut Vec<u8>) -> Result<(), AllocError>
     ensures done { OnOk result (out.new.items ≡ out.old.items ++ score_text points) }
     ensures kept { IsFront out.old.items out.new.items }

@@ -10,7 +10,7 @@ use gcg_read::{Event, EventKind, Player, Players, Record};
 use ref_tiles::Counts;
 use std::alloc::AllocError;
 
-/// Appends what happened: position and word of a play, or a code.
+/// Appends what happened: the position and the word of a play, or a code.
 #[tactic(auto, unfolding(crate::specs::Fields::kind_text))]
 fn push_kind(kind: &EventKind, out: &mut Vec<u8>) -> Result<(), AllocError>
     ensures done { OnOk result (out.new.items ≡ out.old.items ++ kind_text kind.now) }
@@ -37,7 +37,7 @@ fn push_exchange(tiles: &Counts, out: &mut Vec<u8>) -> Result<(), AllocError>
     push_tiles(tiles, out)
 }
 
-/// Appends the code of an exchange of that many unknown tiles.
+/// Appends the code of an exchange of a number of unknown tiles.
 fn push_unknown(number: u8, out: &mut Vec<u8>) -> Result<(), AllocError>
     ensures done { OnOk result (out.new.items ≡ out.old.items ++ 45 ∷ decimal number) }
     ensures kept { IsFront out.old.items out.new.items }
@@ -67,7 +67,7 @@ pub fn push_event(event: &Event, out: &mut Vec<u8>) -> Result<(), AllocError>
     push_points(event.score, event.total, out)
 }
 
-/// Appends a stated rack and the blank behind it.
+/// Appends a stated rack and the blank after it.
 fn push_rack(rack: Option<Counts>, out: &mut Vec<u8>) -> Result<(), AllocError>
     ensures done { OnOk result (out.new.items ≡ out.old.items ++ rack_text rack) }
     ensures kept { IsFront out.old.items out.new.items }
@@ -79,7 +79,7 @@ fn push_rack(rack: Option<Counts>, out: &mut Vec<u8>) -> Result<(), AllocError>
     Ok(())
 }
 
-/// Appends what stands before the rack of an event: the nickname of its player between `>` and a colon.
+/// Appends what comes before the rack of an event: the nickname of its player between `>` and a colon.
 fn push_head(players: &Players, event: &Event, out: &mut Vec<u8>) -> Result<(), AllocError>
     ensures done { OnOk result (out.new.items ≡ out.old.items ++ head_text players.now event.now) }
     ensures kept { IsFront out.old.items out.new.items }
@@ -121,7 +121,7 @@ fn push_events(players: &Players, events: &[Event], out: &mut Vec<u8>) -> Result
     Ok(())
 }
 
-/// Appends a full name and the blank before it; nothing where it is empty.
+/// Appends a full name and the blank before it; nothing if it is empty.
 fn push_full(full: &[u8], out: &mut Vec<u8>) -> Result<(), AllocError>
     ensures done { OnOk result (out.new.items ≡ out.old.items ++ full_text full.now) }
     ensures kept { IsFront out.old.items out.new.items }
@@ -133,7 +133,7 @@ fn push_full(full: &[u8], out: &mut Vec<u8>) -> Result<(), AllocError>
     Ok(())
 }
 
-/// Appends the line of a player, where the player has a nickname.
+/// Appends the line of a player, if the player has a nickname.
 #[tactic(auto, unfolding(crate::specs::Normal::player_lines))]
 fn push_player(pragma: &[u8], player: &Player, out: &mut Vec<u8>) -> Result<(), AllocError>
     ensures done { OnOk result (out.new.items ≡ out.old.items ++ text_of_lines (player_lines pragma.now player.now)) }

@@ -1,4 +1,4 @@
-//! The public calls: a record, an event and a play, appended whole or not at all.
+//! The public calls: each appends a record, an event or a play as a whole, or nothing.
 ghost use Rattle.std.specs.Prelude.{◌≡◌, ◌++◌, ◌<◌, length, take, OnOk, OnErr};
 ghost use Rattle.std.specs.List.{HoldsAt};
 ghost use Rattle.gcg_write.specs.Fields.{play_text, tiles_text};
@@ -13,7 +13,7 @@ use ref_tiles::{Counts, Symbol};
 /// Memory ran out.
 pub use std::alloc::AllocError as NoMemory;
 
-/// What an append behind so many bytes came to. Where it failed, only those bytes stay.
+/// The outcome of an append to `len` bytes. If it failed, only those bytes stay.
 fn restored(written: Result<(), NoMemory>, len: usize, out: &mut Vec<u8>) -> Result<(), NoMemory>
     ensures same { result ≡ written }
     ensures written { OnOk result (out.new.items ≡ out.old.items) }
@@ -26,7 +26,7 @@ fn restored(written: Result<(), NoMemory>, len: usize, out: &mut Vec<u8>) -> Res
 }
 
 /// Appends the normal form of a record: a line for each player who has a nickname, and a line for each
-/// event. It fails only where the growth of `out` was refused, and then `out` is as it was.
+/// event. It fails only if the growth of `out` was refused, and then `out` is as it was.
 pub fn write(game: &Record, out: &mut Vec<u8>) -> Result<(), NoMemory>
     ensures written { OnOk result (out.new.items ≡ out.old.items ++ normal_of game.now) }
     ensures refused { OnErr result (out.new.items ≡ out.old.items) }
@@ -35,7 +35,7 @@ pub fn write(game: &Record, out: &mut Vec<u8>) -> Result<(), NoMemory>
     restored(push_record(game, out), len, out)
 }
 
-/// Appends the line of an event in the normal form, without an LF. It fails only where the growth of `out` was refused, and then `out` is as it was.
+/// Appends the line of an event in the normal form, without an LF. It fails only if the growth of `out` was refused, and then `out` is as it was.
 pub fn line_text(players: &Players, event: &Event, out: &mut Vec<u8>) -> Result<(), NoMemory>
     ensures written { OnOk result (out.new.items ≡ out.old.items ++ event_line players.now event.now) }
     ensures refused { OnErr result (out.new.items ≡ out.old.items) }
@@ -44,8 +44,8 @@ pub fn line_text(players: &Players, event: &Event, out: &mut Vec<u8>) -> Result<
     restored(push_line(players, event, out), len, out)
 }
 
-/// Appends what the line of event `i` says behind its rack, in the normal form: the event, its score and the
-/// total after it. It fails only where the growth of `out` was refused, and then `out` is as it was.
+/// Appends what the line of event `i` says after its rack, in the normal form: the event, its score and the
+/// total after it. It fails only if the growth of `out` was refused, and then `out` is as it was.
 pub fn event_text(game: &Record, i: usize, out: &mut Vec<u8>) -> Result<(), NoMemory>
     requires { i < length game.now.events }
     ensures written { OnOk result (HoldsAt (λ event. out.new.items ≡ out.old.items ++ event_text_of event) game.now.events i) }
@@ -56,8 +56,8 @@ pub fn event_text(game: &Record, i: usize, out: &mut Vec<u8>) -> Result<(), NoMe
     restored(push_event(&events[i], out), len, out)
 }
 
-/// Appends a play as event lines have it: the square of its first symbol, row and column of one across, column and row of
-/// one down, and behind a blank its text. It fails only where the growth of `out` was refused, and then `out` is as it was.
+/// Appends a play as event lines write it: the square of its first symbol, row and column for one across, column and row for one
+/// down, and after a blank its text. It fails only if the growth of `out` was refused, and then `out` is as it was.
 pub fn play_text(at: Square, dir: Dir, word: &[Symbol], out: &mut Vec<u8>) -> Result<(), NoMemory>
     ensures written { OnOk result (out.new.items ≡ out.old.items ++ play_text at dir word.now) }
     ensures refused { OnErr result (out.new.items ≡ out.old.items) }
@@ -66,7 +66,7 @@ pub fn play_text(at: Square, dir: Dir, word: &[Symbol], out: &mut Vec<u8>) -> Re
     restored(push_play(at, dir, word, out), len, out)
 }
 
-/// Appends tiles, A to Z and then `?` for each blank. It fails only where the growth of `out` was refused, and then `out` is
+/// Appends tiles, A to Z and then `?` for each blank. It fails only if the growth of `out` was refused, and then `out` is
 /// as it was.
 pub fn tiles_text(tiles: &Counts, out: &mut Vec<u8>) -> Result<(), NoMemory>
     ensures written { OnOk result (out.new.items ≡ out.old.items ++ tiles_text tiles.now) }

@@ -13,7 +13,7 @@ pub length-down : (f : ℕ → ℕ) (first n : ℕ) → length (down f first n) 
 length-down f first zero = refl
 length-down f first (suc n) = ap suc (length-down f first n)
 
--- what holds of each place holds of each label
+-- what holds for each place holds for each label
 pub All-down : (P : ℕ → Type 0) (f : ℕ → ℕ) (first n : ℕ) → ((i : ℕ) → first ≤ i → i < first + n → P (f i)) → All P (down f first n)
 All-down P f first zero h = λ k d below. absurd (omega arith)
 All-down P f first (suc n) h = cons (P) (f (first + n)) (down f first n) (h (first + n) (omega arith) (omega arith)) (All-down P f first n (λ i low high. h i low (omega arith)))
@@ -50,7 +50,7 @@ reverse_down f first (suc n) =
     reverse-append (f (first + n) ∷ []) (down f first n) ∙ ap (λ (x : List ℕ). x ++ f (first + n) ∷ []) (reverse_down f first n)
     ∙ sym (map_push f (range_with_len first n) (first + n)) ∙ ap (map f) (sym (range_push first n))
 
--- the labels of a stretch, backwards, are a string of what stands for words exactly where their letters are a word
+-- the labels of a stretch, backwards, are a string of a language that stands for words exactly when their letters are a word
 pub down_listed : (words : List (List ℕ)) (language : List ℕ → Bool) → StandsFor language words → (f : ℕ → ℕ) (first n : ℕ) → 0 < n
     → ((i : ℕ) → first ≤ i → i < first + n → 0 < f i) → language (down f first n) ≡ is_listed words (map letter_of (map f (range_with_len first n)))
 down_listed words language stands f first n some above =

@@ -32,7 +32,7 @@ letter_t = record { index = 19; in_range = lit< tt }
 abbrev allowed : ℕ → List Bool
 allowed square = map (λ l. list_all (is_listed four_words) (cross_words Across two_tiles square (letter_tile l))) (letter_a ∷ letter_b ∷ letter_t ∷ [])
 
--- before, between and behind the tiles, and a row below, where no tile lies beside: any letter
+-- before, between and after the tiles, and in the row below, if no tile lies beside: any letter
 letters_allowed : Agree (
     (allowed 110, false ∷ false ∷ true ∷ [])
     ∷ (allowed 112, false ∷ false ∷ false ∷ [])
@@ -50,7 +50,7 @@ sides : Agree (
 unfolding english empty_board stretches_on
 sides = refl
 
--- blanks count nothing
+-- blanks count 0
 blanks_beside : side_points english Down (with_tile empty_board 111 (Some (blank_tile letter_b))) 112 ≡ 0
 unfolding english empty_board stretches_on
 blanks_beside = refl

@@ -26,7 +26,7 @@ use Rattle.gen_cross.specs.CrossRuns.{IsRunWith}
 use Rattle.gen_cross.specs.Paths.{label_of_tile, label_on, down, labels_down}
 use Rattle.gen_cross.proofs.Backwards.{down_agree, down_parts, down_listed}
 
--- the labels behind a place, up to just before `end`, then a new one, then those before the place, down to `first`
+-- the labels after a place, up to just before `end`, then a new one, then those before the place, down to `first`
 abbrev pub path_at : List (Option Tile) → Dir → ℕ → ℕ → ℕ → ℕ → ℕ → List ℕ
 path_at board d line first place end label =
     labels_down board d line (place + 1) (end - (place + 1)) ++ label ∷ labels_down board d line first (place - first)
@@ -148,7 +148,7 @@ mask_long words language stands d board square run is there long mask letters l 
     (single words (letters_of after run) (get_or mask l.index false)
     (letters l.index (omega arith) ∙ word_listed words language stands run.dir board square run.start run.len t there.size there.on_board (there.through t))))
 
--- the same where the line and the places come by other names
+-- the same with other names for the line and the places
 pub mask_walked : (words : List (List ℕ)) (language : List ℕ → Bool) → StandsFor language words → (d : Dir) (board : List (Option Tile)) (square : ℕ) (run : Run) → run.dir ≡ other_dir d
     → IsRunWith board square run → 2 ≤ run.len → (mask : List Bool) (line place first : ℕ) → line ≡ line_of run.dir square → place ≡ place_of run.dir square → first ≡ place_of run.dir run.start
     → ((k : ℕ) → k < 26 → get_or mask k false ≡ language (path_at board run.dir line first place (first + run.len) (k + 1)))
@@ -161,7 +161,7 @@ mask_walked words language stands d board square run is there long mask line pla
     ∙ ap (λ (x : ℕ). language (path_at board run.dir (line_of run.dir square) first x (first + run.len) (k + 1))) same_place
     ∙ ap (λ (x : ℕ). language (path_at board run.dir (line_of run.dir square) x (place_of run.dir square) (x + run.len) (k + 1))) same_first)
 
--- the mask of an empty square with none
+-- the mask of an empty square without a run through it
 pub mask_short : (words : List (List ℕ)) (d : Dir) (board : List (Option Tile)) (square : ℕ) (run : Run) → run.dir ≡ other_dir d
     → IsRunWith board square run → run.len < 2 → (mask : List Bool) → ((k : ℕ) → k < 26 → get_or mask k false ≡ true)
     → IsMask words d board square mask

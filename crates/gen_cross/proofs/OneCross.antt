@@ -1,4 +1,4 @@
--- The crosses that are right for a board are the same, and they stay right from moment to moment.
+-- The crosses that are right for a board are equal, and they stay right from moment to moment.
 use Rattle.std.proofs.Common.{◌≡◌, ◌↔◌, ℕ, Bool, true, false, List, [], ◌∷◌, get_or, refl, ap, sym, ◌∙◌, ◌⊎◌, ⊎_elim, Option, Some, None, is_some, inl, inr}
 use Rattle.ref_tiles.specs.declared.tiles.Tile.{Tile}
 use Rattle.ref_tiles.specs.declared.letters.Letter.{Letter}
@@ -10,7 +10,7 @@ use Rattle.gen_cross.specs.declared.crosses.Value.{Value}
 use Rattle.gen_cross.specs.Values.{value_at, IsValue, IsRight}
 use Rattle.gen_cross.specs.Following.{Moment, AreNext, last_of, RightAreSame, KeptAreSame}
 
--- two answers to one question are the same
+-- two answers to one question are equal
 same_answer : {X : Type 0} (a b : Bool) → (a ≡ true) ↔ X → (b ≡ true) ↔ X → a ≡ b
 same_answer a b m n = same_test a b (λ yes. n.1 (m.0 yes)) (λ yes. m.1 (n.0 yes))
 

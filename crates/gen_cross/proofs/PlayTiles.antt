@@ -1,4 +1,4 @@
--- The values that the tiles of a play decide, tile by tile, and where on its line these lie.
+-- The values that depend on the tiles of a play, tile by tile, and where on its line these lie.
 use Rattle.std.proofs.Common.{◌≡◌, ℕ, ◌+◌, ◌-◌, ◌<◌, ◌≤◌, true, List, [], ◌∷◌, length, drop, get_or, refl, sym, ap, subst, ◌∙◌, arith, ◌⊎◌, ⊎_elim, inl, inr, Option}
 use Rattle.std.specs.Prelude.{Contains}
 use Rattle.std.proofs.lemmas.Bool.{cases_eq, false_from_ne_true}
@@ -24,7 +24,7 @@ use Rattle.gen_cross.specs.Changes.{crossing, DifferOn, AgreeBut, AgreeOff, AreW
 use Rattle.gen_cross.specs.declared.stretches.Stretch.{Stretch}
 use Rattle.gen_cross.proofs.Renewing.{value_on_line}
 
--- a value is that of the board after, or that of the board before on the line across the play of a tile that is to come
+-- a value is that of the board after, or that of the board before on the line across the play of a tile that is still to come
 abbrev pub IsRenewed : Rules → List (List ℕ) → Dir → List (Option Tile) → List (Option Tile) → List Placed → ℕ → Value → Type 0
 IsRenewed rules words d before after rest s v =
     IsValue rules words d after s v
@@ -106,7 +106,7 @@ other_twice : (d : Dir) → d ≡ other_dir (other_dir d)
 other_twice Across = refl
 other_twice Down = refl
 
--- a direction is across the one that is across it
+-- the direction across the direction across a direction is itself
 pub other_back : (d e : Dir) → e ≡ other_dir d → d ≡ other_dir e
 other_back d e is = other_twice d ∙ ap other_dir (sym is)
 
@@ -129,7 +129,7 @@ spans d first ps last play is_last q has =
       place_follows d q.square last (on ∙ sym on_last) (omega arith),
     )
 
--- the same of a list, by the places of its first and its last in it
+-- the same for a list, by the places of its first and its last in it
 pub spans_at : (d : Dir) (ps : List Placed) (a b : Placed) → is_play d ps ≡ true → (q : Placed) → Contains ps q
     → (line_of d q.square ≡ line_of d (get_or ps 0 a).square) × (place_of d (get_or ps 0 a).square ≤ place_of d q.square)
     × (place_of d q.square ≤ place_of d (get_or ps (length ps - 1) b).square)
@@ -140,7 +140,7 @@ spans_at d (p ∷ ps) a b play q has =
     ap (λ k. (get_or (p ∷ ps) k b).square) one ∙ last_at p ps b in
     spans d p ps (get_or (p ∷ ps) (length (p ∷ ps) - 1) b).square play end q has
 
--- a board with other contents of the squares of a play is the same off its stretch of the line
+-- a board with other contents of the squares of a play is the same outside its stretch of the line
 pub agree_off : (d : Dir) (before after : List (Option Tile)) (ps : List Placed) (stretch : Stretch) → stretch.dir ≡ other_dir d → DifferOn ps before after
     → AreWithin ps stretch → (s : ℕ) → s < 225 → AgreeOff d stretch.line stretch.first stretch.end s before after
 agree_off d before after ps stretch is_e differ within s below place p off =
@@ -155,7 +155,7 @@ agree_off d before after ps stretch is_e differ within s below place p off =
     let high = is.2 in
     off (sym found.3 ∙ is.0) (omega arith) (omega arith)))
 
--- a play has a tile, and its first lies not behind its last
+-- a play has a tile, and its first is not after its last
 pub some_tile : (d : Dir) (ps : List Placed) → is_play d ps ≡ true → 0 < length ps
 some_tile d ps play = (is_play-parts d ps play).0
 

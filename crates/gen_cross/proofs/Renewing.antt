@@ -1,5 +1,5 @@
 -- What a change of one square leaves as it was: the value of each square whose run across the play, once a tile lies there, does
--- not come beside the square that changed.
+-- not touch the square that changed.
 use Rattle.std.proofs.Common.{◌≡◌, ◌↔◌, ℕ, ◌+◌, ◌-◌, ◌<◌, ◌≤◌, true, false, List, [], ◌∷◌, length, map, get_or, All, sum_by, refl, sym, ap, subst, ◌∙◌, arith, ◌⊎◌, ⊎_elim, inl, inr, Option, Some, None, is_some}
 use Rattle.std.specs.Prelude.{Contains}
 use Rattle.std.specs.List.{range_with_len}
@@ -165,14 +165,14 @@ value_around rules words d a b square first end size_a size_b on back ahead same
       side = λ free. is.side (here ∙ free) ∙ same_beside e a b square first end size_a size_b on back ahead same rules (blank_tile letter_a);
     }
 
--- and a square with a tile has no value on either
+-- and a square with a tile has no value on either board
 value_held : (rules : Rules) (words : List (List ℕ)) (d : Dir) (a b : List (Option Tile)) (square : ℕ) → tile_at a square ≡ tile_at b square → holds a square ≡ true
     → (v : Value) → IsValue rules words d a square v → IsValue rules words d b square v
 value_held rules words d a b square here held v is =
     let none : tile_at b square ≡ None → ⊥ = λ free. both_ways (holds a square) (ap is_some here ∙ ap is_some free) held in
     record { occupied = λ h. is.occupied held; mask = λ free. absurd (none free); side = λ free. absurd (none free) }
 
--- and so it is where they have the same tiles on the whole line across the play
+-- and so it is if they have the same tiles on the whole line across the play
 pub value_on_line : (rules : Rules) (words : List (List ℕ)) (d : Dir) (a b : List (Option Tile)) (square : ℕ) → length a ≡ 225 → length b ≡ 225 → square < 225
     → ((place : ℕ) → place < 15 → tile_at a (crossing d square place) ≡ tile_at b (crossing d square place))
     → (v : Value) → IsValue rules words d a square v → IsValue rules words d b square v
@@ -185,11 +185,11 @@ value_on_line rules words d a b square size_a size_b on same v is =
     value_around rules words d a b square back.0 ahead.0 size_a size_b on back.1 ahead.1 (λ place p low high. same place p)
     (sym (ap (tile_at a) (square_at-of e square)) ∙ same k in_place ∙ ap (tile_at b) (square_at-of e square)) v is
 
--- Two boards that have the same tiles across the play through a square, but for the places of a line from `from` up to just before `to`.
--- `first` and `end` are the ends of the tiles of the second board directly before and behind these places. The square lies on
--- another line, or further away than the places beyond these ends: its run, once a tile lies there, does not come beside them.
+-- Two boards that have the same tiles across the play through a square, except for the places of a line from `from` up to just
+-- before `to`. `first` and `end` are the ends of the tiles of the second board directly before and after these places. The square
+-- lies on another line, or further away than the places beyond these ends: its run, once a tile lies there, does not touch them.
 module _ (rules : Rules) (words : List (List ℕ)) (d : Dir) (before after : List (Option Tile)) (size_before : length before ≡ 225) (size : length after ≡ 225) (line from to last first end : ℕ) (from_on : from < 15) (is_last : last + 1 ≡ to) (back : IsFirstBack (occupied_on (other_dir d) after line) from first) (ahead : IsEndOn (occupied_on (other_dir d) after line) last end) (s : ℕ) (below : s < 225) (same : AgreeOff d line from to s before after) (beyond : line_of (other_dir d) s ≡ line → (place_of (other_dir d) s + 1 < first) ⊎ (end < place_of (other_dir d) s)) where
-  -- the square itself is none of these places
+  -- the square itself is not one of these places
   outside : line_of (other_dir d) s ≡ line → from ≤ place_of (other_dir d) s → place_of (other_dir d) s < to → ⊥
   outside on low high =
       let not_after = back.not_after in
@@ -201,7 +201,7 @@ module _ (rules : Rules) (words : List (List ℕ)) (d : Dir) (before after : Lis
       let e = other_dir d in
       sym (ap (tile_at before) (square_at-of e s)) ∙ same (place_of e s) (place_below e s below) outside ∙ ap (tile_at after) (square_at-of e s)
 
-  -- a place of the line that is none of these and empty after was empty before
+  -- a place of the line that is not one of these and is empty after was empty before
   clear : line_of (other_dir d) s ≡ line → (m : ℕ) → m < 15 → (from ≤ m → m < to → ⊥) → occupied_on (other_dir d) after line m ≡ false
       → occupied_on (other_dir d) before (line_of (other_dir d) s) m ≡ false
   clear on m bound off none =
@@ -246,7 +246,7 @@ module _ (rules : Rules) (words : List (List ℕ)) (d : Dir) (before after : Lis
       (λ place p low high. same place p (apart s_back.0 s_ahead.0 s_back.1 s_ahead.1 place low high))
       same_here v is
 
--- the same where the direction, the line, the places and the ends come by other names
+-- the same with other names for the direction, the line, the places and the ends
 pub value_off : (rules : Rules) (words : List (List ℕ)) (d : Dir) (before after : List (Option Tile)) → length before ≡ 225 → length after ≡ 225
     → (e : Dir) (line from to last first end low stop : ℕ) → e ≡ other_dir d → from < 15 → last + 1 ≡ to
     → IsFirstBack (occupied_on e after line) from first → IsEndOn (occupied_on e after line) last end → low ≡ first - 1 → (end < 15 → stop ≡ end + 1) → (end ≡ 15 → stop ≡ 15)
@@ -272,8 +272,9 @@ value_off rules words d before after size_before size e line from to last first 
     (cases_lt (place_of o s + 1) first))
     v is
 
--- Two boards that have the same tiles across the play through a square, but for another square. `first` and `end` are the ends of
--- the run of the second board through that one, or of the runs beside it, across the play; `low` and `high` the places beyond them.
+-- Two boards that have the same tiles across the play through a square, except for another square. `first` and `end` are the ends
+-- of the run of the second board through that one, or of the runs beside it, across the play; `low` and `high` are the places
+-- beyond them.
 module _ (rules : Rules) (words : List (List ℕ)) (d : Dir) (before after : List (Option Tile)) (size_before : length before ≡ 225) (size : length after ≡ 225) (square : ℕ) (on : square < 225) (first end low high : ℕ) (back : IsFirstBack (occupied_on (other_dir d) after (line_of (other_dir d) square)) (place_of (other_dir d) square) first) (ahead : IsEndOn (occupied_on (other_dir d) after (line_of (other_dir d) square)) (place_of (other_dir d) square) end) (is_low : 0 < first → low ≡ first - 1) (is_high : end < 15 → high ≡ end) (s : ℕ) (below : s < 225) (same : AgreeBut d square s before after) where
   same_off : AgreeOff d (line_of (other_dir d) square) (place_of (other_dir d) square) (place_of (other_dir d) square + 1) s before after
   same_off place p off =
@@ -293,7 +294,7 @@ module _ (rules : Rules) (words : List (List ℕ)) (d : Dir) (before after : Lis
       value_beyond rules words d before after size_before size (line_of e square) (place_of e square) (place_of e square + 1) (place_of e square) first end in_place refl
       back ahead s below same_off beyond v is
 
-  -- between the ends each square but that one has a tile on both boards
+  -- between the ends each square except that one has a tile on both boards
   value_within : line_of (other_dir d) s ≡ line_of (other_dir d) square → first ≤ place_of (other_dir d) s → place_of (other_dir d) s < end → (s ≡ square → ⊥)
       → (v : Value) → IsValue rules words d before s v → IsValue rules words d after s v
   value_within on_line from upto ne v is =
@@ -333,7 +334,7 @@ module _ (rules : Rules) (words : List (List ℕ)) (d : Dir) (before after : Lis
       (λ (off_line : line_of e s ≡ line_of e square → ⊥). value_away (λ l. absurd (off_line l)) v is)
       (cases_eq (line_of e s) (line_of e square))
 
--- the same where the direction, the line, the places and the squares come by other names
+-- the same with other names for the direction, the line, the places and the squares
 pub value_stays : (rules : Rules) (words : List (List ℕ)) (d : Dir) (before after : List (Option Tile)) (square : ℕ) → length before ≡ 225 → length after ≡ 225 → square < 225
     → (e : Dir) (line place first end low high low_square high_square : ℕ) → e ≡ other_dir d → line ≡ line_of e square → place ≡ place_of e square
     → IsFirstBack (occupied_on e after line) place first → IsEndOn (occupied_on e after line) place end → (0 < first → low ≡ first - 1) → (end < 15 → high ≡ end)
@@ -355,7 +356,7 @@ value_stays rules words d before after square size_before size on e line place f
     value_kept rules words d before after size_before size square on first end low high back_o ahead_o is_low is_high s below same
     ne (λ x. not_low (x ∙ sym low_is)) (λ x. not_high (x ∙ sym high_is)) v is
 
--- a board with another content of one square differs from it on that square alone
+-- a board with another content of one square differs from it only on that square
 pub with_tile_agrees : (d : Dir) (before after : List (Option Tile)) (square : ℕ) (cell : Option Tile) → after ≡ with_tile before square cell
     → (length before ≡ length after) × ((s : ℕ) → AgreeBut d square s before after)
 with_tile_agrees d before after square cell put = (

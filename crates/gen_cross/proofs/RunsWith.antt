@@ -1,4 +1,4 @@
--- The run through an empty square, once a tile lies there, by the tiles directly before and behind the square.
+-- The run through an empty square, once a tile lies there, by the tiles directly before and after the square.
 use Rattle.std.proofs.Common.{◌≡◌, ℕ, ◌+◌, ◌-◌, ◌<◌, true, List, length, ◌⊎◌, ap, subst, ◌∙◌, arith, ⊎_elim, Option, Some, is_some}
 use Rattle.std.proofs.lemmas.Bool.{cases_eq, cases_order}
 use Rattle.ref_tiles.specs.declared.tiles.Tile.{Tile}

@@ -19,7 +19,7 @@ pub labels_more : (board : List (Option Tile)) (d : Dir) (line first place : ℕ
 unfolding labels_down
 labels_more board d line first place t h = ap (λ (x : List ℕ). x ++ t) (down_more (λ i. label_on board (square_at d line i)) first place h)
 
--- a stretch of no place has none
+-- an empty stretch has no labels
 pub labels_none : (board : List (Option Tile)) (d : Dir) (line first place : ℕ) (t : List ℕ) → place ≤ first → labels_down board d line first (place - first) ++ t ≡ t
 unfolding labels_down
 labels_none board d line first place t h =

@@ -1,4 +1,4 @@
--- The value of an empty square, with a run through it across the play and with none.
+-- The value of an empty square, with and without a run through it across the play.
 use Rattle.std.proofs.Common.{◌≡◌, ◌<◌, ◌≤◌, ℕ, true, false, List, get_or, sym, ◌∙◌, Option}
 use Rattle.std.proofs.lemmas.Bool.{both_ways}
 use Rattle.ref_tiles.specs.declared.tiles.Tile.{Tile}

@@ -20,7 +20,7 @@ pub record IsLifted (square : ℕ) (before after : List (Option Tile)) : Type 0 
   pub held : holds before square ≡ true
   pub lifted : after ≡ with_tile before square None
 
--- two boards differ on no square but those of a placement, as before and after its tiles are put or lifted
+-- two boards agree on all squares but those of a placement, as before and after its tiles are put or lifted
 pub record DifferOn (ps : List Placed) (before after : List (Option Tile)) : Type 0 where
   pub size : length before ≡ length after
   pub same : (square : ℕ) → covers ps square ≡ false → tile_at before square ≡ tile_at after square
@@ -29,12 +29,12 @@ pub record DifferOn (ps : List Placed) (before after : List (Option Tile)) : Typ
 abbrev pub crossing : Dir → ℕ → ℕ → ℕ
 crossing d square place = square_at (other_dir d) (line_of (other_dir d) square) place
 
--- two boards have the same tiles across a play through a square, but for one square
+-- two boards have the same tiles across a play through a square, except for one square
 abbrev pub AgreeBut : Dir → ℕ → ℕ → List (Option Tile) → List (Option Tile) → Type 0
 AgreeBut d changed square a b =
     (place : ℕ) → place < SIDE → (crossing d square place ≡ changed → ⊥) → tile_at a (crossing d square place) ≡ tile_at b (crossing d square place)
 
--- the same, but for the places of a line from one up to just before another
+-- the same, except for the places of a line from one up to just before another
 abbrev pub AgreeOff : Dir → ℕ → ℕ → ℕ → ℕ → List (Option Tile) → List (Option Tile) → Type 0
 AgreeOff d line first end square a b =
     (place : ℕ) → place < SIDE → (line_of (other_dir d) square ≡ line → first ≤ place → place < end → ⊥)

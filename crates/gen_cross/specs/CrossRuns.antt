@@ -1,4 +1,4 @@
--- The run through a square, once a tile lies there: the square alone, or together with the tiles before and behind it.
+-- The run through a square, once a tile lies there: only the square, or the square together with the tiles before and after it.
 use Rattle.std.specs.Prelude.{◌≡◌, ℕ, ◌+◌, ◌<◌, ◌≤◌, List, length, Option, Some}
 use Rattle.ref_tiles.specs.declared.rulebook.TheConstants.{SIDE, SQUARES}
 use Rattle.ref_tiles.specs.declared.tiles.Tile.{Tile}

@@ -1,4 +1,4 @@
--- The path of a word across a play, read backwards: the labels behind an empty square of the line, the label that is put
+-- The path of a word across a play, read backwards: the labels after an empty square of the line, the label that is put
 -- there, and the labels before it.
 use Rattle.std.specs.Prelude.{ℕ, zero, suc, ◌+◌, ◌-◌, List, [], ◌∷◌, Option, Some, None}
 use Rattle.ref_tiles.specs.declared.tiles.Tile.{Tile}
@@ -7,7 +7,7 @@ use Rattle.ref_board.specs.Lines.{square_at}
 use Rattle.ref_board.specs.Cells.{tile_at}
 use Rattle.gen_cross.specs.declared.stretches.Stretch.{Stretch}
 
--- the label of the letter that a tile shows, 1 for A to 26 for Z; 0 where there is no tile
+-- the label of the letter that a tile shows, 1 for A to 26 for Z; 0 if there is no tile
 abbrev pub label_of_tile : Option Tile → ℕ
 label_of_tile None = 0
 label_of_tile (Some tile) = tile.shown.index + 1
@@ -15,7 +15,7 @@ label_of_tile (Some tile) = tile.shown.index + 1
 abbrev pub label_on : List (Option Tile) → ℕ → ℕ
 label_on board square = label_of_tile (tile_at board square)
 
--- what a function gives at successive places, the last place first
+-- the values of a function at successive places, the last place first
 abbrev pub down : (ℕ → ℕ) → ℕ → ℕ → List ℕ
 down f first zero = []
 down f first (suc n) = f (first + n) ∷ down f first n

@@ -1,4 +1,4 @@
--- Cross values: for each direction of play and each square, the letters that may be put there and the points beside.
+-- Cross values: for each direction of play and each square, the letters that may be put there and the points beside it.
 use Rattle.std.specs.Prelude.{◌≡◌, ◌↔◌, ℕ, ◌<◌, Bool, true, false, List, All, replicate, slice_index_or, sum_by, Option, None}
 use Rattle.std.specs.List.{Contains}
 use Rattle.ref_tiles.specs.declared.rulebook.TheConstants.{SQUARES}
@@ -27,8 +27,8 @@ no_value = record { mask = replicate 26 false; side = 0 }
 abbrev pub side_points : Rules → Dir → List (Option Tile) → ℕ → ℕ
 side_points rules d board square = sum_by (old_points rules board) (cross_runs (other_dir d) board square (blank_tile letter_a))
 
--- The value of a square for a play of a direction. On an empty square it tells the letters that make listed words
--- across it, and the points beside it; on another it is nothing.
+-- The value of a square for a play of a direction. On an empty square it gives the letters that make listed words across it, and
+-- the points beside it; on any other it is nothing.
 pub record IsValue (rules : Rules) (words : List (List ℕ)) (d : Dir) (board : List (Option Tile)) (square : ℕ) (v : Value) : Type 0 where
   pub occupied : holds board square ≡ true → v ≡ no_value
   pub mask : tile_at board square ≡ None → IsMask words d board square v.mask

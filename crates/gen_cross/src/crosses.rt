@@ -1,4 +1,4 @@
-//! The cross-sets of a board: made afresh, or brought up to a play.
+//! The cross-sets of a board: computed from scratch, or updated after a play.
 ghost use Rattle.std.specs.Prelude.{◌≡◌, ℕ, List, Option};
 ghost use Rattle.ref_tiles.specs.declared.tiles.Tile.{Tile};
 ghost use Rattle.ref_board.specs.Cells.{with_tile};
@@ -17,15 +17,15 @@ use ref_tiles::{Rules, SQUARES};
 /// What a square is for a play of one direction.
 #[derive(Clone, Copy)]
 pub struct Value {
-    /// Which letters, A to Z, make a listed word across the play; none at all where the square has a tile.
+    /// Which letters, A to Z, make a listed word across the play; none if the square has a tile.
     pub mask: [bool; LETTERS],
     /// The points of the old tiles of that word.
     pub side: u16,
 }
 
-/// The cross-sets of a board: for each direction of play and each square, the letters that may be put there, and the
-/// points beside. An empty square with no tile beside it, across the direction, has all letters and no points; a square
-/// with a tile has neither.
+/// The cross-sets of a board: for each direction of play and each square, the letters that may be put there, and the points beside
+/// it. An empty square with no tile beside it, across the direction, has all letters and no points; a square with a tile has
+/// neither.
 #[derive(Clone, Copy)]
 pub struct Cross {
     across: [Value; SQUARES],
@@ -33,7 +33,7 @@ pub struct Cross {
 }
 
 impl Cross {
-    /// The cross-sets of a board, made afresh: right for the board by the list of words that the lexicon stands for. It
+    /// The cross-sets of a board, computed from scratch: right for the board by the list of words that the lexicon stands for. It
     /// takes no memory.
     pub fn scratch<L: PathLex>(rules: &Rules, board: &Board, lex: &L) -> Cross
         ensures { (words : List (List ℕ)) → StandsFor (L.language lex.now) words → IsRight rules.now words board.now result }
@@ -44,8 +44,8 @@ impl Cross {
         }
     }
 
-    /// Brings the cross-sets up to a board on which a tile was put on an empty square: where they were right for the board
-    /// before, they are right for the board after. It takes no memory.
+    /// Updates the cross-sets for a board on which a tile was put on an empty square: if they were right for the board before, they
+    /// are right for the board after. It takes no memory.
     pub fn after_put<L: PathLex>(&mut self, rules: &Rules, board: &Board, lex: &L, square: Square)
         ensures { (words : List (List ℕ)) (before : List (Option Tile)) → StandsFor (L.language lex.now) words
             → IsPut square before board.now → IsRight rules.now words before self.old → IsRight rules.now words board.now self.new }
@@ -53,8 +53,8 @@ impl Cross {
         self.renew(rules, board, lex, square);
     }
 
-    /// Brings the cross-sets up to a board from which the tile of a square was lifted: where they were right for the board
-    /// before, they are right for the board after. It takes no memory.
+    /// Updates the cross-sets for a board from which the tile of a square was lifted: if they were right for the board before, they
+    /// are right for the board after. It takes no memory.
     pub fn after_lift<L: PathLex>(&mut self, rules: &Rules, board: &Board, lex: &L, square: Square)
         ensures { (words : List (List ℕ)) (before : List (Option Tile)) → StandsFor (L.language lex.now) words
             → IsLifted square before board.now → IsRight rules.now words before self.old → IsRight rules.now words board.now self.new }
@@ -62,9 +62,9 @@ impl Cross {
         self.renew(rules, board, lex, square);
     }
 
-    /// Brings the cross-sets up to a board on which the tiles of a play were put, or from which they were lifted: where they
-    /// were right for the board before, they are right for the board after. Along the play only the squares next to its run
-    /// have their letters searched, and across it those next to the run through each of its tiles. It takes no memory.
+    /// Updates the cross-sets for a board on which the tiles of a play were put, or from which they were lifted: if they were right
+    /// for the board before, they are right for the board after. Along the play, letters are searched only for the squares next to
+    /// its run, and across it only for those next to the run through each of its tiles. It takes no memory.
     pub fn after_play<L: PathLex>(&mut self, rules: &Rules, board: &Board, lex: &L, play: &Play)
         ensures { (words : List (List ℕ)) (before : List (Option Tile)) → StandsFor (L.language lex.now) words
             → DifferOn play.now.tiles.items before board.now
@@ -76,7 +76,7 @@ impl Cross {
         }
     }
 
-    /// Renews the values that the content of one square decides.
+    /// Updates the values that depend on the content of one square.
     fn renew<L: PathLex>(&mut self, rules: &Rules, board: &Board, lex: &L, square: Square)
         ensures { (words : List (List ℕ)) (before : List (Option Tile)) (cell : Option Tile) → StandsFor (L.language lex.now) words
             → board.now ≡ with_tile before square cell
@@ -86,8 +86,8 @@ impl Cross {
         renew_beside(rules, board, lex, Dir::Down, square, &mut self.down);
     }
 
-    /// The letters, A first, that make a listed word across a play of the direction through an empty square; all 26 where no
-    /// tile lies beside it across the play, and none at all on a square with a tile.
+    /// The letters, A first, that make a listed word across a play of the direction through an empty square; all 26 if no tile lies
+    /// beside it across the play, and none on a square with a tile.
     pub fn mask(&self, dir: Dir, square: Square) -> [bool; LETTERS]
         ensures { result ≡ (value_at self.now dir square).mask }
     {

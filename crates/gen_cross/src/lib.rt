@@ -1,5 +1,5 @@
-//! Cross-sets: for each square and direction of play the letters that may be put there, and the points beside (Andrew
-//! Appel and Guy Jacobson, The World's Fastest Scrabble Program, 1988).
+//! Cross-sets: for each square and direction of play, the letters that may be put there, and the points beside it (Andrew Appel and
+//! Guy Jacobson, The World's Fastest Scrabble Program, 1988).
 #![tactic(auto)]
 
 mod crosses;

@@ -1,4 +1,4 @@
-//! The letters that make listed words across.
+//! The letters that make listed words across a play.
 ghost use Rattle.std.specs.Prelude.{◌≡◌, ℕ, List, ◌∷◌, ◌++◌, ◌+◌, ◌<◌, ◌≤◌, false, length, slice_index_or, IfSome, IfNone};
 ghost use Rattle.lex_list.specs.RotatedPaths.{StandsFor};
 ghost use Rattle.lex_file.specs.Walking.{strings, IsOpen};
@@ -12,7 +12,7 @@ use lex_file::{PathLex, Step, advance};
 use ref_board::{Board, Dir, Square};
 use ref_play::Run;
 
-/// How many letters there are.
+/// The number of letters.
 pub const LETTERS: usize = 26;
 
 /// The letters that make a listed word of the run through an empty square.
@@ -41,8 +41,8 @@ pub fn mask_of<L: PathLex>(board: &Board, lex: &L, square: Square, run: &Run) ->
     letters_between(board, lex, &before, &behind)
 }
 
-/// The letters that, put between two stretches, make a word of the lexicon. The word is read backwards, so the labels
-/// behind the letter are walked once.
+/// The letters that, put between two stretches, make a word of the lexicon. The word is read backwards, so the labels after the
+/// letter are walked once.
 fn letters_between<L: PathLex>(
     board: &Board,
     lex: &L,
@@ -113,7 +113,7 @@ fn walk_back<L: PathLex>(
     Some(step)
 }
 
-/// The label of a square's tile; 0 where it has none.
+/// The label of a square's tile; 0 if it has none.
 fn label_at(board: &Board, square: Square) -> u8
     ensures { result ≡ label_on board.now square }
 {

@@ -1,4 +1,4 @@
-//! Values that are brought up to changes of the board.
+//! Values that are updated after changes of the board.
 ghost use Rattle.std.specs.Prelude.{◌≡◌, ◌+◌, ◌<◌, ℕ, true, List, Option, length, slice_index_or};
 ghost use Rattle.ref_tiles.specs.declared.tiles.Tile.{Tile};
 ghost use Rattle.ref_board.specs.Lines.{line_of, other_dir};
@@ -15,8 +15,8 @@ use ref_board::{Board, Dir, SIDE, Square};
 use ref_play::{Placed, Play};
 use ref_tiles::{Rules, SQUARES};
 
-/// Renews, for plays of a direction, the values that the tiles of a play of this direction decide, each on its own line
-/// across the play.
+/// Updates, for plays of a direction, the values that depend on the tiles of a play of this direction, each on its own line across
+/// the play.
 fn renew_tiles<L: PathLex>(
     rules: &Rules,
     board: &Board,
@@ -36,7 +36,7 @@ fn renew_tiles<L: PathLex>(
     }
 }
 
-/// Renews the values that the tiles of a play decide: for plays along it those on each tile's own line across it, and for plays
+/// Updates the values that depend on the tiles of a play: for plays along it those on each tile's own line across it, and for plays
 /// across it those on its line.
 pub fn renew_play<L: PathLex>(
     rules: &Rules,
@@ -76,8 +76,8 @@ fn stretch_of(dir: Dir, tiles: &[Placed]) -> Stretch
     }
 }
 
-/// Renews, for plays of a direction, the values that the contents of a stretch across it decide: those of the stretch, of
-/// the runs that begin or end in it, and of the places next to these.
+/// Updates, for plays of a direction, the values that depend on the contents of a stretch across it: those of the stretch, of the
+/// runs that begin or end in it, and of the places next to these.
 fn renew_stretch<L: PathLex>(
     rules: &Rules,
     board: &Board,
@@ -106,9 +106,9 @@ fn renew_stretch<L: PathLex>(
     }
 }
 
-/// Renews, for plays of a direction, the values that the content of one square decides. They lie on the line across the
-/// play through the square: its own value, and those of the places next to the run through it, or to the runs beside it
-/// where it is empty. At the edge of the board the last place stands for the one beyond it.
+/// Updates, for plays of a direction, the values that depend on the content of one square. They lie on the line across the play
+/// through the square: its own value, and those of the places next to the run through it, or to the runs beside it if it is empty.
+/// At the edge of the board the last place is used instead of the one beyond it.
 pub fn renew_beside<L: PathLex>(
     rules: &Rules,
     board: &Board,
@@ -150,7 +150,7 @@ pub fn renew_beside<L: PathLex>(
     );
 }
 
-/// Renews the value of one square for plays of a direction, and no other.
+/// Updates the value of one square for plays of a direction, and no other.
 fn renew_value<L: PathLex>(
     rules: &Rules,
     board: &Board,

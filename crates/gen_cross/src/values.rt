@@ -13,7 +13,7 @@ use ref_board::{Board, Dir, SIDE, Square};
 use ref_play::{Run, along, points_on};
 use ref_tiles::Rules;
 
-/// What an occupied square has: no letter and no points.
+/// The value of an occupied square: no letter and no points.
 pub fn nothing() -> Value
     ensures { result ≡ no_value }
 {
@@ -23,8 +23,7 @@ pub fn nothing() -> Value
     }
 }
 
-/// The value of one square for plays of a direction. Only where a tile lies beside the square, across the direction, is
-/// the lexicon walked.
+/// The value of one square for plays of a direction. The lexicon is walked only if a tile lies beside the square, across the direction.
 pub fn value_of<L: PathLex>(
     rules: &Rules,
     board: &Board,

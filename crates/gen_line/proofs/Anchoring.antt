@@ -29,7 +29,7 @@ zeros-more : (m n : ℕ) → zeros (m + n) ≡ zeros m ++ zeros n
 zeros-more zero n = let same : 0 + n ≡ n = omega arith in ap zeros same
 zeros-more (suc m) n = let same : suc m + n ≡ suc (m + n) = omega arith in ap zeros same ∙ ap (λ zs. 0 ∷ zs) (zeros-more m n)
 
--- ---- to the right, behind what is written
+-- ---- to the right, after what is written
 
 right-written : (xs : List ℕ) (place : ℕ) (os : List ℕ) → place ≡ length xs → finish_right place (xs ++ zeros (length os)) os ≡ xs ++ os
 unfolding finish_right

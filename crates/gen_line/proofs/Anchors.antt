@@ -13,7 +13,7 @@ use Rattle.gen_line.proofs.Walks.{map-join, join-same}
 use Rattle.gen_line.proofs.LeftWalks.{length-left_of}
 use Rattle.gen_line.proofs.Anchoring.{walk_written}
 
--- ---- how long what is given is
+-- ---- the length of what is given
 
 every-append : {X : Type 0} (P : X → Type 0) (xs ys : List X) → Every P xs → Every P ys → Every P (xs ++ ys)
 every-append P [] ys h k = k
@@ -27,7 +27,7 @@ every-joined : {X : Type 0} (P : X → Type 0) (f : ℕ → List X) (from n : �
 every-joined P f from zero h = tt
 every-joined P f from (suc n) h = every-append P (join_range f from n) (f (from + n)) (every-joined P f from n h) (h (from + n))
 
--- each has so many entries
+-- each has this number of entries
 abbrev Sized : ℕ → List (List ℕ) → Type 0
 Sized n xs = Every (λ os. length os ≡ n) xs
 

@@ -1,4 +1,4 @@
--- The labels with which strings of a lexicon go on, each once: the entries of the labels between give nothing.
+-- The labels with which strings of a lexicon continue, each once: the entries of the labels between give nothing.
 use Rattle.std.proofs.Common.{◌≡◌, ℕ, zero, suc, ◌+◌, ◌-◌, ◌*◌, ◌<◌, ◌≤◌, Bool, true, false, ◌||◌, IsTrue, List, [], ◌∷◌, ◌++◌, Option, Some, None, slice_set, refl, sym, ap, ◌∙◌, append-nil, append_assoc, arith, ⊎_elim, if◌then◌else◌}
 use Rattle.std.specs.Prelude.{IsSome}
 use Rattle.std.specs.List.{list_all}
@@ -18,7 +18,7 @@ use Rattle.gen_line.proofs.LeftWalks.{gives_one_left-no, one_left-dead, one_left
 
 -- ---- a branch of a node
 
--- the strings behind its label
+-- the strings after its label
 pub branch_strings : {N : Type 0} (is_node : N → Type 0) (tail : N → List ℕ → Bool) (height : N → ℕ) (node : N) (label : ℕ) (accepts : Bool) (next : Option N)
     → accepts ≡ tail node (label ∷ []) → NextGives is_node tail height node label next
     → (t : List ℕ) → tail node (label ∷ t) ≡ strings tail (record { accepts = accepts; next = next }) t
@@ -31,7 +31,7 @@ pub branch_open : {N : Type 0} (is_node : N → Type 0) (tail : N → List ℕ �
 branch_open is_node tail height node label None gives = tt
 branch_open is_node tail height node label (Some n) gives = gives.node
 
--- a label with which a string begins is one
+-- a label with which a string begins is a letter or the mark
 first_label : (label : ℕ) (rest : List ℕ) → IsTrue (list_all is_label (label ∷ rest)) → label < 27
 first_label label rest all = ltb-true label 27 (and_parts (is_label label) (list_all is_label rest) all).0
 
@@ -44,7 +44,7 @@ branch_label is_node tail height node label false (Some n) labels a alive gives 
     let some = gives.some in
     first_label label (some.0 ∷ some.1) (labels (label ∷ some.0 ∷ some.1) (gives.tails some.0 some.1 ∙ some.2))
 
--- what the strings of a step are, where it goes on to a node
+-- what the strings of a step are, if it continues to a node
 pub after_step : {N : Type 0} (tail : N → List ℕ → Bool) (at : Step N) (node : N) → at.next ≡ Some node → (label : ℕ) (t : List ℕ) → after (strings tail at) label t ≡ tail node (label ∷ t)
 after_step tail at node e label t = ap (λ n. next_strings tail n (label ∷ t)) e
 
@@ -69,7 +69,7 @@ or_second : (a b : Bool) → b ≡ true → (a || b) ≡ true
 or_second true b e = refl
 or_second false b e = e
 
--- an entry that is allowed is one of its label
+-- an allowed entry is one of its label
 shows-of : (m : Open) (rack : List ℕ) (e : ℕ) → 0 < e → may m rack e ≡ true → shows m rack (label_of_entry e) ≡ true
 unfolding shows
 shows-of m rack e some allowed =
@@ -80,7 +80,7 @@ shows-of m rack e some allowed =
     or_first (may m rack (2 * label_of_entry e - 1)) (may m rack (2 * label_of_entry e)) (ap (may m rack) same ∙ allowed))
     (cases_eq e (2 * label_of_entry e))
 
--- of a label that no string goes on with, or that nothing allows
+-- for a label with which no string continues, or that nothing allows
 idle_right : (g : List ℕ → Bool) (line : List Cell) (place : ℕ) (m : Open) (tiles : Tiles) (e : ℕ) → 0 < e
     → (shows m tiles.rack (label_of_entry e) ≡ true → (t : List ℕ) → after g (label_of_entry e) t ≡ false) → gives_one_right g line place m tiles e ≡ []
 idle_right g line place m tiles e some none = by (may m tiles.rack e) refl
@@ -97,7 +97,7 @@ idle_left g line h k m tiles e some none = by (may m tiles.rack e) refl
     by true allowed = one_left-dead g line h k m tiles e (label_of_entry e) refl (none (shows-of m tiles.rack e some allowed))
     by false refused = gives_one_left-no g line h k m tiles e refused
 
--- of labels between two
+-- for labels between two
 pub skip_right : (g : List ℕ → Bool) (line : List Cell) (place : ℕ) (m : Open) (tiles : Tiles) (from to : ℕ) → 1 ≤ from → from ≤ to
     → ((label : ℕ) → from ≤ label → label < to → shows m tiles.rack label ≡ true → (t : List ℕ) → after g label t ≡ false)
     → join_range (gives_one_right g line place m tiles) 1 (2 * (to - 1)) ≡ join_range (gives_one_right g line place m tiles) 1 (2 * (from - 1))
@@ -132,7 +132,7 @@ one_left-is g next line h k m tiles e label some is goes = by (may m tiles.rack 
     by true a = one_left-goes g next line h k m tiles e label some a is goes ∙ sym (ap (λ (b : Bool). if b then gives_left next line h k (with_tile tiles k e) else []) a)
     by false a = gives_one_left-no g line h k m tiles e a ∙ sym (ap (λ (b : Bool). if b then gives_left next line h k (with_tile tiles k e) else []) a)
 
--- two entries more
+-- two more entries
 join-two : {A : Type 0} (f : ℕ → List A) (label : ℕ) (xs ys : List A) → 0 < label → f (2 * label - 1) ≡ xs → f (2 * label) ≡ ys
     → join_range f 1 (2 * (label + 1 - 1)) ≡ join_range f 1 (2 * (label - 1)) ++ (xs ++ ys)
 join-two f label xs ys some a b =
@@ -145,7 +145,7 @@ join-two f label xs ys some a b =
     ∙ ap (λ zs. (join_range f 1 n ++ zs) ++ ys) (ap f first ∙ a)
     ∙ append_assoc (join_range f 1 n) xs ys
 
--- the labels up to one that goes on, and it
+-- the labels up to one that continues, and that one
 pub more_right : (g next : List ℕ → Bool) (line : List Cell) (place : ℕ) (m : Open) (tiles : Tiles) (from label : ℕ) → 1 ≤ from → from ≤ label
     → ((between : ℕ) → from ≤ between → between < label → shows m tiles.rack between ≡ true → (t : List ℕ) → after g between t ≡ false) → ((t : List ℕ) → after g label t ≡ next t)
     → join_range (gives_one_right g line place m tiles) 1 (2 * (label + 1 - 1))
@@ -195,7 +195,7 @@ labels-front add f label from ys old mid new some few parts e h =
     (front-same add old (join_range f 1 (2 * (label + 1 - 1))) (join_range f 1 (2 * (from - 1)) ++ ys) new parts
     (front-more add old (join_range f 1 (2 * (from - 1))) ys mid new e h)))
 
--- what holds of all entries holds of a label's
+-- what holds for all entries holds for those of a label
 pub labels-every : {X : Type 0} (P : X → Type 0) (f : ℕ → List X) (label from : ℕ) (ys : List X) → 0 < label → label < 27
     → join_range f 1 (2 * (label + 1 - 1)) ≡ join_range f 1 (2 * (from - 1)) ++ ys → Every P (join_range f 1 52) → Every P ys
 labels-every P f label from ys some few parts all =

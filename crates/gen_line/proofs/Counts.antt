@@ -1,4 +1,4 @@
--- How often a list of entries stands in the lists that the walk gives: once where it fits, and else never.
+-- How often a list of entries is in the lists that the walk gives: once if it fits, otherwise never.
 use Rattle.std.proofs.Common.{◌≡◌, ◌≢◌, ℕ, zero, suc, ◌+◌, ◌<◌, ◌≤◌, Bool, true, false, ◌&&◌, ◌||◌, ◌==◌, not, nat_lt, if◌then◌else◌, List, [], ◌∷◌, ◌++◌, map, length, refl, sym, ap, ◌∙◌, arith, ⊎_elim}
 use Rattle.std.proofs.lemmas.Bool.{cases_eq, cases_Bool, cond_both, ne_eqb, eq-eqb, eqb-true, eqb-false, ltb-true, ltb-false, and_parts, and_right, false≢true}
 use Rattle.std.proofs.lemmas.List.{map-id}
@@ -26,7 +26,7 @@ tally-front_nil e (x ∷ xs) = let h = tally-front_nil e xs in omega arith
 pub tally-front : (e d : ℕ) (os : List ℕ) (xs : List (List ℕ)) → tally (same (e ∷ os)) (map (λ t. d ∷ t) xs) ≡ (if e == d then tally (same os) xs else 0)
 tally-front e d os xs = tally-map (same (e ∷ os)) (λ t. d ∷ t) xs ∙ tally-and (e == d) (same os) xs
 
--- a join of lists of which none counts
+-- a join of lists none of which counts
 pub tally-join_none : {X : Type 0} (q : X → Bool) (f : ℕ → List X) (from n : ℕ)
     → ((i : ℕ) → from ≤ i → i < from + n → tally q (f i) ≡ 0) → tally q (join_range f from n) ≡ 0
 tally-join_none q f from zero h = refl
@@ -35,7 +35,7 @@ tally-join_none q f from (suc n) h =
     ∙ (let rest = tally-join_none q f from n (λ i low high. h i low (omega arith)) in
     let last = h (from + n) (omega arith) (omega arith) in omega arith)
 
--- .. and of which one counts
+-- .. and of lists one of which counts
 pub tally-join_one : {X : Type 0} (q : X → Bool) (f : ℕ → List X) (from n at : ℕ) → from ≤ at → at < from + n
     → ((i : ℕ) → from ≤ i → i < from + n → i ≢ at → tally q (f i) ≡ 0) → tally q (join_range f from n) ≡ tally q (f at)
 tally-join_one q f from zero at low high h = absurd (omega arith)
@@ -87,7 +87,7 @@ pub tries-none : (m : Open) (rack : List ℕ) (f : ℕ → List (List ℕ)) (e :
 unfolding tries
 tries-none m rack f e os high = tally-join_none (same (e ∷ os)) (one_try m rack f) 1 52 (λ i a b. one_try-other m rack f e i os (λ s. omega arith))
 
--- an entry of the range or beyond
+-- an entry inside the range or beyond it
 pub tries-any : (m : Open) (rack : List ℕ) (f : ℕ → List (List ℕ)) (e : ℕ) (os : List ℕ) → 0 < e
     → tally (same (e ∷ os)) (tries m rack f) ≡ (if nat_lt e 53 && may m rack e then tally (same os) (f e) else 0)
 tries-any m rack f e os low =
@@ -125,7 +125,7 @@ same-true (a ∷ x) (b ∷ y) e =
 
 -- ---- to the right
 
--- the lists with an entry in front that a test allows behind it
+-- the lists with an entry in front that a test allows after it
 pub tries-each : (m : Open) (rack : List ℕ) (f : ℕ → List (List ℕ)) (e : ℕ) (os : List ℕ) (fit : Bool) → tally (same os) (f e) ≡ once fit
     → tally (same (e ∷ os)) (tries m rack f) ≡ once (not (e == 0) && ((nat_lt e 53 && may m rack e) && fit))
 tries-each m rack f e os fit each =
@@ -147,7 +147,7 @@ and_swap true b c = refl
 and_swap false true c = refl
 and_swap false false c = refl
 
--- the lists to the right are each once those that fit
+-- the lists to the right are those that fit, each once
 pub each-right : (g : List ℕ → Bool) (cs : List Cell) (rack : List ℕ) → Each (fits_right g cs rack) (right g cs rack)
 unfolding right fits_right
 each-right g [] rack [] = tally-leaf (g []) 0 [] ∙ ap once (and-true (g []))
@@ -169,7 +169,7 @@ each-right g (Free m ∷ cs) rack (e ∷ os) =
 
 -- ---- the turn
 
--- a place that ends the word on the right has no other string behind the mark
+-- a place that ends the word on the right has no other string after the mark
 ends_alone : (g : List ℕ → Bool) (cs : List Cell) (rack x : List ℕ) → ((starts_free cs && g []) && same x (zeros (length cs))) ≡ true → fits_right (longer (after g 0)) cs rack x ≡ false
 unfolding fits_right
 ends_alone g [] rack [] e = refl

@@ -1,5 +1,5 @@
--- The walk over small lines with the paths of one word, computed. A is letter 0 and T is letter 19, so that their entries
--- are 1 and 39, and 2 and 40 where a blank shows them; their labels are 1 and 20.
+-- The walk over small lines with the paths of one word, computed. A is letter 0 and T is letter 19, so their entries are 1 and 39,
+-- or 2 and 40 if a blank shows them; their labels are 1 and 20.
 use Rattle.std.proofs.Common.{◌≡◌, ℕ, ◌==◌, ◌<◌, length, nat_lt, Bool, true, false, ◌||◌, ◌&&◌, List, [], ◌∷◌, ◌++◌, replicate, get_or, refl, sym, ◌∙◌, arith, ⊎_elim}
 use Rattle.std.proofs.lemmas.Bool.{agree_below_at, or_cases, eqb-true, le-ltb, ne_eqb, false≢true, and_right}
 use Rattle.gen_line.specs.declared.cells.Cell.{Cell}
@@ -67,8 +67,8 @@ front_hook : line_moves paths_of_at old_t rack_a ≡ a_before ∷ []
 unfolding line_moves left right turn tries may less left_of
 front_hook = refl
 
--- .. by the walk that begins with the T behind that anchor, which is the first letter of what is read from the right, and finds nothing
--- where no string begins with it
+-- .. by the walk that begins with the T after that anchor, which is the first letter of what is read from the right, and finds
+-- nothing if no string begins with it
 behind_hook : behind_moves (λ string. paths_of_at (20 ∷ string)) old_t 7 rack_a 6 ≡ a_before ∷ []
 unfolding gives_behind gives_tries_left gives_one_left left right turn tries may less left_of finish_left finish_right
 behind_hook = refl
@@ -77,17 +77,17 @@ behind_other : behind_moves (λ string. paths_of_at (24 ∷ string)) old_t 7 rac
 unfolding gives_behind gives_tries_left gives_one_left left right turn tries may less left_of finish_left finish_right
 behind_other = refl
 
--- .. also a blank
+-- .. and so does a blank
 blank_hook : line_moves paths_of_at old_t rack_blank ≡ (replicate 6 0 ++ 2 ∷ replicate 8 0) ∷ []
 unfolding line_moves left right turn tries may less left_of
 blank_hook = refl
 
--- an A at the edge of the board: T goes behind it
+-- an A at the edge of the board: T goes after it
 edge_hook : line_moves paths_of_at (Old 1 ∷ anchor ∷ many 13) rack_at ≡ (0 ∷ 39 ∷ replicate 13 0) ∷ []
 unfolding line_moves left right turn tries may less left_of
 edge_hook = refl
 
--- no move where another tile would stand in front of the word, where the cross-set has no letter, and with no tile
+-- no move if another tile would be in front of the word, if the cross-set has no letter, or with an empty rack
 no_third_letter : line_moves paths_of_at (many 5 ++ Old 24 ∷ anchor ∷ Old 20 ∷ many 7) rack_at ≡ []
 unfolding line_moves left right turn tries may less left_of
 no_third_letter = refl
@@ -100,12 +100,12 @@ no_tile : line_moves paths_of_at old_t (replicate 27 0) ≡ []
 unfolding line_moves left right turn tries may less left_of
 no_tile = refl
 
--- ---- the same by the meaning of a move
+-- ---- the same, from the definition of a move
 
 abbrev is_at : List ℕ → Bool
 is_at labels = same labels (1 ∷ 20 ∷ [])
 
--- A before the T is a move: its stretch are the places 6 and 7
+-- A before the T is a move: its stretch is the places 6 and 7
 hook_is_a_move : IsMove is_at old_t rack_a a_before 6 2
 unfolding less
 hook_is_a_move = record {

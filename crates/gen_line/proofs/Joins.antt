@@ -1,5 +1,5 @@
--- Lists that have each thing of a set once: joined, mapped, and what their elements are. And the rack, where the order of
--- what is taken does not count.
+-- Lists that have each thing of a set once: joined, mapped, and what their elements are. And the rack, when the order in which
+-- tiles are taken does not matter.
 use Rattle.std.proofs.Common.{◌≡◌, ℕ, zero, suc, ◌+◌, ◌-◌, ◌<◌, ◌≤◌, Bool, true, false, ◌&&◌, ◌||◌, ◌==◌, nat_lt, if◌then◌else◌, List, [], ◌∷◌, map, length, get_or, refl, sym, ap, ◌∙◌, arith, ⊎_elim}
 use Rattle.std.proofs.lemmas.Bool.{cases_eq, cases_Bool, ne_eqb, eq-eqb, ltb-true, lt-ltb, cases_lt, and_parts, and_from, or_cases, or_left, or_right, false_from_ne_true, false≢true}
 use Rattle.std.proofs.lemmas.List.{get_or-set_same, get_or-set_other, get_or_past}
@@ -86,7 +86,7 @@ each-map f xs u w ok undone each y =
 
 -- ---- the rack
 
--- a kind that is there has a place in the rack
+-- a kind of which there is a tile has a place in the rack
 there : (rack : List ℕ) (k : ℕ) → 0 < get_or rack k 0 → k < length rack
 there rack k some =
     ⊎_elim

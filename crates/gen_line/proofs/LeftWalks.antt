@@ -1,4 +1,4 @@
--- What the walk to the left gives, cell by cell, and the turn to the right behind the mark.
+-- What the walk to the left gives, cell by cell, and the turn to the right after the mark.
 use Rattle.std.proofs.Common.{◌≡◌, ℕ, zero, suc, ◌+◌, ◌-◌, ◌<◌, ◌&&◌, Bool, true, false, List, [], ◌∷◌, ◌++◌, length, map, drop, slice_set, if◌then◌else◌, refl, sym, ap, ◌∙◌, subst, append-nil, arith}
 use Rattle.std.proofs.lemmas.List.{map-append}
 use Rattle.lex_file.specs.declared.lexicons.Step.{Step}
@@ -48,7 +48,7 @@ turn-parts g line h tiles ends e =
     ∙ ap (λ xs. xs ++ gives_right (longer (after g 0)) line (h + 1) tiles) (leaf-lines (starts_free cs && g []) (length cs) (h + 1) tiles.fresh)
     ∙ ap (λ b. gives_leaf b tiles.fresh ++ gives_right (longer (after g 0)) line (h + 1) tiles) (sym e)
 
--- behind the mark, without the empty string
+-- after the mark, without the empty string
 over_mark : {N : Type 0} (tail : N → List ℕ → Bool) (g : List ℕ → Bool) (s on : Step N) → on.accepts ≡ false → on.next ≡ s.next → ((t : List ℕ) → after g 0 t ≡ strings tail s t) → (t : List ℕ) → longer (after g 0) t ≡ strings tail on t
 over_mark tail g s on none next same [] = sym none
 over_mark tail g s on none next same (b ∷ t) = same (b ∷ t) ∙ ap (λ n. next_strings tail n (b ∷ t)) (sym next)
@@ -183,12 +183,12 @@ one_left-goes g f line h k m tiles e label some allowed same goes =
     (λ os. ap (λ y. finish_left h k y os) (put-some tiles.fresh k e some))
     ∙ left-same (after g (label_of_entry e)) f line h k (with_tile tiles k e) (subst (λ l. (t : List ℕ) → after g l t ≡ f t) same goes)
 
--- the entries, one after the other
+-- the entries, one after another
 pub tries_left-is : (g : List ℕ → Bool) (line : List Cell) (h k : ℕ) (m : Open) (tiles : Tiles) → gives_tries_left g line h k m tiles ≡ join_range (gives_one_left g line h k m tiles) 1 52
 unfolding gives_tries_left
 tries_left-is g line h k m tiles = refl
 
--- no string goes on: no entry is tried
+-- no string continues: no entry is tried
 pub tries_left-dead : (g : List ℕ → Bool) (line : List Cell) (h k : ℕ) (m : Open) (tiles : Tiles) → ((a : ℕ) (t : List ℕ) → after g a t ≡ false) → gives_tries_left g line h k m tiles ≡ []
 unfolding gives_tries_left
 tries_left-dead g line h k m tiles none =

@@ -101,7 +101,7 @@ undo h x y below size =
     ))
     (λ t. t, λ t. t)
 
--- ---- how many entries a walk has
+-- ---- the number of entries of a walk
 
 behind_zeros-size : (n : ℕ) (f : List ℕ → Bool) (size : ℕ) → ((t : List ℕ) → f t ≡ true → length t ≡ size)
     → (os : List ℕ) → behind_zeros n f os ≡ true → length os ≡ n + size

@@ -10,7 +10,7 @@ use Rattle.gen_line.specs.Model.{zeros, after, longer, may, less, starts_free}
 use Rattle.gen_line.proofs.Tests.{same, fits_right, fits_turn, behind_zeros, fits_left}
 use Rattle.gen_line.proofs.Meaning.{word, shape, rack_ok, rack_after, no_bar, at_anchor}
 
--- no tile is taken for no entries: the rack has them, and stays
+-- entries of 0 take no tile: the rack has them, and stays
 rack-zeros : (n : ℕ) (rack os : List ℕ) → same os (zeros n) ≡ true → (rack_ok rack os ≡ true) × (rack_after rack os ≡ rack)
 rack-zeros n rack [] e = (refl, refl)
 rack-zeros zero rack (d ∷ os) e = absurd (false≢true e)
@@ -23,7 +23,7 @@ rack_ok-zeros n rack os e = (rack-zeros n rack os e).0
 
 -- ---- to the right
 
--- the string, the squares and the rack, in another order
+-- the tests of the string, the squares and the rack, in another order
 shuffle : (low may_be has goes fits some : Bool) → ((low && (may_be && has)) && (goes && (fits && some))) ≡ (goes && (((low && may_be) && fits) && (has && some)))
 shuffle true true true goes fits some = refl
 shuffle true true false goes true some = sym (and_right goes false refl)
@@ -34,7 +34,7 @@ shuffle false may_be has goes fits some = sym (and_right goes false refl)
 and_none : (g a : Bool) → false ≡ (g && (false && a))
 and_none g a = sym (and_right g false refl)
 
--- where one test follows from another
+-- one test follows from another
 implied : (g a b : Bool) → (a ≡ true → b ≡ true) → (g && a) ≡ (g && (a && b))
 implied g true b h = ap (λ x. g && x) (sym (h refl))
 implied g false b h = refl

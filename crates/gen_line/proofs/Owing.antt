@@ -173,7 +173,7 @@ around line y h a b below size here_full here_ok l r =
         o)
         (cases_order j h)
 
--- new tiles lie in the stretch alone
+-- new tiles lie only in the stretch
 inside : (line : List Cell) (y : List ℕ) (h first a b i : ℕ) → Around line y h first a b → get_or y i 0 ≢ 0 → (first ≤ i) × (i < h + 1 + b)
 inside line y h first a b i s some = (
   ⊎_elim (λ (low : i < first). absurd (some (s.none_before i low))) (λ (low : first ≤ i). low) (cases_lt i first),
@@ -225,7 +225,7 @@ move_around g listed splits line rack y h first a b labelled below o s left_word
 abbrev covers_anchor : List Cell → List ℕ → ℕ → Bool
 covers_anchor line y i = not (get_or y i 0 == 0) && is_anchor_cell (cell_at line i)
 
--- none of the first k, or the first of them
+-- none of the first k passes, or one of them is the first
 abbrev FirstOf : (ℕ → Bool) → ℕ → Type 0
 FirstOf p k = (h : ℕ) × (h < k) × (p h ≡ true) × ((i : ℕ) → i < h → p i ≡ false)
 

@@ -51,7 +51,7 @@ owed_reach g listed splits line rack y h labelled below o =
       record { low = omega arith; high = omega arith; first_anchor = λ i from less. unbarred_at line y h l.0 l.1 i from less (omega arith) (cell_at line i) refl },
     )
 
--- what an anchor gives it owes
+-- an anchor owes what it gives
 pub anchor_owes : (g : List ℕ → Bool) (line : List Cell) (rack : List ℕ) (h : ℕ) → length line ≡ 15 → h < 15 → Every (λ y. owes g line rack h y ≡ true) (anchor_moves g line rack h)
 unfolding gives_anchor
 anchor_owes g line rack h size high =

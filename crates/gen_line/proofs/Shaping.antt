@@ -17,7 +17,7 @@ spelt (c ∷ cs) [] n = []
 spelt (c ∷ cs) (e ∷ ys) zero = []
 spelt (c ∷ cs) (e ∷ ys) (suc n) = label_at c e ∷ spelt cs ys n
 
--- the first len places are full, and then no new tile comes
+-- the first len places are full, and after them there is no new tile
 pub record Shaped (bar : Open → Bool) (cs : List Cell) (ys : List ℕ) (len : ℕ) : Type 0 where
   pub size : length ys ≡ length cs
   pub inside : len ≤ length cs

@@ -43,7 +43,7 @@ left_entries-at y (suc h) (suc i) j e = left_entries-at y h i j (omega arith)
 pub left_entries-past : (y : List ℕ) (h i : ℕ) → h ≤ i → get_or (left_entries y h) i 0 ≡ 0
 left_entries-past y h i past = get_or_past (left_entries y h) i 0 (let size = left_entries-size y h in omega arith)
 
--- what is told of a place to the left, and to the right
+-- what holds for a place to the left, and to the right
 pub left-at : (f : Cell → ℕ → Bool) (line : List Cell) (y : List ℕ) (h i j : ℕ) → i + j + 1 ≡ h
     → f (cell_at (left_of line h) i) (get_or (left_entries y h) i 0) ≡ f (cell_at line j) (get_or y j 0)
 left-at f line y h i j e = rw (left_of-at line h i j e, left_entries-at y h i j e)
@@ -94,7 +94,7 @@ whole_word line y m h first a b is sum inside size =
     ∙ ap (λ (c : Cell). labels line y first a ++ (label_at c (get_or y h 0) ∷ labels line y (h + 1) b)) (sym is)
     ∙ sym (labels-append line y first h (a + suc b) a (suc b) refl (sym sum))
 
--- none of them is the mark
+-- none of the labels is the mark
 label-positive : (line : List Cell) (y : List ℕ) (i : ℕ) → Labelled line → i < 15 → 0 < label_at (cell_at line i) (get_or y i 0)
 label-positive line y i l below = by (cell_at line i) refl
   where

@@ -5,7 +5,7 @@ use Rattle.std.proofs.lemmas.Bool.{cases_eq}
 use Rattle.gen_line.specs.Model.{join_range}
 use Rattle.gen_line.specs.Walk.{add_all, Front, Took, Every}
 
--- ---- what holds of all
+-- ---- what holds for all
 
 pub every-left : {X : Type 0} (P : X → Type 0) (xs ys : List X) → Every P (xs ++ ys) → Every P xs
 every-left P [] ys h = tt
@@ -26,7 +26,7 @@ every-join P f from (suc n) i h low high =
     (λ (ne : i ≡ from + n → ⊥). every-join P f from n i (every-left P (join_range f from n) (f (from + n)) h) low (omega arith))
     (cases_eq i (from + n))
 
--- ---- one list behind another
+-- ---- one list after another
 
 pub add_all-append : {I X : Type 0} (add : I → X → I) (old : I) (xs ys : List X) → add_all add old (xs ++ ys) ≡ add_all add (add_all add old xs) ys
 add_all-append add old [] ys = refl
@@ -52,7 +52,7 @@ pub took-more : {I X U E : Type 0} (add : I → X → I) (old : I) (xs ys : List
 took-more add old xs ys mid new (Ok u) e h = h ∙ ap (λ items. add_all add items ys) e ∙ sym (add_all-append add old xs ys)
 took-more add old xs ys mid new (Err why) e h = front-more add old xs ys mid new e h
 
--- where nothing was to be taken the sink has what it had
+-- if there was nothing to take, the sink has what it had
 pub nothing-took : {I X : Type 0} (add : I → X → I) (old : I) (xs : List X) → xs ≡ [] → old ≡ add_all add old xs
 nothing-took add old xs e = ap (add_all add old) (sym e)
 
@@ -84,7 +84,7 @@ front-for tell p q old xs new e h = subst (λ o. Front (tell o) old xs new) e h
 pub all-for : {P I X : Type 0} (tell : P → I → X → I) (p q : P) (old : I) (xs : List X) (new : I) → q ≡ p → new ≡ add_all (tell q) old xs → new ≡ add_all (tell p) old xs
 all-for tell p q old xs new e h = subst (λ o. new ≡ add_all (tell o) old xs) e h
 
--- ---- one list of a range behind the others
+-- ---- one list of a range after the others
 
 pub range-more : {I X : Type 0} (add : I → X → I) (f : ℕ → List X) (from n : ℕ) (old mid new : I) → mid ≡ add_all add old (join_range f from n) → new ≡ add_all add mid (f (from + n)) → new ≡ add_all add old (join_range f from (suc n))
 range-more add f from n old mid new e h =
@@ -118,7 +118,7 @@ loop-all add f e old new low high h =
     let last : e - 1 ≡ 52 = omega arith in
     subst (λ j. new ≡ add_all add old (join_range f 1 j)) last h
 
--- the first so many
+-- the first elements
 
 pub first-front : {I X : Type 0} (add : I → X → I) (f : ℕ → List X) (n m : ℕ) (old mid new : I) → m < n → mid ≡ add_all add old (join_range f 0 m) → Front add mid (f m) new → Front add old (join_range f 0 n) new
 first-front add f n m old mid new few items h =
@@ -128,7 +128,7 @@ first-front add f n m old mid new few items h =
 pub first-all : {I X : Type 0} (add : I → X → I) (f : ℕ → List X) (n m : ℕ) (old new : I) → m ≡ n → new ≡ add_all add old (join_range f 0 m) → new ≡ add_all add old (join_range f 0 n)
 first-all add f n m old new e h = subst (λ j. new ≡ add_all add old (join_range f 0 j)) e h
 
--- what changes nothing, one after another
+-- elements that change nothing, one after another
 pub all-still : {I X : Type 0} (add : I → X → I) (old : I) (P : X → Type 0) (xs : List X) → ((x : X) → P x → add old x ≡ old) → Every P xs → old ≡ add_all add old xs
 all-still add old P [] still h = refl
 all-still add old P (x ∷ xs) still h = all-still add old P xs still h.1 ∙ ap (λ items. add_all add items xs) (sym (still x h.0))

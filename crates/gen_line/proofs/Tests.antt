@@ -7,7 +7,7 @@ use Rattle.gen_line.specs.Entries.{label_of_entry}
 use Rattle.gen_line.specs.Cells.{cell_at}
 use Rattle.gen_line.specs.Model.{after, longer, may, less, zeros, starts_free, left_of}
 
--- two lists of numbers are the same
+-- whether two lists of numbers are equal
 abbrev pub same : List ℕ → List ℕ → Bool
 same [] [] = true
 same [] (b ∷ t) = false
@@ -29,7 +29,7 @@ fits_right g (Free m ∷ cs) rack (e ∷ os) =
 unfoldable pub fits_turn : (List ℕ → Bool) → List Cell → List ℕ → List ℕ → Bool
 fits_turn g cs rack os = ((starts_free cs && g []) && same os (zeros (length cs))) || fits_right (longer (after g 0)) cs rack os
 
--- behind so many places without a new tile
+-- after a number of places without a new tile
 abbrev pub behind_zeros : ℕ → (List ℕ → Bool) → List ℕ → Bool
 behind_zeros zero f os = f os
 behind_zeros (suc n) f [] = false
@@ -45,7 +45,7 @@ fits_left g (Free m ∷ ls) cs rack (e ∷ os) =
     if e == 0 then behind_zeros (length ls) (fits_turn g cs rack) os
     else (not m.anchor && (nat_lt e 53 && may m rack e)) && fits_left (after g (label_of_entry e)) ls cs (less rack e) os
 
--- each thing of the set once, and no other
+-- each thing of the set once, and no others
 abbrev pub Each : (List ℕ → Bool) → List (List ℕ) → Type 0
 Each f xs = (x : List ℕ) → tally (same x) xs ≡ once (f x)
 

@@ -164,7 +164,7 @@ and-swap true false = refl
 and-swap false true = refl
 and-swap false false = refl
 
--- an entry is allowed where the rack has its tile and the square takes its letter
+-- an entry is allowed if the rack has its tile and the square takes its letter
 may-by : (m : Open) (rack : List ℕ) (e kind : ℕ) (has : Bool) → kind ≡ kind_of_entry e → nat_lt 0 (get_or rack kind 0) ≡ has → (has && get_or m.mask (letter_of_entry e) false) ≡ may m rack e
 unfolding may
 may-by m rack e kind has same e_has =
@@ -180,8 +180,7 @@ may-nowhere m rack e kind same none =
     let no_tile : nat_lt 0 (get_or rack kind 0) ≡ false = le-ltb 0 (get_or rack kind 0) none in
     no_tile ∙ may-by m rack e kind false same no_tile
 
--- the entries, one after the other
--- a square and the rack show a letter: the square allows it, and the rack has a tile of it or a blank
+-- the entries, one after another: a square and the rack show a letter if the square allows it and the rack has a tile of it or a blank
 pub shows-letter : (m : Open) (rack : List ℕ) (label letter : ℕ) → 0 < label → label ≡ letter + 1
     → shows m rack label ≡ (get_or m.mask letter false && (nat_lt 0 (get_or rack letter 0) || nat_lt 0 (get_or rack 26 0)))
 unfolding shows may
@@ -200,7 +199,7 @@ pub tries_right-is : (g : List ℕ → Bool) (line : List Cell) (place : ℕ) (m
 unfolding gives_tries_right
 tries_right-is g line place m tiles = refl
 
--- no string goes on: no entry is tried
+-- no string continues: no entry is tried
 pub tries_right-dead : (g : List ℕ → Bool) (line : List Cell) (place : ℕ) (m : Open) (tiles : Tiles) → ((a : ℕ) (t : List ℕ) → after g a t ≡ false) → gives_tries_right g line place m tiles ≡ []
 unfolding gives_tries_right
 tries_right-dead g line place m tiles none =

@@ -1,5 +1,5 @@
--- Entries: what a walk puts on the places of a line. 0 stands for no new tile, else an entry is 1 + 2 * letter, A being 0,
--- and one more where a blank shows the letter.
+-- Entries: what a walk puts on the places of a line. 0 means no new tile; otherwise an entry is 1 + 2 * letter, with A as 0, plus
+-- one if a blank shows the letter.
 use Rattle.std.specs.Prelude.{ℕ, ◌+◌, ◌-◌, ◌/◌, ◌%◌, ◌==◌, Bool, List, [], ◌∷◌, if◌then◌else◌}
 
 -- the letter that the new tile shows, 0 to 25
@@ -18,7 +18,7 @@ is_blank_entry e = (e - 1) % 2 == 1
 abbrev pub kind_of_entry : ℕ → ℕ
 kind_of_entry e = if is_blank_entry e then 26 else letter_of_entry e
 
--- how many tiles of a kind some entries use
+-- the number of tiles of a kind that some entries use
 abbrev pub uses : ℕ → List ℕ → ℕ
 uses k [] = 0
 uses k (e ∷ os) = if e == 0 then uses k os else (if kind_of_entry e == k then 1 else 0) + uses k os

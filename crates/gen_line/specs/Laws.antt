@@ -6,7 +6,7 @@ use Rattle.gen_line.specs.declared.cells.Cell.{Cell}
 use Rattle.gen_line.specs.Moves.{IsMove, Labelled, AreSplits}
 use Rattle.gen_line.specs.Model.{line_moves}
 
--- over a lexicon of the paths of a list of words, the walk gives the moves of a line, and no other
+-- over a lexicon of the paths of a list of words, the walk gives the moves of a line, and no others
 abbrev pub GivesTheMoves : Type 0
 GivesTheMoves =
     (g listed : List ℕ → Bool) → AreSplits g listed → (line : List Cell) (rack y : List ℕ) → Labelled line

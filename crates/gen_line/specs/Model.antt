@@ -22,7 +22,7 @@ abbrev pub zeros : ℕ → List ℕ
 zeros zero = []
 zeros (suc n) = 0 ∷ zeros n
 
--- the strings of a language behind a label
+-- the strings of a language after a label
 abbrev pub after : (List ℕ → Bool) → ℕ → List ℕ → Bool
 after g a t = g (a ∷ t)
 
@@ -48,7 +48,7 @@ less rack e = slice_set rack (kind_of_entry e) (slice_index rack (kind_of_entry 
 abbrev pub one_try : Open → List ℕ → (ℕ → List (List ℕ)) → ℕ → List (List ℕ)
 one_try m rack f e = if may m rack e then map (λ os. e ∷ os) (f e) else []
 
--- one entry after the other
+-- one entry after another
 unfoldable pub tries : Open → List ℕ → (ℕ → List (List ℕ)) → List (List ℕ)
 tries m rack f = all_entries (one_try m rack f)
 
@@ -66,7 +66,7 @@ starts_free [] = true
 starts_free (Old a ∷ cs) = false
 starts_free (Free m ∷ cs) = true
 
--- the end, or the turn to the right behind the mark
+-- the end, or the turn to the right after the mark
 unfoldable pub turn : (List ℕ → Bool) → List Cell → List ℕ → List (List ℕ)
 turn g cs rack = leaf (starts_free cs && g []) (length cs) ++ right (longer (after g 0)) cs rack
 

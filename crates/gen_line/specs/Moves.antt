@@ -23,17 +23,17 @@ pub record Labelled (line : List Cell) : Type 0 where
   pub size : length line ≡ SIDE
   pub old : (i a : ℕ) → i < SIDE → cell_at line i ≡ Old a → 0 < a
 
--- labels read backwards, and others behind them
+-- labels read backwards, and others after them
 abbrev pub back : List ℕ → List ℕ → List ℕ
 back [] ys = ys
 back (x ∷ xs) ys = back xs (x ∷ ys)
 
--- labels behind a mark, where there are some
+-- labels after a mark, if there are any
 abbrev pub behind_mark : List ℕ → List ℕ
 behind_mark [] = []
 behind_mark (l ∷ ls) = 0 ∷ l ∷ ls
 
--- The paths of a word are those of its splits: a string of labels, none of them the mark, and others behind a mark,
--- are a path exactly where the labels backwards, and the rest behind them, are a word.
+-- The paths of a word are those of its splits: a string of labels other than the mark, and others after a mark, are a path exactly
+-- when the labels backwards, and the rest after them, are a word.
 abbrev pub AreSplits : (List ℕ → Bool) → (List ℕ → Bool) → Type 0
 AreSplits g listed = (ls rest : List ℕ) → 0 < length ls → All (λ l. 0 < l) ls → g (ls ++ behind_mark rest) ≡ listed (back ls rest)

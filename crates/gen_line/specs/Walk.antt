@@ -34,11 +34,11 @@ with_tile tiles place e = record { fresh = slice_set tiles.fresh place e; rack =
 abbrev pub none_put : List ℕ → Tiles
 none_put rack = record { fresh = zeros SIDE; rack = rack }
 
--- the line as it lies, where it is a move
+-- the line as it is, if it is a move
 abbrev pub gives_leaf : Bool → List ℕ → List (List ℕ)
 gives_leaf ok fresh = if ok then fresh ∷ [] else []
 
--- ---- to the right: from a place on, with one entry there, with an entry whose label the language is behind, with both entries of such a
+-- ---- to the right: from a place on, with one entry there, with an entry whose label the language is after, with both entries of such a
 -- label, and with each entry
 abbrev pub gives_right : (List ℕ → Bool) → List Cell → ℕ → Tiles → List (List ℕ)
 gives_right g line place tiles = map (finish_right place tiles.fresh) (right g (drop place line) tiles.rack)
@@ -58,7 +58,7 @@ gives_letter_right g line place m tiles label = of_label (gives_try_right g line
 unfoldable pub gives_tries_right : (List ℕ → Bool) → List Cell → ℕ → Open → Tiles → List (List ℕ)
 gives_tries_right g line place m tiles = all_entries (gives_one_right g line place m tiles)
 
--- ---- to the left of an anchor h, where k places are before what was walked: the turn to the right, and the same of a place k
+-- ---- to the left of an anchor h, if there are k places before what was walked: the turn to the right, and the same for a place k
 abbrev pub gives_turn : (List ℕ → Bool) → List Cell → ℕ → Tiles → List (List ℕ)
 gives_turn g line h tiles = map (finish_right (h + 1) tiles.fresh) (turn g (drop (h + 1) line) tiles.rack)
 
@@ -80,8 +80,9 @@ gives_letter_left g line h k m tiles label = of_label (gives_try_left g line h k
 unfoldable pub gives_tries_left : (List ℕ → Bool) → List Cell → ℕ → ℕ → Open → Tiles → List (List ℕ)
 gives_tries_left g line h k m tiles = all_entries (gives_one_left g line h k m tiles)
 
--- ---- What the walk from one place h gives, by its cell: its anchor is the first place walked. The walk turns to the right behind the place
--- `last`, which is the anchor, or the last of the old tiles right behind it where a language has what stands behind these, read backwards.
+-- ---- What the walk from one place h gives, by its cell: its anchor is the first place walked. The walk turns to the right after
+-- the place `last`, which is the anchor, or the last of the old tiles right after it if a language has what follows these, read
+-- backwards.
 abbrev pub gives_cell : (List ℕ → Bool) → List Cell → ℕ → ℕ → Tiles → Cell → List (List ℕ)
 gives_cell g line last h tiles (Old a) = []
 gives_cell g line last h tiles (Free m) = if m.anchor then gives_tries_left g line last h m tiles else []
@@ -95,7 +96,7 @@ gives_anchor g line tiles h = gives_cell g line h h tiles (cell_at line h)
 abbrev pub behind_moves : (List ℕ → Bool) → List Cell → ℕ → List ℕ → ℕ → List (List ℕ)
 behind_moves g line last rack h = gives_behind g line last (none_put rack) h
 
--- the moves of a line of which a place is the first anchor covered
+-- the moves of a line whose first covered anchor is a place
 abbrev pub anchor_moves : (List ℕ → Bool) → List Cell → List ℕ → ℕ → List (List ℕ)
 anchor_moves g line rack h = gives_anchor g line (none_put rack) h
 
@@ -111,20 +112,20 @@ pub record Front {I X : Type 0} (add : I → X → I) (old : I) (xs : List X) (n
   pub parts : xs ≡ front ++ rest
   pub items : new ≡ add_all add old front
 
--- all were added, or, where the sink refused, a front of them
+-- all were added, or, if the sink refused, a front of them
 abbrev pub Took : {I X U E : Type 0} → (I → X → I) → I → List X → I → Result U E → Type 0
 Took add old xs new (Ok u) = new ≡ add_all add old xs
 Took add old xs new (Err e) = Front add old xs new
 
--- each of some things is as a test says
+-- each of some things passes a test
 abbrev pub Every : {X : Type 0} → (X → Type 0) → List X → Type 0
 Every P [] = Unit {0}
 Every P (x ∷ xs) = P x × Every P xs
 
--- A sink may be given some moves: whoever gives them can take each for what the sink was made for.
+-- A sink may be given some moves: it can take each of them, by what it was made for.
 abbrev pub MayGive : {P S X : Type 0} → (P → X → Type 0) → (S → P) → S → List X → Type 0
 MayGive can_take made_for sink moves = Every (can_take (made_for sink)) moves
 
--- A sink was given some moves, or, where it refused, a front of them: it has what it had, with what is told of each.
+-- A sink was given some moves, or, if it refused, a front of them: it has what it had before, plus what each of them adds.
 abbrev pub Gave : {P I S X U E : Type 0} → (P → I → X → I) → (S → P) → (S → I) → S → List X → S → Result U E → Type 0
 Gave tell made_for items old moves new result = Took (tell (made_for old)) (items old) moves (items new) result

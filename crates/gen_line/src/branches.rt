@@ -1,4 +1,4 @@
-//! The mark and the letters with which the strings of a lexicon go on, one after another.
+//! The mark and the letters with which the strings of a lexicon continue, one after another.
 ghost use Rattle.std.specs.Prelude.{◌≡◌, ◌<◌, ◌≤◌, ◌+◌, ℕ, List, ◌∷◌, true, false, IfNone, IfSome};
 ghost use Rattle.lex_file.specs.Lexicons.{NoTail, IsLeft};
 ghost use Rattle.lex_file.specs.Walking.{IsOpen, strings};
@@ -8,8 +8,7 @@ use crate::cells::Open;
 use crate::tiles::Tiles;
 use lex_file::{LABELS, MARK, Onward, PathLex, Step};
 
-/// What stands behind the mark, or None where no string goes on with it. It is the first label of a node that has it, so that
-/// no other one is looked at.
+/// What follows the mark, or None if no string continues with it. It is the first label of a node that has it, so no other label is tried.
 #[inline(always)]
 pub fn pass_mark<L: PathLex>(lex: &L, at: Step<L::Node>) -> Option<Step<L::Node>>
     requires { IsOpen (L.is_node lex.now) at.next }
@@ -29,8 +28,8 @@ pub fn pass_mark<L: PathLex>(lex: &L, at: Step<L::Node>) -> Option<Step<L::Node>
     None
 }
 
-/// The first label from `from` on with which some tail of a node begins and which a square and the rack allow, what stands behind
-/// it, and what is left of the node behind that label.
+/// The first label from `from` on with which some tail of a node begins and which a square and the rack allow, what follows it, and
+/// what is left of the node after that label.
 #[inline(always)]
 pub fn next_letter<L: PathLex>(
     lex: &L,

@@ -3,7 +3,7 @@
 /// A square of a line without a tile.
 #[derive(Clone, Copy)]
 pub struct Open {
-    /// Which letters, A to Z, make listed words across the line, or none at all.
+    /// Which letters, A to Z, make listed words across the line, or no letter.
     pub mask: [bool; 26],
     /// Whether the square is an anchor.
     pub anchor: bool,

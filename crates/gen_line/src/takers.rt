@@ -5,13 +5,13 @@ ghost use Rattle.gen_line.specs.Walk.{Gave};
 use ref_board::SIDE;
 use std::alloc::AllocError as NoMemory;
 
-/// How many entries there are: none, and for each letter a tile of it and a blank that shows it.
+/// The number of entries: none, and for each letter a tile of it and a blank that shows it.
 pub const ENTRIES: u8 = 53;
 
 /// What takes the moves of a line: it makes of each what a sink keeps, and gives it to the sink.
 ///
-/// A move is an entry for each place of the line. 0 stands for no new tile, else the entry is 1 + 2 * letter, A being
-/// 0, and one more where a blank shows the letter.
+/// A move is an entry for each place of the line: 0 for no new tile, otherwise 1 + 2 * letter, with A as 0, plus one if a blank
+/// shows the letter.
 pub trait Taker<S> {
     // How the sink is seen.
     ghost Items: { Type 0 };
@@ -19,7 +19,7 @@ pub trait Taker<S> {
     // What the sink has.
     ghost items: { S → Items };
 
-    // What tells which moves the sink takes, and what it makes of them.
+    // What decides which moves the sink takes, and what it makes of them.
     ghost Purpose: { Type 0 };
 
     // What the sink was made for.
@@ -38,7 +38,7 @@ pub trait Taker<S> {
     ///
     /// # Errors
     ///
-    /// Where the sink was refused memory. It then has what it had.
+    /// Memory ran out in the sink. It then has what it had before.
     fn take(&self, fresh: &[u8; SIDE], sink: &mut S) -> Result<(), NoMemory>
         requires { can_take self.now (made_for sink.old) fresh.now }
         ensures made_for { made_for sink.new ≡ made_for sink.old }

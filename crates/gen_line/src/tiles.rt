@@ -12,12 +12,12 @@ use ref_tiles::KINDS;
 /// The kind of blanks.
 const BLANK: u8 = KINDS as u8 - 1;
 
-/// The tiles of a walk. What an entry says is told at [`crate::Taker`].
+/// The tiles of a walk. [`crate::Taker`] says what an entry means.
 #[derive(Clone, Copy)]
 pub struct Tiles {
     /// The new tiles on the places of the line.
     pub fresh: [u8; SIDE],
-    /// How many tiles of each kind are left on the rack: A to Z, and then blanks.
+    /// The number of tiles of each kind left on the rack: A to Z, and then blanks.
     pub rack: [u8; KINDS],
 }
 

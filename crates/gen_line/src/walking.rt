@@ -1,4 +1,4 @@
-//! The walk over one line from one of its anchors, or from the old tiles behind it: to the left, and then to the right.
+//! The walk over one line from one of its anchors, or from the old tiles after it: to the left, and then to the right.
 ghost use Rattle.std.specs.Prelude.{◌≡◌, ◌<◌, ◌≤◌, ◌+◌, ◌&&◌, ℕ, List, false, IsOk, drop, length};
 ghost use Rattle.ref_tiles.specs.declared.rulebook.TheConstants.{SIDE};
 ghost use Rattle.gen_line.specs.Model.{starts_free};
@@ -14,12 +14,12 @@ use ref_board::SIDE;
 use ref_tiles::KINDS;
 use std::alloc::AllocError as NoMemory;
 
-/// A walk over a line from one of its anchors: to the left, and then, behind the mark, to the right.
+/// A walk over a line from one of its anchors: to the left, and then, after the mark, to the right.
 #[derive(Drop)]
 pub struct LineWalk<'a, L, T> {
     pub lex: &'a L,
     pub line: &'a [Cell; SIDE],
-    /// The place with which the left part ends: the anchor, or the last of the old tiles right behind it.
+    /// The place with which the left part ends: the anchor, or the last of the old tiles right after it.
     pub last: usize,
     pub taker: &'a T,
     ghost size: { length line.now ≡ SIDE },
@@ -36,7 +36,7 @@ fn ends_at(line: &[Cell; SIDE], place: usize, accepts: bool) -> bool
 }
 
 impl<L: PathLex, T> LineWalk<'_, L, T> {
-    /// Gives the sink the tiles that lie on the line, where they are a move.
+    /// Gives the sink the tiles that lie on the line, if they are a move.
     #[inline(always)]
     fn offer<S>(&self, is_move: bool, tiles: &Tiles, sink: &mut S) -> Result<(), NoMemory>
     where
@@ -53,7 +53,7 @@ impl<L: PathLex, T> LineWalk<'_, L, T> {
         Ok(())
     }
 
-    /// Gives the moves that go on to the right.
+    /// Gives the moves that continue to the right.
     #[cycle(right)]
     fn right<S>(
         &self,
@@ -124,7 +124,7 @@ impl<L: PathLex, T> LineWalk<'_, L, T> {
         Ok(())
     }
 
-    /// Gives the moves with a tile here that shows the letter of a label, where the lexicon goes on so: a tile of the letter
+    /// Gives the moves with a tile here that shows the letter of a label, if the lexicon continues with it: a tile of the letter
     /// and then a blank.
     #[cycle(right)]
     #[inline(always)]
@@ -154,7 +154,7 @@ impl<L: PathLex, T> LineWalk<'_, L, T> {
         self.one_right(next, place, free, 2 * label, tiles, sink)
     }
 
-    /// Gives the moves with this new tile here, behind which the lexicon goes on so, where the square and the rack allow it.
+    /// Gives the moves with this new tile here, after which the lexicon continues, if the square and the rack allow it.
     #[cycle(right)]
     #[inline(always)]
     fn one_right<S>(
@@ -187,8 +187,7 @@ impl<L: PathLex, T> LineWalk<'_, L, T> {
         Ok(())
     }
 
-    /// Gives the moves that begin at the left end of what was walked: those that end at the anchor, and those that go on
-    /// behind the mark.
+    /// Gives the moves that begin at the left end of what was walked: those that end at the anchor, and those that continue after the mark.
     #[inline(always)]
     fn turn<S>(&self, at: Step<L::Node>, tiles: &Tiles, sink: &mut S) -> Result<(), NoMemory>
     where
@@ -215,7 +214,7 @@ impl<L: PathLex, T> LineWalk<'_, L, T> {
         }
     }
 
-    /// Gives the moves that go on to the left, where there are so many places before what was walked.
+    /// Gives the moves that continue to the left, if there are enough places before what was walked.
     #[cycle(left)]
     fn left<S>(
         &self,
@@ -292,7 +291,7 @@ impl<L: PathLex, T> LineWalk<'_, L, T> {
         Ok(())
     }
 
-    /// Gives the moves with a tile here that shows the letter of a label, where the lexicon goes on so: a tile of the letter
+    /// Gives the moves with a tile here that shows the letter of a label, if the lexicon continues with it: a tile of the letter
     /// and then a blank.
     #[cycle(left)]
     #[inline(always)]
@@ -324,7 +323,7 @@ impl<L: PathLex, T> LineWalk<'_, L, T> {
         self.one_left(next, place, free, 2 * label, tiles, sink)
     }
 
-    /// Gives the moves with this new tile here, behind which the lexicon goes on so, where the square and the rack allow it.
+    /// Gives the moves with this new tile here, after which the lexicon continues, if the square and the rack allow it.
     #[cycle(left)]
     #[inline(always)]
     fn one_left<S>(
@@ -359,8 +358,8 @@ impl<L: PathLex, T> LineWalk<'_, L, T> {
         Ok(())
     }
 
-    /// Gives the moves of which a place is the first anchor covered, where it is one. The lexicon goes on so behind the old tiles
-    /// from there to the last place of the left part.
+    /// Gives the moves whose first covered anchor is a place, if it is an anchor. The lexicon continues after the old tiles from
+    /// there to the last place of the left part.
     fn from_anchor<S>(
         &self,
         at: Step<L::Node>,
@@ -392,18 +391,18 @@ impl<L: PathLex, T> LineWalk<'_, L, T> {
     }
 }
 
-/// Gives a sink the moves of a line of which a place is the first anchor covered, each once, where the place is an anchor: the
-/// new tiles lie on free places that allow them, in one whole stretch that spells a word of the lexicon; the rack has them.
+/// Gives a sink the moves of a line whose first covered anchor is a place, each once, if the place is an anchor: the new tiles lie
+/// on free places that allow them, in one whole stretch that spells a word of the lexicon; the rack has them.
 ///
-/// Where old tiles lie right behind the place, the walk begins with them, so that it lays no tile before them that no word has
-/// there: `last` is the place of the last of them, and the lexicon goes on with `at` behind them, read backwards. Where none lie
-/// there, `last` is the place itself, and `at` is the root.
+/// If old tiles lie right after the place, the walk begins with them, so it does not lay tiles before them that no word has there:
+/// `last` is the place of the last of them, and the lexicon continues with `at` after them, read backwards. If there are none,
+/// `last` is the place itself, and `at` is the root.
 ///
 /// A rack has a number for each kind of tile: A to Z, and then blanks.
 ///
 /// # Errors
 ///
-/// Where the sink was refused memory. It then has a front of the moves.
+/// Memory ran out in the sink. It then has a front of the moves.
 pub fn walk_anchor<L: PathLex, S, T: Taker<S>>(
     lex: &L,
     at: Step<L::Node>,

@@ -1,4 +1,4 @@
--- A tile with none beside it along a line makes no run there, and scores nothing.
+-- A tile with no tile beside it along a line makes no run there, and scores nothing.
 use Rattle.std.proofs.Common.{◌≡◌, ℕ, ◌+◌, ◌-◌, ◌*◌, ◌<◌, Bool, true, false, ◌&&◌, nat_lt, List, length, sum_by, refl, ap, arith, Option, Some}
 use Rattle.std.proofs.lemmas.Bool.{lt-ltb}
 use Rattle.ref_tiles.specs.declared.tiles.Tile.{Tile}

@@ -54,7 +54,7 @@ one_word g listed splits b bs these l pos u rest those =
     ∙ sym (splits (back (b ∷ bs) (l ∷ u)) rest (omega arith) (above-back (b ∷ bs) (l ∷ u) these front))
     ∙ ap g (back-append (b ∷ bs) (l ∷ u) (behind_mark rest))
 
--- ---- to the right over old tiles, and the turn behind them
+-- ---- to the right over old tiles, and the turn after them
 right_over : (k f : List ℕ → Bool) (cs : List Cell) (rack fresh : List ℕ) (place : ℕ) → ((rest : List ℕ) → k (olds cs ++ rest) ≡ f (behind_mark rest))
     → map (finish_right place fresh) (right k cs rack) ≡ map (finish_right (place + length (olds cs)) fresh) (turn f (drop (length (olds cs)) cs) rack)
 unfolding right turn finish_right
@@ -81,7 +81,7 @@ turn_over : (k f : List ℕ → Bool) (b : ℕ) (cs : List Cell) (rack fresh : L
 unfolding turn
 turn_over k f b cs rack fresh place same = right_over (longer (after k 0)) f (Old b ∷ cs) rack fresh place same
 
--- ---- to the left: one walk turns right behind the anchor, the other behind the old tiles
+-- ---- to the left: one walk turns right after the anchor, the other after the old tiles
 drop-none : {A : Type 0} (n : ℕ) → drop {A = A} n [] ≡ []
 drop-none zero = refl
 drop-none (suc n) = refl
@@ -190,7 +190,7 @@ one_place g f line to h rack same (Old a) = refl
 one_place g f line to h rack same (Free m) =
     ap (λ (xs : List (List ℕ)). if m.anchor then xs else []) (tries_left-same g f line to h m (none_put rack) (λ a t. same a t))
 
--- the walk from behind the old tiles gives the moves of the anchor
+-- the walk from after the old tiles gives the moves of the anchor
 pub same_moves : (g f : List ℕ → Bool) (line : List Cell) (rack : List ℕ) (h : ℕ) → IsSpelt g line → h < 15
     → ((label : ℕ) (t : List ℕ) → g (back (olds (drop (h + 1) line)) (label ∷ t)) ≡ f (label ∷ t))
     → behind_moves f line (h + length (olds (drop (h + 1) line))) rack h ≡ anchor_moves g line rack h
@@ -215,7 +215,7 @@ chosen : (anchor : Bool) → (let none : List (List ℕ) = [] in if anchor then 
 chosen true = refl
 chosen false = refl
 
--- the same where the line is that of other cells, and the last of the old tiles has a place of its own
+-- the same if the line is that of other cells, and the last of the old tiles has a place of its own
 pub moves_from : (g f : List ℕ → Bool) (line cells : List Cell) (rack : List ℕ) (h last : ℕ) → line ≡ cells → IsSpelt g cells → h < 15
     → ((label : ℕ) (t : List ℕ) → g (back (olds (drop (h + 1) line)) (label ∷ t)) ≡ f (label ∷ t))
     → last ≡ h + length (olds (drop (h + 1) line)) → behind_moves f line last rack h ≡ anchor_moves g cells rack h
@@ -223,7 +223,7 @@ moves_from g f line cells rack h last is spelt below same end =
     ap (λ (n : ℕ). behind_moves f line n rack h) end ∙ same_moves g f line rack h (subst (IsSpelt g) (sym is) spelt) below same
     ∙ ap (λ (ds : List Cell). anchor_moves g ds rack h) is
 
--- where no word has the old tiles behind it, an anchor has no moves
+-- if no word has the old tiles after it, an anchor has no moves
 pub no_moves : (g : List ℕ → Bool) (line : List Cell) (rack : List ℕ) (h : ℕ) → IsSpelt g line → h < 15
     → ((label : ℕ) (t : List ℕ) → g (back (olds (drop (h + 1) line)) (label ∷ t)) ≡ false) → anchor_moves g line rack h ≡ []
 unfolding gives_behind

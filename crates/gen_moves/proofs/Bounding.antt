@@ -58,12 +58,12 @@ range_sum g h b a (suc n) le =
     let all = total-first h a n in
     omega arith
 
--- the points of a tile so many times: one point, where it has some, and what is above it
+-- the points of a tile, a number of times: one point each time, if it has some, plus what is above it
 one_above : (c p : ℕ) → c * p ≤ c * (p - (p - 1)) + c * (p - 1)
 one_above zero p = omega arith
 one_above (suc c) p = let rest = one_above c p in omega arith
 
--- the same, one of these times apart
+-- the same, with the first time apart
 one_first : (c p : ℕ) → c * p ≤ ((c - 1) * (p - (p - 1)) + (p - (p - 1))) + c * (p - 1)
 one_first zero p = omega arith
 one_first (suc c) p =
@@ -204,7 +204,7 @@ module _ (rules : Rules) (words : List (List ℕ)) (d : Dir) (board : List (Opti
       by i below None e = omega arith
       by i below (Some t) e = (known i below).cross (new_free i below t e) t
 
-  -- the play of a stretch scores no more than it adds up to
+  -- the play of a stretch scores at most what the stretch adds up to
   pub tally_le : score_of rules board (put_by d line y) ≤ tally rules places entry first len
   tally_le =
       let on = move_candidate words d board line cells is listed rack y first len tells long_words size low move few in
@@ -235,9 +235,9 @@ module _ (rules : Rules) (words : List (List ℕ)) (d : Dir) (board : List (Opti
           (λ (no_seven : (n == 7) ≡ false). rw no_seven (omega arith))
           (cases_Bool (n == 7))
 
-  -- ---- what a stretch adds up to, by the tiles of the rack alone
-  -- a factor of each place counts the points of its new tile: one of these so many times as is said, and all that are above it as often as
-  -- the greatest factor
+  -- ---- what a stretch adds up to, judged only by the tiles of the rack
+  -- a factor of each place counts the points of its new tile: one point as often as `ones` says, and all that are above it as often
+  -- as the greatest factor
   factor_up : (base factor : ℕ → ℕ) (ones : ℕ → ℕ → ℕ) (most : ℕ) → ((i points : ℕ) → factor i * points ≤ ones i (points - (points - 1)) + factor i * (points - 1))
       → ((i : ℕ) → first ≤ i → i < first + len → (places i).free ≡ true → factor i ≤ most)
       → total (λ i. base i + factor i * points_on rules (entry i)) first len ≤ total (λ i. base i + ones i (single i)) first len + most * total weight first len
@@ -275,7 +275,7 @@ module _ (rules : Rules) (words : List (List ℕ)) (d : Dir) (board : List (Opti
       let both = total-both (λ i. (places i).side) (λ i. (places i).cross * single i) first len in
       omega arith
 
-  -- one on each free place at the most
+  -- at most one on each free place
   singles_free : total single first len ≤ free_count places first len
   singles_free =
       let inside = move.whole.inside in
@@ -285,7 +285,7 @@ module _ (rules : Rules) (words : List (List ℕ)) (d : Dir) (board : List (Opti
       by i below None e = omega arith
       by i below (Some t) e = let free = ap one_if (new_free i below t e) in omega arith
 
-  -- a factor of each place, counted where a tile with points lies: by the places, and by the tiles
+  -- a factor of each place, counted if a tile with points lies there: by the places, and by the tiles
   spare_le : (f : ℕ → ℕ) (most ones : ℕ) → ((i : ℕ) → first ≤ i → i < first + len → (places i).free ≡ true → f i ≤ most) → total single first len ≤ ones
       → total (λ i. f i * single i) first len ≤ least (total f first len) (most * ones)
   spare_le f most ones below few_ones =

@@ -57,7 +57,7 @@ tiles_there y = λ j i. tile_there y i j
 abbrev pub put_from : Dir → ℕ → (ℕ → Option Tile) → ℕ → ℕ → List Placed
 put_from d line f a n = flat_map (λ i. placed_on (square_at d line i) (f i)) (range_with_len a n)
 
--- where a tile of these stands
+-- where one of these tiles is
 pub record StandsAt (d : Dir) (line : ℕ) (f : ℕ → Option Tile) (a n : ℕ) (q : Placed) : Type 0 where
   pub place : ℕ
   pub low : a ≤ place
@@ -90,7 +90,7 @@ placed_there square o t e =
     let p : Placed = record { square = square; tile = t } in
     subst (λ (u : Option Tile). Contains (placed_on square u) p) (sym e) (Contains-here p [])
 
--- a tile that the function puts down stands there
+-- a tile that the function puts down is there
 pub put_there : (d : Dir) (line : ℕ) (f : ℕ → Option Tile) (a n j : ℕ) (t : Tile) → a ≤ j → j < a + n → f j ≡ Some t
     → Contains (put_from d line f a n) (record { square = square_at d line j; tile = t })
 put_there d line f a zero j t low high e = absurd (omega arith)
@@ -146,7 +146,7 @@ tile_in-none ps square h =
     (λ (some : (q : Placed) × Contains ps q × (q.square ≡ square) × (tile_in ps square ≡ Some q.tile)). absurd (h some.0 some.1 some.2))
     (tile_in-cases ps square)
 
--- the board with a placement: its tiles, and else what was there
+-- the board with a placement: its tiles, and otherwise what was there
 abbrev pub on_top : Option Tile → Option Tile → Option Tile
 on_top None o = o
 on_top (Some t) o = Some t

@@ -1,11 +1,11 @@
--- Squares that are closed to a rack, computed. A is letter 0 and S is letter 18; a rack counts the tiles of the letters, and last its blanks.
+-- Squares that are closed to a rack, computed. A is letter 0 and S is letter 18; a rack counts the tiles of each letter, and blanks last.
 use Rattle.std.proofs.Common.{◌≡◌, ℕ, ◌==◌, Bool, true, false, List, [], ◌∷◌, ◌++◌, replicate, refl, sym, ◌∙◌, arith}
 use Rattle.std.proofs.lemmas.Bool.{agree_below_at, false≢true}
 use Rattle.gen_line.specs.declared.cells.Cell.TheVariants.{Old, Free}
 use Rattle.gen_line.specs.declared.cells.Open.{Open}
 use Rattle.gen_moves.specs.Closing.{lays, IsClosed}
 
--- a square that allows S alone
+-- a square that allows only S
 abbrev only_s : Open
 only_s = record { mask = replicate 18 false ++ true ∷ replicate 7 false; anchor = true }
 

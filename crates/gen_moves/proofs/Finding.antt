@@ -87,7 +87,7 @@ entries_again d line ps on rising =
     (range_with_len 0 15) (All-range (λ (i : ℕ). i < 15) 0 15 (λ i from upto. omega arith))
     ∙ placement_again d line ps on rising
 
--- ---- what is known of the placement
+-- ---- what is known about the placement
 record Known (words : List (List ℕ)) (d : Dir) (board : List (Option Tile)) (rack : List ℕ) (ps : List Placed) (line first len : ℕ) : Type 0 where
   size : length board ≡ 225
   below : line < 15
@@ -148,7 +148,7 @@ allowed_by (Some t) words d board rack ps line first len k cells is i below e =
     ap (λ (c : Cell). cell_ok c n) free.1
     ∙ or_right (n == 0) (nat_lt n 53 && get_or m.mask (letter_of_entry n) false) (and_from (nat_lt n 53) (get_or m.mask (letter_of_entry n) false) (lt-ltb n 53 (entry_low t)) passes)
 
--- what is known of a place of the line
+-- what is known about a place of the line
 record KnownAt (d : Dir) (board : List (Option Tile)) (line : ℕ) (cells : List Cell) (ps : List Placed) (y : List ℕ) (i : ℕ) : Type 0 where
   allowed : cell_ok (cell_at cells i) (get_or y i 0) ≡ true
   at : AtPlace board (square_at d line i) (cell_at cells i) (get_or y i 0)
@@ -167,7 +167,7 @@ known_at words d board rack ps line first len k cells is i below =
       then' = ap (λ (qs : List Placed). tile_at (with_tiles board qs) square) (sym k.again) ∙ there_then d board line y i k.size k.below below;
     }
 
--- where an entry that is not 0 comes from
+-- where an entry other than 0 comes from
 entry_from : (d : Dir) (line : ℕ) (ps : List Placed) (i : ℕ) → i < 15 → get_or (entries_of d line ps) i 0 ≢ 0 → (q : Placed) × Contains ps q × (q.square ≡ square_at d line i)
 entry_from d line ps i below some =
     let h = held (tile_in ps (square_at d line i)) (λ z. some (entry_at d line ps i below ∙ z)) in
@@ -218,7 +218,7 @@ known_move words d board rack ps line first len k cells is listed told =
       fits = λ n. let from = k.from n in let e = rack_is n in omega arith;
     }
 
--- a candidate that lies along a line in a stretch of two places or more is a move of that line, whose tiles are the candidate's
+-- a candidate that lies along a line in a stretch of at least two places is a move of that line, whose tiles are the candidate's
 pub candidate_move : (words : List (List ℕ)) (d : Dir) (board : List (Option Tile)) (rack : List ℕ) (ps : List Placed) (line first len : ℕ) → length board ≡ 225 → line < 15 → is_play d ps ≡ true
     → IsCandidate words board rack ps → LiesIn d (with_tiles board ps) ps line first len → 2 ≤ len
     → (cells : List Cell) → IsLineOf words d board line cells → (listed : List ℕ → Bool) → TellsWords listed words

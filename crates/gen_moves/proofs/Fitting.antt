@@ -1,4 +1,4 @@
--- What the moves of the lines of a board put down, and what is told of them, in one list.
+-- What the moves of the lines of a board put down, and what they give, in one list.
 use Rattle.std.proofs.Common.{◌≡◌, ℕ, zero, suc, ◌+◌, ◌<◌, ◌≤◌, Bool, true, List, [], ◌∷◌, ◌++◌, length, refl, sym, ap, ◌∙◌, subst, arith, Option, Result, Ok, Err, ◌⊎◌, ⊎_elim}
 use Rattle.std.specs.Prelude.{Contains, slice_index_or}
 use Rattle.std.specs.List.{flat_map, range_with_len}
@@ -78,12 +78,12 @@ pub moves_fit : (words : List (List ℕ)) (board : List (Option Tile)) (g listed
 moves_fit words board g listed cells s rack d line low =
     every_from (IsFitMove board d line) (line_moves g (cells d line) rack) (λ y c. move_fit words board g listed cells s rack d line low y c)
 
--- what a taker asks of each move, where it asks the same of the sink for all
+-- what a taker requires for each move, if it requires the same of the sink for all
 pub every_with : {X : Type 0} (A : Type 0) (P : X → Type 0) (xs : List X) → A → Every P xs → Every (λ x. A × P x) xs
 every_with A P [] a h = tt
 every_with A P (x ∷ xs) a h = ((a, h.0), every_with A P xs a h.1)
 
--- ---- what was taken of the entries is taken of the plays
+-- ---- what was taken for the entries is taken for the plays
 pub add_all-flat_map : {I X Y : Type 0} (add : I → X → I) (f : Y → List X) (old : I) (ys : List Y) → add_all (λ items y. add_all add items (f y)) old ys ≡ add_all add old (flat_map f ys)
 add_all-flat_map add f old [] = refl
 add_all-flat_map add f old (y ∷ ys) =
@@ -107,7 +107,7 @@ join_flat f a (suc n) =
     ap (λ xs. xs ++ f (a + n)) (join_flat f a n)
     ∙ sym (ap (flat_map f) (range_push a n) ∙ flat_map-append f (range_with_len a n) ((a + n) ∷ []) ∙ ap (λ xs. flat_map f (range_with_len a n) ++ xs) (append-nil (f (a + n))))
 
--- one line more
+-- one more line
 pub given_more : (add : List Given → Given → List Given) (f : ℕ → List Given) (n : ℕ) (old mid new : List Given) → mid ≡ add_all add old (join_range f 0 n) → new ≡ add_all add mid (f n) → new ≡ add_all add old (join_range f 0 (n + 1))
 given_more add f n old mid new e h =
     let at : 0 + n ≡ n = omega arith in

@@ -126,7 +126,7 @@ pub line_move : (words : List (List ℕ)) (board : List (Option Tile)) (g listed
 line_move words board g listed cells s rack d line low y =
     gives_the_moves g listed s.splits (cells d line) rack y (line_labelled words d board line (cells d line) (s.lines d line low))
 
--- ---- what is told of a move
+-- ---- what a move gives
 abbrev told_as : Rules → List (Option Tile) → Dir → List Placed → Given
 told_as rules board d ps = record { dir = d; tiles = ps; score = pos (score_of rules board ps) }
 
@@ -303,7 +303,7 @@ once_all rules words board g listed cells s rack =
     (same_tiles rules board Across Down t.line u.line (line_moves g (cells Across t.line) rack) (line_moves g (cells Down u.line) rack) a b t.told_by u.told_by same).0 in
     cc)
 
--- ---- what a board gives is all candidates, each once, and no other
+-- ---- what a board gives is all candidates, each once, and no others
 given_cases : (rules : Rules) (board : List (Option Tile)) (g : List ℕ → Bool) (cells : Dir → ℕ → List Cell) (rack : List ℕ) (a : Given)
     → Contains (given_by rules board g cells rack) a → (d : Dir) × GivenAlong rules board g cells rack d a
 unfolding given_by

@@ -1,4 +1,4 @@
--- Joins of lists: what is in them, what holds of each element, and that no two are equal.
+-- Joins of lists: what is in them, what holds for each element, and that no two are equal.
 use Rattle.std.proofs.Common.{◌≡◌, ◌≢◌, ℕ, suc, ◌+◌, ◌-◌, ◌<◌, ◌≤◌, Bool, true, List, [], ◌∷◌, ◌++◌, refl, sym, subst, arith, ⊎_elim}
 use Rattle.std.specs.Prelude.{Contains, All}
 use Rattle.std.specs.List.{AllPairs, list_all, flat_map, range_with_len}
@@ -25,7 +25,7 @@ in_join f (y ∷ xs) x a c h =
     (λ (s : Contains xs x). Contains-append_right (f y) (flat_map f xs) a (in_join f xs x a s h))
     (Contains-cases y xs x c)
 
--- and the other way
+-- and conversely
 pub from_join : {X A : Type 0} (f : X → List A) (xs : List X) (a : A) → Contains (flat_map f xs) a → (x : X) × Contains xs x × Contains (f x) a
 from_join f [] a c = absurd (omega (arith, c.1))
 from_join f (x ∷ xs) a c =

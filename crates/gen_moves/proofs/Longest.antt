@@ -31,7 +31,7 @@ times-up f a m (suc n) le some =
     omega arith)
     (cases_eq m (suc n))
 
--- one place more
+-- one more place
 pub sum_more : (places : ℕ → Place) (first n at : ℕ) (s more : Sum) → at ≡ first + n → IsSum places first n s
     → more.old ≡ s.old + (places at).old → more.word ≡ s.word * (places at).word → more.side ≡ s.side + (places at).side → more.free ≡ s.free + one_if (places at).free
     → more.letters ≡ s.letters + ((places at).letter - 1) → more.crosses ≡ s.crosses + (places at).cross
@@ -102,7 +102,7 @@ sum_bound bonus points ones places opens first n s bound inside sum small is rea
         (λ (few : nat_le 7 a ≡ false). rw few (omega arith))
         (cases_Bool (nat_le 7 a))
 
--- how many places of a stretch are free, from its end on
+-- the number of free places of a stretch, from its end on
 pub count_one : (places : ℕ → Place) (at : ℕ) → free_count places at 1 ≡ one_if (places at).free
 unfolding total
 count_one places at = let e : at + 0 ≡ at = omega arith in let here = ap (λ k. one_if (places k).free) e in omega arith
@@ -119,7 +119,7 @@ pub one_or_none : (b : Bool) → one_if b ≤ 1
 one_or_none true = omega arith
 one_or_none false = omega arith
 
--- a part of a stretch has no more
+-- a part of a stretch has no more than the stretch
 pub total-inside : (f : ℕ → ℕ) (first k n len : ℕ) → k + n ≤ len → total f (first + k) n ≤ total f first len
 total-inside f first zero n len le = let e : first + 0 ≡ first = omega arith in let up = total-up f first n len (omega arith) in rw e up
 total-inside f first (suc k) n len le =
@@ -131,7 +131,7 @@ total-inside f first (suc k) n len le =
     let here = ap (λ a. total f a n) e in
     omega arith
 
--- a stretch that has so many free places and one more has too many
+-- a stretch that has one more free place than allowed has too many
 pub no_reach : (places : ℕ → Place) (first at h len : ℕ) → first ≤ at → at ≤ h → h < first + len → 7 < free_count places at (h - at + 1) → free_count places first len ≤ 7 → ⊥
 no_reach places first at h len low high inside many few =
     let e : first + (at - first) ≡ at = omega arith in
@@ -139,7 +139,7 @@ no_reach places first at h len low high inside many few =
     let here = ap (λ a. free_count places a (h - at + 1)) e in
     omega arith
 
--- where the next place would be an eighth free one
+-- the next place would be an eighth free one
 pub reach_stop : (places : ℕ → Place) (first n at : ℕ) (s : Sum) → at ≡ first + n → IsSum places first n s → s.free ≡ 7 → (places at).free ≡ true → (len : ℕ) → first + len ≤ 15 → free_count places first len ≤ 7 → len ≤ n
 unfolding total
 reach_stop places first n at s is sum seven free len inside few =
@@ -152,7 +152,7 @@ reach_stop places first n at s is sum seven free len inside few =
     (λ (le : len ≤ n). le)
     (cases_lt n len)
 
--- where no tile can be laid on the next place
+-- no tile can be laid on the next place
 pub reach_closed : (opens : ℕ → Bool) (first n at : ℕ) → at ≡ first + n → opens at ≡ false → (len : ℕ) → IsPassable opens first len → len ≤ n
 reach_closed opens first n at is closed len passable =
     ⊎_elim

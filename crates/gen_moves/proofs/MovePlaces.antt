@@ -66,8 +66,7 @@ cell_entry (Free m) e some ok =
     (or_cases (e == 0) (nat_lt e 53 && get_or m.mask (letter_of_entry e) false) ok)
 
 -- ---- one place of the line, with its new tile
--- A place is full exactly where a tile lies there then, the label is that of the letter shown, and a new tile comes on
--- an empty square.
+-- A place is full exactly when a tile then lies there, the label is that of the letter shown, and a new tile is put on an empty square.
 pub record AtPlace (board : List (Option Tile)) (square : ℕ) (c : Cell) (e : ℕ) : Type 0 where
   pub filled : is_some (on_top (tile_of_entry e) (tile_at board square)) ≡ is_full c e
   pub shows : is_full c e ≡ true → capital_shown (on_top (tile_of_entry e) (tile_at board square)) ≡ label_at c e + 64
@@ -117,7 +116,7 @@ at_place words d board line cells is i e below ok = at_place_by words d board li
 abbrev pub put_by : Dir → ℕ → List ℕ → List Placed
 put_by d line y = put_from d line (λ i. tile_of_entry (get_or y i 0)) 0 15
 
--- where a tile of a line's entries stands
+-- where a tile of a line's entries is
 pub record PutAt (d : Dir) (line : ℕ) (y : List ℕ) (q : Placed) : Type 0 where
   pub place : ℕ
   pub below : place < 15
@@ -146,7 +145,7 @@ put_at d line y q low c =
       at = ap (place_of d) s.square ∙ place_of-square_at d line s.place low below;
     }
 
--- what lies on a place of the line then
+-- what then lies on a place of the line
 pub there_then : (d : Dir) (board : List (Option Tile)) (line : ℕ) (y : List ℕ) (i : ℕ) → length board ≡ 225 → line < 15 → i < 15
     → tile_at (with_tiles board (put_by d line y)) (square_at d line i) ≡ on_top (tile_of_entry (get_or y i 0)) (tile_at board (square_at d line i))
 there_then d board line y i size low below =

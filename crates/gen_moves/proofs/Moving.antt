@@ -44,7 +44,7 @@ use Rattle.gen_moves.proofs.MovePlaces.{tiled, faced-shows, cell_entry, at_place
 abbrev pub crosses_of : Dir → List (Option Tile) → List Placed → List (List ℕ)
 crosses_of d board ps = flat_map (λ (q : Placed). cross_words (other_dir d) board q.square q.tile) ps
 
--- that of the stretch, and the cross words
+-- the word of the stretch, and the cross words
 pub words_of_line : (d : Dir) (board : List (Option Tile)) (ps : List Placed) (line first len : ℕ) → length board ≡ 225 → is_play d ps ≡ true → HasNoGap (with_tiles board ps) ps
     → LiesIn d (with_tiles board ps) ps line first len → 2 ≤ len → words_formed d board ps ≡ letters_of (with_tiles board ps) (run_of d line (first, len)) ∷ crosses_of d board ps
 words_of_line d board [] line first len size play no_gap lies long = let parts = is_play-parts d [] play in absurd (omega (arith, parts.0))
@@ -56,7 +56,7 @@ words_of_line d board (p ∷ rest) line first len size play no_gap lies long =
     ∙ ap (λ (runs : List Run). map (letters_of after) runs ++ crosses_of d board (p ∷ rest))
     (main_run d after (p ∷ rest) line first len lies p here (on_board (p ∷ rest) p parts.1 here) long)
 
--- ---- a mask lets a tile pass exactly where its cross word is listed
+-- ---- a mask lets a tile pass exactly when its cross word is listed
 pub masked : (words : List (List ℕ)) (d : Dir) (board : List (Option Tile)) (square : ℕ) (mask : List Bool) → square < length board → IsMask words d board square mask → (t : Tile)
     → ((get_or mask t.shown.index false ≡ true) → All (Contains words) (cross_words (other_dir d) board square t))
     × (All (Contains words) (cross_words (other_dir d) board square t) → (get_or mask t.shown.index false ≡ true))
@@ -118,7 +118,7 @@ play_from d ps some few on rising line =
     let within : list_all (λ (p : Placed). nat_lt p.square 225) ps ≡ true = list_all-each (λ (p : Placed). nat_lt p.square 225) ps (λ q c. lt-ltb q.square 225 (on q c)) in
     and_from _ _ (and_from _ _ (and_from _ _ (and_from _ _ (le-leb 1 (length ps) some) (le-leb (length ps) 7 few)) within) rising) line
 
--- where it puts down seven tiles at the most
+-- the move puts down at most seven tiles
 pub move_candidate : (words : List (List ℕ)) (d : Dir) (board : List (Option Tile)) (line : ℕ) (cells : List Cell) → IsLineOf words d board line cells → (listed : List ℕ → Bool) (rack y : List ℕ) (first len : ℕ)
     → TellsWords listed words → AreLong words → length board ≡ 225 → line < 15 → IsMove listed cells rack y first len → length (put_by d line y) ≤ 7
     → IsCandidateOn words d board rack (put_by d line y) line first len × (is_play d (put_by d line y) ≡ true)

@@ -1,4 +1,4 @@
--- The plays of an anchor pass none of its bounds.
+-- The plays of an anchor exceed none of its bounds.
 use Rattle.std.proofs.Common.{◌≡◌, ℕ, ◌+◌, ◌*◌, ◌<◌, ◌≤◌, ◌==◌, ◌||◌, ◌≤ℤ◌, pos, Bool, true, false, List, [], ◌∷◌, length, get_or, refl, sym, ap, ◌∙◌, subst, arith, ⊎_elim, not, Option, Some, None, is_some, if◌then◌else◌}
 use Rattle.std.proofs.lemmas.Int.{ints}
 use Rattle.ref_tiles.specs.declared.tiles.Tile.{Tile}
@@ -42,7 +42,7 @@ pub every-more : {X : Type 0} (P Q : X → Type 0) (xs : List X) → ((x : X) �
 every-more P Q [] h all = tt
 every-more P Q (x ∷ xs) h all = (h x all.0, every-more P Q xs h all.1)
 
--- what is told of a move of which the score is known to pass no number
+-- what a move gives whose score is known not to exceed a number
 told_under : (rules : Rules) (board : List (Option Tile)) (d : Dir) (line : ℕ) (y : List ℕ) (bound : ℕ)
     → (is_wanted board d (tiles_of d line y) ≡ true → score_of rules board (tiles_of d line y) ≤ bound) → TellsUnder rules board d line y bound
 unfolding told
@@ -97,7 +97,7 @@ none_top : (o : Option Tile) → is_some (on_top o None) ≡ is_some o
 none_top None = refl
 none_top (Some n) = refl
 
--- a place has a tile then exactly where it is old or new
+-- a place then has a tile exactly when it has an old or a new one
 laid_by : (rules : Rules) (d : Dir) (board : List (Option Tile)) (square : ℕ) (p : Place) → IsPlaceOf rules d board square p → (new old : Option Tile) → tile_at board square ≡ old
     → is_some (on_top new old) ≡ (not p.free || is_some new)
 laid_by rules d board square p is new None none =
@@ -166,7 +166,7 @@ pub every-both : {X : Type 0} (P Q : X → Type 0) (xs : List X) → Every P xs 
 every-both P Q [] all also = tt
 every-both P Q (x ∷ xs) all also = ((all.0, also.0), every-both P Q xs all.1 also.1)
 
--- a move whose play passes no number changes nothing of a sink that needs no such play
+-- a move whose play does not exceed a number does not change a sink that does not need such a play
 pub passed_over : (rules : Rules) (board : List (Option Tile)) (d : Dir) (line : ℕ) (y : List ℕ) (bound : ℕ) (W : Given → Type 0) (add : List Given → Given → List Given) (items : List Given)
     → ((given : Given) → W given → given.score ≤ℤ pos bound → add items given ≡ items) → Every W (told rules board d line y) → TellsUnder rules board d line y bound
     → add_all add items (told rules board d line y) ≡ items
@@ -174,7 +174,7 @@ passed_over rules board d line y bound W add items still along under =
     sym (all-still add items (λ (given : Given). W given × (given.score ≤ℤ pos bound)) (told rules board d line y) (λ given known. still given known.0 known.1)
     (every-both W (λ (given : Given). given.score ≤ℤ pos bound) (told rules board d line y) along under))
 
--- a place that is no anchor has no moves
+-- a place that is not an anchor has no moves
 pub no_offers : (P : List ℕ → Type 0) (g : List ℕ → Bool) (cells : List Cell) (rack : List ℕ) (h : ℕ) → is_anchor_cell (cell_at cells h) ≡ false → Every P (anchor_moves g cells rack h)
 no_offers P g cells rack h none = by (cell_at cells h) refl none
   where

@@ -25,7 +25,7 @@ or_true : (b : Bool) → (b || true) ≡ true
 or_true true = refl
 or_true false = refl
 
--- a rack that has the tile of an entry, or a blank, lays its letter where the square allows it
+-- a rack that has the tile of an entry, or a blank, lays its letter if the square allows it
 lays_entry : (m : Open) (rack : List ℕ) (e : ℕ) → slice_index_or m.mask (letter_of_entry e) false ≡ true → 1 ≤ get_or rack (kind_of_entry e) 0 → lays m rack (letter_of_entry e) ≡ true
 lays_entry m rack e allowed has = by (is_blank_entry e) refl
   where

@@ -15,7 +15,7 @@ use Rattle.ref_play.specs.Best.{Given, given_of, AreAll}
 use Rattle.ref_play.proofs.RangeLaws.{Contains-cases}
 use Rattle.gen_moves.proofs.Lists.{All-each, in_join, from_join, All-flat_map, All-flat_map-at, AllPairs-flat_map}
 
--- ---- what holds of each two elements holds in any order
+-- ---- what holds for each two elements holds in any order
 -- where the element of a place came from when two places were exchanged
 moved : {X : Type 0} (f g : ℕ → X) (a b n : ℕ) → Swapped f g a b → a < n → b < n → (p : ℕ) → p < n
     → (s : ℕ) × (s < n) × (g p ≡ f s) × (p ≡ a → s ≡ b) × (p ≡ b → s ≡ a) × ((p ≡ a → ⊥) → (p ≡ b → ⊥) → s ≡ p)

@@ -1,5 +1,5 @@
--- A lexicon for the paths of a list of words, and the lines of a board, are a setting of the law of a whole board; and what
--- the moves of its lines put down.
+-- A lexicon for the paths of a list of words, together with the lines of a board, is a setting of the law of a whole board; and
+-- what the moves of its lines put down.
 use Rattle.std.proofs.Common.{◌≡◌, ℕ, ◌<◌, Bool, List, [], ◌∷◌, ◌++◌, map, length, refl, sym, ap, ◌∙◌, append_assoc, Option}
 use Rattle.std.specs.Prelude.{reverse, slice_index_or}
 use Rattle.std.proofs.lemmas.List.{reverse-append}

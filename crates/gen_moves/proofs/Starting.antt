@@ -1,4 +1,4 @@
--- What the places of a board give, and what is known of them.
+-- What the places of a board give, and what is known about them.
 use Rattle.std.proofs.Common.{◌≡◌, ℕ, zero, suc, ◌+◌, ◌*◌, ◌/◌, ◌%◌, ◌<◌, ◌≤◌, ◌≤ℤ◌, pos, Bool, true, false, List, [], ◌∷◌, ◌++◌, length, get_or, refl, sym, ap, ◌∙◌, subst, append_assoc, arith, take, drop, Option, Some, None, ℤ}
 use Rattle.std.specs.Prelude.{All, nat_lt, slice_index_or, if◌then◌else◌}
 use Rattle.std.specs.List.{flat_map, range_with_len}
@@ -38,8 +38,8 @@ use Rattle.gen_moves.proofs.Gathering.{line_labelled, wanted_few, given_all}
 use Rattle.gen_moves.proofs.Settings.{lists}
 use Rattle.gen_moves.proofs.Reordering.{all_reordered}
 
--- ---- a start that is left out
--- what a move tells is written along its line
+-- ---- a start that is skipped
+-- what a move gives is written along its line
 goes_along : (for : Option (List (Option Tile))) (board : List (Option Tile)) (d : Dir) (line : ℕ) (y : List ℕ) (score : ℤ) → IsFor for board → IsFitMove board d line y
     → is_wanted board d (tiles_of d line y) ≡ true → GoesAlong for d (record { dir = d; tiles = tiles_of d line y; score = score })
 unfolding notation_of
@@ -88,7 +88,7 @@ front_of_starts add f xs n d old mid new below e h =
     (front-less add old (flat_map f (take n xs) ++ f (get_or xs n d)) (flat_map f (drop (suc n) xs)) new
     (front-more add old (flat_map f (take n xs)) (f (get_or xs n d)) mid new e h))
 
--- one start more, of which all was taken
+-- one more start, from which everything was taken
 pub starts_more : {X : Type 0} (add : List Given → Given → List Given) (f : X → List Given) (xs : List X) (n : ℕ) (d : X) (old mid new : List Given) → n < length xs
     → mid ≡ add_all add old (flat_map f (take n xs)) → new ≡ add_all add mid (f (get_or xs n d)) → new ≡ add_all add old (flat_map f (take (n + 1) xs))
 starts_more add f xs n d old mid new below e h =
@@ -99,7 +99,7 @@ starts_more add f xs n d old mid new below e h =
     ∙ ap (add_all add old) (sym (flat_map-append f (take n xs) (get_or xs n d ∷ [])))
     ∙ ap (λ ys. add_all add old (flat_map f ys)) (sym (take_more xs n d below))
 
--- ---- what is known of each start
+-- ---- what is known about each start
 anchor_fits : (words : List (List ℕ)) (board : List (Option Tile)) (g listed : List ℕ → Bool) (cells : Dir → ℕ → List Cell) → Setting words board g listed cells
     → (rack : List ℕ) (d : Dir) (line h : ℕ) → line < 15 → h < 15 → Every (IsFitMove board d line) (anchor_moves g (cells d line) rack h)
 anchor_fits words board g listed cells s rack d line h low below =
@@ -146,7 +146,7 @@ all_good rules words board g listed cells setting rack across down starts size a
         (is.dir ∙ ap (λ (b : Bool). let d : Dir = if b then Across else Down in d) e) is.line is.place
         (is.bound ∙ ap (λ (b : Bool). bound_in (if b then across else down) (k / 15 % 15) (k % 15)) e) (omega arith) (omega arith) (under_down (k / 15 % 15) (omega arith) (k % 15) (omega arith))
 
--- the bounds of both directions are made by what the tiles of the rack count, and the starts are put in another order
+-- the bounds of both directions come from what the tiles of the rack add, and the starts are put in another order
 pub good_sorted : (rules : Rules) (words : List (List ℕ)) (board : List (Option Tile)) (g : List ℕ → Bool) (a b : List (List Cell)) → Setting words board g (lists words) (both_cells a b)
     → (rack : List ℕ) (points ones : ℕ) → points ≡ rack_points rules rack 27 → ones ≡ rack_ones rules rack 27
     → (across down : List (List ℕ)) (starts sorted : List Start) → length starts ≡ 450 → AreStarts across down starts → IsPermutation starts sorted

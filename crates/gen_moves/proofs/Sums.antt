@@ -50,7 +50,7 @@ distribute : (c x y : ℕ) → c * (x + y) ≡ c * x + c * y
 distribute zero x y = omega arith
 distribute (suc c) x y = let rest = distribute c x y in omega arith
 
--- a sum of products, of which one factor passes no number
+-- a sum of products of which one factor does not exceed a number
 pub total-times : (f g : ℕ → ℕ) (c a n : ℕ) → ((i : ℕ) → a ≤ i → i < a + n → f i * g i ≤ c * g i) → total (λ i. f i * g i) a n ≤ c * total g a n
 unfolding total
 total-times f g c a zero h = omega arith
@@ -74,7 +74,7 @@ unfolding total
 total-both f g a zero = refl
 total-both f g a (suc n) = let fewer = total-both f g a n in omega arith
 
--- ---- the lesser of two numbers
+-- ---- the smaller of two numbers
 pub least-first : (a b : ℕ) → least a b ≤ a
 least-first a b = by (nat_le a b) refl
   where

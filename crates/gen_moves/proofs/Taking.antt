@@ -26,11 +26,11 @@ told_by : (rules : Rules) (board : List (Option Tile)) (d : Dir) (line : ℕ) (y
 unfolding told
 told_by rules board d line y b e = ap (λ (c : Bool). if c then told_as rules board d line y ∷ [] else []) e
 
--- nothing is told of entries whose play is not wanted
+-- nothing is given for entries whose play is not wanted
 pub tell_none : (rules : Rules) (board : List (Option Tile)) (d : Dir) (line : ℕ) (add : List Given → Given → List Given) (items : List Given) (y : List ℕ) → PlayIs board d line (line_tiles y) None → items ≡ tell rules board d line add items y
 tell_none rules board d line add items y none = sym (ap (add_all add items) (told_by rules board d line y false none))
 
--- and of others the play
+-- and for others the play
 tell_one : (rules : Rules) (board : List (Option Tile)) (d : Dir) (line : ℕ) (add : List Given → Given → List Given) (items : List Given) (y : List ℕ) (play : Play) (points : ℤ) → PlayIs board d line (line_tiles y) (Some play)
     → points ≡ pos (score_of rules board play.tiles.items) → tell rules board d line add items y ≡ add items (seen play points)
 tell_one rules board d line add items y play points is score =

@@ -150,7 +150,7 @@ tally_lay rules places tiles first len at t more below lies laid letters word cr
           (cases_eq first (at + 1));
     }
 
--- the stretch ends where tiles were laid before a place without one
+-- the stretch ends if tiles were laid before a place without one
 pub tally_stop : (rules : Rules) (places : ℕ → Place) (tiles : ℕ → Option Tile) (first len at : ℕ) (t : Tally) → LiesOn places tiles first len → is_laid places tiles at ≡ false → 0 < t.free
     → TallyAt rules places tiles first len at t → IsTally rules places tiles first len t
 tally_stop rules places tiles first len at t lies gap some before =
@@ -178,7 +178,7 @@ tally_end rules places tiles first len at t lies whole before =
     let size : at - first ≡ len = omega arith in
     subst (λ k. IsTally rules places tiles first k t) size b.1
 
--- what it comes to
+-- the score that it adds up to
 pub tally_is : (rules : Rules) (places : ℕ → Place) (tiles : ℕ → Option Tile) (first len n : ℕ) (t : Tally) → IsTally rules places tiles first len t
     → n ≡ t.letters * t.word + t.crosses + (if nat_le 7 t.free then rules.bonus else 0) → n ≡ tally rules places tiles first len
 tally_is rules places tiles first len n t is e =

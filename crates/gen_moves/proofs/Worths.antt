@@ -14,7 +14,7 @@ use Rattle.ref_play.specs.Candidates.{used}
 use Rattle.gen_moves.specs.Bounds.{total, kind_points, rack_points, kind_one, rack_ones}
 use Rattle.gen_moves.proofs.Sums.{total-mono, total-same}
 
--- what the points of a tile of a placement are above one
+-- the points of a tile of a placement above one
 abbrev pub worth : Rules → Placed → ℕ
 worth rules p = points_of rules p.tile.kind - 1
 
@@ -29,7 +29,7 @@ number_low : (k : Kind) → number_of k < 27
 number_low (kind.Letter l) = let low = l.in_range in omega arith
 number_low kind.Blank = omega arith
 
--- one tile more of a kind
+-- one more tile of a kind
 one_more : (f : ℕ → ℕ) (w : ℕ → ℕ) (k n : ℕ) → (k < n → total (λ j. ((if k == j then 1 else 0) + f j) * w j) 0 n ≡ w k + total (λ j. f j * w j) 0 n)
     × (n ≤ k → total (λ j. ((if k == j then 1 else 0) + f j) * w j) 0 n ≡ total (λ j. f j * w j) 0 n)
 unfolding total
@@ -56,7 +56,7 @@ unfolding total
 none_used w zero = refl
 none_used w (suc n) = let fewer = none_used w n in omega arith
 
--- the sum of what the tiles of a placement count, where each counts what its kind does
+-- the sum of what the tiles of a placement count, if each counts what its kind does
 sum_by_kinds : (value : Placed → ℕ) (each : ℕ → ℕ) → ((p : Placed) → value p ≡ each (number_of p.tile.kind)) → (ps : List Placed)
     → sum_by value ps ≡ total (λ k. used ps k * each k) 0 27
 sum_by_kinds value each same [] = sym (none_used each 27)
@@ -68,7 +68,7 @@ sum_by_kinds value each same (p ∷ ps) =
     ∙ sym (total-same (λ k. used (p ∷ ps) k * each k) (λ k. ((if number_of p.tile.kind == k then 1 else 0) + used ps k) * each k) 0 27
     (λ k low high. ap (λ m. m * each k) (sum_by-cons (λ (q : Placed). if number_of q.tile.kind == k then 1 else 0) p ps)))
 
--- tiles that are on the rack count no more than it
+-- tiles that are on the rack count at most what the rack counts
 sum_within : (value : Placed → ℕ) (each : ℕ → ℕ) → ((p : Placed) → value p ≡ each (number_of p.tile.kind)) → (rack : List ℕ) (ps : List Placed)
     → ((k : ℕ) → used ps k ≤ slice_index rack k) → sum_by value ps ≤ total (λ k. slice_index rack k * each k) 0 27
 sum_within value each same rack ps from =
@@ -76,7 +76,7 @@ sum_within value each same rack ps from =
     let le = total-mono (λ k. used ps k * each k) (λ k. slice_index rack k * each k) 0 27 (λ k low high. mul-le-mul (from k) (omega arith)) in
     omega arith
 
--- tiles that are on the rack have no more points above one than it
+-- tiles that are on the rack have at most the rack's points above one
 pub worth_within : (rules : Rules) (rack : List ℕ) (ps : List Placed) → ((k : ℕ) → used ps k ≤ slice_index rack k) → sum_by (worth rules) ps ≤ rack_points rules rack 27
 unfolding rack_points
 worth_within rules rack ps from = sum_within (worth rules) (kind_points rules) (λ p. points_by_number rules p.tile.kind) rack ps from
@@ -92,7 +92,7 @@ one_by_number rules (kind.Letter l) =
     sym (ap (λ (b : Bool). (if b then 0 else slice_index rules.points l.index) - ((if b then 0 else slice_index rules.points l.index) - 1)) other)
 one_by_number rules kind.Blank = refl
 
--- no more of them are laid than the rack has
+-- at most as many of them are laid as the rack has
 pub ones_within : (rules : Rules) (rack : List ℕ) (ps : List Placed) → ((k : ℕ) → used ps k ≤ slice_index rack k) → sum_by (one rules) ps ≤ rack_ones rules rack 27
 unfolding rack_ones
 ones_within rules rack ps from = sum_within (one rules) (kind_one rules) (λ p. one_by_number rules p.tile.kind) rack ps from

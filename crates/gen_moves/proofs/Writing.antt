@@ -31,7 +31,7 @@ entry_blank e l t some odd letter is =
     let tile : tile_of_entry e ≡ Some (blank_tile l) = rw here (rw letter (ap (λ (b : Bool). Some (faced b l)) blank)) in
     ap Some is ∙ sym tile
 
--- one place more
+-- one more place
 pub put_more : (d : Dir) (line : ℕ) (f : ℕ → Option Tile) (n : ℕ) → put_from d line f 0 (n + 1) ≡ put_from d line f 0 n ++ placed_on (square_at d line n) (f n)
 put_more d line f n =
     let g : ℕ → List Placed = λ i. placed_on (square_at d line i) (f i) in
@@ -51,14 +51,14 @@ pub put_none : (d : Dir) (line : ℕ) (f : ℕ → Option Tile) (n : ℕ) (ps : 
 put_none d line f n ps is none =
     is ∙ sym (put_more d line f n ∙ ap (λ (o : Option Tile). put_from d line f 0 n ++ placed_on (square_at d line n) o) none ∙ append-nil (put_from d line f 0 n))
 
--- more tiles than one are written along their line
+-- more than one tile is written along its line
 pub many_wanted : (d : Dir) (board : List (Option Tile)) (ps : List Placed) → RunsAlong d board ps → length ps ≤ 7 → 1 < length ps → is_wanted board d ps ≡ true
 many_wanted Across board ps runs few many = wanted_across board ps runs few
 many_wanted Down board [] runs few many = absurd (omega arith)
 many_wanted Down board (p ∷ []) runs few many = absurd (omega arith)
 many_wanted Down board (p ∷ q ∷ ps) runs few many = wanted_down board p q ps runs few
 
--- and a play is written where its notation stands
+-- and a play is written so if its notation is
 pub wanted_as_written : (d : Dir) (board : List (Option Tile)) (ps : List Placed) (n : Written) → length board ≡ 225 → IsLegal board ps → RunsAlong d board ps → length ps ≤ 7
     → n ≡ notation_of board ps → is_wanted board d ps ≡ same_dir n.dir d
 wanted_as_written d board ps n size legal runs few is =

@@ -37,7 +37,7 @@ no_place = record { free = false; old = 0; letter = 0; word = 0; side = 0; cross
 abbrev pub place_in : List Place → ℕ → Place
 place_in places i = slice_index_or places i no_place
 
--- what a place adds to the score of a play along its line, at the most
+-- the most that a place adds to the score of a play along its line
 pub record IsPlaceOf (rules : Rules) (d : Dir) (board : List (Option Tile)) (square : ℕ) (p : Place) : Type 0 where
   pub taken : p.free ≡ false → IsSome (tile_at board square)
   pub empty : p.free ≡ true → tile_at board square ≡ None
@@ -50,31 +50,31 @@ pub record IsPlaceOf (rules : Rules) (d : Dir) (board : List (Option Tile)) (squ
 abbrev pub one_if : Bool → ℕ
 one_if b = if b then 1 else 0
 
--- how many places are free
+-- the number of places that are free
 abbrev pub free_count : (ℕ → Place) → ℕ → ℕ → ℕ
 free_count places first len = total (λ i. one_if (places i).free) first len
 
--- what the points of a tile are above one, and those of the tiles of a rack of the first so many kinds
+-- the points of a tile above one, and those of the tiles of the first `n` kinds on a rack
 abbrev pub kind_points : Rules → ℕ → ℕ
 kind_points rules k = (if k == 26 then 0 else slice_index rules.points k) - 1
 
 unfoldable pub rack_points : Rules → List ℕ → ℕ → ℕ
 rack_points rules rack n = total (λ k. slice_index rack k * kind_points rules k) 0 n
 
--- one where a tile has points, and how many tiles of the rack of the first so many kinds have some
+-- one if a tile has points, and the number of tiles of the first `n` kinds on a rack that have some
 abbrev pub kind_one : Rules → ℕ → ℕ
 kind_one rules k = (if k == 26 then 0 else slice_index rules.points k) - kind_points rules k
 
 unfoldable pub rack_ones : Rules → List ℕ → ℕ → ℕ
 rack_ones rules rack n = total (λ k. slice_index rack k * kind_one rules k) 0 n
 
--- the lesser of two numbers
+-- the smaller of two numbers
 abbrev pub least : ℕ → ℕ → ℕ
 least a b = if nat_le a b then a else b
 
--- The bound of the plays of a stretch, by a letter premium and a factor of cross words that no free place of the stretch passes: one
--- point for each of its new tiles that can have points, once more for each time above one that a letter premium counts it, and
--- for each time that a cross word does, these by the places or by the tiles; and what the tiles of the rack have above one point.
+-- The bound of the plays of a stretch, from a letter premium and a factor of cross words that no free place of the stretch exceeds:
+-- one point for each of its new tiles that can have points, once more for each time above one that a letter premium counts it, and
+-- for each time that a cross word does, these by the places or by the tiles; plus what the tiles of the rack have above one point.
 abbrev pub stretch_bound : ℕ → (ℕ → Place) → ℕ → ℕ → ℕ → ℕ → ℕ → ℕ → ℕ
 stretch_bound bonus places first len points ones letter cross =
     (total (λ i. (places i).old) first len + (least (total (λ i. (places i).letter - 1) first len) ((letter - 1) * ones) + least ones (free_count places first len)) + letter * points)
@@ -82,7 +82,7 @@ stretch_bound bonus places first len points ones letter cross =
     + (total (λ i. (places i).side) first len + least (total (λ i. (places i).cross) first len) (cross * ones) + cross * points)
     + (if nat_le 7 (free_count places first len) then bonus else 0)
 
--- a number that no play of a stretch passes, by some such letter premium and some such factor
+-- an upper bound for the plays of a stretch, from some such letter premium and some such factor
 pub record IsWithin (bonus points ones : ℕ) (places : ℕ → Place) (first len bound : ℕ) : Type 0 where
   pub letter : ℕ
   pub cross : ℕ
@@ -90,12 +90,12 @@ pub record IsWithin (bonus points ones : ℕ) (places : ℕ → Place) (first le
   pub crosses : (i : ℕ) → first ≤ i → i < first + len → (places i).free ≡ true → (places i).cross ≤ cross
   pub within : stretch_bound bonus places first len points ones letter cross ≤ bound
 
--- a number that no play passes whose stretch begins at a place, by the places that may have a tile
+-- an upper bound for the plays whose stretch begins at a place, by the places that may have a tile
 abbrev pub IsBoundFrom : ℕ → ℕ → ℕ → (ℕ → Place) → (ℕ → Bool) → ℕ → ℕ → Type 0
 IsBoundFrom bonus points ones places opens first bound =
     (len : ℕ) → first + len ≤ SIDE → free_count places first len ≤ 7 → IsPassable opens first len → IsWithin bonus points ones places first len bound
 
--- a number that no play of an anchor passes: its stretch has the anchor, and none before it
+-- an upper bound for the plays of an anchor: their stretch has the anchor, and none before it
 abbrev pub IsAnchorBound : ℕ → ℕ → ℕ → List Cell → (ℕ → Place) → (ℕ → Bool) → ℕ → ℕ → Type 0
 IsAnchorBound bonus points ones cells places opens h bound =
     (first : ℕ) → first ≤ h → ((i : ℕ) → first ≤ i → i < h → is_anchor_cell (cell_at cells i) ≡ false)
@@ -113,8 +113,8 @@ pub record IsSum (places : ℕ → Place) (first len : ℕ) (sum : Sum) : Type 0
   pub letter : (i : ℕ) → first ≤ i → i < first + len → (places i).free ≡ true → (places i).letter ≤ sum.letter
   pub cross : (i : ℕ) → first ≤ i → i < first + len → (places i).free ≡ true → (places i).cross ≤ sum.cross
 
--- What a place has at the most: the rules give a tile 99 points and a premium the factor three at the most, a cross word counts a new tile
--- by a letter and a word premium, and old tiles of 65,535 points by a word premium.
+-- The most that a place has: the rules give a tile at most 99 points and a premium at most the factor three, a cross word counts a
+-- new tile by a letter and a word premium, and old tiles of 65,535 points by a word premium.
 pub record IsSmall (p : Place) : Type 0 where
   pub old : p.old ≤ 99
   pub letter : p.letter ≤ 3
@@ -123,7 +123,7 @@ pub record IsSmall (p : Place) : Type 0 where
   pub side : p.side ≤ 196605
   pub cross : p.cross ≤ 9
 
--- what so many places add up to at the most, so that no number runs over
+-- the most that `len` places add up to, so that no number overflows
 pub record IsSmallSum (len : ℕ) (sum : Sum) : Type 0 where
   pub old : sum.old ≤ 99 * len
   pub word : sum.word ≤ 3 ^ len
@@ -138,22 +138,22 @@ pub record IsSmallSum (len : ℕ) (sum : Sum) : Type 0 where
 abbrev pub ArePlaces : Rules → Dir → List (Option Tile) → ℕ → (ℕ → Place) → Type 0
 ArePlaces rules d board line places = (i : ℕ) → i < SIDE → IsPlaceOf rules d board (square_at d line i) (places i)
 
--- no tile scores more across a play than by the side score of its square
+-- no tile scores more across a play than the side score of its square says
 abbrev pub HasScores : Rules → List (Option Tile) → Cross → Type 0
 HasScores rules board cross =
     (d : Dir) (square : ℕ) (t : Tile) → square < SQUARES → tile_at board square ≡ None
     → cross_score rules (other_dir d) board square t ≤ ((value_at cross d square).side + points_of rules t.kind * letter_factor (premium_at rules square)) * word_factor (premium_at rules square)
 
--- each play that a move tells scores so much at the most
+-- each play that a move gives scores at most `bound`
 abbrev pub TellsUnder : Rules → List (Option Tile) → Dir → ℕ → List ℕ → ℕ → Type 0
 TellsUnder rules board d line y bound = Every (λ (given : Given). given.score ≤ℤ pos bound) (told rules board d line y)
 
--- what is known of a move of an anchor: its play passes no bound of the anchor
+-- what is known about a move of an anchor: its play exceeds no bound of the anchor
 abbrev pub IsOffer : Rules → ℕ → ℕ → List (Option Tile) → Dir → ℕ → List Cell → (ℕ → Place) → (ℕ → Bool) → ℕ → List ℕ → Type 0
 IsOffer rules points ones board d line cells places opens h y =
     (bound : ℕ) → IsAnchorBound rules.bonus points ones cells places opens h bound → TellsUnder rules board d line y bound
 
--- which holds of all moves of a line
+-- which holds for all moves of a line
 abbrev pub AreOffers : Rules → ℕ → ℕ → List (Option Tile) → (List ℕ → Bool) → List Cell → List ℕ → Dir → ℕ → Type 0
 AreOffers rules points ones board g cells rack d line =
     (places : ℕ → Place) → ArePlaces rules d board line places → (opens : ℕ → Bool) → AreOpen cells rack opens

@@ -10,7 +10,7 @@ use Rattle.gen_line.specs.Cells.{cell_at}
 abbrev pub lays : Open → List ℕ → ℕ → Bool
 lays m rack k = slice_index_or m.mask k false && (nat_lt 0 (slice_index rack k) || nat_lt 0 (slice_index rack 26))
 
--- no tile of the rack can be laid there: the square is free, and allows no such letter
+-- no tile of the rack can be laid there: the square is free, and does not allow such a letter
 abbrev pub IsClosed : List ℕ → Cell → Type 0
 IsClosed rack (Old a) = ⊥
 IsClosed rack (Free m) = (k : ℕ) → k < 26 → lays m rack k ≡ false

@@ -17,7 +17,7 @@ use Rattle.gen_moves.specs.BoardLines.{IsLineOf}
 use Rattle.gen_moves.specs.LineTiles.{tiles_of, entries_of}
 use Rattle.gen_moves.specs.Findings.{given_by}
 
--- a test of strings of labels tells the words of a list
+-- a test of strings of labels accepts the words of a list
 abbrev pub TellsWords : (List ℕ → Bool) → List (List ℕ) → Type 0
 TellsWords listed words = (labels : List ℕ) → (listed labels ≡ true) ↔ Contains words (map letter_of labels)
 
@@ -35,7 +35,7 @@ pub record IsCandidateOn (words : List (List ℕ)) (d : Dir) (board : List (Opti
   pub lies : LiesIn d (with_tiles board ps) ps line first len
   pub long : 2 ≤ len
 
--- entries that put down seven tiles at the most are a move of a line exactly where their tiles are a candidate on it
+-- entries that put down at most seven tiles are a move of a line exactly when their tiles are a candidate on it
 abbrev pub MovesAreCandidates : Type 0
 MovesAreCandidates =
     (words : List (List ℕ)) (d : Dir) (board : List (Option Tile)) (line : ℕ) (cells : List Cell) (listed : List ℕ → Bool) (rack y : List ℕ) (first len : ℕ)

@@ -1,4 +1,4 @@
--- The places of a board from which plays are looked for, and what each gives.
+-- The places of a board from which plays are searched for, and what each gives.
 use Rattle.std.specs.Prelude.{◌≡◌, ℕ, ◌/◌, ◌%◌, ◌<◌, nat_lt, Bool, List, [], slice_index, slice_index_or, Option, if◌then◌else◌}
 use Rattle.std.specs.List.{flat_map}
 use Rattle.ref_tiles.specs.declared.rulebook.TheConstants.{SIDE, SQUARES}
@@ -27,7 +27,7 @@ dir_of k = if nat_lt k SQUARES then Across else Down
 abbrev pub bound_in : List (List ℕ) → ℕ → ℕ → ℕ
 bound_in bounds line place = slice_index (slice_index_or bounds line []) place
 
--- the place of a number, with its bound
+-- the place with a number, with its bound
 pub record IsStartOf (across down : List (List ℕ)) (k : ℕ) (s : Start) : Type 0 where
   pub dir : s.dir ≡ dir_of k
   pub line : s.line ≡ k / SIDE % SIDE
@@ -37,24 +37,24 @@ pub record IsStartOf (across down : List (List ℕ)) (k : ℕ) (s : Start) : Typ
 abbrev pub AreStarts : List (List ℕ) → List (List ℕ) → List Start → Type 0
 AreStarts across down starts = (k : ℕ) (d : Start) → k < STARTS → IsStartOf across down k (slice_index_or starts k d)
 
--- what a place of a line gives: the plays of the moves of which it is the first anchor covered
+-- what a place of a line gives: the plays of the moves whose first covered anchor it is
 abbrev pub given_at : Rules → List (Option Tile) → (List ℕ → Bool) → (Dir → ℕ → List Cell) → List ℕ → Dir → ℕ → ℕ → List Given
 given_at rules board g cells rack d line h = flat_map (told rules board d line) (anchor_moves g (cells d line) rack h)
 
 abbrev pub given_from : Rules → List (Option Tile) → (List ℕ → Bool) → (Dir → ℕ → List Cell) → List ℕ → Start → List Given
 given_from rules board g cells rack s = given_at rules board g cells rack s.dir s.line s.place
 
--- none of these plays passes a bound
+-- none of these plays exceeds a bound
 abbrev pub AreUnder : Rules → List (Option Tile) → (List ℕ → Bool) → List Cell → List ℕ → Dir → ℕ → ℕ → ℕ → Type 0
 AreUnder rules board g cells rack d line h bound = Every (λ y. TellsUnder rules board d line y bound) (anchor_moves g cells rack h)
 
--- a play is written in a direction, as far as a sink looks at directions
+-- a play is written in a direction, as far as a sink distinguishes directions
 abbrev pub GoesAlong : Option (List (Option Tile)) → Dir → Given → Type 0
 GoesAlong board Across given = Unit {0}
 GoesAlong board Down given = GoesDown board given
 
--- what is known of a start: its place is on the board, its moves are plays, none of them passes its bound nor what its stretch adds up
--- to, and the lexicon has the paths of words
+-- what is known about a start: its place is on the board, its moves are plays, none of them exceeds its bound or what its stretch
+-- adds up to, and the lexicon has the paths of words
 pub record IsGood (rules : Rules) (board : List (Option Tile)) (g : List ℕ → Bool) (cells : Dir → ℕ → List Cell) (rack : List ℕ) (s : Start) : Type 0 where
   pub line : s.line < SIDE
   pub place : s.place < SIDE

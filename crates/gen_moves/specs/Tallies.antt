@@ -1,4 +1,4 @@
--- What a move of a line scores at the most, by what each place of its stretch adds.
+-- The most that a move of a line scores, by what each place of its stretch adds.
 use Rattle.std.specs.Prelude.{◌≡◌, ◌≢◌, ℕ, ◌+◌, ◌*◌, ◌^◌, ◌<◌, ◌≤◌, ◌||◌, not, nat_le, Bool, true, List, Option, None, is_some, if◌then◌else◌}
 use Rattle.ref_tiles.specs.declared.rulebook.TheConstants.{SIDE}
 use Rattle.ref_tiles.specs.declared.tiles.Tile.{Tile}
@@ -33,8 +33,8 @@ tally rules places tiles first len =
     + total (cross_sum rules places tiles) first len
     + (if nat_le 7 (free_count places first len) then rules.bonus else 0)
 
--- What so many places add up to at the most, so that no number runs over: by a place as it is at the most (IsSmall), with the 99 points
--- that a tile has at the most. An old tile of the word counts once, a new one once for each time of its letter premium.
+-- The most that `len` places add up to, so that no number overflows: for a place at its most (IsSmall), with the 99 points that a
+-- tile has at most. An old tile of the word counts once, a new one once for each time of its letter premium.
 pub record IsSmallTally (len : ℕ) (t : Tally) : Type 0 where
   pub letters : t.letters ≤ (99 + 3 * 99) * len
   pub word : t.word ≤ 3 ^ len
@@ -50,7 +50,7 @@ pub record LiesOn (places : ℕ → Place) (tiles : ℕ → Option Tile) (first 
 abbrev pub AreSmall : (ℕ → Place) → Type 0
 AreSmall places = (i : ℕ) → i < SIDE → IsSmall (places i)
 
--- a move has a stretch, and its play scores no more than the stretch adds up to
+-- a move has a stretch, and its play scores at most what the stretch adds up to
 pub record IsTallied (rules : Rules) (board : List (Option Tile)) (d : Dir) (line : ℕ) (places : ℕ → Place) (y : List ℕ) : Type 0 where
   pub first : ℕ
   pub len : ℕ

@@ -1,4 +1,4 @@
--- What the moves of a line tell a sink, and the lines of a whole board.
+-- What the moves of a line give a sink, and the lines of a whole board.
 use Rattle.std.specs.Prelude.{◌≡◌, ℕ, ◌<◌, ◌≤◌, true, false, List, [], length, slice_index_or, Option, Some, None}
 use Rattle.ref_tiles.specs.declared.rulebook.TheConstants.{SIDE}
 use Rattle.ref_tiles.specs.declared.tiles.Tile.{Tile}
@@ -14,7 +14,7 @@ use Rattle.gen_line.specs.Walk.{add_all}
 use Rattle.gen_moves.specs.LineTiles.{line_tiles, placement_of}
 use Rattle.gen_moves.specs.Findings.{told}
 
--- these tiles of a line are one or more, and where they are not too many a legal play with its run along the line
+-- a line has at least one new tile, and if there are not too many, they are a legal play with its run along the line
 abbrev pub IsFit : List (Option Tile) → Dir → ℕ → List (Option Tile) → Type 0
 IsFit board d line tiles =
     (line < SIDE) × ((1 ≤ length (placement_of d line tiles))
@@ -24,11 +24,11 @@ IsFit board d line tiles =
 abbrev pub IsFitMove : List (Option Tile) → Dir → ℕ → List ℕ → Type 0
 IsFitMove board d line y = IsFit board d line (line_tiles y)
 
--- a sink's items after the entries of a line are told to it
+-- a sink's items after the entries of a line are given to it
 abbrev pub tell : Rules → List (Option Tile) → Dir → ℕ → (List Given → Given → List Given) → List Given → List ℕ → List Given
 tell rules board d line add items y = add_all add items (told rules board d line y)
 
--- the play of the tiles of a line, where it is wanted
+-- the play of the tiles of a line, if it is wanted
 abbrev pub PlayIs : List (Option Tile) → Dir → ℕ → List (Option Tile) → Option Play → Type 0
 PlayIs board d line tiles None = is_wanted board d (placement_of d line tiles) ≡ false
 PlayIs board d line tiles (Some play) = (is_wanted board d (placement_of d line tiles) ≡ true) × (play.dir ≡ d) × (play.tiles.items ≡ placement_of d line tiles)

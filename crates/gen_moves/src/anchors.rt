@@ -1,4 +1,4 @@
-//! Upper bounds of the plays of each anchor of a line.
+//! Upper bounds for the plays of each anchor of a line.
 ghost use Rattle.std.specs.Prelude.{◌≡◌, ◌-◌, ◌*◌, ◌<◌, ◌≤◌, ℕ, Bool, true, List, [], slice_index, slice_index_or};
 ghost use Rattle.gen_line.specs.Cells.{cell_at, is_anchor_cell};
 ghost use Rattle.gen_moves.specs.Bounds.{IsSmall, IsAnchorBound, HasScores, AreOffers, place_in, rack_points, rack_ones};
@@ -13,12 +13,12 @@ use gen_line::Cell;
 use ref_board::{Board, Dir, SIDE};
 use ref_tiles::{KINDS, Rules};
 
-/// What the tiles of a rack count in bounds.
+/// What the tiles of a rack add to bounds.
 #[derive(Clone, Copy, Debug)]
 pub struct RackWorth {
-    /// What their points are above one for each tile.
+    /// The sum of their points above one for each tile.
     pub points: u64,
-    /// How many of them have points.
+    /// The number of them that have points.
     pub ones: u64,
 }
 
@@ -32,7 +32,7 @@ fn is_anchor(cell: &Cell) -> bool
     }
 }
 
-/// A number that no play passes of which an anchor is the first anchor covered.
+/// An upper bound for the plays whose first covered anchor is this one.
 fn anchor_bound(
     cells: &[Cell; SIDE],
     places: &[Place; SIDE],
@@ -73,7 +73,7 @@ fn anchor_bound(
     bound
 }
 
-/// Numbers that no play passes along a line, for each place of which it is the first anchor covered.
+/// For each place of a line, an upper bound for the plays whose first covered anchor it is.
 fn line_bounds(
     rules: &Rules,
     board: &Board,
@@ -104,7 +104,7 @@ fn line_bounds(
     bounds
 }
 
-/// Such numbers for all lines of a direction.
+/// The same bounds for all lines of a direction.
 pub fn all_bounds(
     rules: &Rules,
     board: &Board,
@@ -128,14 +128,14 @@ pub fn all_bounds(
     bounds
 }
 
-/// What the points of a tile are above one.
+/// The points of a tile above one.
 fn above_one(points: u8) -> u8
     ensures { result ≡ points - 1 }
 {
     points.saturating_sub(1)
 }
 
-/// The points of so many tiles of a kind.
+/// The points of a number of tiles of a kind.
 fn points_of_tiles(number: u8, points: u8) -> u64
     ensures points { result ≡ number * points }
     ensures limit { result ≤ 65025 }
@@ -143,14 +143,14 @@ fn points_of_tiles(number: u8, points: u8) -> u64
     number as u64 * points as u64
 }
 
-/// One where a tile has points.
+/// One if a tile has points.
 fn one_for(points: u8) -> u8
     ensures { result ≡ points - (points - 1) }
 {
     u8::from(points > 0)
 }
 
-/// What the tiles of a rack count.
+/// What the tiles of a rack add to bounds.
 pub fn rack_worth(rules: &Rules, rack: &[u8; KINDS]) -> RackWorth
     ensures points { result.points ≡ rack_points rules.now rack.now KINDS }
     ensures ones { result.ones ≡ rack_ones rules.now rack.now KINDS }

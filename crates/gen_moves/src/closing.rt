@@ -1,4 +1,4 @@
-//! Places of a line on which no tile of a rack can be laid, so that no play goes over them.
+//! Places of a line on which no tile of a rack can be laid, so that no play crosses them.
 ghost use Rattle.std.specs.Prelude.{◌≡◌, ◌<◌, ℕ, false};
 ghost use Rattle.gen_moves.specs.Closing.{lays, IsClosed, AreOpen, open_in};
 

@@ -8,7 +8,7 @@ use ref_tiles::{Letter, Tile};
 /// The new tile on each place of a line, or none.
 pub type LineTiles = [Option<Tile>; SIDE];
 
-/// The tile of an entry: none for 0, else 1 + 2 * letter stands for a letter, A being 0, and one more for a blank.
+/// The tile of an entry: none for 0, otherwise 1 + 2 * letter for a letter, with A as 0, plus one for a blank.
 fn tile_of(entry: u8) -> Option<Tile>
     ensures { result ≡ tile_of_entry entry }
 {

@@ -1,4 +1,4 @@
-//! What the old tiles right behind an anchor lead to, so that a walk can begin with them.
+//! What the old tiles right after an anchor lead to, so that a walk can begin with them.
 ghost use Rattle.std.specs.Prelude.{◌≡◌, ◌≤◌, ◌+◌, ℕ, List, ◌∷◌, false, drop, length, IfSome, IfNone};
 ghost use Rattle.lex_file.specs.Walking.{strings, IsOpen};
 ghost use Rattle.gen_line.specs.Moves.{back};
@@ -8,7 +8,7 @@ use gen_line::Cell;
 use lex_file::{PathLex, Step, advance};
 use ref_board::SIDE;
 
-/// What the old tiles from a place on, read backwards, lead to, or None where no string goes on so.
+/// What the old tiles from a place on, read backwards, lead to, or None if no string continues with them.
 fn back_over<L: PathLex>(
     lex: &L,
     cells: &[Cell; SIDE],
@@ -49,7 +49,7 @@ pub fn behind_olds(cells: &[Cell; SIDE], place: usize) -> usize
     }
 }
 
-/// What the old tiles from a place on, read backwards, lead to from the root, or None where no word has them.
+/// What the old tiles from a place on, read backwards, lead to from the root, or None if no word has them.
 pub fn front_of<L: PathLex>(lex: &L, cells: &[Cell; SIDE], place: usize) -> Option<Step<L::Node>>
     requires { place ≤ SIDE }
     ensures none { IfNone result ((label : ℕ) (t : List ℕ) → L.language lex.now (back (olds (drop place cells.now)) (label ∷ t)) ≡ false) }

@@ -22,7 +22,7 @@ use lex_file::PathLex;
 use ref_board::{Board, Dir, SIDE};
 use ref_tiles::{Counts, KINDS, Rules};
 
-/// What looks for plays: a board with its rules and cross-sets, a rack and a lexicon.
+/// What searches for plays: a board with its rules and cross-sets, a rack and a lexicon.
 #[derive(Drop)]
 struct Finder<'a, L> {
     rules: &'a Rules,
@@ -32,7 +32,7 @@ struct Finder<'a, L> {
     across: &'a [[Cell; SIDE]; SIDE],
     /// The cells of the lines down.
     down: &'a [[Cell; SIDE]; SIDE],
-    /// How many tiles of each kind the rack has.
+    /// The number of tiles of each kind on the rack.
     rack: &'a [u8; KINDS],
     lex: &'a L,
 }
@@ -49,8 +49,8 @@ impl<L: PathLex> Finder<'_, L> {
         }
     }
 
-    /// Looks for the plays of one start, and gives them to a sink. It is never a part of its caller, since its arrays are set to zero
-    /// each time that it is called.
+    /// Searches for the plays of one start, and gives them to a sink. It is never inlined into its caller, since its arrays are set
+    /// to zero each time that it is called.
     #[inline(never)]
     fn walk_start<S: Sink>(&self, start: &Start, sink: &mut S) -> Result<(), NoMemory>
         requires scores { HasScores self.now.rules.now self.now.board.now self.now.cross.now }
@@ -88,7 +88,7 @@ impl<L: PathLex> Finder<'_, L> {
         walk_anchor(self.lex, at, cells, place, last, self.rack, &plays, sink)
     }
 
-    /// Gives a sink the plays of all starts, one after another. Those of a start are not looked for where none of them would change
+    /// Gives a sink the plays of all starts, one after another. Those of a start are not searched for if none of them would change
     /// what the sink has.
     fn from_starts<S: Sink>(&self, starts: &[Start; STARTS], sink: &mut S) -> Result<(), NoMemory>
         requires scores { HasScores self.now.rules.now self.now.board.now self.now.cross.now }
@@ -112,15 +112,15 @@ impl<L: PathLex> Finder<'_, L> {
     }
 }
 
-/// Gives a sink every play that is legal on a board, forms listed words alone and has its tiles on a rack: each once, with
-/// its score, and no other. A play of one tile is given in the direction of its notation.
+/// Gives a sink every play that is legal on a board, forms only listed words and has its tiles on a rack: each once, with its
+/// score, and no others. A play of one tile is given in the direction of its notation.
 ///
-/// The lexicon stands for a list of words of two letters or more, and the cross-sets are those of the board. A sink that
-/// was made for a board was made for this one. The board is left as it was.
+/// The lexicon must stand for a list of words of two letters or more, and the cross-sets must be those of the board. A sink that
+/// was made for a board must have been made for this one. The board stays as it was.
 ///
 /// # Errors
 ///
-/// Where the sink was refused memory. It then has a front of the plays.
+/// Memory ran out in the sink. It then has a front of the plays.
 pub fn generate<L: PathLex, S: Sink>(
     rules: &Rules,
     board: &mut Board,

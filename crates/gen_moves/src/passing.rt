@@ -6,10 +6,10 @@ ghost use Rattle.gen_moves.specs.Starts.{GoesAlong};
 use gen_sinks::Sink;
 use ref_board::Dir;
 
-/// The greatest number that is looked for among scores.
+/// The greatest score that is considered.
 const MOST: u64 = i32::MAX as u64;
 
-/// Whether no play that is written in a direction and scores so much at the most would change what a sink has.
+/// Whether no play that is written in a direction and scores at most `bound` would change what a sink has.
 pub fn passes<S: Sink>(sink: &S, dir: Dir, bound: u64) -> bool
     ensures { IsTrue result → (given : Given) → GoesAlong (S.made_for sink.now) dir given → given.score ≤ℤ pos bound
         → S.add (S.made_for sink.now) (S.items sink.now) given ≡ S.items sink.now }

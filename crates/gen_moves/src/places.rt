@@ -1,4 +1,4 @@
-//! What each place of a line adds to the score of a play, at the most.
+//! The most that each place of a line adds to the score of a play.
 ghost use Rattle.std.specs.Prelude.{◌≡◌, ◌<◌, ◌≤◌, ℕ, ◌⊎◌};
 ghost use Rattle.ref_tiles.specs.declared.tiles.Tile.{Tile};
 ghost use Rattle.ref_tiles.specs.declared.rulebook.Rules.{Rules};
@@ -11,7 +11,7 @@ use ref_board::{Board, Dir, SIDE, Square, follows_tile, precedes_tile};
 use ref_play::points_on;
 use ref_tiles::Rules;
 
-/// What a place of a line adds to the score of a play along the line, at the most.
+/// The most that a place of a line adds to the score of a play along the line.
 #[derive(Clone, Copy)]
 pub struct Place {
     /// Whether it has no tile.
@@ -22,14 +22,14 @@ pub struct Place {
     pub letter: u64,
     /// The word premium under a new tile.
     pub word: u64,
-    /// What the old tiles of the cross word score.
+    /// The score of the old tiles of the cross word.
     pub side: u64,
-    /// By what the cross word multiplies the points of a new tile.
+    /// The factor of the cross word for the points of a new tile.
     pub cross: u64,
 }
 
-/// By what the cross word through an empty square multiplies the points of a new tile, by the premiums of the square; where no
-/// tile lies beside it across the play, there is no such word.
+/// The factor of the cross word through an empty square for the points of a new tile, from the premiums of the square; if no tile
+/// lies beside it across the play, there is no such word.
 fn cross_factor(board: &Board, dir: Dir, square: Square, premiums: u64) -> u64
     ensures limit { result ≤ premiums }
     ensures factor { (result ≡ premiums) ⊎ ((rules : Rules) (t : Tile) → cross_score rules (other_dir dir) board.now square t ≡ 0) }

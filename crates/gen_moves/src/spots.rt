@@ -47,7 +47,7 @@ impl Spot<'_> {
         play.tiles.len() > 1 || notation(self.board, play).dir == self.dir
     }
 
-    /// The play of some new tiles, where it is written in the direction of the line and has not too many of them.
+    /// The play of some new tiles, if it is written in the direction of the line and does not have too many of them.
     pub fn play_of(&self, tiles: &LineTiles) -> Option<Play>
         requires { IsFit self.now.board.now self.now.dir self.now.line tiles.now }
         ensures { PlayIs self.now.board.now self.now.dir self.now.line tiles.now result }

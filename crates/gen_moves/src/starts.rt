@@ -1,4 +1,4 @@
-//! The places of a board from which plays are looked for, those that can score most first.
+//! The places of a board from which plays are searched for, those that can score most first.
 ghost use Rattle.std.specs.Prelude.{◌<◌};
 ghost use Rattle.std.specs.List.Sorted.{IsPermutation};
 ghost use Rattle.gen_moves.specs.Starts.{IsStartOf, AreStarts};
@@ -6,10 +6,10 @@ ghost use Rattle.gen_moves.specs.Starts.{IsStartOf, AreStarts};
 use ref_board::{Dir, SIDE};
 use ref_tiles::SQUARES;
 
-/// How many places the lines of both directions have.
+/// The number of places of the lines of both directions.
 pub const STARTS: usize = 2 * SQUARES;
 
-/// A place of a line, from which the plays are looked for of which it is the first anchor covered.
+/// A place of a line, from which the plays are searched for whose first covered anchor it is.
 #[derive(Clone, Copy)]
 pub struct Start {
     /// The direction of the line.
@@ -18,11 +18,11 @@ pub struct Start {
     pub line: usize,
     /// The place on the line, from 0.
     pub place: usize,
-    /// A number that none of these plays passes.
+    /// An upper bound for the scores of these plays.
     pub bound: u64,
 }
 
-/// The place of a number: those of the lines across come first.
+/// The place with a number: those of the lines across come first.
 fn start_of(across: &[[u64; SIDE]; SIDE], down: &[[u64; SIDE]; SIDE], number: usize) -> Start
     requires { number < STARTS }
     ensures { IsStartOf across.now down.now number result }
@@ -45,7 +45,7 @@ fn start_of(across: &[[u64; SIDE]; SIDE], down: &[[u64; SIDE]; SIDE], number: us
     }
 }
 
-/// All places of both directions, by bounds for the plays of each.
+/// All places of both directions, with bounds for the plays of each.
 pub fn all_starts(across: &[[u64; SIDE]; SIDE], down: &[[u64; SIDE]; SIDE]) -> [Start; STARTS]
     ensures { AreStarts across.now down.now result }
 {
@@ -61,11 +61,11 @@ pub fn all_starts(across: &[[u64; SIDE]; SIDE], down: &[[u64; SIDE]; SIDE]) -> [
     starts
 }
 
-/// The greatest bound that the order of starts tells from others.
+/// The greatest bound that the order of starts distinguishes from others.
 const MOST_TOLD: u64 = 1 << 40;
 
-/// A number for the order of starts: less for a greater bound, and of equal bounds less for one along a row, since of plays that
-/// score as much those across come first.
+/// A number for the order of starts: smaller for a greater bound, and among equal bounds smaller for one along a row, since among
+/// plays with the same score those across come first.
 fn order_of(start: &Start) -> u64 {
     2 * MOST_TOLD.saturating_sub(start.bound) + u64::from(matches!(start.dir, Dir::Down))
 }

@@ -13,7 +13,7 @@ pub struct Sum {
     pub old: u64,
     /// The product of the word premiums.
     pub word: u64,
-    /// What the old tiles of the cross words score.
+    /// The score of the old tiles of the cross words.
     pub side: u64,
     /// The greatest letter premium.
     pub letter: u64,
@@ -21,13 +21,13 @@ pub struct Sum {
     pub cross: u64,
     /// The number of free places.
     pub free: u64,
-    /// The sum of what the letter premiums are above one.
+    /// The sum of the letter premiums above one.
     pub letters: u64,
     /// The sum of the factors of cross words.
     pub crosses: u64,
 }
 
-/// The lesser of two numbers.
+/// The smaller of two numbers.
 fn lesser(one: u64, other: u64) -> u64
     ensures least { result ≡ least one other }
     ensures limit { result ≤ one }
@@ -45,7 +45,7 @@ fn greater(one: u64, other: u64) -> u64
 }
 
 impl Sum {
-    /// The sum of no place.
+    /// The sum of no places.
     fn none() -> Sum
         ensures sum { (places : ℕ → Place) (first : ℕ) → IsSum places first 0 result }
         ensures small { IsSmallSum 0 result }
@@ -62,7 +62,7 @@ impl Sum {
         }
     }
 
-    /// The sum with one place more.
+    /// The sum with one more place.
     fn with(&self, place: &Place) -> Sum
         requires small { IsSmallSum (SIDE - 1) self.now }
         requires place { IsSmall place.now }
@@ -111,7 +111,7 @@ impl Sum {
     }
 }
 
-/// A number that no play passes whose stretch begins at a place: the bound of the longest stretch with seven free places and no
+/// An upper bound for the plays whose stretch begins at a place: the bound of the longest stretch with seven free places and no
 /// place on which no tile can be laid.
 pub fn longest(
     places: &[Place; SIDE],

@@ -1,4 +1,4 @@
-//! What the tiles of a move score at the most, added up place by place.
+//! The most that the tiles of a move score, added up place by place.
 ghost use Rattle.std.specs.Prelude.{◌≡◌, ◌≤◌, ◌+◌, ◌-◌, ◌*◌, ◌||◌, ℕ, nat_le, not, is_some, if◌then◌else◌};
 ghost use Rattle.ref_play.specs.Scores.{points_on};
 ghost use Rattle.gen_moves.specs.LineTiles.{new_tile};
@@ -18,14 +18,14 @@ pub struct Tally {
     pub letters: u64,
     /// The product of the word premiums.
     pub word: u64,
-    /// What the cross words score.
+    /// The score of the cross words.
     pub crosses: u64,
     /// The number of new tiles.
     pub free: u64,
 }
 
 impl Tally {
-    /// That of no place.
+    /// The tally of no places.
     fn none() -> Tally
         ensures letters { result.letters ≡ 0 }
         ensures word { result.word ≡ 1 }
@@ -40,7 +40,7 @@ impl Tally {
         }
     }
 
-    /// That with one place more, on which lies an old tile, or a new one of so many points.
+    /// The tally with one more place, on which there is an old tile, or a new one with a number of points.
     fn with(&self, place: &Place, points: u64) -> Tally
         requires small { IsSmallTally (SIDE - 1) self.now }
         requires place { IsSmall place.now }
@@ -58,7 +58,7 @@ impl Tally {
         }
     }
 
-    /// What it comes to.
+    /// The score that it adds up to.
     fn score(&self, bonus: u16) -> u64
         requires { IsSmallTally SIDE self.now }
         ensures { result ≡ self.now.letters * self.now.word + self.now.crosses + (if nat_le 7 self.now.free then bonus else 0) }
@@ -87,7 +87,7 @@ fn is_laid(place: &Place, tile: &Option<Tile>) -> bool
     !place.free || tile.is_some()
 }
 
-/// What the move of some new tiles scores at the most: what the stretch adds up to in which they lie.
+/// The most that the move of some new tiles scores: what the stretch in which they lie adds up to.
 pub fn tally_of(rules: &Rules, places: &[Place; SIDE], tiles: &LineTiles) -> u64
     requires { AreSmall (place_in places.now) }
     ensures { (first len : ℕ) → LiesOn (place_in places.now) (new_tile tiles.now) first len

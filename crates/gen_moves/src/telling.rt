@@ -1,4 +1,4 @@
-//! The moves of a line, told to a sink as plays with their scores.
+//! The moves of a line, given to a sink as plays with their scores.
 use crate::entries::line_tiles;
 use crate::passing::passes;
 use crate::places::Place;
@@ -10,8 +10,8 @@ use ref_board::SIDE;
 use ref_play::score;
 use ref_tiles::Rules;
 
-/// What makes plays of the moves of a line, each with its score, and gives them to a sink. What the sink need not see is left out
-/// before its play is made.
+/// What makes plays of the moves of a line, each with its score, and gives them to a sink. What the sink does not need to see is
+/// left out before its play is made.
 #[derive(Drop)]
 pub struct LinePlays<'a> {
     pub rules: &'a Rules,

@@ -1,5 +1,5 @@
--- Elements added one after another to a list that keeps the first so many: in whatever order they come, and whatever was kept before, the
--- same are left.
+-- Elements added one after another to a list that keeps the first `n`: in whatever order they come, and whatever was kept before,
+-- the same are left.
 use Rattle.std.proofs.Common.{◌≡◌, ◌≢◌, ℕ, zero, suc, Bool, true, false, List, [], ◌∷◌, ◌++◌, take, refl, sym, ap, ◌∙◌, subst, arith, ◌⊎◌, ⊎_elim}
 use Rattle.std.specs.Prelude.{fold, Contains}
 use Rattle.std.specs.List.{AllPairs}
@@ -8,7 +8,7 @@ use Rattle.std.proofs.lemmas.List.Elements.{Contains-append_left, Contains-appen
 use Rattle.ref_play.proofs.RangeLaws.{Contains-cases, Contains-here, Contains-there}
 use Rattle.gen_sinks.specs.Ranks.{put_in, add_top}
 
--- ---- the first so many of a list
+-- ---- the first elements of a list
 take_less : {A : Type 0} (n : ℕ) (zs : List A) → take n (take (suc n) zs) ≡ take n zs
 take_less zero zs = refl
 take_less (suc n) [] = refl
@@ -26,7 +26,7 @@ module _ {A : Type 0} (before : A → A → Bool) where
   put_behind : (x k : A) (ks : List A) → before x k ≡ false → put_in before x (k ∷ ks) ≡ k ∷ put_in before x ks
   put_behind x k ks e = rw e refl
 
-  -- what is beyond the first so many does not matter for them
+  -- what is beyond the first `n` does not matter for them
   put_front : (n : ℕ) (x : A) (zs : List A) → take n (put_in before x (take n zs)) ≡ take n (put_in before x zs)
   put_front zero x zs = refl
   put_front (suc n) x [] = refl
@@ -115,7 +115,7 @@ apart_without (u ∷ us) vs x a = (λ y c. a.0 y (wider us vs x y c), apart_with
 no_element : {A : Type 0} (x : A) → Contains [] x → ⊥
 no_element x c = let lt = c.1 in omega arith
 
--- what is before an element and what is behind it
+-- what is before an element and what is after it
 split : {A : Type 0} (ys : List A) (x : A) → Contains ys x → (us : List A) × (vs : List A) × (ys ≡ us ++ x ∷ vs)
 split [] x c = absurd (no_element x c)
 split (y ∷ ys) x c =
@@ -124,7 +124,7 @@ split (y ∷ ys) x c =
     (λ (d : Contains ys x). let s = split ys x d in (y ∷ s.0, s.1, ap (λ zs. y ∷ zs) s.2))
     (Contains-cases y ys x c)
 
--- ---- added one after another, where each two that differ may be added in either order
+-- ---- added one after another, if each two that differ may be added in either order
 module _ {A B : Type 0} (f : B → A → B) (P : A → Type 0) (swaps : (b : B) (x y : A) → P x → P y → x ≢ y → f (f b x) y ≡ f (f b y) x) where
   to_front : (us vs : List A) (x : A) (b : B) → P x → ((u : A) → Contains us u → P u × (u ≢ x)) → fold f b (us ++ x ∷ vs) ≡ fold f (f b x) (us ++ vs)
   to_front [] vs x b is others = refl

@@ -15,7 +15,7 @@ both s t e f = rw (e, f) refl
 
 -- ---- the place of an element
 module _ {A B : Type 0} (before : B → B → Bool) (f : A → B) (x : B) where
-  -- an element comes before none of the first so many, and before the next one where there is one
+  -- an element comes before none of the first `i`, and before the next one if there is one
   pub put_there : (ys : List A) (i : ℕ) → i ≤ length ys → ((k : ℕ) (d : A) → k < i → before x (f (get_or ys k d)) ≡ false)
       → ((d : A) → i < length ys → before x (f (get_or ys i d)) ≡ true) → put_in before x (map f ys) ≡ insert (map f ys) i x
   put_there [] zero inside behind first = refl
@@ -31,7 +31,7 @@ seen_take f zero ys = refl
 seen_take f (suc n) [] = refl
 seen_take f (suc n) (y ∷ ys) = ap (λ zs. f y ∷ zs) (seen_take f n ys)
 
--- the first so many of a list with an element put in, as they are seen
+-- the first `n` of a list with an element put in, as they are seen
 pub seen_insert : {A B : Type 0} (f : A → B) (n : ℕ) (ys : List A) (i : ℕ) (a : A) → map f (take n (insert ys i a)) ≡ take n (insert (map f ys) i (f a))
 seen_insert f zero ys i a = refl
 seen_insert f (suc n) ys zero a = ap (λ zs. f a ∷ zs) (seen_take f n ys)
@@ -54,7 +54,7 @@ insert_full (suc m) ys i a full inside =
 pub insert_room : {A : Type 0} (n : ℕ) (ys : List A) (i : ℕ) (a : A) → length ys < n → i ≤ length ys → insert ys i a ≡ take n (insert ys i a)
 insert_room n ys i a room inside = let long = length-insert ys i a inside in sym (take_all n (insert ys i a) (omega arith))
 
--- and behind all of a full one there is none
+-- and after all of a full one there is none
 pub insert_behind : {A : Type 0} (n : ℕ) (ys : List A) (a : A) → length ys ≡ n → ys ≡ take n (insert ys n a)
 insert_behind zero [] a full = refl
 insert_behind zero (y ∷ ys) a full = absurd (omega arith)
@@ -100,7 +100,7 @@ legal_put board (p ∷ kept) (suc i) a legal new =
     let parts = and_parts test (are_legal board kept) legal in
     both test (are_legal board (insert kept i a)) parts.0 (legal_put board kept i a parts.1 new)
 
--- the first so many with a legal play put in are legal
+-- the first `n` with a legal play put in are legal
 pub legal_insert : (board : List (Option Tile)) (n : ℕ) (kept : List (Play × ℤ)) (i : ℕ) (a : Play × ℤ) → length board ≡ 225 → IsTrue (are_legal board kept)
     → IsLegal board a.0.tiles.items → IsTrue (are_legal board (take n (insert kept i a)))
 legal_insert board n kept i a size legal new = legal_front board n (insert kept i a) (legal_put board kept i a legal (legal_test board a size new))

@@ -43,7 +43,7 @@ ranks_never board a e =
     let tied = tied_itself (rank_total board) a in
     let same : Less ≡ Equal = sym (less (rank_cmp board a a) e) ∙ tied in cc
 
--- what the two orders say where the first play ranks before the second
+-- what the two orders say if the first play ranks before the second
 parts : (o p : Ordering) → ordering_then o p ≡ Less → (o ≡ Less) ⊎ ((o ≡ Equal) × (p ≡ Less))
 parts Less p e = inl refl
 parts Equal p e = inr (refl, e)
@@ -94,8 +94,8 @@ outranks rules board a b e =
     (parts (int_cmp (pos (score_of rules board b)) (pos (score_of rules board a))) (written_cmp (notation_of board a) (notation_of board b))
     (less (rank_cmp board (given_of rules board a) (given_of rules board b)) e))
 
--- ---- the first so many of all candidates
--- an element that is to come differs from each that has come
+-- ---- the first of all candidates
+-- an element that is still to come differs from each that has come
 comes_new : {A : Type 0} (done rest : List A) (x y : A) → AllPairs (λ a b. a ≢ b) (done ++ x ∷ rest) → Contains done y → x ≢ y
 comes_new done rest x y once c same =
     let lt = c.1 in

@@ -1,4 +1,4 @@
--- The first so many of some elements, kept as the elements come.
+-- The first `n` of some elements, kept as the elements come.
 use Rattle.std.proofs.Common.{◌≡◌, ℕ, zero, suc, ◌+◌, ◌≤◌, Bool, true, false, List, [], ◌∷◌, ◌++◌, length, take, Contains, refl, sym, ap, subst, ◌∙◌, arith, length-append, length-take, length-take-le, ◌⊎◌, inl, inr, ⊎_elim, if◌then◌else◌}
 use Rattle.std.proofs.lemmas.List.Elements.{Contains-append_left, Contains-push, Contains-push_cases}
 use Rattle.ref_play.proofs.RangeLaws.{Contains-cases, Contains-here, Contains-there}
@@ -18,7 +18,7 @@ front_in (suc n) (x ∷ xs) z h =
     (Contains-cases x (take n xs) z h)
 
 module _ {A : Type 0} (before : A → A → Bool) where
-  -- what is in a list with one element more
+  -- what is in a list with one more element
   put_cases : (x : A) (ys : List A) (z : A) → Contains (put_in before x ys) z → (x ≡ z) ⊎ Contains ys z
   put_cases x [] z h = Contains-cases x [] z h
   put_cases x (y ∷ ys) z h = by (before x y) h (put_cases x ys z) where
@@ -62,7 +62,7 @@ module _ {A : Type 0} (before : A → A → Bool) where
   front_ordered (suc n) [] h = tt
   front_ordered (suc n) (x ∷ xs) h = (λ y c. h.0 y (front_in n xs y c), front_ordered n xs h.1)
 
-  -- each element of a list in order is in the front, or comes behind all of a full front
+  -- each element of a list in order is in the front, or comes after all of a full front
   front_or_behind : (n : ℕ) (xs : List A) (z : A) → InOrder before xs → Contains xs z
       → Contains (take n xs) z ⊎ ((length (take n xs) ≡ n) × ((k : A) → Contains (take n xs) k → before k z ≡ true))
   front_or_behind zero xs z o h = inr (refl, λ k c. absurd (none k c))
@@ -81,7 +81,7 @@ module _ {A : Type 0} (before : A → A → Bool) where
       (front_or_behind n xs z o.1 rest))
       (Contains-cases x xs z h)
 
-  -- in a full front with one element more, it is an old one, or some old one comes behind it
+  -- in a full front with one more element, it is an old one, or some old one comes after it
   pushes_out : (x : A) (ys : List A) (k : A) → Contains (take (length ys) (put_in before x ys)) k → Contains ys k ⊎ ((x ≡ k) × (y : A) × Contains ys y × (before x y ≡ true))
   pushes_out x [] k h = absurd (none k h)
   pushes_out x (y ∷ ys) k h = by (before x y) refl (pushes_out x ys k) h where
@@ -114,7 +114,7 @@ module _ {A : Type 0} (before : A → A → Bool) where
           let after : before y x ≡ true = ⊎_elim (λ (e : before x y ≡ true). absurd (let h = sym last ∙ e in cc)) (λ (e : before y x ≡ true). e) (total y (Contains-here y ys)) in
           (λ z c. ⊎_elim (λ (e : x ≡ z). subst (λ (w : A). before y w ≡ true) e after) (λ (r : Contains ys z). o.0 z r) (put_cases x ys z c), more)
 
-    -- all of a full front with one element more come before what all old ones come before
+    -- all of a full front with one more element come before what all old ones come before
     still_behind : (n : ℕ) (x : A) (kept : List A) (z : A) → length kept ≡ n → ((k : A) → Contains kept k → before k z ≡ true)
         → (k : A) → Contains (take n (put_in before x kept)) k → before k z ≡ true
     still_behind n x kept z full behind k h =
@@ -125,7 +125,7 @@ module _ {A : Type 0} (before : A → A → Bool) where
         subst (λ (w : A). before w z ≡ true) new.0 (trans x new.1 z new.3 (behind new.1 new.2)))
         (pushes_out x kept k found)
 
-    -- ---- one element more
+    -- ---- one more element
     pub first_more : (n : ℕ) (all kept : List A) (x : A) → ((y : A) → Contains kept y → (before x y ≡ true) ⊎ (before y x ≡ true)) → AreFirst n before all kept
         → AreFirst n before (all ++ x ∷ []) (add_top n before kept x)
     first_more n all kept x total first =
@@ -173,7 +173,7 @@ module _ {A : Type 0} (before : A → A → Bool) where
     not_both : (a b : A) → before a b ≡ true → before b a ≡ true → ⊥
     not_both a b p q = never a (trans a b a p q)
 
-    -- what lies in a list behind its first element, where it comes behind some element of the list
+    -- what is in a list after its first element, if it comes after some element of the list
     behind_first : (x y : A) (ys : List A) → InOrder before (y ∷ ys) → Contains (y ∷ ys) x → (z : A) → before x z ≡ true → Contains (y ∷ ys) z → Contains ys z
     behind_first x y ys o there z after h =
         ⊎_elim
@@ -186,7 +186,7 @@ module _ {A : Type 0} (before : A → A → Bool) where
         (λ (r : Contains ys z). r)
         (Contains-cases y ys z h)
 
-    -- a list in order all whose elements are in another in order is no longer
+    -- a list in order whose elements are all in another list in order is no longer than that
     no_longer : (xs ys : List A) → InOrder before xs → InOrder before ys → ((z : A) → Contains xs z → Contains ys z) → length xs ≤ length ys
     no_longer [] ys o p h = omega arith
     no_longer (x ∷ xs) [] o p h = absurd (none x (h x (Contains-here x xs)))
@@ -194,7 +194,7 @@ module _ {A : Type 0} (before : A → A → Bool) where
         let rest = no_longer xs ys o.1 p.1 (λ z c. behind_first x y ys p (h x (Contains-here x xs)) z (o.0 z c) (h z (Contains-there x xs z c))) in
         omega arith
 
-    -- two lists in order with the same elements are one
+    -- two lists in order with the same elements are equal
     one_list : (xs ys : List A) → InOrder before xs → InOrder before ys → ((z : A) → Contains xs z → Contains ys z) → ((z : A) → Contains ys z → Contains xs z) → xs ≡ ys
     one_list [] [] o p h g = refl
     one_list [] (y ∷ ys) o p h g = absurd (none y (g y (Contains-here y ys)))
@@ -212,7 +212,7 @@ module _ {A : Type 0} (before : A → A → Bool) where
         (λ z c. behind_first y x xs o (g y (Contains-here y ys)) z (p.0 z c) (g z (Contains-there y ys z c))) in
         λ i. same i ∷ rest i
 
-    -- one list with one more element, behind all of it, is in order
+    -- a list with one more element, after all of it, is in order
     push_ordered : (xs : List A) (x : A) → InOrder before xs → ((k : A) → Contains xs k → before k x ≡ true) → InOrder before (xs ++ x ∷ [])
     push_ordered [] x o h = (λ y c. absurd (none y c), tt)
     push_ordered (k ∷ xs) x o h = (
@@ -220,7 +220,7 @@ module _ {A : Type 0} (before : A → A → Bool) where
       push_ordered xs x o.1 (λ z c. h z (Contains-there k xs z c)),
     )
 
-    -- each of the first so many of some elements is among the first so many of the same elements
+    -- each of the first `n` of some elements is among the first `n` of the same elements
     held_too : (n : ℕ) (all more kept held : List A) → ((z : A) → Contains all z → Contains more z) → ((z : A) → Contains more z → Contains all z)
         → AreFirst n before all kept → AreFirst n before more held → (z : A) → Contains kept z → Contains held z
     held_too n all more kept held to from first other z c =

@@ -1,4 +1,4 @@
--- A play that scores less than all of a full list changes nothing of it.
+-- A play that scores less than all of a full list does not change it.
 use Rattle.std.proofs.Common.{◌≡◌, ℕ, ℤ, ◌<ℤ◌, ◌≤ℤ◌, false, List, map, length, get_or, take, insert, refl, sym, ap, ◌∙◌, arith, ⊎_elim, Option, Some}
 use Rattle.std.specs.declared.cmp.Ordering.{Ordering}
 use Rattle.std.specs.declared.cmp.Ordering.TheVariants.{Less, Equal, Greater}
@@ -16,7 +16,7 @@ use Rattle.gen_sinks.specs.Ranks.{ranks_before, add_top}
 use Rattle.gen_sinks.specs.Skips.{AllAbove, IsBeforeDown, AllBeforeDown, GoesDown}
 use Rattle.gen_sinks.proofs.Keeping.{put_there, insert_behind}
 
--- less than another does not rank before it
+-- a play that scores less than another does not rank before it
 lower : (x y : ℤ) (o p : Ordering) → int_cmp y x ≡ o → x <ℤ y → is_lt (ordering_then o p) ≡ false
 lower x y Less p e less = absurd (let more : y <ℤ x = int_ranked y x Less (sym e) in omega (arith, ints))
 lower x y Equal p e less = absurd (let same : y ≡ x = int_ranked y x Equal (sym e) in omega (arith, ints))
@@ -37,7 +37,7 @@ still_kept n board kept bound given full above low =
     ∙ sym (insert_behind n (map seen_pair kept) given size)
 
 -- ---- plays that are written down
--- less than another, or as much and behind it
+-- a play that scores less than another, or as much and comes after it
 no_higher : (x y : ℤ) (o p : Ordering) → int_cmp y x ≡ o → x ≤ℤ y → is_lt p ≡ false → is_lt (ordering_then o p) ≡ false
 no_higher x y Less p e le behind = absurd (let more : y <ℤ x = int_ranked y x Less (sym e) in omega (arith, ints))
 no_higher x y Equal p e le behind = behind

@@ -1,5 +1,5 @@
 -- Lists in which no element comes before the one in front of it, by a total order: what does not come before the last one comes
--- behind them all, and one element more at its place leaves them so.
+-- after them all, and one more element at its place leaves them so.
 use Rattle.std.proofs.Common.{◌≡◌, ℕ, zero, suc, ◌-◌, ◌<◌, ℤ, Bool, true, false, not, IsTrue, List, [], ◌∷◌, map, length, get_or, take, refl, sym, ap, ◌∙◌, arith, Option, if◌then◌else◌}
 use Rattle.std.specs.declared.cmp.Ordering.{Ordering}
 use Rattle.std.specs.declared.cmp.Ordering.TheVariants.{Less, Equal, Greater}
@@ -35,7 +35,7 @@ module _ (board : List (Option Tile)) where
   not_back : (x y : Given) → ranks_before board x y ≡ true → ranks_before board y x ≡ false
   not_back x y e = ap is_lt ((rank_total board).antisymm y x ∙ ap ordering_reverse (less (rank_cmp board x y) e))
 
-  -- ---- behind them all
+  -- ---- after them all
   abbrev last_or : Play × ℤ → List (Play × ℤ) → Play × ℤ
   last_or p [] = p
   last_or p (q ∷ qs) = last_or q qs
@@ -65,7 +65,7 @@ module _ (board : List (Option Tile)) where
       let found : last ≡ last_or p ps = is ∙ ap (λ i. get_or (p ∷ ps) i last) at ∙ last_or-at p ps last in
       all_behind x p ps turn (ap (λ (one : Play × ℤ). ranks_before board x (seen_pair one)) (sym found) ∙ behind) place d lt
 
-  -- ---- one element more
+  -- ---- one more element
   put_leads : (x y : Given) (ys : List Given) → may_lead (ranks_before board) y ys ≡ true → ranks_before board x y ≡ false
       → may_lead (ranks_before board) y (put_in (ranks_before board) x ys) ≡ true
   put_leads x y [] leads e = ap not e
@@ -102,6 +102,6 @@ module _ (board : List (Option Tile)) where
       let parts = and_parts (may_lead (ranks_before board) y ys) (in_turn (ranks_before board) ys) turn in
       and_from (may_lead (ranks_before board) y (take n ys)) (in_turn (ranks_before board) (take n ys)) (take_leads n y ys parts.0) (take_turn n ys parts.1)
 
-  -- the first so many with one element more stay in turn
+  -- the first `n` with one more element stay in turn
   pub top_turn : (n : ℕ) (x : Given) (ys : List Given) → IsTrue (in_turn (ranks_before board) ys) → IsTrue (in_turn (ranks_before board) (take n (put_in (ranks_before board) x ys)))
   top_turn n x ys turn = take_turn n (put_in (ranks_before board) x ys) (put_turn x ys turn)

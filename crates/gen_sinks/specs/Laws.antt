@@ -1,4 +1,4 @@
--- Laws: what is left where all candidates of a board are kept as the first so many.
+-- Laws: what is left if all candidates of a board are added and the first `n` are kept.
 use Rattle.std.specs.Prelude.{◌≡◌, ◌↔◌, ℕ, List, [], length, Contains, fold, Option}
 use Rattle.ref_tiles.specs.declared.rulebook.TheConstants.{SQUARES}
 use Rattle.ref_tiles.specs.declared.tiles.Tile.{Tile}
@@ -6,7 +6,7 @@ use Rattle.ref_tiles.specs.declared.rulebook.Rules.{Rules}
 use Rattle.ref_play.specs.Best.{Given, AreAll, IsAnnotation}
 use Rattle.gen_sinks.specs.Ranks.{ranks_before, add_top, AreFirst, head_of}
 
--- all candidates, added one after another to none, leave the first so many of them
+-- all candidates, added one after another to an empty list, leave the first `n` of them
 abbrev pub AddedAreFirst : Type 0
 AddedAreFirst =
     (n : ℕ) (rules : Rules) (words : List (List ℕ)) (board : List (Option Tile)) (rack : List ℕ) (all : List Given) → length board ≡ SQUARES
@@ -19,7 +19,7 @@ OrderIsNoMatter =
     → AreAll rules words board rack all → AreAll rules words board rack more
     → fold (add_top n (ranks_before board)) kept all ≡ fold (add_top n (ranks_before board)) kept more
 
--- the first so many of the same plays are the same list
+-- the first `n` of the same plays are the same list
 abbrev pub FirstAreOne : Type 0
 FirstAreOne =
     (n : ℕ) (board : List (Option Tile)) (all more kept held : List Given) → ((given : Given) → Contains all given ↔ Contains more given)

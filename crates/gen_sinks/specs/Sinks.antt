@@ -23,6 +23,6 @@ abbrev pub IsFor : Option (List (Option Tile)) → List (Option Tile) → Type 0
 IsFor None board = Unit {0}
 IsFor (Some own) board = own ≡ board
 
--- a list with one play more, at its end
+-- a list with one more play, at its end
 abbrev pub add_last : Option (List (Option Tile)) → List Given → Given → List Given
 add_last board kept given = kept ++ given ∷ []

@@ -10,12 +10,12 @@ use Rattle.ref_play.specs.Best.{Given}
 abbrev pub AllAbove : ℤ → List (Play × ℤ) → Type 0
 AllAbove bound kept = (place : ℕ) (d : Play × ℤ) → place < length kept → bound <ℤ (slice_index_or kept place d).1
 
--- a play is written down on the board that a sink was made for
+-- a play is written down on the board for which a sink was made
 abbrev pub GoesDown : Option (List (Option Tile)) → Given → Type 0
 GoesDown None given = Unit {0}
 GoesDown (Some board) given = (notation_of board given.tiles).dir ≡ Down
 
--- a play scores more than a bound, or as much and is written across
+-- a play scores more than a bound, or scores as much and is written across
 abbrev pub IsBeforeDown : List (Option Tile) → ℤ → Play × ℤ → Type 0
 IsBeforeDown board bound scored = (bound <ℤ scored.1) ⊎ ((scored.1 ≡ bound) × ((notation_of board scored.0.tiles.items).dir ≡ Across))
 

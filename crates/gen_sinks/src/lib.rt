@@ -1,4 +1,4 @@
-//! What takes the plays that a search finds: all of them, the best so many, or the best one.
+//! What takes the plays that a search finds: all of them, a number of the best, or the best one.
 #![tactic(auto)]
 
 mod all;

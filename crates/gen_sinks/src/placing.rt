@@ -11,7 +11,7 @@ use arrayvec::ArrayVec;
 use ref_board::{Board, Dir};
 use ref_play::{Play, before, notation};
 
-/// Whether a play ranks before another: it scores more, or as much and its notation comes first.
+/// Whether a play ranks before another: it scores more, or scores as much and its notation comes first.
 fn ranks_before(board: &Board, play: &Play, score: i32, other: &(Play, i32)) -> bool
     requires legal { IsLegal board.now play.now.tiles.items }
     requires other { IsLegal board.now other.now.0.tiles.items }
@@ -21,8 +21,7 @@ fn ranks_before(board: &Board, play: &Play, score: i32, other: &(Play, i32)) -> 
     score > *points || (score == *points && before(board, play, second))
 }
 
-/// Whether a play ranks before none of those that are kept, best first, so that it comes behind them: it does not rank before the
-/// last one.
+/// Whether a play ranks before none of those that are kept, best first, so that it comes after them: it does not rank before the last one.
 fn comes_last(board: &Board, kept: &[(Play, i32)], play: &Play, score: i32) -> bool
     requires legal { IsLegal board.now play.now.tiles.items }
     requires kept { IsTrue (are_legal board.now kept.now) }
@@ -38,7 +37,7 @@ fn comes_last(board: &Board, kept: &[(Play, i32)], play: &Play, score: i32) -> b
     !ranks_before(board, play, score, &kept[many - 1])
 }
 
-/// The place of a play among those that are kept, best first: that of the first one that it ranks before, else behind them all.
+/// The place of a play among those that are kept, best first: that of the first one before which it ranks, otherwise after them all.
 pub fn place_of(board: &Board, kept: &[(Play, i32)], play: &Play, score: i32) -> usize
     requires legal { IsLegal board.now play.now.tiles.items }
     requires kept { IsTrue (are_legal board.now kept.now) }
@@ -79,7 +78,7 @@ pub fn all_above(kept: &[(Play, i32)], bound: i32) -> bool
     true
 }
 
-/// Whether a play scores more than a bound, or as much and is written across.
+/// Whether a play scores more than a bound, or scores as much and is written across.
 fn is_before_down(board: &Board, scored: &(Play, i32), bound: i32) -> bool
     requires legal { IsLegal board.now scored.now.0.tiles.items }
     ensures { IsTrue result → IsBeforeDown board.now bound scored.now }
@@ -105,7 +104,7 @@ pub fn all_before_down(board: &Board, kept: &[(Play, i32)], bound: i32) -> bool
     true
 }
 
-/// Puts a play at its place, where that is among the first N. The last one leaves where there is no room for it.
+/// Puts a play in its place, if that is among the first N. The last one leaves if there is no room for it.
 pub fn put_at<const N: usize>(
     kept: &mut ArrayVec<(Play, i32), N>,
     place: usize,

@@ -1,4 +1,4 @@
-//! Sinks that keep the best plays: so many, or one.
+//! Sinks that keep the best plays: a number of them, or one.
 ghost use Rattle.std.specs.Prelude.{◌≡◌, IsTrue, map};
 ghost use Rattle.gen_sinks.specs.Sinks.{seen_pair};
 ghost use Rattle.gen_sinks.specs.Ranks.{ranks_before, in_turn};
@@ -10,7 +10,7 @@ use arrayvec::ArrayVec;
 use ref_board::Board;
 use ref_play::Play;
 
-/// A sink that keeps the best N plays of one board, best first: those that score most, and of those that score as much the
+/// A sink that keeps the best N plays of one board, best first: those that score most, and among those that score the same, the
 /// first by their notations.
 #[derive(Drop)]
 pub struct Top<const N: usize> {

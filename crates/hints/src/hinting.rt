@@ -1,4 +1,4 @@
-//! The hint beside the line of a fault.
+//! The hint that goes with the line of a fault.
 
 use crate::items::write_missing;
 use crate::limits::Limit;
@@ -8,15 +8,15 @@ use std::fmt;
 /// What is known of the inputs of a call.
 #[derive(Clone, Copy, Debug)]
 pub struct Known<'a> {
-    /// What messages name the word list.
+    /// The name of the word list in messages.
     pub words: &'a str,
     /// The first bytes of the word list.
     pub words_front: &'a [u8],
-    /// What messages name the lexicon.
+    /// The name of the lexicon in messages.
     pub lexicon: &'a str,
     /// The rules text.
     pub rules: &'a [u8],
-    /// The rack of the command line, where it has one.
+    /// The rack of the command line, if it has one.
     pub rack: Option<&'a str>,
 }
 
@@ -31,10 +31,10 @@ impl Known<'_> {
     };
 }
 
-/// What may help beside the line of a fault. Its text is a clause without a full stop.
+/// What may help with a fault, besides its line. Its text is a clause without a full stop.
 #[derive(Clone, Copy, Debug)]
 pub enum Hint<'a> {
-    /// The rack is none.
+    /// The text is not a rack.
     Rack(RackHint),
     /// The command line names no rack, and the line shows none.
     NoRack,
@@ -44,12 +44,12 @@ pub enum Hint<'a> {
     Limit(Limit),
     /// The lexicon is that of another list.
     OtherList { words: &'a str, lexicon: &'a str },
-    /// A lexicon is given for the word list.
+    /// A lexicon is given as the word list.
     NoList { words: &'a str },
 }
 
 impl<'a> Hint<'a> {
-    /// What may help beside the line of a fault.
+    /// What may help with a fault, by its line.
     pub fn of(line: &[u8], known: &Known<'a>) -> Option<Hint<'a>> {
         if line.starts_with(b"bad rack") {
             return match known.rack {
@@ -63,7 +63,7 @@ impl<'a> Hint<'a> {
         Hint::of_pair(line, known)
     }
 
-    /// What may help beside the line of a fault of a rules text.
+    /// What may help with a fault of a rules text, by its line.
     fn of_rules(line: &[u8], text: &'a [u8]) -> Option<Hint<'a>> {
         if line.starts_with(b"bad rules: Missing") {
             Some(Hint::Missing(text))
@@ -74,7 +74,7 @@ impl<'a> Hint<'a> {
         }
     }
 
-    /// What may help beside the line of a fault of a word list or of its lexicon.
+    /// What may help with a fault of a word list or of its lexicon, by its line.
     fn of_pair(line: &[u8], known: &Known<'a>) -> Option<Hint<'a>> {
         let Known { words, lexicon, .. } = *known;
         if line.starts_with(b"bad word list") && is_lexicon(known.words_front) {
@@ -87,7 +87,7 @@ impl<'a> Hint<'a> {
     }
 }
 
-/// Whether a text begins as a compiled lexicon.
+/// Whether a text begins like a compiled lexicon.
 fn is_lexicon(text: &[u8]) -> bool {
     text.starts_with(b"GAD1") || text.starts_with(b"GAD2")
 }

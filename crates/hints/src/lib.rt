@@ -1,4 +1,4 @@
-//! What may help a person beside the line that tells that an input is bad: clauses in plain words.
+//! What may help a person, besides the line that says that an input is bad: clauses in plain words.
 #![tactic(auto)]
 
 mod hinting;

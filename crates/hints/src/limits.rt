@@ -4,15 +4,15 @@ use crate::items::Item;
 use std::fmt;
 use text_lines::{Lines, next_field, numeral, without_mark};
 
-/// How many digits a number has at the most.
+/// The greatest number of digits of a number.
 const MAX_DIGITS: usize = 3;
 
 /// A number of a rules text that is outside its limits.
 #[derive(Clone, Copy, Debug, PartialEq, Eq)]
 pub enum Limit {
-    /// All tiles together are so many.
+    /// There are this many tiles in all.
     Tiles(u32),
-    /// A tile has so many points.
+    /// A tile has this many points.
     Points { tile: char, points: u32 },
     /// A parameter is this.
     Number { name: &'static str, number: u32 },
@@ -54,7 +54,7 @@ fn is_within(name: &str, number: u32) -> bool {
     name == "bonus" || 1 <= number && number <= 99
 }
 
-/// How many tiles a rules text has together.
+/// How many tiles a rules text has in all.
 fn all_tiles(text: &[u8]) -> u32 {
     let mut tiles: u32 = 0;
     for line in Lines::of(without_mark(text)) {
@@ -65,7 +65,7 @@ fn all_tiles(text: &[u8]) -> u32 {
     tiles
 }
 
-/// The number in the field of a line that has so many before it.
+/// The number in the field of a line that has `place` fields before it.
 fn number_at(place: usize, line: &[u8]) -> Option<u32> {
     let mut field = next_field(line)?;
     for _ in 0..place {

@@ -2,17 +2,17 @@
 
 use std::fmt;
 
-/// How many tiles a rack has at the most.
+/// The greatest number of tiles that a rack has.
 const MOST_TILES: usize = 7;
 
-/// Why a text is no rack.
+/// Why a text is not a rack.
 #[derive(Clone, Copy, Debug, PartialEq, Eq)]
 pub enum RackHint {
     /// It has no tile.
     Empty,
-    /// It has a character that is no tile: the first one.
+    /// It has a character that is not a tile: the first one.
     NoTile(char),
-    /// It has so many tiles.
+    /// It has this many tiles.
     TooMany(usize),
 }
 

@@ -1,5 +1,5 @@
-//! The tests of hostile use. They go through the calls of the engine, on jobs that were worked by hand, over inputs and outputs
-//! in memory.
+//! The tests of hostile use. They make the calls of the engine, for jobs that were worked by hand, over inputs and outputs in
+//! memory.
 #![tactic(auto)]
 
 #[cfg(test)]

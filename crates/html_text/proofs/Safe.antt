@@ -1,4 +1,4 @@
--- What a text is written as is no markup.
+-- The written form of a text has no markup.
 use Rattle.std.proofs.Common.{◌≡◌, ℕ, Bool, true, false, not, ◌==◌, List, [], ◌∷◌, ◌++◌, refl}
 use Rattle.std.specs.Prelude.{codes}
 use Rattle.std.specs.List.{list_all}
@@ -17,7 +17,7 @@ plain_safe byte text b c d e h = rw (b, c, d, e) h
 plain_named : (byte : ℕ) (text : List ℕ) → (byte == 38) ≡ false → has_names text ≡ true → has_names (byte ∷ text) ≡ true
 plain_named byte text a h = rw a h
 
--- one more byte, by what it is: what holds of the text behind each of the five names, and behind a byte that stands for itself
+-- one more byte, by what it is: what holds for the text after each of the five names, and after a byte that stands for itself
 written_by : (holds : List ℕ → Bool) (byte : ℕ) (text : List ℕ) (amp lt gt quot apos : Bool)
     → (byte == 38) ≡ amp → (byte == 60) ≡ lt → (byte == 62) ≡ gt → (byte == 34) ≡ quot → (byte == 39) ≡ apos
     → holds (codes "&amp;" ++ text) ≡ true → holds (codes "&lt;" ++ text) ≡ true → holds (codes "&gt;" ++ text) ≡ true

@@ -14,12 +14,12 @@ begins name text = starts_with ◌==◌ text name
 abbrev pub begins_name : List ℕ → Bool
 begins_name text = begins (codes "amp;") text || begins (codes "lt;") text || begins (codes "gt;") text || begins (codes "quot;") text || begins (codes "#39;") text
 
--- behind each & (38) stands the rest of a name
+-- each & (38) is followed by the rest of a name
 abbrev pub has_names : List ℕ → Bool
 has_names [] = true
 has_names (byte ∷ text) = (not (byte == 38) || begins_name text) && has_names text
 
--- a text with the sign in the place of each name; the first bytes, as many as `behind` says, are those of a name that was taken
+-- a text with the sign in place of each name; the first bytes, as many as `behind` says, are those of a name that was taken
 unfoldable pub undone_behind : (behind : ℕ) → List ℕ → List ℕ
 undone_behind behind [] = []
 undone_behind (suc behind) (byte ∷ text) = undone_behind behind text

@@ -2,7 +2,7 @@
 use Rattle.std.specs.Prelude.{ℕ, ◌==◌, List, codes, if◌then◌else◌, [], ◌∷◌}
 use Rattle.std.specs.List.{flat_map}
 
--- what a byte is written as: & (38), < (60), > (62), " (34) and ' (39) by their names
+-- the written form of a byte: & (38), < (60), > (62), " (34) and ' (39) by their names
 unfoldable pub written : ℕ → List ℕ
 written byte =
     if byte == 38 then codes "&amp;"
@@ -12,6 +12,6 @@ written byte =
     else if byte == 39 then codes "&#39;"
     else byte ∷ []
 
--- what a text is written as
+-- the written form of a text
 abbrev pub html_text : List ℕ → List ℕ
 html_text text = flat_map written text

@@ -2,8 +2,8 @@
 //! law.
 ghost use Rattle.html_text.specs.Laws.{HasNoMark, HasOnlyNames, IsUndone};
 
-/// What a text is written as has no byte `<`, `>`, `"` or `'`, and each `&` in it begins one of the names `&amp;`, `&lt;`, `&gt;`,
-/// `&quot;` and `&#39;`. With the sign in the place of each name it is the text again.
+/// The written form of a text has no byte `<`, `>`, `"` or `'`, and each `&` in it begins one of the names `&amp;`, `&lt;`,
+/// `&gt;`, `&quot;` and `&#39;`. With the sign in place of each name it is the text again.
 #[tactic(auto, using(crate::proofs::Safe::safe, crate::proofs::Safe::named, crate::proofs::Undone::undone_again))]
 pub fn law_of_texts()
     ensures safe { HasNoMark }

@@ -1,7 +1,7 @@
 //! Text of any origin as text of an HTML page.
 //!
-//! [`push_text`] writes bytes that someone else wrote into a page: of what it writes no byte is `<`, `>`, `"` or `'`, each
-//! `&` begins one of five names, and a reader that undoes the names has the text again. Bytes that are not UTF-8 stand as U+FFFD.
+//! [`push_text`] writes bytes that someone else wrote into a page: no byte of what it writes is `<`, `>`, `"` or `'`, each `&`
+//! begins one of five names, and a reader that undoes the names has the text again. Bytes that are not UTF-8 become U+FFFD.
 #![tactic(auto)]
 
 mod laws;

@@ -1,4 +1,4 @@
-//! Text behind the text of a page.
+//! A text that is appended to the text of a page.
 ghost use Rattle.std.specs.Prelude.{◌≡◌, ◌++◌, OnOk};
 ghost use Rattle.std.specs.Str.Lossy.{utf8_lossy};
 ghost use Rattle.html_text.specs.Texts.{written, html_text};
@@ -25,8 +25,8 @@ fn push_byte(out: &mut Vec<u8>, byte: u8) -> Result<(), AllocError>
     }
 }
 
-/// Appends a text, as it may stand between two tags and between the quotes of an attribute. Bytes that are not UTF-8 stand as U+FFFD,
-/// as by `String::from_utf8_lossy`.
+/// Appends a text in the form that it may have between two tags and between the quotes of an attribute. Bytes that are not UTF-8
+/// become U+FFFD, as in `String::from_utf8_lossy`.
 ///
 /// The names are those of the [HTML standard](https://html.spec.whatwg.org/multipage/syntax.html#character-references).
 ///

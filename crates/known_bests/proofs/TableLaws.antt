@@ -18,7 +18,7 @@ pub nothing_known : (rules : Rules) (list : List (List ℕ)) (known : KnownBests
 nothing_known rules list known empty =
     record { each = λ k d below. empty_known rules list (slice_index_or known.places.items k d) (empty k d below) }
 
--- racks of which the numbers are the same
+-- racks whose numbers are the same
 pub same_numbers : (same : ℕ → ℕ → Bool) → ((a b : ℕ) → same a b ≡ true → a ≡ b) → (xs ys : List ℕ) → pointwise same xs ys ≡ true → xs ≡ ys
 same_numbers same tells [] [] is = refl
 same_numbers same tells [] (y ∷ ys) is = cc
@@ -27,7 +27,7 @@ same_numbers same tells (x ∷ xs) (y ∷ ys) is =
     let parts = and_parts (same x y) (pointwise same xs ys) is in
     ap (λ z. z ∷ xs) (tells x y parts.0) ∙ ap (λ zs. y ∷ zs) (same_numbers same tells xs ys parts.1)
 
--- what is kept at a place is of its board and its rack
+-- what is kept at a place is for its board and its rack
 kept_there : (rules : Rules) (list : List (List ℕ)) (kept : KnownBest) (board : List (Option Tile)) (rack : List ℕ) → IsKnown rules list kept → kept.board ≡ board → kept.rack ≡ rack
     → IsBestBy rules list board rack (pos 0) kept.best
 kept_there rules list kept board rack is boards racks =

@@ -11,7 +11,7 @@ use Rattle.event_notes.specs.Bests.{IsBestBy, IsBestByRack, IsTurnBest}
 use Rattle.event_notes.proofs.BestLaws.{shown_best}
 use Rattle.known_bests.specs.Copying.{IsSameBest}
 
--- the best play by a rack, of a turn that gave so many points
+-- the best play by a rack, for a turn that gave `gave` points
 same_by : (rules : Rules) (list : List (List ℕ)) (board : List (Option Tile)) (rack : List ℕ) (gave : ℤ) (a b : TurnBest) → IsBestBy rules list board rack (pos 0) a → IsSameBest gave a b
     → IsBestBy rules list board rack gave b
 same_by rules list board rack gave best.NoTurn b is same = absurd is
@@ -29,7 +29,7 @@ same_rack : (rules : Rules) (list : List (List ℕ)) (board : List (Option Tile)
 same_rack rules list board None gave a b is same = subst (λ (x : TurnBest). IsSameBest gave x b) is same
 same_rack rules list board (Some rack) gave a b is same = same_by rules list board rack gave a b is same
 
--- what is said of a turn that gave so many points, by what is said of it as one that gave nothing
+-- what is said of a turn that gave `gave` points, by what is said of it as one that gave nothing
 pub same_turn : (rules : Rules) (list : List (List ℕ)) (s : State) (e : Event) (gave : ℤ) (a b : TurnBest) → IsTurnBest rules list s e (pos 0) a → IsSameBest gave a b
     → IsTurnBest rules list s e gave b
 same_turn rules list s e gave a b is same =
@@ -38,13 +38,13 @@ same_turn rules list s e gave a b is same =
       idle = λ none. subst (λ (x : TurnBest). IsSameBest gave x b) (is.idle none) same;
     }
 
--- what is known of the board and the rack of a turn is said of it
+-- what is known for the board and the rack of a turn is said of it
 pub known_turn : (rules : Rules) (list : List (List ℕ)) (s : State) (board : List (Option Tile)) (e : Event) (gave : ℤ) (rack : List ℕ) (a b : TurnBest) → full_rack s e ≡ Some rack
     → is_judged s.out e.kind ≡ true → board ≡ s.board → IsBestBy rules list board rack (pos 0) a → IsSameBest gave a b → IsTurnBest rules list s e gave b
 known_turn rules list s board e gave rack a b shown turn same known said =
     shown_best rules list s board e gave rack b shown turn same (same_by rules list board rack gave a b known said)
 
--- what is said of a turn that shows its rack is known of its board and its rack
+-- what is said of a turn that shows its rack is known for its board and its rack
 pub shown_turn : (rules : Rules) (list : List (List ℕ)) (s : State) (board : List (Option Tile)) (e : Event) (gave : ℤ) (rack : List ℕ) (b : TurnBest) → IsTurnBest rules list s e gave b
     → full_rack s e ≡ Some rack → is_judged s.out e.kind ≡ true → board ≡ s.board → IsBestBy rules list board rack gave b
 shown_turn rules list s board e gave rack b is shown turn same =

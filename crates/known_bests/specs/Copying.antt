@@ -1,4 +1,4 @@
--- What is said of the best play of a turn that gave so many points, by what is said of one that gave nothing.
+-- What is said of the best play of a turn that gave `gave` points, by what is said of one that gave nothing.
 use Rattle.std.specs.Prelude.{◌≡◌, ℤ, ◌+ℤ◌}
 use Rattle.ref_play.specs.Notations.{written}
 use Rattle.event_notes.specs.declared.bests.BestPlay.{BestPlay}

@@ -1,4 +1,4 @@
-//! What is said of the best play of one turn, by what is said of that of another.
+//! What is said of the best play of one turn, by what is said of another turn.
 ghost use Rattle.std.specs.Prelude.{◌≡◌, ◌+ℤ◌, ◌≤◌, length, pos};
 ghost use Rattle.ref_play.specs.Notations.{written};
 ghost use Rattle.known_bests.specs.Copying.{IsSamePlay, IsSameBest};
@@ -32,7 +32,7 @@ fn copy_notation(own: &Notation) -> Notation
     }
 }
 
-/// The same best play, of a turn that gave so many points.
+/// The same best play, for a turn that gave `gave` points.
 fn play_of_turn(play: &BestPlay, gave: i32) -> BestPlay
     ensures { IsSamePlay gave play.now result }
 {
@@ -43,7 +43,7 @@ fn play_of_turn(play: &BestPlay, gave: i32) -> BestPlay
     }
 }
 
-/// What is said of the best play of a turn that gave so many points, by what is said of one that gave nothing.
+/// What is said of the best play of a turn that gave `gave` points, by what is said of one that gave nothing.
 pub(crate) fn of_turn(best: &TurnBest, gave: i32) -> TurnBest
     ensures { IsSameBest gave best.now result }
 {

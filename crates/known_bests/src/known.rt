@@ -11,7 +11,7 @@ use ref_board::Board;
 use ref_tiles::Counts;
 use std::alloc::{AllocError, Global};
 
-/// What is known of a board and a rack.
+/// What is known for a board and a rack.
 #[derive(Drop)]
 struct KnownBest {
     board: Board,
@@ -20,15 +20,15 @@ struct KnownBest {
     best: TurnBest,
 }
 
-/// The best plays that are known: what was found of boards and racks, in a number of places that never changes. What is kept further takes the place
-/// of what was there.
+/// The best plays that are known: what was found for boards and racks, in a number of places that never changes. A new entry replaces the one that
+/// was at its place.
 #[derive(Drop)]
 pub struct KnownBests {
     places: Vec<Option<KnownBest>>,
 }
 
 impl KnownBests {
-    /// A table of so many places, in which nothing is kept yet. It takes its whole memory at once.
+    /// A table of `places` places, in which nothing is kept yet. It allocates its whole memory at once.
     ///
     /// # Errors
     ///
@@ -43,7 +43,7 @@ impl KnownBests {
         Ok(KnownBests { places: empty })
     }
 
-    /// A table without a place, which takes no memory and keeps nothing.
+    /// A table without a place, which allocates nothing and keeps nothing.
     pub fn none(alloc: Global) -> KnownBests
         ensures { (rules : Rules) (list : List (List ℕ)) → AreKnown rules list result }
     {
@@ -52,7 +52,7 @@ impl KnownBests {
         }
     }
 
-    /// What is known of a board and a rack.
+    /// What is known for a board and a rack.
     pub(crate) fn find(&self, board: &Board, rack: &Counts) -> Option<&TurnBest>
         ensures { (rules : Rules) (list : List (List ℕ)) → AreKnown rules list self.now
             → IfSome (option_copied result) (IsBestBy rules list board.now rack.now (pos 0)) }
@@ -66,7 +66,7 @@ impl KnownBests {
         }
     }
 
-    /// Keeps what was found of a board and a rack.
+    /// Keeps what was found for a board and a rack.
     pub(crate) fn keep(&mut self, board: &Board, rack: &Counts, best: TurnBest)
         ensures { (rules : Rules) (list : List (List ℕ)) → AreKnown rules list self.old
             → IsBestBy rules list board.now rack.now (pos 0) best → AreKnown rules list self.new }

@@ -1,16 +1,16 @@
-//! Which place of a table a board and a rack have. Nothing depends on it but how often what is kept is found again.
+//! Which place of a table a board and a rack have. This only affects how often something that is kept is found again.
 ghost use Rattle.std.specs.Prelude.{◌<◌, ◌≡◌, IfSome, None};
 
 use ref_board::Board;
 use ref_tiles::{Counts, Tile};
 
-/// What a number is multiplied with before the next is added.
+/// What a number is multiplied by before the next is added.
 const FACTOR: usize = 6364136223846793005;
 
 /// How many of the lower bits of a mixed number are left out.
 const LOW_BITS: usize = 1 << 33;
 
-/// A number for what lies on a square.
+/// A number for what is on a square.
 fn number_on(square: &Option<Tile>) -> usize {
     match square {
         Some(tile) => tile.shown.index as usize + 1,
@@ -37,7 +37,7 @@ fn mixed_rack(mixed: usize, rack: &Counts) -> usize {
     mixed
 }
 
-/// The place of a board and a rack among so many; none where there is no place.
+/// The place of a board and a rack among `places`; none if there is no place.
 pub(crate) fn place_of(board: &Board, rack: &Counts, places: usize) -> Option<usize>
     ensures { IfSome result (λ place. place < places) }
 {

@@ -17,8 +17,8 @@ use gcg_read::Event;
 use lex_check::Checked;
 use ref_tiles::Rules;
 
-/// What is said of the best play of an event that gave so many points, where that is known without a search; `machine` stands before the event.
-/// It is known of an event that is no turn, and of a turn that does not show its rack.
+/// What is said of the best play of an event that gave `gave` points, if that is known without a search; `machine` is before the event. It is
+/// known for an event that is not a turn, and for a turn that does not show its rack.
 #[tactic(auto, using(crate::proofs::TurnLaws::known_turn, event_notes::proofs::BestLaws::hidden_best, event_notes::proofs::BestLaws::idle_best))]
 pub fn known_best_of_turn(
     known: &KnownBests,
@@ -39,7 +39,7 @@ pub fn known_best_of_turn(
     Some(of_turn(kept, gave))
 }
 
-/// Keeps what is said of the best play of an event that gave nothing, where it is a turn that shows its rack; `machine` stands before it.
+/// Keeps what is said of the best play of an event that gave nothing, if it is a turn that shows its rack; `machine` is before it.
 #[tactic(auto, using(crate::proofs::TurnLaws::shown_turn))]
 fn keep_best(known: &mut KnownBests, machine: &Machine, event: &Event, best: TurnBest)
     ensures { (rules : Rules) (list : List (List ℕ)) → AreKnown rules list known.old
@@ -53,8 +53,8 @@ fn keep_best(known: &mut KnownBests, machine: &Machine, event: &Event, best: Tur
     }
 }
 
-/// What is said of the best play of an event that gave so many points, by a search; `machine` stands before the event. What is found is known from
-/// then on. Where `follow` has the board of the machine, its cross-sets need not be made afresh.
+/// What is said of the best play of an event that gave `gave` points, by a search; `machine` is before the event. What is found is known from then
+/// on. If `follow` has the board of the machine, its cross-sets need not be computed anew.
 #[tactic(auto, using(crate::proofs::TurnLaws::same_turn))]
 pub fn find_best_of_turn(
     rules: &Rules,

@@ -24,7 +24,7 @@ use Rattle.lex_agree.specs.declared.tables.CountTable.{CountTable}
 pub record AreCounted (bytes : List ℕ) (table : CountTable) : Type 0 where
   pub each : (n : ℕ) → is_file_node bytes n ≡ true → IsCounted bytes table n
 
--- the nodes before one are counted, which is one of the file, or all where there is none
+-- all nodes before this one of the file are counted, or all nodes if there is none
 abbrev pub AreCountedUntil : List ℕ → CountTable → Option Node → Type 0
 AreCountedUntil bytes table None = AreCounted bytes table
 AreCountedUntil bytes table (Some node) = AreCountedBelow bytes table (number_of node) × (is_file_node bytes (number_of node) ≡ true)
@@ -43,7 +43,7 @@ first_label has low = record { strings = []; all = none; few = omega arith }
     none [] there = absurd (false≢true there)
     none (label ∷ rest) there = let lt = ltb-true label 0 (and_parts (ltb label 0) (has (label ∷ rest)) there).0 in absurd (omega arith)
 
--- the string of one label, where it is accepted
+-- the string of one label, if it is accepted
 abbrev alone : Bool → ℕ → List (List ℕ)
 alone accepts label = cond accepts ((label ∷ []) ∷ []) []
 
@@ -212,7 +212,7 @@ counted_first bytes table (Some node) shape is none found = (
   found.node,
 )
 
--- one more count beside
+-- one more count that is stored separately
 pub beside_more : (bytes nodes large : List ℕ) (n count : ℕ) → AreCountedBeside bytes nodes large → IsCount (file_tail bytes n) count
     → AreCountedBeside bytes (nodes ++ n ∷ []) (large ++ count ∷ [])
 beside_more bytes nodes large n count before here =
@@ -239,7 +239,7 @@ beside_more bytes nodes large n count before here =
 pub not_found : (has : List ℕ → Bool) → IsCount has 4294967295
 not_found has low = absurd (omega arith)
 
--- a count that is found beside
+-- a count that is found among those stored separately
 pub found_beside : (bytes nodes large : List ℕ) (n place : ℕ) → AreCountedBeside bytes nodes large → place < length nodes
     → HoldsAt (λ (m : ℕ). nat_cmp m n ≡ Equal) nodes place → IsCount (file_tail bytes n) (get_or large place 0)
 found_beside bytes nodes large n place beside inside found =
@@ -295,7 +295,7 @@ counted_more bytes table n (Some node) before none found = (
   found.node,
 )
 
--- how much is left behind a node
+-- the number of nodes that are left after one
 abbrev pub left_behind : Option Node → ℕ
 left_behind None = 0
 left_behind (Some node) = 2 ^ 32 - number_of node

@@ -1,5 +1,5 @@
--- All rotated paths of words: they are as many as the letters, no two are the same, and a set that has all of them and no
--- more strings stands for them.
+-- All rotated paths of words: there are as many as letters, no two are the same, and a set that has all of them and no more strings
+-- stands for them.
 use Rattle.std.proofs.Common.{◌≡◌, ℕ, zero, suc, ◌-◌, ◌<◌, ◌≤◌, Bool, true, false, cond, eqb, leb, List, [], ◌∷◌, ◌++◌, length, map, take, drop, length-append, inl, inr, refl, sym, ap, subst, ◌∙◌, arith}
 use Rattle.std.specs.Prelude.{reverse, IsTrue}
 use Rattle.std.specs.Char.{is_ascii_uppercase}
@@ -22,7 +22,7 @@ use Rattle.lex_agree.proofs.Pigeons.{AreApart, all_there, apart_both, is_first, 
 abbrev pub HoldsPaths : (List ℕ → Bool) → List (List ℕ) → Type 0
 HoldsPaths has words = (string : List ℕ) → IsPath words string → IsTrue (has string)
 
--- the path of a word that is split behind so many letters
+-- the path of a word that is split after a number of letters
 abbrev split_path : List ℕ → ℕ → List ℕ
 split_path word split = path_of (take split word) (drop split word)
 
@@ -42,7 +42,7 @@ word_sizes word is =
     let sizes = and_parts (leb 2 (length word)) (leb (length word) 15) (and_parts (list_all is_ascii_uppercase word) (has_word_length word) is).1 in
     (leb-true 2 (length word) sizes.0, leb-true (length word) 15 sizes.1)
 
--- ---- how many they are
+-- ---- their number
 
 splits_size : (word : List ℕ) (count : ℕ) → length (splits_of word count) ≡ count
 splits_size word zero = refl
@@ -109,7 +109,7 @@ abbrev before_mark : List ℕ → List ℕ
 before_mark [] = []
 before_mark (label ∷ rest) = cond (eqb label 0) [] (label ∷ before_mark rest)
 
--- the labels behind it
+-- the labels after it
 abbrev past_mark : List ℕ → List ℕ
 past_mark [] = []
 past_mark (label ∷ rest) = cond (eqb label 0) rest (past_mark rest)
@@ -157,7 +157,7 @@ front_capitals word split is =
     (and_parts (list_all is_ascii_uppercase (take split word)) (list_all is_ascii_uppercase (drop split word))
     (sym (list_all-append is_ascii_uppercase (take split word) (drop split word)) ∙ ap (list_all is_ascii_uppercase) (take-append-drop split word) ∙ capitals)).0
 
--- what a path of a word is read back as
+-- what a path of a word reads back as
 record IsRead (word string : List ℕ) (split : ℕ) : Type 0 where
   whole : word_of string ≡ word
   front : length (before_mark string) ≡ split
@@ -242,7 +242,7 @@ agreed words has is most holds string =
     (most.all string there))))
     (λ path. holds string ((tested words capitals string).0 path))
 
--- the same by a count that is the number of letters
+-- the same, from a count that is the number of letters
 pub told : (words : List (List ℕ)) (has : List ℕ → Bool) (strings letters : ℕ) → IsWordList words → IsCount has strings
     → letters ≡ letters_of words → letters ≤ 6000000 → strings ≡ letters → HoldsPaths has words → StandsFor has words
 told words has strings letters is count number few equal holds =

@@ -1,4 +1,4 @@
--- Strings that differ, all of them in a list that is no longer than they are: the list has no others.
+-- Different strings, all of them in a list that is no longer than their number: the list has no others.
 use Rattle.std.proofs.Common.{◌≡◌, ℕ, zero, suc, ◌+◌, ◌<◌, ◌≤◌, List, [], ◌∷◌, ◌++◌, length, get_or, inl, inr, ◌⊎◌, refl, sym, subst, ◌∙◌, arith}
 use Rattle.std.specs.List.{Contains}
 use Rattle.std.proofs.lemmas.List.Elements.{Contains-append_cases}
@@ -62,7 +62,7 @@ all_there (first ∷ strings) all apart inside few string has =
       | inr left ↦ is_behind string first strings (all_there strings (without all at.0) apart.1 inside_left (omega (arith, size)) string left)
     ]
 
--- strings that differ, and others that differ and are none of them
+-- different strings, and other different strings that are none of them
 pub apart_both : (strings others : List (List ℕ)) → AreApart strings → AreApart others
     → ((string : List ℕ) → Contains strings string → Contains others string → ⊥) → AreApart (strings ++ others)
 apart_both [] others apart more none = more

@@ -1,4 +1,4 @@
--- The rotated paths of a word, where letters turn over and the path of the first letter is there.
+-- The rotated paths of a word, if letters turn over and the set has the path of the first letter.
 use Rattle.std.proofs.Common.{◌≡◌, ℕ, zero, suc, ◌<◌, ◌≤◌, Bool, true, List, [], ◌∷◌, ◌++◌, length, get_or, take, drop, map, drop-cons, length-append, refl, sym, ap, subst, ◌∙◌, arith}
 use Rattle.std.specs.Prelude.{reverse}
 use Rattle.std.specs.Char.{is_ascii_uppercase}
@@ -32,7 +32,7 @@ first_is [] long = absurd (omega arith)
 first_is (letter ∷ []) long = absurd (omega arith)
 first_is (letter ∷ other ∷ word) long = refl
 
--- one letter more
+-- one more letter
 turned : (word : List ℕ) (split : ℕ) → split < length word → path_of (take (suc split) word) (drop (suc split) word)
     ≡ label_of (get_or word split 0) ∷ map label_of (reverse (take split word)) ++ behind_mark (map label_of (drop (suc split) word))
 turned word split inside =

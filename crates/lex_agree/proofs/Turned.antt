@@ -1,4 +1,4 @@
--- What is kept of each label: the steps behind it and the first labels of the front that was turned over to it last.
+-- What is kept for each label: the steps after it and the first labels of the last front that was turned over to it.
 use Rattle.std.proofs.Common.{◌≡◌, ℕ, ◌+◌, ◌<◌, ◌≤◌, List, [], ◌∷◌, ◌++◌, length, get_or, set, take, replicate, inl, inr, sym, ap, subst, ◌∙◌, arith}
 use Rattle.std.proofs.lemmas.Bool.{cases_lt}
 use Rattle.std.proofs.lemmas.List.{length-set, length-replicate, get_or-replicate, length-take-le, take_more, take_more_set, take-take, get_or-set_same, get_or-set_other}
@@ -26,7 +26,7 @@ turned_more bytes first front split steps step few inside before open_there walk
         subst (λ (labels : List ℕ). IsStepAt bytes (first ∷ labels) step) (sym (take_more front split 0 inside))
         (step_more bytes (first ∷ take split front) (get_or front split 0) (get_or steps split no_step) step (before.each split (omega arith)) open_there walked)
 
--- the label alone
+-- only the label
 pub turned_none : (bytes : List ℕ) (first : ℕ) (front : List ℕ) (steps : List (Step Node)) (step : Step Node) → length steps ≡ 16
     → IsStepAt bytes (first ∷ []) step → AreTurned bytes first front 0 (set steps 0 step)
 turned_none bytes first front steps step room here = record {
@@ -54,7 +54,7 @@ turned_same bytes first front kept last same before known alike =
           subst (λ (labels : List ℕ). IsStepAt bytes (first ∷ labels) (get_or kept.steps split no_step)) (own ∙ both) (before.each split (omega arith));
     }
 
--- the labels of the front that is kept, as far as it begins like another
+-- the labels of the front that is kept, up to where it differs from another
 pub front_same : (labels front : List ℕ) (last same : ℕ) → last ≤ length labels → AreAlike (take last labels) front same → take same labels ≡ take same front
 front_same labels front last same le alike =
     let size : length (take last labels) ≡ last = length-take-le last labels le in
@@ -67,7 +67,7 @@ pub front_more : (labels front : List ℕ) (split : ℕ) → split < length labe
 front_more labels front split room inside same =
     take_more_set labels split (get_or front split 0) room ∙ ap (λ (l : List ℕ). l ++ get_or front split 0 ∷ []) same ∙ sym (take_more front split 0 inside)
 
--- what is kept then
+-- what is then kept
 pub turned_kept : (bytes : List ℕ) (first : ℕ) (front : List ℕ) (kept : Kept) → length front < 15 → AreTurned bytes first front (length front) kept.steps
     → length kept.front ≡ 15 → take (length front) kept.front ≡ front → kept.known ≡ length front + 1 → IsKept bytes first kept
 turned_kept bytes first front kept few there letters put known = record {
@@ -80,7 +80,7 @@ turned_kept bytes first front kept few there letters put known = record {
       subst (λ (l : List ℕ). IsStepAt bytes (first ∷ l) (get_or kept.steps split no_step)) labels (there.each split (omega arith));
 }
 
--- of one label something else is kept
+-- something else is kept for one label
 pub kept_more : (bytes : List ℕ) (kept : List Kept) (label : ℕ) (one : Kept) → label < 27 → AreKept bytes kept → IsKept bytes label one
     → AreKept bytes (set kept label one)
 kept_more bytes kept label one low before here =

@@ -18,7 +18,7 @@ use Rattle.lex_agree.proofs.Bounds.{longer}
 
 -- ---- steps
 
--- where nothing goes on
+-- nothing continues
 pub nothing : (bytes t : List ℕ) → strings (node_tail bytes) (record { accepts = false; next = None }) t ≡ false
 nothing bytes [] = refl
 nothing bytes (label ∷ rest) = refl
@@ -63,7 +63,7 @@ letter_first bytes (letter ∷ word) next some here = here
 
 -- ---- turns at a mark
 
--- the labels behind a mark that are below one turn over
+-- the labels after a mark that are below one turn over
 abbrev pub TurnsBelow : List ℕ → List ℕ → Node → ℕ → Type 0
 TurnsBelow bytes front behind from =
     (label : ℕ) (rest : List ℕ) → label < from → file_tail bytes (number_of behind) (label ∷ rest) ≡ true → language_of bytes (label ∷ front ++ behind_mark rest) ≡ true
@@ -101,7 +101,7 @@ turns_all bytes front behind from before none label rest there = elim (cases_lt 
   | inr past ↦ absurd (false≢true (sym (none label past rest) ∙ there))
 ]
 
--- at a node, by what stands behind the mark there
+-- at a node, by what follows the mark there
 pub mark_none : (bytes front : List ℕ) (node : Node) → IsNodeAt bytes front node
     → ((label : ℕ) (rest : List ℕ) → file_tail bytes (number_of node) (0 ∷ label ∷ rest) ≡ false) → TurnsOver (language_of bytes) front
 mark_none bytes front node at none label rest there = absurd (false≢true (sym (at.tails_there 0 (label ∷ rest) ∙ none label rest) ∙ there))
@@ -114,25 +114,25 @@ mark_some bytes front node behind at leads turns label rest there =
 
 -- ---- turns at all nodes before a mark
 
--- the labels of a front stay where others are put behind them
+-- the labels of a front stay when others are put after them
 pub front_kept : (front after : List ℕ) (count label : ℕ) → take (count + 1) after ≡ take (count + 1) (set front count label) → take count after ≡ take count front
 front_kept front after count label same =
     sym (take-take count (count + 1) after (omega arith)) ∙ ap (take count) same ∙ take-take count (count + 1) (set front count label) (omega arith)
     ∙ take-set front count label
 
--- a front with one label more
+-- a front with one more label
 pub front_longer : (front before : List ℕ) (count label : ℕ) → count < length front → take count front ≡ take count before
     → take (count + 1) (set front count label) ≡ take count before ++ label ∷ []
 front_longer front before count label room same = take_more_set front count label room ∙ ap (λ (l : List ℕ). l ++ label ∷ []) same
 
--- the labels turn over that go on behind a front with a label below one
+-- the labels that continue after a front with a label below one turn over
 abbrev pub TurnsOverBelow : (List ℕ → Bool) → List ℕ → ℕ → Type 0
 TurnsOverBelow has front from = (label : ℕ) (labels : List ℕ) → label < from → 0 < label → AreLetters labels → TurnsOver has (front ++ label ∷ labels)
 
 pub over_none : (has : List ℕ → Bool) (front : List ℕ) → TurnsOverBelow has front 1
 over_none has front label labels low some clear = absurd (omega arith)
 
--- a node that an arc leads to stands behind one label more
+-- a node to which an arc leads comes after one more label
 pub node_more : (bytes front : List ℕ) (node next : Node) (label : ℕ) → IsNodeAt bytes front node → Leads bytes node label (Some next)
     → IsNodeAt bytes (front ++ label ∷ []) next
 node_more bytes front node next label at leads = record {
@@ -141,7 +141,7 @@ node_more bytes front node next label at leads = record {
       ap (language_of bytes) (append_assoc front (label ∷ []) (after ∷ rest)) ∙ at.tails_there label (after ∷ rest) ∙ leads.tails after rest;
 }
 
--- no string goes on with a label, so nothing is to be turned over
+-- no string continues with a label, so nothing must be turned over
 ends_there : (bytes front : List ℕ) (node : Node) (label : ℕ) → IsNodeAt bytes front node
     → ((after : ℕ) (rest : List ℕ) → file_tail bytes (number_of node) (label ∷ after ∷ rest) ≡ false)
     → (labels : List ℕ) → TurnsOver (language_of bytes) (front ++ label ∷ labels)
@@ -153,7 +153,7 @@ ends_there bytes front node label at none labels turned rest there =
     by [] = none 0 (turned ∷ rest)
     by (after ∷ more) = none after (more ++ 0 ∷ turned ∷ rest)
 
--- what is known behind an arc
+-- what is known after an arc
 abbrev pub TurnsThere : (List ℕ → Bool) → List ℕ → ℕ → Option Node → Type 0
 TurnsThere has front label None = Unit {0}
 TurnsThere has front label (Some next) = TurnsOverFrom has (front ++ label ∷ [])
@@ -202,7 +202,7 @@ there_none has front label found is = subst (λ (o : Option Node). TurnsThere ha
 
 -- ---- the steps of a word
 
--- what is known of each step up to a place is known up to the next place, where it is known of the step put there
+-- what is known about each step up to a place is known up to the next place, if it is known about the step put there
 pub each_more : (known : ℕ → Step Node → Type 0) (steps : List (Step Node)) (place : ℕ) (step : Step Node) → place + 1 < length steps
     → ((count : ℕ) → count ≤ place → known count (get_or steps count no_step)) → known (place + 1) step
     → (count : ℕ) → count ≤ place + 1 → known count (get_or (set steps (place + 1) step) count no_step)
@@ -264,7 +264,7 @@ word_there bytes word steps there accepts =
     let here = subst (λ (letters : List ℕ). IsStepAt bytes (first_path letters) (get_or steps (length word) no_step)) whole (there.each (length word) (omega arith)) in
     step_accepts bytes (first_path word) (get_or steps (length word) no_step) here ∙ accepts
 
--- what turns over of the strings that go on behind a front with a label below one: behind the mark, and behind letters
+-- which strings that continue after a front with a label below one turn over: after the mark, and after letters
 pub record TurnsSoFar (has : List ℕ → Bool) (front : List ℕ) (from : ℕ) : Type 0 where
   pub mark : 0 < from → TurnsOver has front
   pub letters : TurnsOverBelow has front from
@@ -272,7 +272,7 @@ pub record TurnsSoFar (has : List ℕ → Bool) (front : List ℕ) (from : ℕ) 
 pub so_far_none : (has : List ℕ → Bool) (front : List ℕ) → TurnsSoFar has front 0
 so_far_none has front = record { mark = λ some. absurd (omega arith); letters = λ label labels low. absurd (omega arith) }
 
--- what is known behind an arc, of the mark or of a letter
+-- what is known after an arc with the mark or a letter
 abbrev pub TurnsBehind : List ℕ → List ℕ → ℕ → Option Node → Type 0
 TurnsBehind bytes front label next = (label ≡ 0 → TurnsOver (language_of bytes) front) × (0 < label → TurnsThere (language_of bytes) front label next)
 
@@ -302,14 +302,14 @@ so_far_all bytes front node from at before none =
     ] in
     over_all bytes front node from at here before.letters none
 
--- what turns over behind labels that are those of a front
+-- what turns over after labels that are those of a front
 pub behind_same : (bytes labels front : List ℕ) (behind : Node) → labels ≡ front
     → ((turned : ℕ) (rest : List ℕ) → file_tail bytes (number_of behind) (turned ∷ rest) ≡ true → language_of bytes (turned ∷ labels ++ behind_mark rest) ≡ true)
     → (turned : ℕ) (rest : List ℕ) → file_tail bytes (number_of behind) (turned ∷ rest) ≡ true → language_of bytes (turned ∷ front ++ behind_mark rest) ≡ true
 behind_same bytes labels front behind same turns turned rest there =
     subst (λ (l : List ℕ). language_of bytes (turned ∷ l ++ behind_mark rest) ≡ true) same (turns turned rest there)
 
--- behind the mark, behind a letter, and where nothing goes on
+-- after the mark, after a letter, and if nothing continues
 pub behind_mark_there : (bytes front : List ℕ) (node behind : Node) (label : ℕ) (found : Option Node) → IsNodeAt bytes front node → label ≡ 0 → found ≡ Some behind
     → Leads bytes node label found
     → ((turned : ℕ) (rest : List ℕ) → file_tail bytes (number_of behind) (turned ∷ rest) ≡ true → language_of bytes (turned ∷ front ++ behind_mark rest) ≡ true)

@@ -1,4 +1,4 @@
-//! The answer: by the count, the paths of first letters and the turns of letters together.
+//! The answer, from the count, the paths of first letters and the turns of letters.
 ghost use Rattle.std.specs.Prelude.{◌≡◌};
 ghost use Rattle.std.specs.Bool.{OnTrue};
 ghost use Rattle.lex_list.specs.RotatedPaths.{StandsFor};
@@ -13,14 +13,14 @@ use lex_file::{LexFile, PathLex};
 use lex_list::WordList;
 use std::alloc::Global;
 
-/// The most words of a file that its nodes take for each string: a string has 16 labels at most, and a node of one label
-/// takes three words in the format that takes more.
+/// The maximum number of words of a file that its nodes take for each string: a string has at most 16 labels, and a node with one
+/// label takes three words in the larger format.
 const MOST_WORDS: usize = 48;
 
-/// Whether a compiled lexicon has exactly the rotated paths of a word list, where that is told by its nodes and by its
-/// count of strings. Where it is not told so, or memory runs out, the answer is no.
+/// Whether a compiled lexicon has exactly the rotated paths of a word list, if its nodes and its count of strings decide that. If
+/// they do not, or memory runs out, the answer is no.
 ///
-/// The count comes first: it takes one pass over the nodes, and most files that are wrong have another one.
+/// The count comes first: it takes one pass over the nodes, and most wrong files have a different one.
 pub fn agree(alloc: Global, list: &WordList, file: &LexFile<'_>) -> bool
     ensures { OnTrue result (StandsFor (language_of (bytes_of file.now)) list.now) }
 {

@@ -12,10 +12,10 @@ use crate::tables::CountTable;
 use lex_file::{LexFile, Node, PathLex};
 use std::alloc::{AllocError, Global};
 
-/// A bound on the number of strings of a file, unless it is the greatest number: the sum over its arcs, each node once up
+/// An upper bound on the number of strings of a file, unless it is the greatest number: the sum over its arcs, each node once, up
 /// to the root.
 ///
-/// It takes a byte for each word of the file up to there, in GAD2 for each three words.
+/// It takes a byte for each word of the file up to there, or in GAD2 for each three words.
 #[tactic(auto, using(crate::proofs::Bounds::counted_first, crate::proofs::Bounds::counted_more, crate::proofs::Bounds::less_left))]
 pub fn count_strings(alloc: Global, file: &LexFile<'_>) -> Result<u32, AllocError>
     ensures { IfOk result (λ count. IsCount (language_of (bytes_of file.now)) count) }
@@ -37,7 +37,7 @@ pub fn count_strings(alloc: Global, file: &LexFile<'_>) -> Result<u32, AllocErro
     Ok(counts.of(file, root))
 }
 
-/// The count of a node, by those of the nodes before it.
+/// The count of a node, from those of the nodes before it.
 #[tactic(auto, using(crate::proofs::Bounds::first_label, crate::proofs::Bounds::last_label, crate::proofs::Bounds::label_more, crate::proofs::Bounds::counted_there, crate::proofs::Bounds::longer))]
 fn count_node(file: &LexFile<'_>, counts: &CountTable, node: Node) -> u32
     requires node { IsTrue (is_file_node (bytes_of file.now) (number_of node)) }
@@ -58,7 +58,7 @@ fn count_node(file: &LexFile<'_>, counts: &CountTable, node: Node) -> u32
     count
 }
 
-/// The count of the strings behind an arc.
+/// The count of the strings after an arc.
 #[tactic(auto, using(crate::proofs::Bounds::count_none))]
 fn count_behind(file: &LexFile<'_>, counts: &CountTable, next: Option<Node>) -> u32
     requires { IsCountedThere (bytes_of file.now) counts.now next }
@@ -70,7 +70,7 @@ fn count_behind(file: &LexFile<'_>, counts: &CountTable, next: Option<Node>) -> 
     }
 }
 
-/// The sum of two counts, and one more where an arc accepts; or the greatest number.
+/// The sum of two counts, and one more if an arc accepts; or the greatest number.
 fn sum_of(count: u32, more: u32, accepts: bool) -> u32
     ensures { result < most_counted → result ≡ count + more + (if accepts then 1 else 0) }
 {

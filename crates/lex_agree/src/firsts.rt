@@ -1,4 +1,4 @@
-//! The paths of words whose front is the first letter, in a file.
+//! The paths in a file of words whose front is the first letter.
 ghost use Rattle.std.specs.{Prelude.{◌≡◌, ◌+◌, ◌<◌, ◌≤◌, [], ℕ, IsTrue, length, slice_index_or, slice_index, take, true}, Bool.{OnTrue}, Char.{is_ascii_uppercase}};
 ghost use Rattle.lex_list.specs.Words.{is_word};
 ghost use Rattle.lex_file.specs.{Files.{bytes_of}, Languages.{language_of}, Walking.{IsOpen}};
@@ -8,11 +8,11 @@ use crate::steps::{follow, label_of, start};
 use lex_file::{LexFile, MARK, Node, Step};
 use lex_list::WordList;
 
-/// The most letters of a word, and one.
+/// The maximum number of letters of a word, plus one.
 const PLACES: usize = 16;
 
-/// Whether the path of each word of a list is in a file whose front is its first letter. What stands behind the letters
-/// that a word has in common with the word before it is kept.
+/// Whether a file has the path of each word of a list whose front is its first letter. What follows the letters that a word has in
+/// common with the word before it is kept.
 pub fn has_firsts(list: &WordList, file: &LexFile<'_>) -> bool
     ensures { OnTrue result ((place : ℕ) → place < length list.now → language_of (bytes_of file.now) (first_path (slice_index_or list.now place [])) ≡ true) }
 {
@@ -30,7 +30,7 @@ pub fn has_firsts(list: &WordList, file: &LexFile<'_>) -> bool
     true
 }
 
-/// The number of letters with which two words begin alike, or of labels with which two fronts do.
+/// The number of letters that two words have in common at the front, or of labels that two fronts have.
 pub fn common_letters(one: &[u8], other: &[u8]) -> usize
     ensures { AreAlike one.now other.now result }
 {
@@ -41,7 +41,7 @@ pub fn common_letters(one: &[u8], other: &[u8]) -> usize
     same
 }
 
-/// Puts beside the steps to the first letters of a word, which are known, those to the others.
+/// Adds the steps to the other letters of a word, after those to the first letters, which are known.
 fn take_steps(file: &LexFile<'_>, word: &[u8], same: usize, steps: &mut [Step<Node>; PLACES])
     requires word { IsTrue (is_word word.now) }
     requires same { same ≤ length word.now }
@@ -54,7 +54,7 @@ fn take_steps(file: &LexFile<'_>, word: &[u8], same: usize, steps: &mut [Step<No
     }
 }
 
-/// What stands behind the mark after the first letter; after others there is none.
+/// The step past the mark after the first letter; after other letters there is no mark.
 fn past_mark(file: &LexFile<'_>, first: bool, step: Step<Node>) -> Step<Node>
     requires { IsOpen (IsNodeOf (bytes_of file.now)) step.next }
     ensures { IsPast (bytes_of file.now) first step result }

@@ -1,4 +1,4 @@
-//! What stands behind a label and a front, kept for the next front that is turned over to the same label.
+//! What follows a label and a front, kept for the next front that is turned over to the same label.
 ghost use Rattle.std.specs.Prelude.{◌≡◌, ◌∷◌, [], ◌<◌, ◌≤◌, length, take};
 ghost use Rattle.lex_file.specs.Files.{bytes_of};
 ghost use Rattle.lex_agree.specs.Walks.{IsStepAt, AreTurned, IsKept};
@@ -7,13 +7,13 @@ use crate::firsts::common_letters;
 use crate::steps::{behind_label, follow};
 use lex_file::{LexFile, Node, Step};
 
-/// The most labels before a mark.
+/// The maximum number of labels before a mark.
 pub const MOST_LABELS: usize = 15;
 
-/// The most labels before a mark, and one.
+/// The maximum number of labels before a mark, plus one.
 const PLACES: usize = 16;
 
-/// The front that was turned over last to a label, and the steps behind that label and the first labels of the front.
+/// The last front that was turned over to a label, and the steps after that label and the first labels of the front.
 #[derive(Clone, Copy)]
 pub struct Kept {
     front: [u8; MOST_LABELS],
@@ -21,7 +21,7 @@ pub struct Kept {
     steps: [Step<Node>; PLACES],
 }
 
-/// Where no front was turned over yet.
+/// No front turned over yet.
 pub fn none_kept(none: Step<Node>) -> Kept
     ensures letters { length result.front ≡ 15 }
     ensures room { length result.steps ≡ 16 }
@@ -34,8 +34,7 @@ pub fn none_kept(none: Step<Node>) -> Kept
     }
 }
 
-/// What stands behind a label and a front: the walk goes on from where the front that was kept for that label goes another
-/// way.
+/// What follows a label and a front: the walk continues from where the front differs from the one kept for that label.
 #[tactic(auto, using(crate::proofs::Turned::turned_kept))]
 pub fn walk_on(file: &LexFile<'_>, first: u8, front: &[u8], kept: &mut Kept) -> Step<Node>
     requires few { length front.now < 15 }
@@ -49,8 +48,7 @@ pub fn walk_on(file: &LexFile<'_>, first: u8, front: &[u8], kept: &mut Kept) -> 
     kept.steps[front.len()]
 }
 
-/// The number of labels that a front has in common with the one that is kept. Where none is kept, the step behind the label
-/// alone is put there.
+/// The number of labels that a front has in common with the one that is kept. If none is kept, the step after only the label is put there.
 #[tactic(auto, using(crate::proofs::Turned::turned_none, crate::proofs::Turned::turned_same))]
 fn begin(file: &LexFile<'_>, first: u8, front: &[u8], kept: &mut Kept) -> usize
     requires { IsKept (bytes_of file.now) first kept.old }
@@ -66,7 +64,7 @@ fn begin(file: &LexFile<'_>, first: u8, front: &[u8], kept: &mut Kept) -> usize
     common_letters(&kept.front[..kept.known - 1], front)
 }
 
-/// Puts beside the first labels of a front and the steps behind a label and these, which are known, the others.
+/// Adds the other labels of a front and their steps, after the first ones, which are known.
 #[tactic(auto, using(crate::proofs::Turned::turned_more, crate::proofs::Turned::front_more))]
 fn turn_more(file: &LexFile<'_>, first: u8, front: &[u8], same: usize, kept: &mut Kept)
     requires few { length front.now < 15 }

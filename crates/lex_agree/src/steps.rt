@@ -1,4 +1,4 @@
-//! Steps over a file: what stands behind labels.
+//! Steps over a file: what follows labels.
 ghost use Rattle.std.specs.Prelude.{◌≡◌, ◌<◌, ◌++◌, ◌∷◌, [], ℕ, List, IsSome, IsTrue, true, false};
 ghost use Rattle.std.specs.Bool.{OnTrue};
 ghost use Rattle.std.specs.Char.{is_ascii_uppercase};
@@ -18,7 +18,7 @@ pub fn label_of(letter: u8) -> u8
     letter - 64
 }
 
-/// What stands behind no label.
+/// What follows an empty string of labels.
 #[tactic(auto, using(crate::proofs::Walking::step_none))]
 pub fn start(file: &LexFile<'_>) -> Step<Node>
     ensures { IsStepAt (bytes_of file.now) [] result }
@@ -29,7 +29,7 @@ pub fn start(file: &LexFile<'_>) -> Step<Node>
     }
 }
 
-/// One more label; where no string goes on so, nothing does from there.
+/// One more label; if no string continues with it, nothing follows from there.
 pub fn follow(file: &LexFile<'_>, at: Step<Node>, label: u8) -> Step<Node>
     requires { IsOpen (IsNodeOf (bytes_of file.now)) at.next }
     ensures strings { (t : List ℕ) → strings (node_tail (bytes_of file.now)) at (label ∷ t) ≡ strings (node_tail (bytes_of file.now)) result t }
@@ -44,14 +44,14 @@ pub fn follow(file: &LexFile<'_>, at: Step<Node>, label: u8) -> Step<Node>
     }
 }
 
-/// What stands behind a label.
+/// What follows a label.
 pub fn behind_label(file: &LexFile<'_>, label: u8) -> Step<Node>
     ensures { IsStepAt (bytes_of file.now) (label ∷ []) result }
 {
     follow(file, start(file), label)
 }
 
-/// Whether two walks go on at the same node, or neither does.
+/// Whether two walks continue at the same node, or neither does.
 pub fn is_same(file: &LexFile<'_>, one: Option<Node>, other: Option<Node>) -> bool
     ensures { OnTrue result ((t : List ℕ) → next_strings (node_tail (bytes_of file.now)) one t ≡ next_strings (node_tail (bytes_of file.now)) other t) }
 {

@@ -8,11 +8,11 @@ ghost use Rattle.lex_agree.specs.Counts.{slot_of, IsCount, IsCounted, AreCounted
 use lex_file::{Format, LexFile, Node, PathLex};
 use std::alloc::{AllocError, Global};
 
-/// The byte of a node whose count stands beside.
+/// The byte of a node whose count is stored separately.
 const BESIDE: u8 = 255;
 
-/// The counts of the strings of nodes, put in rising order of the nodes' numbers. A count below 255 is the byte of its node.
-/// The others stand beside, with the numbers of their nodes: a lexicon of words has few of them.
+/// The counts of the strings of nodes, stored in rising order of the nodes' numbers. A count below 255 is the byte of its node. The
+/// others are stored separately, with the numbers of their nodes: a lexicon of words has few of them.
 #[derive(Drop)]
 pub struct CountTable {
     thirds: bool,
@@ -22,7 +22,7 @@ pub struct CountTable {
 }
 
 impl CountTable {
-    /// A table for the nodes of a file, in which the number 0 alone has a count: it has no strings.
+    /// A table for the nodes of a file in which only the number 0 has a count: it has no strings.
     pub fn new(alloc: Global, file: &LexFile<'_>) -> Result<CountTable, AllocError>
         ensures { IfOk result (λ table. IsFirstTable table) }
     {
@@ -34,7 +34,7 @@ impl CountTable {
         })
     }
 
-    /// The count of a node, or the greatest number where it is not found.
+    /// The count of a node, or the greatest number if it is not found.
     #[inline(always)]
     pub fn of(&self, file: &LexFile<'_>, node: Node) -> u32
         requires { IsCounted (bytes_of file.now) self.now (number_of node) }
@@ -48,7 +48,7 @@ impl CountTable {
         self.large_of(file, number)
     }
 
-    /// The count of a node that stands beside, or the greatest number where there is none.
+    /// The count of a node that is stored separately, or the greatest number if there is none.
     #[tactic(auto, using(crate::proofs::Bounds::found_beside, crate::proofs::Bounds::not_found))]
     #[cold]
     #[inline(never)]
@@ -62,14 +62,14 @@ impl CountTable {
         }
     }
 
-    /// Whether the place of a node is behind those of the nodes that have counts.
+    /// Whether the place of a node is after those of the nodes that have counts.
     pub fn has_room(&self, file: &LexFile<'_>, node: Node) -> bool
         ensures { OnTrue result (length self.now.small.items ≤ slot_of self.now.thirds (number_of node)) }
     {
         self.small.len() <= slot_of(self.thirds, file.place(node))
     }
 
-    /// Puts the count of a node behind those of the nodes before it.
+    /// Adds the count of a node after those of the nodes before it.
     #[tactic(auto, using(crate::proofs::Bounds::put_below))]
     #[inline(always)]
     pub fn put(&mut self, file: &LexFile<'_>, node: Node, count: u32) -> Result<(), AllocError>
@@ -86,7 +86,7 @@ impl CountTable {
         Ok(())
     }
 
-    /// Puts the count of a node beside.
+    /// Stores the count of a node separately.
     #[tactic(auto, using(crate::proofs::Bounds::put_below, crate::proofs::Bounds::beside_more))]
     #[cold]
     #[inline(never)]
@@ -104,7 +104,7 @@ impl CountTable {
     }
 }
 
-/// The place of a node in a table. In GAD2 a node takes three words or more, so a third of the places is enough.
+/// The place of a node in a table. In GAD2 a node takes at least three words, so a third of the places is enough.
 #[inline(always)]
 fn slot_of(thirds: bool, number: u32) -> usize
     ensures { result ≡ slot_of thirds number }
@@ -116,7 +116,7 @@ fn slot_of(thirds: bool, number: u32) -> usize
     }
 }
 
-/// Puts a byte at a place behind the end of a list.
+/// Puts a byte at a place after the end of a list.
 #[inline(always)]
 fn put_byte(bytes: &mut Vec<u8>, place: usize, byte: u8) -> Result<(), AllocError>
     requires { length bytes.old.items ≤ place }

@@ -1,4 +1,4 @@
-//! Whether letters turn over: what a file has with a letter behind a mark it has with that letter before the front.
+//! Whether letters turn over: what a file has with a letter after a mark, it also has with that letter before the front.
 ghost use Rattle.std.specs.Prelude.{◌≡◌, ◌+◌, ◌<◌, ◌≤◌, ◌++◌, ◌∷◌, [], ℕ, List, IsSome, OnSome, length, take, true};
 ghost use Rattle.std.specs.Bool.{OnTrue};
 ghost use Rattle.lex_list.specs.RotatedPaths.{behind_mark};
@@ -14,7 +14,7 @@ use lex_file::{LABELS, LexFile, MARK, Node, PathLex};
 /// The number of labels.
 const EACH_LABEL: usize = LABELS as usize;
 
-/// Whether letters turn over in the whole file, which has no more fronts than so many words of letters together have.
+/// Whether letters turn over in the whole file, which may have no more fronts than `letters` letters of words.
 #[tactic(auto, using(crate::proofs::Turned::kept_none))]
 pub fn all_turn_over(file: &LexFile<'_>, letters: usize) -> bool
     requires { letters ≤ 6000000 }
@@ -26,11 +26,11 @@ pub fn all_turn_over(file: &LexFile<'_>, letters: usize) -> bool
     turn_over(file, &mut front, 0, file.root(), fronts, &mut kept).is_some()
 }
 
-/// The number of fronts that are left of so many, where letters turn over at a node behind a front and at all nodes that
-/// come behind it before a mark; none where one does not, or where there are too many fronts or too long ones.
+/// The number of fronts that are left of `fronts`, if letters turn over at a node after a front and at all nodes that come after it
+/// before a mark; none if one does not, or if there are too many fronts or too long ones.
 ///
-/// The front is so many of the labels; those behind it are written over. Of each label it is kept what stands behind it and the
-/// front that was turned over to it last.
+/// The front is the first `len` labels; those after it are overwritten. For each label, what follows it is kept, with the last
+/// front that was turned over to it.
 fn turn_over(
     file: &LexFile<'_>,
     front: &mut [u8; MOST_LABELS],
@@ -74,7 +74,7 @@ fn turn_over(
     Some(left)
 }
 
-/// Whether the letters turn over with which tails of a node begin, which stands behind the mark of a front.
+/// Whether the letters turn over with which tails of a node begin; the node comes after the mark of a front.
 fn turn_over_at(
     file: &LexFile<'_>,
     front: &[u8],

@@ -1,4 +1,4 @@
--- A node is stored in a GAD1 file, behind all others.
+-- A node is stored in a GAD1 file, after all others.
 use Rattle.std.proofs.Common.{◌≡◌, ℕ, zero, suc, ◌+◌, ◌-◌, ◌*◌, ◌/◌, ◌%◌, ◌<◌, ◌≤◌, Bool, true, false, cond, ◌||◌, eqb, ltb, List, [], ◌∷◌, ◌++◌, map, length, get_or, inl, inr, ◌⊎◌, refl, sym, ap, subst, ◌∙◌, arith, add-one}
 use Rattle.std.proofs.lemmas.List.{length-append, length-map, map-append, get_or-append-add}
 use Rattle.std.proofs.lemmas.Bool.{ltb-true, lt-ltb, eqb-true, eqb-false, false≢true, cases_lt, cases_eq, and_parts, and_from}
@@ -64,7 +64,7 @@ target_fits arcs place d have lt = have.each (get_or arcs place d) (Contains-get
 
 -- ---- the words of arcs
 
--- the arc whose word stands at a place
+-- the arc whose word is at a place
 record IsWordAt (arcs : List Arc) (word : ℕ) : Type 0 where
   pub arc : Arc
   pub there : Contains arcs arc

@@ -110,7 +110,7 @@ none_kept bytes nodes size none =
       named = λ arcs n there. let lt = subst (λ (xs : List (SmallVec ℕ × ℕ)). there.0 < length xs) none there.1 in absurd (omega arith);
     }
 
--- the last one of arcs that are not marked is not
+-- the last of some arcs without the bit of a last arc does not have it
 pub last_of : (arcs inner : List ℕ) (last : ℕ) → arcs ≡ inner ++ last ∷ [] → ((place : ℕ) → place < length arcs → is_last (get_or arcs place 0) ≡ false)
     → is_last last ≡ false
 last_of arcs inner last e unmarked =

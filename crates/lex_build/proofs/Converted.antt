@@ -27,7 +27,7 @@ use Rattle.lex_build.proofs.Renaming.{same_words, stored_named, stored_within, r
 
 -- ---- strings
 
--- the arc with a label leads to what it is renamed to
+-- the arc with a label leads to its renamed target
 renamed_with : (name : ℕ → ℕ) (label : ℕ) (arcs : List Arc)
     → (accepts_of (arc_with label (map (renamed name) arcs)) ≡ accepts_of (arc_with label arcs))
     × (name 0 ≡ 0 → target_of (arc_with label (map (renamed name) arcs)) ≡ name (target_of (arc_with label arcs)))
@@ -85,14 +85,14 @@ nodes_zero : (format : Format) (words : List ℕ) → nodes_by (Some format) wor
 nodes_zero form.Gad1 words = refl
 nodes_zero form.Gad2 words = refl
 
--- 0 names a node of a file exactly where no words stand behind the header
+-- 0 names a node of a file exactly when no words come after the header
 file_zero : (bytes : List ℕ) → IsTrue (is_none (fault_of bytes)) → is_file_node bytes 0 ≡ true → length (body_of bytes) ≡ 0
 file_zero bytes shape is =
     let formed = files.formed bytes shape in
     let names = ap (λ (test : ℕ → Bool). test 0) (files.names_are bytes formed.format formed.named) in
     eqb-true (length (body_of bytes)) 0 (sym (names_zero formed.format (body_of bytes)) ∙ sym names ∙ is)
 
--- a node of a file is a word behind its header
+-- a node of a file is a word after its header
 pub file_within : (bytes : List ℕ) → IsTrue (is_none (fault_of bytes)) → (n : ℕ) → is_file_node bytes n ≡ true → n ≤ length (body_of bytes)
 file_within bytes shape n is =
     let formed = files.formed bytes shape in
@@ -101,12 +101,12 @@ file_within bytes shape n is =
 
 -- ---- node by node
 
--- the nodes before one are written, or all where there is none
+-- the nodes before one are written, or all if there is none
 abbrev pub IsConvertedUntil : Format → List ℕ → List ℕ → List ℕ → Option Node → Type 0
 IsConvertedUntil format bytes words numbers None = IsConvertedWhole format bytes words numbers
 IsConvertedUntil format bytes words numbers (Some node) = IsConvertedBefore format bytes words numbers (number_of node)
 
--- at most how many nodes are left
+-- an upper bound on the number of nodes left
 abbrev pub nodes_left : List ℕ → Option Node → ℕ
 nodes_left bytes None = 0
 nodes_left bytes (Some node) = length (body_of bytes) + 1 - number_of node
@@ -139,7 +139,7 @@ stored_next format bytes words new numbers numbered n number arcs shape ready is
     one_more format bytes words new numbers numbered n (files.sound bytes shape).graph (file_within bytes shape n ready.next.node) ready
     (subst (IsStoredNext format words new) is next) (subst (IsNumbered numbers numbered n) number_is put)
 
--- where they do not fit, all nodes do not
+-- if they do not fit, not all nodes fit
 pub unstorable : (format : Format) (bytes words numbers : List ℕ) (n count : ℕ) (arcs : List Arc) → IsTrue (is_none (fault_of bytes))
     → IsConvertedBefore format bytes words numbers n → arcs ≡ map (renamed (slice_index numbers)) (file_node bytes n) → count ≡ length arcs
     → limit_of format < length words + words_for format count → limit_of format < words_in_format format bytes
@@ -158,7 +158,7 @@ module _ (format : Format) (bytes words numbers : List ℕ) (shape : IsTrue (is_
         | inr within ↦ record { some = some; within = within; node = is }
       ]
 
-  -- where the file has no words, none are written
+  -- if the file has no words, none are written
   none_written : is_file_node bytes 0 ≡ true → length words ≡ 0
   unfolding words_up_to
   none_written is =
@@ -184,7 +184,7 @@ module _ (format : Format) (bytes words numbers : List ℕ) (shape : IsTrue (is_
   rising_at zero n low high less = rw (whole.before.none) (whole.before.positive n (node_to n less high))
   rising_at (suc m) n low high less = whole.before.rising (suc m) n (node_to (suc m) (omega arith) low) (node_to n (omega arith) high) less
 
-  -- where nothing is written, 0 is a node of the file: else its root would be written
+  -- if nothing is written, 0 is a node of the file: otherwise its root would be written
   zero_named : length words ≡ 0 → is_file_node bytes 0 ≡ true
   zero_named none = by (root_of bytes) (files.sound bytes shape).root
     where

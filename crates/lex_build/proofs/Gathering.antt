@@ -102,7 +102,7 @@ grown_more one two three a b = record { more = a.more ++ b.more; is = b.is ∙ a
 open_grown : (words more : List ℕ) (word : ℕ) → IsOpenArc words word → IsOpenArc (words ++ more) word
 open_grown words more word is = record { label = is.label; target = target_grown words more (arc_of word).target is.target; alive = is.alive; unmarked = is.unmarked }
 
--- What stands behind a label is written: a target, and what its arc and it have in labels.
+-- What follows a label is written: a target, and the labels that its arc and it have.
 pub record IsBranch (now new : List ℕ) (has : List ℕ → Bool) (label target : ℕ) : Type 0 where
   pub grown : IsGrown now new
   pub known : is_target new target ≡ true
@@ -161,7 +161,7 @@ module _ {N : Type 0} (is_node : N → Type 0) (tail : N → List ℕ → Bool) 
           in
           absurd (false≢true (sym none ∙ written.tails (is.some.0 ∷ is.some.1) ∙ is.some.2))
 
-  -- nor is the node then
+  -- nor is the node then written
   pub branch_fails : (old now : List ℕ) (from : ℕ) (arcs : List ℕ) (fault : BuildFault) → from ≤ label → IsGathered old now (tail node) from arcs
       → IsUnwritten now (tail next) fault → IsUnwritten old (tail node) fault
   branch_fails old now from arcs why.NoMemory le gathered none = tt

@@ -1,4 +1,4 @@
--- What is written stays so as more is written behind it.
+-- What is written stays so as more is written after it.
 use Rattle.std.proofs.Common.{◌≡◌, ℕ, zero, suc, ◌<◌, ◌≤◌, Bool, true, false, cond, ◌&&◌, ◌||◌, eqb, ltb, leb, List, [], ◌∷◌, ◌++◌, length, get_or, drop, Option, Some, None, inl, inr, ◌⊎◌, refl, ap, ◌∙◌, arith}
 use Rattle.std.proofs.Math.ListN.{get_or-append}
 use Rattle.std.proofs.lemmas.List.{length-append}
@@ -51,7 +51,7 @@ leads_grown words more start target e =
 
 -- ---- faults
 
--- what the checks of an arc ask for
+-- what the checks of an arc require
 pub fine_from : (words : List ℕ) (place : ℕ) → IsFineArc words (start_at words place) (arc_of (get_or words place 0))
     → (begins words place || ltb (label_before words place) (arc_of (get_or words place 0)).label) ≡ true → arc_fault words place ≡ None
 unfolding arc_fault
@@ -120,7 +120,7 @@ target_of_node : (words : List ℕ) (n : ℕ) → is_node words n ≡ true → i
 target_of_node words zero is = refl
 target_of_node words (suc place) is = is
 
--- a target that an arc has is one
+-- the target of an arc is a node
 behind : (words : List ℕ) (n label : ℕ) → arcs_fault words (length words) ≡ None → is_target words n ≡ true
     → is_target words (target_of (arc_with label (node_at words n))) ≡ true
 behind words zero label fine is = refl

@@ -44,7 +44,7 @@ unfolding words_in
 header_words form.Gad1 count root words rest a b c = after_magic (little_number 4 gad1_magic) count root words rest a b c
 header_words form.Gad2 count root words rest a b c = after_magic (little_number 4 gad2_magic) count root words rest a b c
 
--- behind the header are the words of its file
+-- after the header are the words of its file
 header_body : (format : Format) (count root words : ℕ) (rest : List ℕ) → body_of (header_of format count root words ++ rest) ≡ words_in rest
 header_body form.Gad1 count root words rest = refl
 header_body form.Gad2 count root words rest = refl
@@ -65,7 +65,7 @@ pub few_limit : (format : Format) → limit_of format ≤ most_body_words
 few_limit form.Gad1 = omega arith
 few_limit form.Gad2 = omega arith
 
--- what the checks of the form ask for
+-- what the checks of the form require
 shape_by : (format : Format) (bytes : List ℕ) → format_of bytes ≡ Some format → count_of bytes ≤ limit_of format → length bytes ≡ header_bytes + 4 * count_of bytes
     → names_node (Some format) (body_of bytes) (root_of bytes) ≡ true → IsSoundBody format (body_of bytes) → fault_of bytes ≡ None
 unfolding fault_of form_fault header_fault mask_header_fault body_fault
@@ -198,7 +198,7 @@ lexicon_fault old tail has why.TooManyArcs none same is =
       many = omega arith;
     }
 
--- ---- of a word list
+-- ---- for a word list
 
 pub built_file : (words paths : List (List ℕ)) (count : ℕ) (bytes : List ℕ) → StandsFor (is_one_of paths) words → count ≡ length words
     → IsFileOf (λ string. is_one_of paths string) count bytes → IsBuiltOf words bytes

@@ -35,7 +35,7 @@ further string other strings (k, lt, e) = (suc k, omega arith, e)
 none_in : (string : List ℕ) → Contains [] string → ⊥
 none_in string (k, lt, e) = omega arith
 
--- the strings before and behind one
+-- the strings before and after one
 Split : List (List ℕ) → List ℕ → Type 0
 Split strings string = (before : List (List ℕ)) × (after : List (List ℕ)) × (strings ≡ before ++ string ∷ after)
 
@@ -59,7 +59,7 @@ still before after string other differ there =
     (λ behind. ⊎_elim (λ e. absurd (differ e)) (Contains-append_right before after other) (cases_of other string after behind))
     (Contains-append_cases before (string ∷ after) other there)
 
--- ---- strings that differ have together at most the labels of a list that has them all
+-- ---- different strings together have at most the labels of a list that has them all
 
 without : (before after : List (List ℕ)) (string : List ℕ) → sum_by length (before ++ string ∷ after) ≡ length string + sum_by length (before ++ after)
 without before after string =
@@ -68,7 +68,7 @@ without before after string =
     let rest = sum_by-append length before after in
     omega (arith, whole, front, rest)
 
--- the same of one string and those behind it
+-- the same for one string and those after it
 Inside : List (List ℕ) → List (List ℕ) → Type 0
 Inside strings all = (string : List ℕ) → Contains strings string → Contains all string
 
@@ -90,7 +90,7 @@ most_of (string ∷ strings) all apart inside =
     most_with strings string all (split_at all string (inside string (at_head string strings))) (λ rest. most_of strings rest apart.1) apart.0
     (λ other there. inside other (further other string strings there))
 
--- ---- strings of two sets, and strings behind a label
+-- ---- strings of two sets, and strings after a label
 
 apart_both : (strings others : List (List ℕ)) → AreApart strings → AreApart others
     → ((string : List ℕ) → Contains strings string → Contains others string → ⊥) → AreApart (strings ++ others)
@@ -160,7 +160,7 @@ below_more has from label (first ∷ rest) le e =
     let low = below_label has from first rest e in
     is_below has (label + 1) first rest (omega (arith, low)) (below_has has from (first ∷ rest) e)
 
--- the strings below a label, and others behind it
+-- the strings below a label, and others that begin with it
 joined : (has : List ℕ → Bool) (from label count : ℕ) → from ≤ label → HasLabels (has_below has from) count
     → (more : List (List ℕ)) → AreApart more → ((rest : List ℕ) → Contains more rest → has (label ∷ rest) ≡ true)
     → (n : ℕ) → n ≤ sum_by length more + length more → HasLabels (has_below has (label + 1)) (count + n)
@@ -182,14 +182,14 @@ joined has from label count le seen more apart each n enough =
       enough = omega (arith, total, new, old);
     }
 
--- the label alone
+-- only the label
 pub labels_alone : (has : List ℕ → Bool) (from label count : ℕ) → from ≤ label → HasLabels (has_below has from) count → has (label ∷ []) ≡ true
     → HasLabels (has_below has (label + 1)) (count + 1)
 labels_alone has from label count le seen here =
     joined has from label count le seen ([] ∷ []) (none_in [], tt) (λ rest there. ⊎_elim (λ (e : [] ≡ rest). subst (λ (s : List ℕ). has (label ∷ s) ≡ true) e here) (λ none. absurd (none_in rest none)) (cases_of rest [] [] there)) 1
     (omega arith)
 
--- the tails behind a label, with it
+-- the tails after a label, with the label in front
 longer_is : {N : Type 0} (is_node : N → Type 0) (tail : N → List ℕ → Bool) (height : N → ℕ) (node : N) (label : ℕ) (next : N)
     → IsBehind is_node tail height node label next → tail next [] ≡ false → (rest : List ℕ) → tail next rest ≡ true → tail node (label ∷ rest) ≡ true
 longer_is is_node tail height node label next is empty [] e = absurd (false≢true (sym empty ∙ e))
@@ -219,7 +219,7 @@ pub labels_all : (has : List ℕ → Bool) (bound count : ℕ) → HasLabels (ha
 labels_all has bound count seen =
     record { strings = seen.strings; each = λ string there. below_has has bound string (seen.each string there); once = seen.once; enough = seen.enough }
 
--- all strings of the set have together no fewer
+-- all strings of the set together have at least as many
 pub labels_within : (has : List ℕ → Bool) (count : ℕ) → HasLabels has count → (all : List (List ℕ)) → ((string : List ℕ) → has string ≡ true → Contains all string)
     → count ≤ sum_by length all
 unfolding Inside

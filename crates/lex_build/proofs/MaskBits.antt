@@ -39,7 +39,7 @@ both_with arc label differ = rw (ne_eqb arc.label label differ) (by arc.accepts)
     by true = refl
     by false = refl
 
--- of arcs in rising order, whether the one with a label accepts
+-- for arcs in rising order, whether the one with a label accepts
 pub accepts_one : (arcs : List Arc) (arc : Arc) → AreRising arcs → Contains arcs arc → list_any (accepts_with arc.label) arcs ≡ arc.accepts
 accepts_one [] arc rising there = absurd (none_there arc there)
 accepts_one (first ∷ arcs) arc rising there = elim (first_or_other first arc arcs there) [
@@ -58,7 +58,7 @@ accepts_one (first ∷ arcs) arc rising there = elim (first_or_other first arc a
     by true = refl
     by false = refl
 
--- ---- a word with one bit more
+-- ---- a word with one more bit
 
 module _ (word label : ℕ) (low : label < 32) where
   set_here : has_bit (bit_or word (1 * 2 ^ label % 2 ^ 32)) label ≡ true
@@ -79,7 +79,7 @@ or_three : (a b c : Bool) → ((a || b) || c) ≡ (a || (b || c))
 or_three true b c = refl
 or_three false b c = refl
 
--- each bit of the word: one that was set, or the one more
+-- each bit of the word: one that was set, or the new one
 set_is : (word label : ℕ) → label < 32 → (bit : ℕ) (old here : Bool) → has_bit word bit ≡ old → (bit ≡ label → here ≡ true) → ((bit ≡ label → ⊥) → here ≡ false)
     → has_bit (bit_or word (1 * 2 ^ label % 2 ^ 32)) bit ≡ (old || here)
 set_is word label low bit old here before at apart = elim (cases_eq bit label) [
@@ -106,7 +106,7 @@ label_low arcs place d have lt = let low = have.each (get_or arcs place d) (Cont
 pub labels_of : (format : Format) (words : List ℕ) (arcs : List Arc) → AreNextArcs format words arcs → HaveLabels arcs
 labels_of format words arcs next = record { each = λ arc there. (next.each arc there).label }
 
--- one label more
+-- one more label
 pub label_more : (word : ℕ) (arcs : List Arc) (place : ℕ) (d : Arc) → IsLabelWord (take place arcs) word → place < length arcs → (get_or arcs place d).label < 32
     → IsLabelWord (take (place + 1) arcs) (bit_or word (1 * 2 ^ (get_or arcs place d).label % 2 ^ 32))
 label_more word arcs place d before lt low = record { has = bit_is }
@@ -124,7 +124,7 @@ label_more word arcs place d before lt low = record { has = bit_is }
 pub no_accept : IsAcceptWord [] 0
 no_accept = record { has = λ bit lt. let none = bit_at-zero bit in ne_eqb (bit_at 0 bit) 1 (λ e. omega (arith, none, e)) }
 
--- an arc more, which accepts
+-- one more arc, which accepts
 pub accept_more : (word : ℕ) (arcs : List Arc) (place : ℕ) (d : Arc) → IsAcceptWord (take place arcs) word → place < length arcs → (get_or arcs place d).label < 32
     → (get_or arcs place d).accepts ≡ true → IsAcceptWord (take (place + 1) arcs) (bit_or word (1 * 2 ^ (get_or arcs place d).label % 2 ^ 32))
 accept_more word arcs place d before lt low does = record { has = bit_is }
@@ -135,7 +135,7 @@ accept_more word arcs place d before lt low does = record { has = bit_is }
         (set_is word (get_or arcs place d).label low bit (list_any (accepts_with bit) (take place arcs)) (accepts_with bit (get_or arcs place d)) (before.has bit small)
         (λ same. rw (does, eq-eqb (get_or arcs place d).label bit (sym same)) refl) (λ other. both_with (get_or arcs place d) bit (λ e. other (sym e))))
 
--- an arc more, which does not accept
+-- one more arc, which does not accept
 pub accept_passed : (word : ℕ) (arcs : List Arc) (place : ℕ) (d : Arc) → IsAcceptWord (take place arcs) word → place < length arcs
     → (get_or arcs place d).accepts ≡ false → IsAcceptWord (take (place + 1) arcs) word
 accept_passed word arcs place d before lt does = record {

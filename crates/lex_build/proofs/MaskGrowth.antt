@@ -32,7 +32,7 @@ module _ (words more : List ℕ) where
   pub size_grown : length (words ++ more) ≡ length words + length more
   size_grown = length-append words more
 
-  -- a number that is not 0 and names a node still does
+  -- a number other than 0 that names a node still does
   pub names_grown : (n : ℕ) → 0 < n → is_mask_node words n ≡ true → is_mask_node (words ++ more) n ≡ true
   names_grown zero lt is = absurd (omega arith)
   names_grown (suc place) lt is =
@@ -126,7 +126,7 @@ module _ (words more : List ℕ) where
       let lt : ltb (length words) (length (words ++ more)) ≡ true = lt-ltb (length words) (length (words ++ more)) (omega arith) in
       rw (same, lt, fine, all) (past_all enough (length (words ++ more)) (omega arith))
 
-  -- where the words behind are those of one node without a fault, there is none
+  -- if the words after are those of one node without a fault, there is no fault
   pub nodes_grown : node_fault (words ++ more) (length words) ≡ None → length words + node_size (get_or (words ++ more) (length words) 0) ≡ length (words ++ more)
       → (left enough from : ℕ) → nodes_fault words left from ≡ None → length words ≤ from + left → length (words ++ more) ≤ from + enough → from ≤ length words
       → nodes_fault (words ++ more) enough from ≡ None

@@ -1,4 +1,4 @@
--- A node is stored in a GAD2 file, behind all others.
+-- A node is stored in a GAD2 file, after all others.
 use Rattle.std.proofs.Common.{◌≡◌, ℕ, zero, suc, ◌+◌, ◌-◌, ◌/◌, ◌%◌, ◌^◌, ◌<◌, ◌≤◌, true, false, eqb, ltb, List, [], ◌∷◌, ◌++◌, length, get_or, drop, None, inl, inr, ◌⊎◌, refl, sym, ap, subst, ◌∙◌, arith, append_assoc}
 use Rattle.std.specs.Prelude.{bit_and}
 use Rattle.std.proofs.Math.Seq.{drop-append_seam}
@@ -159,7 +159,7 @@ module _ (words : List ℕ) (arcs : List Arc) (labels accepts : ℕ) (known : Is
       let mask = mod_below labels (2 ^ 27) (pow_pos 27) in
       omega (arith, same, low, mask)
 
-  -- no word of the node behind its label word is one
+  -- no word of the node after its label word is a label word
   unmarked_behind : (more : ℕ) → is_marked (get_or (words ++ labels ∷ accepts ∷ targets_of arcs) (length words + suc more) 0) ≡ true → ⊥
   unmarked_behind more is = by more (rw (get_or-append-add words (labels ∷ accepts ∷ targets_of arcs) (suc more) 0) at is)
     where

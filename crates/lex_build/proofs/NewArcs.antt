@@ -65,7 +65,7 @@ below_more from (arc ∷ arcs) found rising e = by (leb from arc.label) refl e (
         let reached = leb-true from found.label (found_passes (reaches from) arcs found h) in
         rw (lt-ltb arc.label (found.label + 1) (omega arith), lt-ltb arc.label from low) (ap (λ (xs : List Arc). arc ∷ xs) (more h))
 
--- there are no more of them than labels
+-- there are at most as many of them as labels
 few_from : (low from : ℕ) (arcs : List Arc) → AreRising arcs → ((arc : Arc) → Contains arcs arc → low ≤ arc.label) → low ≤ from → low + length (arcs_below from arcs) ≤ from
 unfolding arcs_below
 few_from low from [] rising above le = omega arith
@@ -101,7 +101,7 @@ renamed_all name from arcs taken none is = is ∙ ap (map (renamed name)) (below
 pub renamed_few : (name : ℕ → ℕ) (from : ℕ) (arcs taken : List Arc) → AreRising arcs → taken ≡ map (renamed name) (arcs_below from arcs) → length taken ≤ from
 renamed_few name from arcs taken rising is = let few = below_few from arcs rising in omega (arith, few, ap length is, renamed_length name (arcs_below from arcs))
 
--- The arc of the next node that comes first from a label on: its label, and where its target's new number stands.
+-- The first arc of the next node from a label on: its label, and where its target's new number is.
 pub record IsKnownArc (numbers : List ℕ) (from : ℕ) (arc : Arc) : Type 0 where
   pub reached : from ≤ arc.label
   pub label : arc.label ≤ 26
@@ -126,7 +126,7 @@ pub rising_next : (format : Format) (bytes words numbers : List ℕ) (n : ℕ) �
     → AreRising (file_node bytes n)
 rising_next format bytes words numbers n shape ready = (sound bytes shape).graph.rising n ready.next.node
 
--- an arc more is taken
+-- one more arc is taken
 pub taken_more : (format : Format) (bytes words numbers : List ℕ) (n from : ℕ) (arc : Arc) (taken more : List Arc) (new : Arc) → IsTrue (is_none (fault_of bytes))
     → IsConvertedBefore format bytes words numbers n → arc_from from (file_node bytes n) ≡ Some arc
     → taken ≡ map (renamed (slice_index numbers)) (arcs_below from (file_node bytes n)) → new ≡ renamed (slice_index numbers) arc → more ≡ taken ++ new ∷ []
@@ -138,7 +138,7 @@ taken_more format bytes words numbers n from arc taken more new shape ready e is
 
 -- ---- the list of numbers
 
--- a 0 at the end is as nothing there
+-- a 0 at the end counts as nothing there
 pub same_padded : (numbers : List ℕ) (n : ℕ) → get_or (numbers ++ 0 ∷ []) n 0 ≡ get_or numbers n 0
 same_padded [] zero = refl
 same_padded [] (suc n) = refl

@@ -1,4 +1,4 @@
--- A node is written behind others.
+-- A node is written after others.
 use Rattle.std.proofs.Common.{◌≡◌, ℕ, zero, suc, ◌+◌, ◌-◌, ◌/◌, ◌%◌, ◌<◌, ◌≤◌, Bool, true, false, cond, ◌||◌, ltb, List, [], ◌∷◌, ◌++◌, map, length, get_or, Option, Some, None, Contains, inl, inr, refl, sym, ap, subst, ◌∙◌, arith, add-one, append-nil}
 use Rattle.std.specs.Prelude.{nat_eq}
 use Rattle.std.specs.Cmp.Lexicographic.{pointwise}
@@ -201,7 +201,7 @@ kept_node words more arcs n body is = record {
   node = node_grown words more n body.closed is.first ∙ is.node;
 }
 
--- the key that is found has the same arcs
+-- the key that was found has the same arcs
 record IsFound (nodes : List (SmallVec ℕ × ℕ)) (arcs : List ℕ) (n : ℕ) : Type 0 where
   pub key : SmallVec ℕ
   pub there : Contains nodes (key, n)
@@ -227,7 +227,7 @@ found (entry ∷ nodes) arcs n e = by (pointwise nat_eq arcs entry.0.items) refl
         let there = rest h in
         record { key = there.key; there = Contains-append_right (entry ∷ []) nodes (there.key, n) there.there; same = there.same }
 
--- a node that was written before is the one
+-- a node that was written before is the node
 pub placed_before : (bytes : List ℕ) (nodes : List (SmallVec ℕ × ℕ)) (arcs : List ℕ) (n : ℕ) (answer : Option ℕ) → IsKept bytes nodes → answer ≡ number_in nodes arcs
     → answer ≡ Some n → IsPlaced (body_of bytes) (body_of bytes) arcs n
 unfolding number_in

@@ -1,4 +1,4 @@
--- The nodes of a file that is converted, one after the other.
+-- The nodes of a file that is converted, one after another.
 use Rattle.std.proofs.Common.{◌≡◌, ℕ, zero, suc, ◌+◌, ◌<◌, ◌≤◌, Bool, true, false, ◌||◌, ltb, List, [], ◌∷◌, length, map, get_or, Some, inl, inr, ◌⊎◌, refl, sym, ap, subst, ◌∙◌, arith}
 use Rattle.std.specs.Prelude.{IsTrue, slice_index}
 use Rattle.std.specs.List.{Contains}
@@ -19,7 +19,7 @@ use Rattle.lex_build.specs.Conversions.{IsNodeTo, IsConvertedTo, IsConvertedBefo
 
 -- ---- the words of the nodes up to a number
 
--- where no node stands between two numbers, the nodes up to them take the same words
+-- if there is no node between two numbers, the nodes up to them take the same words
 pub same_words : (format : Format) (bytes : List ℕ) (low high : ℕ) → low ≤ high → ((n : ℕ) → low < n → n ≤ high → is_file_node bytes n ≡ false)
     → words_up_to format bytes high ≡ words_up_to format bytes low
 unfolding words_up_to
@@ -114,9 +114,9 @@ next_arcs format bytes words numbers n graph ready =
               ]);
         }
 
--- ---- a node more
+-- ---- one more node
 
--- a number that is not 0 is stored where it names a node
+-- a number other than 0 is stored if it names a node
 pub stored_named : (format : Format) (words : List ℕ) (n : ℕ) → 0 < n → is_stored format words n ≡ names_node (Some format) words n
 stored_named format words zero some = absurd (omega arith)
 stored_named format words (suc place) some = refl
@@ -247,7 +247,7 @@ started format bytes words numbers none only = rw (none, only) (record {
   all = λ m some is. absurd (let within = stored_within format [] m is in omega (arith, some, within));
 })
 
--- where the next node does not fit behind those before it, all nodes do not
+-- if the next node does not fit after those before it, not all nodes fit
 pub too_many : (format : Format) (bytes words numbers : List ℕ) (n : ℕ) → n ≤ length (body_of bytes) → IsConvertedBefore format bytes words numbers n
     → limit_of format < length words + words_for format (length (file_node bytes n)) → limit_of format < words_in_format format bytes
 too_many format bytes words numbers n inside ready over =

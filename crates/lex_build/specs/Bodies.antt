@@ -1,4 +1,4 @@
--- The words of the nodes that are written so far, behind the header.
+-- The words of the nodes written so far, after the header.
 use Rattle.std.specs.Prelude.{◌≡◌, ℕ, zero, suc, ◌+◌, ◌*◌, ◌<◌, ◌≤◌, Bool, true, false, ◌||◌, nat_eq, nat_lt, List, [], ◌∷◌, ◌++◌, length, map, slice_index, Option, None}
 use Rattle.lex_file.specs.Arcs.{arc_of, is_last}
 use Rattle.lex_file.specs.Nodes.{node_at, begins, is_first}
@@ -18,7 +18,7 @@ pub record IsBody (words : List ℕ) : Type 0 where
   pub closed : begins words (length words) ≡ true
   pub few : length words ≤ most_arcs
 
--- words that go on where others end
+-- the new words are the old ones and further ones after them
 pub record IsGrown (old new : List ℕ) : Type 0 where
   pub more : List ℕ
   pub is : new ≡ old ++ more
@@ -51,16 +51,16 @@ pub record IsNodeWith (words arcs : List ℕ) (n : ℕ) : Type 0 where
   pub first : is_first words n ≡ true
   pub node : node_at words n ≡ map arc_of arcs
 
--- The header and the words behind it: four bytes each, and no byte is left over.
+-- The header and the words after it: four bytes each, with no byte left over.
 abbrev pub IsWhole : List ℕ → Type 0
 IsWhole bytes = length bytes ≡ header_bytes + 4 * length (body_of bytes)
 
--- the bytes have these words behind those of the old ones
+-- the bytes have these words after those of the old ones
 pub record HasAppended (old new words : List ℕ) : Type 0 where
   pub whole : IsWhole new
   pub body : body_of new ≡ body_of old ++ words
 
--- A file that is being written: its bytes are whole words, what is written is sound, and each kept node stands there.
+-- A file while it is written: its bytes are whole words, what is written is sound, and each kept node is there.
 pub record IsKept (bytes : List ℕ) (nodes : List (SmallVec ℕ × ℕ)) : Type 0 where
   pub whole : IsWhole bytes
   pub body : IsBody (body_of bytes)
@@ -70,13 +70,13 @@ pub record IsKept (bytes : List ℕ) (nodes : List (SmallVec ℕ × ℕ)) : Type
 unfoldable pub number_in : List (SmallVec ℕ × ℕ) → List ℕ → Option ℕ
 number_in nodes arcs = lookup (λ (key : SmallVec ℕ). pointwise nat_eq arcs key.items) nodes
 
--- The node with these arcs is placed: it stands there now, and no more than its arcs was written.
+-- The node with these arcs is placed: it is there now, and no more than its arcs was written.
 pub record IsPlaced (old new arcs : List ℕ) (n : ℕ) : Type 0 where
   pub grown : IsGrown old new
   pub node : IsNodeWith new arcs n
   pub size : length new ≤ length old + length arcs
 
--- Why a node is not placed: its arcs are too many for a file. Want of memory says nothing.
+-- Why a node is not placed: its arcs are too many for a file. Lack of memory says nothing.
 abbrev pub IsUnplaced : List ℕ → List ℕ → BuildFault → Type 0
 IsUnplaced words arcs why.TooManyArcs = most_arcs < length words + length arcs
 IsUnplaced words arcs why.NoMemory = Unit {0}

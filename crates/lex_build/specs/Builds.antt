@@ -1,4 +1,4 @@
--- What the building of a compiled lexicon comes to.
+-- What building a compiled lexicon gives.
 use Rattle.std.specs.Prelude.{◌≡◌, ℕ, ◌<◌, List, length, IsTrue, ◌↔◌, Some, sum_by}
 use Rattle.std.specs.Cmp.Lexicographic.{slice_cmp}
 use Rattle.std.specs.List.{Contains}
@@ -24,7 +24,7 @@ pub record HasManyLabels (words : List (List ℕ)) : Type 0 where
   pub all : (string : List ℕ) → Contains paths string ↔ IsTrue (is_path words string)
   pub many : most_arcs < sum_by length paths
 
--- Why there are no bytes: too many arcs, and then the paths have too many labels. Want of memory says nothing of them.
+-- Why there are no bytes: there are too many arcs, and then the paths have too many labels. Lack of memory says nothing about them.
 abbrev pub IsUnbuilt : List (List ℕ) → BuildFault → Type 0
 IsUnbuilt words why.TooManyArcs = HasManyLabels words
 IsUnbuilt words why.NoMemory = Unit {0}

@@ -1,5 +1,5 @@
--- How far the conversion of a file has come: over the words that are written behind the header, and over the list of new
--- numbers, in which that of a node stands at the node's number in the file.
+-- How far the conversion of a file has come: over the words written after the header, and over the list of new numbers, in which
+-- that of a node is at the node's number in the file.
 use Rattle.std.specs.Prelude.{◌≡◌, ℕ, ◌+◌, ◌<◌, ◌≤◌, true, false, List, length, map, slice_index, Some}
 use Rattle.lex_file.specs.declared.formats.Format.{Format}
 use Rattle.lex_file.specs.Files.{IsNextNode}
@@ -14,8 +14,8 @@ pub record IsNodeTo (bytes : List ℕ) (last n : ℕ) : Type 0 where
   pub within : n ≤ last
   pub node : is_file_node bytes n ≡ true
 
--- The stored nodes of a file with numbers up to one are written, each under its new number with the same arcs to the new
--- numbers of the targets, and no others.
+-- The stored nodes of a file with numbers up to one are written, each under its new number with the same arcs to the new numbers of
+-- the targets, and no others.
 pub record IsConvertedTo (format : Format) (bytes words numbers : List ℕ) (last : ℕ) : Type 0 where
   pub sound : IsSoundBody format words
   pub size : length words ≡ words_up_to format bytes last
@@ -40,7 +40,7 @@ pub record IsConvertedWhole (format : Format) (bytes words numbers : List ℕ) :
   pub before : IsConvertedTo format bytes words numbers last
   pub none : (n : ℕ) → last < n → is_file_node bytes n ≡ false
 
--- the list of numbers has a number at a place behind its end now, and is else the same
+-- the list of numbers now has a number at a place after its end, and is otherwise unchanged
 pub record IsNumbered (old new : List ℕ) (place number : ℕ) : Type 0 where
   pub size : length new ≡ place + 1
   pub here : slice_index new place ≡ number

@@ -1,4 +1,4 @@
--- What the conversion of a compiled lexicon into a format comes to.
+-- What converting a compiled lexicon into a format gives.
 use Rattle.std.specs.Prelude.{◌≡◌, ℕ, zero, suc, ◌+◌, ◌<◌, ◌≤◌, true, List, length, map, Some, None, if◌then◌else◌}
 use Rattle.lex_file.specs.declared.arcs.Arc.{Arc}
 use Rattle.lex_file.specs.declared.formats.Format.{Format}
@@ -9,17 +9,17 @@ use Rattle.lex_build.specs.Stores.{limit_of, words_for}
 use Rattle.lex_build.specs.declared.faults.BuildFault.{BuildFault}
 use Rattle.lex_build.specs.declared.faults.BuildFault.TheVariants as why
 
--- the words that the stored nodes of a file take in a format, of those with numbers up to one
+-- the number of words that the stored nodes of a file with numbers up to one take in a format
 unfoldable pub words_up_to : Format → List ℕ → ℕ → ℕ
 words_up_to format bytes zero = 0
 words_up_to format bytes (suc n) =
     words_up_to format bytes n + (if is_file_node bytes (suc n) then words_for format (length (file_node bytes (suc n))) else 0)
 
--- the words that all stored nodes of a file take in a format
+-- the number of words that all stored nodes of a file take in a format
 abbrev pub words_in_format : Format → List ℕ → ℕ
 words_in_format format bytes = words_up_to format bytes (length (body_of bytes))
 
--- an arc that leads to what a target is renamed to
+-- an arc that leads to the renamed target
 abbrev pub renamed : (ℕ → ℕ) → Arc → Arc
 renamed name arc = record { label = arc.label; accepts = arc.accepts; target = name arc.target }
 
@@ -44,7 +44,7 @@ pub record IsConverted (format : Format) (old new : List ℕ) : Type 0 where
   pub count : word_count_of new ≡ word_count_of old
   pub few : words_in_format format old ≤ limit_of format
 
--- Why there are no bytes: the nodes take more words than the format can number. Want of memory says nothing of them.
+-- Why there are no bytes: the nodes take more words than the format can number. Lack of memory says nothing about them.
 abbrev pub IsUnconverted : Format → List ℕ → BuildFault → Type 0
 IsUnconverted format old why.TooManyArcs = limit_of format < words_in_format format old
 IsUnconverted format old why.NoMemory = Unit {0}

@@ -12,11 +12,11 @@ abbrev pub magic_of : Format → List ℕ
 magic_of form.Gad1 = gad1_magic
 magic_of form.Gad2 = gad2_magic
 
--- the bytes of a header: the format, the number of words behind it, the root, the number of words of the list
+-- the bytes of a header: the format, the number of words after it, the root, the number of words of the list
 abbrev pub header_of : Format → ℕ → ℕ → ℕ → List ℕ
 header_of format count root words = magic_of format ++ little_bytes 4 count ++ little_bytes 4 root ++ little_bytes 4 words
 
--- Bytes are a file of a language, which is told by a test on strings, with a number of words.
+-- Bytes are a file of a language, which is given by a test on strings, with a number of words.
 pub record IsFileOf (language : List ℕ → Bool) (words : ℕ) (bytes : List ℕ) : Type 0 where
   pub format : format_of bytes ≡ Some form.Gad1
   pub shape : fault_of bytes ≡ None

@@ -1,5 +1,5 @@
--- The nodes of a file that is being written in one of the formats, over the list of its words behind the header. A node is
--- stored behind all that are there already, under the number of its first word.
+-- The nodes of a file while it is written in one of the formats, over the list of its words after the header. A node is stored
+-- after all that are already there, under the number of its first word.
 use Rattle.std.specs.Prelude.{◌≡◌, ℕ, zero, suc, ◌+◌, ◌<◌, ◌≤◌, ◌⊎◌, Bool, true, ◌||◌, nat_lt, List, length, Some, None}
 use Rattle.std.specs.List.{Contains}
 use Rattle.lex_file.specs.declared.arcs.Arc.{Arc}
@@ -12,12 +12,12 @@ use Rattle.lex_file.specs.MaskShapes.{nodes_fault}
 use Rattle.lex_file.specs.Shapes.{nodes_by, names_node}
 use Rattle.lex_build.specs.Bodies.{IsBody, IsGrown, IsWhole}
 
--- the most words behind the header
+-- the maximum number of words after the header
 abbrev pub limit_of : Format → ℕ
 limit_of form.Gad1 = most_arcs
 limit_of form.Gad2 = most_body_words
 
--- the words of a node with so many arcs
+-- the number of words of a node with a number of arcs
 abbrev pub words_for : Format → ℕ → ℕ
 words_for form.Gad1 count = count
 words_for form.Gad2 count = 2 + count
@@ -49,7 +49,7 @@ pub record AreNextArcs (format : Format) (words : List ℕ) (arcs : List Arc) : 
   pub each : (arc : Arc) → Contains arcs arc → IsNextArc format words arc
   pub rising : AreRising arcs
 
--- A node with these arcs is stored behind all others, which stay as they were; no other node is there.
+-- A node with these arcs is stored after all others, which stay as they were; no other node is there.
 pub record IsStoredNext (format : Format) (old new : List ℕ) (arcs : List Arc) : Type 0 where
   pub sound : IsSoundBody format new
   pub grown : IsGrown old new
@@ -60,7 +60,7 @@ pub record IsStoredNext (format : Format) (old new : List ℕ) (arcs : List Arc)
   pub same : (n : ℕ) → is_stored format old n ≡ true → nodes_by (Some format) new n ≡ nodes_by (Some format) old n
   pub alone : (n : ℕ) → is_stored format new n ≡ true → (n ≡ length old + 1) ⊎ (is_stored format old n ≡ true)
 
--- the same of the bytes of a file: whole words stand behind the header
+-- the same for the bytes of a file: whole words come after the header
 pub record HasStored (format : Format) (old new : List ℕ) (arcs : List Arc) : Type 0 where
   pub whole : IsWhole new
   pub next : IsStoredNext format (body_of old) (body_of new) arcs

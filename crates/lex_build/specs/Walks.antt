@@ -8,8 +8,8 @@ use Rattle.lex_build.specs.Labels.{HasLabels}
 use Rattle.lex_build.specs.declared.faults.BuildFault.{BuildFault}
 use Rattle.lex_build.specs.declared.faults.BuildFault.TheVariants as why
 
--- A node whose tails are a set is written, or was before; 0 names the node of the empty set, for which nothing is
--- written. What is new is no more than the labels of some strings of the set.
+-- A node whose tails are a set is written, or was written before; 0 names the node of the empty set, for which nothing is written.
+-- What is new is no more than the labels of some strings of the set.
 pub record IsWritten (old new : List ℕ) (has : List ℕ → Bool) (n : ℕ) : Type 0 where
   pub grown : IsGrown old new
   pub target : is_target new n ≡ true
@@ -25,7 +25,7 @@ pub record HasTooMany (old : List ℕ) (has : List ℕ → Bool) : Type 0 where
   pub labels : HasLabels has count
   pub many : most_arcs < length old + count
 
--- Why no node is written. Want of memory says nothing.
+-- Why no node is written. Lack of memory says nothing.
 abbrev pub IsUnwritten : List ℕ → (List ℕ → Bool) → BuildFault → Type 0
 IsUnwritten old has why.TooManyArcs = HasTooMany old has
 IsUnwritten old has why.NoMemory = Unit {0}

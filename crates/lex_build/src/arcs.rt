@@ -8,13 +8,13 @@ use smallvec::SmallVec;
 /// The arcs of a node, in rising order of their labels: the words of a file, without the bit of a last arc.
 pub type Arcs = SmallVec<u32, 4>;
 
-/// The bit of an arc that says that the string which ends with it is in the set.
+/// The bit of an arc that says that the string that ends with it is in the set.
 const ACCEPTS: u32 = 32;
 
 /// The bit of an arc that says that it is the last of its node.
 const LAST_ARC: u32 = 64;
 
-/// What the number of an arc's target counts in its word.
+/// The factor of the number of an arc's target in its word.
 const TARGET: u32 = 128;
 
 /// The word of an arc, without the bit of a last arc.

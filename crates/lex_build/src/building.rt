@@ -29,14 +29,13 @@ fn write_lexicon<L: PathLex>(alloc: Global, lexicon: &L, words: u32) -> Result<V
 
 /// Builds the compiled lexicon of a word list: the bytes of a GAD1 file whose strings are the rotated paths of the words.
 ///
-/// The nodes are written in the order of a walk from the root that visits labels in rising order: a node when it is
-/// left, after all its targets, unless one with the same arcs was written before. The contract says what the bytes
-/// mean; their order, and that nodes are shared, is shown by tests alone.
+/// The nodes are written in the order of a walk from the root that visits labels in rising order: a node is written when the walk
+/// leaves it, after all its targets, unless one with the same arcs was written before. The contract says what the bytes mean; their
+/// order, and that nodes are shared, is shown only by tests.
 ///
 /// # Errors
 ///
-/// `TooManyArcs` comes only where all rotated paths together have more than 33,554,431 labels, `NoMemory` where memory
-/// ran out.
+/// `TooManyArcs` comes only if all rotated paths together have more than 33,554,431 labels, `NoMemory` if memory ran out.
 #[tactic(auto, using(crate::proofs::Headers::built_file, crate::proofs::Headers::built_fault), unfolding(lex_list::specs::Words::most_words))]
 pub fn build(alloc: Global, list: &WordList) -> Result<Vec<u8>, BuildFault>
     ensures { MatchResult result (λ bytes. IsBuiltOf list.now bytes.items) (λ why. IsUnbuilt list.now why) }

@@ -17,18 +17,18 @@ use lex_file::{
 };
 use std::alloc::{AllocError, Global};
 
-/// The most arcs of a node: one a label.
+/// The maximum number of arcs of a node: one for each label.
 const NODE_ARCS: usize = LABELS as usize;
 
-/// Converts a compiled lexicon into a format: every stored node in the order of the file, also one that no walk reaches,
-/// with the number of words that the file states.
+/// Converts a compiled lexicon into a format: every stored node in the order of the file, even one that no walk reaches, with the
+/// number of words that the file states.
 ///
-/// It takes a time that is linear in the words of the file, and beside the result four bytes for each of them.
+/// It takes time linear in the number of words of the file, and memory for the result plus four bytes for each of them.
 ///
 /// # Errors
 ///
-/// `TooManyArcs` comes exactly where the result would have more arcs, or words, than its format can number, `NoMemory`
-/// where memory ran out.
+/// `TooManyArcs` comes exactly when the result would have more arcs, or words, than its format can number, `NoMemory`
+/// if memory ran out.
 pub fn convert(alloc: Global, file: &LexFile<'_>, format: Format) -> Result<Vec<u8>, BuildFault>
     ensures { MatchResult result (λ bytes. IsConverted format (bytes_of file.now) bytes.items) (λ why. IsUnconverted format (bytes_of file.now) why) }
 {
@@ -42,19 +42,19 @@ pub fn convert(alloc: Global, file: &LexFile<'_>, format: Format) -> Result<Vec<
     }
 }
 
-/// A file whose stored nodes are converted, one after the other.
+/// A file whose stored nodes are converted, one after another.
 #[derive(Drop)]
 struct Conversion {
     /// The format of the result.
     format: Format,
-    /// The header, to be filled in at the end, and the words of the nodes that are written.
+    /// The header, to be filled in at the end, and the words of the nodes written so far.
     bytes: Vec<u8>,
-    /// The new number of each node, at the number by which the file names it; 0 where there is none.
+    /// The new number of each node, at the number by which the file names it; 0 if there is none.
     numbers: Vec<u32>,
 }
 
 impl Conversion {
-    /// A conversion into a format, of no node yet.
+    /// A conversion into a format, before the first node.
     #[tactic(auto, using(crate::proofs::Bytes::none_body))]
     fn new(alloc: Global, format: Format) -> Result<Conversion, AllocError>
         ensures format { IfOk result (λ conversion. conversion.format ≡ format) }
@@ -93,7 +93,7 @@ impl Conversion {
         Ok(())
     }
 
-    /// Converts the stored node that comes next.
+    /// Converts the next stored node.
     fn add_node(&mut self, file: &LexFile<'_>, node: Node) -> Result<(), BuildFault>
         requires whole { IsWhole self.old.bytes.items }
         requires next { IsConvertedBefore self.old.format (bytes_of file.now) (body_of self.old.bytes.items) self.old.numbers.items (number_of node) }
@@ -117,7 +117,7 @@ impl Conversion {
         Ok(())
     }
 
-    /// The arcs of the stored node that comes next, with the new numbers of their targets.
+    /// The arcs of the next stored node, with the new numbers of their targets.
     #[tactic(auto, using(crate::proofs::NewArcs::renamed_none, crate::proofs::NewArcs::renamed_all))]
     fn new_arcs(&self, file: &LexFile<'_>, node: Node) -> ArrayVec<Arc, NODE_ARCS>
         requires { IsConvertedBefore self.now.format (bytes_of file.now) (body_of self.now.bytes.items) self.now.numbers.items (number_of node) }
@@ -143,7 +143,7 @@ impl Conversion {
         }
     }
 
-    /// The number of words that are written.
+    /// The number of words written so far.
     fn word_count(&self) -> usize
         requires { IsWhole self.now.bytes.items }
         ensures { result ≡ length (body_of self.now.bytes.items) }
@@ -164,7 +164,7 @@ impl Conversion {
     }
 }
 
-/// The most words behind the header of a file of a format.
+/// The maximum number of words after the header of a file of a format.
 fn most_words(format: Format) -> usize
     ensures { result ≡ limit_of format }
 {
@@ -174,7 +174,7 @@ fn most_words(format: Format) -> usize
     }
 }
 
-/// The words of a node with so many arcs, in a format.
+/// The number of words of a node with a number of arcs, in a format.
 fn words_for(format: Format, arcs: usize) -> usize
     requires { arcs ≤ 27 }
     ensures { result ≡ words_for format arcs }
@@ -185,7 +185,7 @@ fn words_for(format: Format, arcs: usize) -> usize
     }
 }
 
-/// Puts a number at a place behind the end of a list, with 0 at the places between.
+/// Puts a number at a place after the end of a list, with 0 at the places between.
 #[tactic(auto, using(crate::proofs::NewArcs::same_padded, crate::proofs::NewArcs::numbered))]
 fn put_number(numbers: &mut Vec<u32>, place: usize, number: u32) -> Result<(), AllocError>
     requires { length numbers.old.items ≤ place }

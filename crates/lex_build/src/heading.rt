@@ -6,8 +6,8 @@ ghost use Rattle.lex_build.specs.Headers.{magic_of, header_of};
 use byteorder::{ByteOrder, LittleEndian};
 use lex_file::{Format, GAD1_MAGIC, GAD2_MAGIC};
 
-/// The bytes of a file with its header filled in: the format, the number of words behind the header, the root, the number
-/// of words of the list.
+/// The bytes of a file with its header filled in: the format, the number of words after the header, the root, the number of words
+/// of the list.
 #[tactic(auto, using(crate::proofs::Headers::written_back, crate::proofs::Headers::filled, crate::proofs::Headers::header_size))]
 pub fn with_header(mut bytes: Vec<u8>, format: Format, count: u32, root: u32, words: u32) -> Vec<u8>
     requires { header_bytes ≤ length bytes.items }

@@ -9,7 +9,7 @@ use crate::run_writing::store_run;
 use lex_file::{Arc, Format};
 use std::alloc::AllocError;
 
-/// Appends a node in a format, behind all that are stored.
+/// Appends a node in a format, after all that are already stored.
 pub fn store_node(bytes: &mut Vec<u8>, format: Format, arcs: &[Arc]) -> Result<(), AllocError>
     requires whole { IsWhole bytes.old.items }
     requires sound { IsSoundBody format (body_of bytes.old.items) }

@@ -11,8 +11,8 @@ use lex_file::{Branch, PathLex};
 use smallvec::SmallVec;
 use std::alloc::Global;
 
-/// Writes what is missing of the nodes of a walk from a node on, and gives the number of the node with its tails: 0
-/// where it has none.
+/// Writes those nodes of a walk from a node on that are not yet written, and returns the number of the node with its tails: 0 if it
+/// has none.
 pub fn write_node<L: PathLex>(
     alloc: Global,
     writer: &mut Writer,

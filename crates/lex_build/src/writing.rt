@@ -15,10 +15,10 @@ use indexmap::IndexMap;
 use lex_file::{Format, HEADER_BYTES, MAX_ARCS};
 use std::alloc::{AllocError, Global};
 
-/// A file that is being written.
+/// A file while it is written.
 #[derive(Drop)]
 pub struct Writer {
-    /// The header, to be filled in at the end, and the words of the nodes that are written.
+    /// The header, to be filled in at the end, and the words of the nodes written so far.
     pub bytes: Vec<u8>,
     /// The number of each written node, by its arcs.
     pub nodes: IndexMap<Arcs, u32>,
@@ -39,7 +39,7 @@ impl Writer {
         })
     }
 
-    /// The number of arcs that are written.
+    /// The number of arcs written so far.
     pub fn arc_count(&self) -> usize
         requires { IsWhole self.now.bytes.items }
         ensures { result ≡ length (body_of self.now.bytes.items) }
@@ -55,7 +55,7 @@ impl Writer {
         self.nodes.get(arcs).copied()
     }
 
-    /// The number of the node with these arcs, which is written unless there is one.
+    /// The number of the node with these arcs, which is written if there is none yet.
     pub fn place_node(&mut self, arcs: Arcs) -> Result<u32, BuildFault>
         requires kept { IsKept self.old.bytes.items self.old.nodes.entries }
         requires arcs { IsArcList (body_of self.old.bytes.items) arcs.items }

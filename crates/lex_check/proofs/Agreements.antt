@@ -1,4 +1,4 @@
--- The checker's answers over the paths in order, as answers over the words; and what a lexicon of a list holds.
+-- The checker's answers over the paths in order, as answers over the words; and what a lexicon of a list has.
 use Rattle.std.proofs.Common.{◌≡◌, ℕ, Bool, List, Ok, subst, ap, ◌∙◌}
 use Rattle.std.specs.Prelude.{is_none, ◌↔◌}
 use Rattle.lex_list.specs.Laws.{MeaningsAreLists, ListsHaveCapitals, StandingIsExact}
@@ -20,7 +20,7 @@ pub same_as_words : (file list paths : List ℕ → Bool) → ((string : List �
     → ((string : List ℕ) → file string ≡ list string) → (string : List ℕ) → file string ≡ paths string
 same_as_words file list paths e same string = same string ∙ e string
 
--- what a lexicon of the words of a text holds
+-- what a lexicon of the words of a text has
 pub exact : LanguageIsSpelt → MeaningsAreLists → ListsHaveCapitals → StandingIsExact
     → (text bytes : List ℕ) (words : List (List ℕ)) → list_of text ≡ Ok words → IsLexiconOf words bytes
     → (string : List ℕ) → IsInLanguage bytes string ↔ IsPath words string

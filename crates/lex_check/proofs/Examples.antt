@@ -5,7 +5,7 @@ use Rattle.lex_check.specs.Orders.{IsBefore}
 use Rattle.lex_check.specs.Rotations.{paths_of}
 use Rattle.lex_check.specs.Checks.{symbol_of}
 
--- a string is before all that it begins
+-- a string is before all longer strings that begin with it
 front_first : IsBefore (20 ∷ []) (20 ∷ 1 ∷ [])
 front_first = inr (refl, tt)
 

@@ -13,7 +13,7 @@ use Rattle.lex_check.specs.Meetings.{IsFirstUnder, IsEnded}
 use Rattle.lex_check.specs.Forks.{AreSameBetween}
 use Rattle.arrayvec.specs.ArrayVec.{ArrayVec as Items}
 
--- ---- what a look tells
+-- ---- what a look-up says
 
 pub looked_none : {N : Type 0} (tail : N → List ℕ → Bool) (node : N) (label : ℕ) → tail node (label ∷ []) ≡ false → NoLonger tail node label
     → NoTail tail node label
@@ -71,7 +71,7 @@ least_more has behind label (next ∷ path) empty ends tails none below least = 
     first (lower ∷ after ∷ rest) (inr same) =
         subst (λ (l : ℕ). has (l ∷ after ∷ rest) ≡ false) (sym same.0) (tails after rest ∙ least.first (after ∷ rest) same.1)
 
--- a label that begins a string, and none that goes on behind it, is that string
+-- a label that begins a string, after which nothing continues, is that string
 pub found_alone : (has : List ℕ → Bool) (label : ℕ) → Begins has (label ∷ []) → ((after : ℕ) (rest : List ℕ) → has (label ∷ after ∷ rest) ≡ false)
     → has (label ∷ []) ≡ true
 found_alone has label found none = alone found.rest found.holds
@@ -80,7 +80,7 @@ found_alone has label found none = alone found.rest found.holds
     alone [] holds = holds
     alone (after ∷ rest) holds = absurd (false≢true (sym (none after rest) ∙ holds))
 
--- ---- what is first among the strings that begin with one label
+-- ---- the first among the strings that begin with one label
 
 pub same_under : (file list : List ℕ → Bool) (label : ℕ) → file (label ∷ []) ≡ list (label ∷ [])
     → ((after : ℕ) (rest : List ℕ) → file (label ∷ after ∷ rest) ≡ list (label ∷ after ∷ rest))
@@ -88,7 +88,7 @@ pub same_under : (file list : List ℕ → Bool) (label : ℕ) → file (label �
 same_under file list label same longer [] = same
 same_under file list label same longer (after ∷ rest) = longer after rest
 
--- nothing that begins with a label is before the label alone
+-- nothing that begins with a label is before that label alone
 none_before_one : (file list : List ℕ → Bool) (label : ℕ) (rest : List ℕ) → IsBefore (label ∷ rest) (label ∷ []) → file (label ∷ rest) ≡ list (label ∷ rest)
 none_before_one file list label rest (inl lt) = absurd (omega arith)
 none_before_one file list label rest (inr same) = absurd same.1
@@ -118,7 +118,7 @@ ended_first file list label false false difference a b apart ended = absurd (fal
 ended_first file list label true false (Missing path) a b apart ended = absurd (false≢true (sym ended.0))
 ended_first file list label false true (Extra path) a b apart ended = absurd (false≢true ended.0)
 
--- the file goes on where no string of the list begins with the label
+-- the file continues if no string of the list begins with the label
 pub extra_one : (file list : List ℕ → Bool) (label : ℕ) (path : Items ℕ) → path.items ≡ label ∷ [] → Begins file (label ∷ [])
     → ((rest : List ℕ) → list (label ∷ rest) ≡ false) → IsFirstUnder label file list (Extra path)
 extra_one file list label path e begins none = record {
@@ -127,7 +127,7 @@ extra_one file list label path e begins none = record {
   agree = λ rest before. none_before_one file list label rest (subst (IsBefore (label ∷ rest)) e before);
 }
 
--- the list has the label alone, and only the file goes on behind it, first with the label `next`
+-- the list has only the label itself, and only the file continues after it, first with the label `next`
 pub extra_two : (file list behind : List ℕ → Bool) (label next : ℕ) (path : Items ℕ) → path.items ≡ label ∷ next ∷ []
     → file (label ∷ []) ≡ list (label ∷ []) → list (label ∷ []) ≡ true
     → ((after : ℕ) (rest : List ℕ) → file (label ∷ after ∷ rest) ≡ behind (after ∷ rest))
@@ -158,7 +158,7 @@ extra_two file list behind label next path e same listed tails none begins least
     agree (lower ∷ rest) (inr (_, inl lt)) = tails lower rest ∙ least lower lt rest ∙ sym (none lower rest)
     agree (lower ∷ rest) (inr (_, inr before)) = absurd before.1
 
--- only the list goes on behind the label
+-- only the list continues after the label
 pub missing_more : (file list behind : List ℕ → Bool) (label : ℕ) (least path : Items ℕ) → path.items ≡ label ∷ least.items
     → file (label ∷ []) ≡ list (label ∷ [])
     → ((after : ℕ) (rest : List ℕ) → file (label ∷ after ∷ rest) ≡ false)
@@ -183,7 +183,7 @@ missing_more file list behind label least path e same none tails empty first = r
     agree [] (inr before) = same
     agree (after ∷ rest) (inr before) = none after rest ∙ sym (tails after rest ∙ first.first (after ∷ rest) before.1)
 
--- Both sides go on behind the label: their strings there without it are those of two sets.
+-- Both sides continue after the label: their strings there without it are those of two sets.
 pub record AreBehind (label : ℕ) (file list file_behind list_behind : List ℕ → Bool) : Type 0 where
   pub same : file (label ∷ []) ≡ list (label ∷ [])
   pub of_file : (after : ℕ) (rest : List ℕ) → file (label ∷ after ∷ rest) ≡ file_behind (after ∷ rest)
@@ -289,11 +289,11 @@ same_test false false e = refl
 same_test true false e = absurd (false≢true (sym e))
 same_test false true e = absurd (false≢true (sym e))
 
--- two looks that tell the same of what they stand for
+-- two look-ups that say the same about what they look up
 pub same_ends : (here listed in_file in_list : Bool) → here ≡ in_file → listed ≡ in_list → not (beq here listed) ≡ false → in_file ≡ in_list
 same_ends here listed in_file in_list a b same = sym a ∙ same_test here listed same ∙ b
 
--- what a meeting tells that goes on
+-- what a meeting that continues says
 pub are_behind : {M N : Type 0} (is_m : M → Type 0) (tail_m : M → List ℕ → Bool) (height_m : M → ℕ) (m : M)
     (is_n : N → Type 0) (tail_n : N → List ℕ → Bool) (height_n : N → ℕ) (n : N) (label : ℕ) (next : M) (listed_next : N)
     → IsBehind is_m tail_m height_m m label next → IsBehind is_n tail_n height_n n label listed_next
@@ -306,7 +306,7 @@ are_behind is_m tail_m height_m m is_n tail_n height_n n label next listed_next 
   begins = looked_longer is_n tail_n height_n n label listed_next listed_behind;
 }
 
--- sets that are the same up to one label are so up to a further one
+-- sets that are the same up to one label are the same up to the next
 pub same_further : (file list : List ℕ → Bool) (from to : ℕ) → AreSameBetween file list 0 from → AreSameBetween file list from to → AreSameBetween file list 0 to
 same_further file list from to before behind label rest low lt = elim (cases_lt label from) [
   | inl less ↦ before label rest low less

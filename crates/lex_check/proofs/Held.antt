@@ -1,4 +1,4 @@
--- Paths held in rows of bytes: what stands where, and that they are ordered as the numbers which the rows spell.
+-- Paths stored in rows of bytes: where each label is, and that the paths are ordered as the numbers that the rows spell.
 use Rattle.std.proofs.Common.{◌≡◌, ◌≢◌, ℕ, zero, suc, ◌+◌, ◌*◌, ◌^◌, ◌<◌, ◌≤◌, true, false, eqb, List, [], ◌∷◌, length, get_or, take, take_all, add-one, inl, inr, refl, sym, ap, subst, ◌∙◌, arith}
 use Rattle.std.specs.Prelude.{IsTrue, nat_eq, slice_set}
 use Rattle.std.specs.Cmp.{nat_cmp_is, unsigned_ties}
@@ -15,7 +15,7 @@ use Rattle.std.proofs.lemmas.Bool.Decides.{eqb_tells}
 use Rattle.lex_file.specs.Lexicons.{is_label}
 use Rattle.lex_check.specs.Held.{held, path_in, IsHeld}
 
--- ---- what stands where
+-- ---- where each label is
 
 pub held_length : (count : ℕ) (path : List ℕ) → length (held count path) ≡ count
 unfolding held
@@ -26,7 +26,7 @@ held_length (suc count) (label ∷ path) = ap suc (held_length count path)
 pub row_length : (bytes : List ℕ) → IsHeld bytes → length bytes ≡ 16
 row_length bytes is = ap length is.row ∙ held_length 16 (path_in bytes)
 
--- the path that a row holds is the one that it was made of
+-- the path that a row holds is the one from which it was made
 pub held_back : (count : ℕ) (path : List ℕ) → length path ≤ count → path_in (held count path) ≡ path
 unfolding held path_in
 held_back zero [] le = refl
@@ -43,7 +43,7 @@ held_is path le all =
       labels = rw back all;
     }
 
--- one label more
+-- one more label
 set_held : (count : ℕ) (path : List ℕ) (place : ℕ) → place < length path → length path ≤ count
     → slice_set (held count (take place path)) place (suc (get_or path place 0)) ≡ held count (take (suc place) path)
 unfolding held
@@ -106,7 +106,7 @@ cmp_next l m = elim (cases_lt l m) [
   ]
 ]
 
--- the higher digit decides, and where the digits are the same the rest
+-- the higher digit decides, and if the digits are the same, the rest does
 cmp_digits : (p x y u v : ℕ) → u < p → v < p → nat_cmp (x * p + u) (y * p + v) ≡ ordering_then (nat_cmp x y) (nat_cmp u v)
 cmp_digits p x y u v small small' = elim (cases_lt x y) [
   | inl lt ↦
@@ -168,7 +168,7 @@ number_of_row bytes is = ap (from_be_bytes w128) is.row
 number_spelt : (path : List ℕ) → from_be_bytes w128 (held 16 path) ≡ spelt (held 16 path)
 number_spelt path = spelt_is (held 16 path) (held_length 16 path)
 
--- the number by which a path is put in order
+-- the number by which a path is ordered
 abbrev pub number_of : List ℕ → ℕ
 number_of path = from_be_bytes w128 (held 16 path)
 

@@ -173,7 +173,7 @@ gathered_from words (suc count) string at =
 
 -- ---- the sorted paths are those of the words
 
--- what is read at a place inside does not hang on what is read past the end
+-- what is read at a place inside does not depend on what is read past the end
 read_at : (xs : List (List ℕ)) (k : ℕ) (d : List ℕ) → k < length xs → get_or xs k d ≡ get_or xs k []
 read_at [] k d lt = absurd (omega arith)
 read_at (x ∷ xs) zero d lt = refl

@@ -1,4 +1,4 @@
--- Stretches of paths in order, and the step to the paths that go on with a label.
+-- Stretches of paths in order, and the step to the paths that continue with a label.
 use Rattle.std.proofs.Common.{◌≡◌, ◌≢◌, ℕ, ◌+◌, ◌-◌, ◌<◌, ◌≤◌, Bool, true, false, cond, ltb, eqb, List, [], ◌∷◌, length, get_or, length-drop, add-one, inl, inr, ◌⊎◌, refl, sym, ap, ◌∙◌, arith}
 use Rattle.std.proofs.Math.Seq.{drop-cons}
 use Rattle.std.proofs.lemmas.Bool.{and_parts, ltb-true, eqb-true, eq-eqb, eqb-false, cases_lt}
@@ -68,7 +68,7 @@ part_is paths stretch low high is from order to =
       rising = λ one other a b c. is.rising one other (omega arith) b (omega arith);
     }
 
--- ---- a search by halves
+-- ---- binary search
 
 pub lower_part : (paths : List (List ℕ)) (stretch : Stretch) (label mid : ℕ) → IsStretch paths stretch → mid < stretch.high
     → label_at paths stretch.depth mid < label
@@ -194,7 +194,7 @@ part_label paths stretch label low high is with place from to =
     let here = left_cons paths stretch.depth place (is.long place (omega arith) (omega arith)) in
     here ∙ ap (λ (l : ℕ). l ∷ left_at paths (stretch.depth + 1) place) (with.all place from to)
 
--- a string that begins with the label is left of a path of the part alone
+-- a string that begins with the label is left only of a path of the part
 pub in_part : (paths : List (List ℕ)) (stretch : Stretch) (label low high : ℕ) → IsStretch paths stretch → IsPartWith paths stretch label low high
     → (rest : List ℕ) → IsLeft paths stretch.depth (label ∷ rest) stretch.low stretch.high → IsLeft paths (stretch.depth + 1) rest low high
 in_part paths stretch label low high is with rest at =
@@ -214,7 +214,7 @@ of_part paths stretch label low high is with rest at =
       left = ap (λ (r : List ℕ). label ∷ r) at.left ∙ sym (part_label paths stretch label low high is with at.place at.from at.to);
     }
 
--- behind the first path of a part, each path has a further label
+-- after the first path of a part, each path has a further label
 pub long_behind : (paths : List (List ℕ)) (stretch : Stretch) (label low high : ℕ) → IsStretch paths stretch → IsPartWith paths stretch label low high
     → (place : ℕ) → low < place → place < high → stretch.depth + 1 < length (get_or paths place [])
 long_behind paths stretch label low high is with place from to =
@@ -312,7 +312,7 @@ part_long paths stretch label low high is with some e =
     let apart : length (get_or paths low []) ≢ stretch.depth + 1 = other in
     omega arith
 
--- what stands behind the paths that end with the label
+-- what follows the paths that end with the label
 module _ (paths : List (List ℕ)) (stretch : Stretch) (label low high next : ℕ) (is : IsStretch paths stretch) (with : IsPartWith paths stretch label low high)
     (le : low ≤ next) (short : (place : ℕ) → low ≤ place → place < next → length (get_or paths place []) ≡ stretch.depth + 1) where
   behind : (after : ℕ) (rest : List ℕ) → IsLeft paths stretch.depth (label ∷ after ∷ rest) stretch.low stretch.high
@@ -421,7 +421,7 @@ root_tails paths string =
     let all : length paths - 0 ≡ length paths = omega arith in
     ap (is_left paths 0 string 0) all
 
--- where the paths of a part begin that do not end with the label
+-- where the paths of a part that do not end with the label begin
 pub record IsRest (paths : List (List ℕ)) (depth low high next : ℕ) : Type 0 where
   pub le : low ≤ next
   pub order : next ≤ high

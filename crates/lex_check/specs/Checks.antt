@@ -1,4 +1,4 @@
--- When a compiled lexicon is that of a word list, and what a check answers else.
+-- When a compiled lexicon is that of a word list, and what a check answers if it is not.
 use Rattle.std.specs.Prelude.{◌≡◌, ◌≢◌, ℕ, ◌+◌, ◌==◌, nat_le, List, length, None, if◌then◌else◌}
 use Rattle.lex_file.specs.Languages.{language_of}
 use Rattle.lex_list.specs.RotatedPaths.{is_path, mark, StandsFor}
@@ -19,8 +19,8 @@ pub record IsLexiconOf (words : List (List ℕ)) (bytes : List ℕ) : Type 0 whe
   pub shape : fault_of bytes ≡ None
   pub agreed : IsAgreed words bytes
 
--- Why a file is not that of the words: the first difference of its language and their paths, or where there is none its
--- number of words. Want of memory says nothing of them.
+-- Why a file is not that of the words: the first difference of its language and their paths, or if there is none, its number of
+-- words. Lack of memory says nothing about them.
 abbrev pub IsMismatch : List (List ℕ) → List ℕ → Mismatch → Type 0
 IsMismatch words bytes (why.Missing path) = IsFirstDifference (language_of bytes) (is_path words) (difference.Missing path)
 IsMismatch words bytes (why.Extra path) = IsFirstDifference (language_of bytes) (is_path words) (difference.Extra path)

@@ -1,5 +1,4 @@
--- Two nodes that are walked together: the first label from one on with which a tail of either begins, and what stands
--- behind it in each.
+-- Two nodes that are walked together: the first label from one on with which a tail of either begins, and what comes after it in each.
 use Rattle.std.specs.Prelude.{◌≡◌, ℕ, ◌<◌, ◌≤◌, Bool, false, ◌==◌, List, [], ◌∷◌, Option, Some, None, if◌then◌else◌}
 use Rattle.lex_file.specs.Lexicons.{NextGives}
 use Rattle.lex_file.specs.declared.lexicons.Step.{Step}
@@ -9,17 +8,17 @@ use Rattle.lex_file.specs.declared.lexicons.Branch.{Branch}
 abbrev pub nothing : {N : Type 0} → Step N
 nothing = record { accepts = false; next = None }
 
--- the label of a branch; where there is none 27, which is above all labels
+-- the label of a branch; if there is none, 27, which is above all labels
 abbrev pub label_or_end : {N : Type 0} → Option (Branch N) → ℕ
 label_or_end None = 27
 label_or_end (Some branch) = branch.label
 
--- what stands behind a label, where a branch is the first from some label on, and not below this one
+-- what follows a label, if a branch is the first from some label on, and not below this one
 abbrev pub step_at : {N : Type 0} → Option (Branch N) → ℕ → Step N
 step_at None label = nothing
 step_at (Some branch) label = if branch.label == label then branch.step else nothing
 
--- A step tells what stands behind a label of a node: whether the label alone is a tail, and the node of the longer ones.
+-- A step says what follows a label of a node: whether the label alone is a tail, and the node of the longer ones.
 pub record StandsBehind {N : Type 0} (is_node : N → Type 0) (tail : N → List ℕ → Bool) (height : N → ℕ) (node : N) (label : ℕ) (step : Step N) : Type 0 where
   pub accepts : step.accepts ≡ tail node (label ∷ [])
   pub next : NextGives is_node tail height node label step.next

@@ -5,7 +5,7 @@ use Rattle.lex_list.specs.RotatedPaths.{IsPath}
 use Rattle.lex_file.specs.Languages.{IsInLanguage}
 use Rattle.lex_check.specs.Checks.{IsLexiconOf}
 
--- Where a file is the lexicon of the words of a text, its arcs spell a string exactly where the string is a rotated path
+-- If a file is the lexicon of the words of a text, its arcs spell a string exactly when the string is a rotated path
 -- of one of the words.
 abbrev pub LexiconsAreExact : Type 0
 LexiconsAreExact =

@@ -1,4 +1,4 @@
--- How the strings of two sets that begin with one label compare, as far as one step tells.
+-- How the strings of two sets that begin with one label compare, as far as one step decides.
 use Rattle.std.specs.Prelude.{◌≡◌, ℕ, ◌≤◌, Bool, true, false, List, [], ◌∷◌, length}
 use Rattle.lex_file.specs.Lexicons.{IsBehind}
 use Rattle.lex_check.specs.declared.differences.Difference.{Difference}
@@ -19,8 +19,8 @@ abbrev pub IsEnded : ℕ → Bool → Difference → Type 0
 IsEnded label in_file (Extra path) = (in_file ≡ true) × (path.items ≡ label ∷ [])
 IsEnded label in_file (Missing path) = (in_file ≡ false) × (path.items ≡ label ∷ [])
 
--- What a meeting tells of the tails of two nodes that begin with the label: they are the same; or the label alone is in
--- both or in neither, and these nodes stand behind it; or they differ first there.
+-- What a meeting says about the tails of two nodes that begin with the label: they are the same; or the label alone is in both or
+-- in neither, and these nodes come after it; or they differ first there.
 abbrev pub MeetingGives : {M N : Type 0} → (M → Type 0) → (M → List ℕ → Bool) → (M → ℕ) → M → (N → Type 0) → (N → List ℕ → Bool) → (N → ℕ) → N → ℕ → Meeting M N → Type 0
 MeetingGives is_m tail_m height_m m is_n tail_n height_n n label Agree = (rest : List ℕ) → tail_m m (label ∷ rest) ≡ tail_n n (label ∷ rest)
 MeetingGives is_m tail_m height_m m is_n tail_n height_n n label (Deeper next listed_next) =
@@ -28,7 +28,7 @@ MeetingGives is_m tail_m height_m m is_n tail_n height_n n label (Deeper next li
     × (tail_m m (label ∷ []) ≡ tail_n n (label ∷ []))
 MeetingGives is_m tail_m height_m m is_n tail_n height_n n label (Differ difference) = IsFirstUnder label (tail_m m) (tail_n n) difference
 
--- the path of a difference has at most so many labels
+-- the path of a difference has at most this number of labels
 abbrev pub IsShort : {M N : Type 0} → ℕ → Meeting M N → Type 0
 IsShort bound Agree = Unit {0}
 IsShort bound (Deeper next listed_next) = Unit {0}

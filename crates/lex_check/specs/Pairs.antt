@@ -1,4 +1,4 @@
--- What is seen of a word list and a compiled lexicon that agree.
+-- The view of a word list and a compiled lexicon that agree.
 use Rattle.std.specs.Prelude.{ℕ, List}
 use Rattle.lex_file.specs.declared.files.LexFile.{LexFile}
 use Rattle.lex_check.specs.declared.pairs.Checked.{Checked}

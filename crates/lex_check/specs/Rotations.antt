@@ -1,4 +1,4 @@
--- The rotated paths of words, one after the other.
+-- The rotated paths of words, one after another.
 use Rattle.std.specs.Prelude.{ℕ, zero, suc, List, [], ◌∷◌, ◌++◌, length, take, drop, slice_index_or}
 use Rattle.lex_list.specs.RotatedPaths.{path_of}
 

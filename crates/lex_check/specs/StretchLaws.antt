@@ -1,4 +1,4 @@
--- Laws of stretches: which strings are tails, and that they are of labels, not empty and short.
+-- Laws of stretches: which strings are tails, and that tails are strings of labels, not empty and short.
 use Rattle.std.proofs.Common.{◌≡◌, ℕ, zero, suc, ◌+◌, ◌-◌, ◌<◌, ◌≤◌, Bool, true, false, ◌||◌, List, [], length, get_or, length-drop, refl, ap, subst, ◌∙◌, arith}
 use Rattle.std.specs.Prelude.{IsTrue, nat_eq}
 use Rattle.std.specs.Cmp.Lexicographic.{pointwise}

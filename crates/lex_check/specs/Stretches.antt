@@ -45,7 +45,7 @@ pub record IsStretch (paths : List (List ℕ)) (stretch : Stretch) : Type 0 wher
 abbrev pub stretch_tail : List (List ℕ) → Stretch → List ℕ → Bool
 stretch_tail paths stretch string = is_left paths stretch.depth string stretch.low (stretch.high - stretch.low)
 
--- a path has at most 16 labels, so this many are left at most
+-- a path has at most 16 labels, so at most this many are left
 abbrev pub height_of : Stretch → ℕ
 height_of stretch = 16 - stretch.depth
 
@@ -65,7 +65,7 @@ pub record IsPartWith (paths : List (List ℕ)) (stretch : Stretch) (label low h
 abbrev pub IsBelow : List (List ℕ) → Stretch → ℕ → Type 0
 IsBelow paths stretch label = (place : ℕ) → stretch.low ≤ place → place < stretch.high → label_at paths stretch.depth place < label
 
--- the first place of a stretch whose path has this label at the depth, or a higher one; the stretch's end where there is none
+-- the first place of a stretch whose path has this label at the depth, or a higher one; the stretch's end if there is none
 pub record IsPlaceFrom (paths : List (List ℕ)) (stretch : Stretch) (label place : ℕ) : Type 0 where
   pub from : stretch.low ≤ place
   pub to : place ≤ stretch.high

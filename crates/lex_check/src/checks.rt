@@ -19,9 +19,9 @@ use std::alloc::Global;
 pub enum Mismatch {
     /// This rotated path of a listed word is not in the lexicon.
     Missing(Path),
-    /// The lexicon has this string, or one that it begins, and the list has no such path.
+    /// The lexicon has this string, or one that begins with it, and the list has no such path.
     Extra(Path),
-    /// The paths are the same, and the lexicon states another number of words.
+    /// The paths are the same, but the lexicon states another number of words.
     WordCount,
     /// Memory ran out.
     NoMemory,
@@ -30,8 +30,8 @@ pub enum Mismatch {
 /// Compares a compiled lexicon with the rotated paths of a word list, and names the first difference in the order of
 /// strings of labels. The number of words is compared after that.
 ///
-/// That they agree is mostly told by [`agree`], which is not asked where the file states another number of words. Where it
-/// does not tell so, the paths are put in order and walked beside the file.
+/// In most cases [`agree`] decides that they agree; it is not called if the file states another number of words. If it does not
+/// decide it, the paths are put in order and walked along with the file.
 pub fn check(alloc: Global, list: &WordList, file: &LexFile<'_>) -> Result<(), Mismatch>
     ensures { MatchResult result (λ _. IsAgreed list.now (bytes_of file.now)) (λ why. IsMismatch list.now (bytes_of file.now) why) }
 {
@@ -53,7 +53,7 @@ fn check_count(list: &WordList, file: &LexFile<'_>) -> Result<(), Mismatch>
     Ok(())
 }
 
-/// Walks a compiled lexicon beside the rotated paths of a word list in order, and names the first difference.
+/// Walks a compiled lexicon along with the rotated paths of a word list in order, and names the first difference.
 #[tactic(auto, using(crate::proofs::Agreements::first_of_words, crate::proofs::Agreements::same_as_words))]
 fn walk_beside(alloc: Global, list: &WordList, file: &LexFile<'_>) -> Result<(), Mismatch>
     ensures { MatchResult result (λ _. StandsFor (language_of (bytes_of file.now)) list.now) (λ why. IsMismatch list.now (bytes_of file.now) why) }

@@ -4,15 +4,15 @@ ghost use Rattle.lex_check.specs.Differences.{path_of, IsLonger};
 
 use arrayvec::ArrayVec;
 
-/// The labels of a path that is named: 16 of a rotated word at most, and one more where a lexicon goes on behind.
+/// The labels of a path that is named: at most 16 of a rotated word, and one more if a lexicon continues after it.
 pub type Path = ArrayVec<u8, 17>;
 
 /// Where a compiled lexicon and a list of paths first differ, in the order of strings of labels.
 #[derive(Debug, Drop, PartialEq, Eq)]
 pub enum Difference {
-    /// This path is one of the list's, and the compiled lexicon has it not.
+    /// This path is one of the list's, and the compiled lexicon does not have it.
     Missing(Path),
-    /// The compiled lexicon has this string, or one that it begins; the list has it not, or none that it begins.
+    /// The compiled lexicon has this string, or one that begins with it; the list does not have it, or has none that begins with it.
     Extra(Path),
 }
 

@@ -4,7 +4,7 @@ ghost use Rattle.lex_check.specs.Forks.{label_or_end, step_at, StandsBehind, Are
 
 use lex_file::{Branch, LABELS, PathLex, Step};
 
-/// A label with which a tail of one of two nodes begins, and what stands behind it in each.
+/// A label with which a tail of one of two nodes begins, and what follows it in each.
 #[derive(Clone, Copy)]
 pub struct Fork<M, N> {
     pub label: u8,
@@ -12,7 +12,7 @@ pub struct Fork<M, N> {
     pub listed: Step<N>,
 }
 
-/// The label of a branch; where there is none 27, which is above all labels.
+/// The label of a branch; if there is none, 27, which is above all labels.
 fn label_or_end<N>(branch: &Option<Branch<N>>) -> u8
     ensures { result ≡ label_or_end branch.now }
 {
@@ -22,7 +22,7 @@ fn label_or_end<N>(branch: &Option<Branch<N>>) -> u8
     }
 }
 
-/// What stands behind a label, by a branch that is the first from some label on, and not below this one.
+/// What follows a label, given a branch that is the first from some label on, and not below this one.
 fn step_at<N: Copy>(branch: Option<Branch<N>>, label: u8) -> Step<N>
     ensures { result ≡ step_at branch label }
 {
@@ -35,7 +35,7 @@ fn step_at<N: Copy>(branch: Option<Branch<N>>, label: u8) -> Step<N>
     }
 }
 
-/// The first label from `from` on with which a tail of one of the nodes begins, and what stands behind it in each.
+/// The first label from `from` on with which a tail of one of the nodes begins, and what follows it in each.
 pub fn fork_from<A: PathLex, B: PathLex>(
     file: &A,
     list: &B,

@@ -4,9 +4,9 @@ ghost use Rattle.lex_check.specs.Laws.{LexiconsAreExact};
 use lex_file::law_of_language;
 use lex_list::{law_of_lists, law_of_paths};
 
-/// Where a file is the lexicon of the words of a text, its arcs spell a string from the root exactly where the string
-/// is a rotated path of one of the words: for some split of the word into a front that is not empty and a back, the
-/// labels of the front in reverse, and where the back is not empty the mark and the labels of the back.
+/// If a file is the lexicon of the words of a text, its arcs spell a string from the root exactly when the string is a rotated path
+/// of one of the words: for some split of the word into a front that is not empty and a back, the labels of the front in reverse,
+/// and if the back is not empty, the mark and the labels of the back.
 pub fn law_of_lexicons()
     ensures { LexiconsAreExact }
 {

@@ -7,7 +7,7 @@ ghost use Rattle.lex_check.specs.Differences.{Begins};
 use crate::differences::{Path, only, with_front};
 use lex_file::{Branch, PathLex};
 
-/// The least label with which a tail of the node begins, and what stands behind it.
+/// The least label with which a tail of the node begins, and what follows it.
 fn first_branch<L: PathLex>(lexicon: &L, node: L::Node) -> Branch<L::Node>
     requires node { L.is_node lexicon.now node }
     requires some { Begins (L.tail lexicon.now node) [] }

@@ -1,11 +1,11 @@
-//! The checker of compiled lexicons: it says exactly where a lexicon first differs from another one.
+//! The checker of compiled lexicons: it says where a lexicon first differs from another one.
 //!
-//! A lexicon is a set of strings of labels. Strings are ordered label by label, the mark of a rotated word first,
-//! and a string stands before all that it begins.
+//! A lexicon is a set of strings of labels. Strings are ordered label by label, the mark of a rotated word first, and a string
+//! comes before all longer strings that begin with it.
 //!
-//! Two lexicons are walked together, from each label that one of them has to the next. That of a word list is the list
-//! of its rotated paths in order: a node is a stretch of them without their first labels, and a step costs a search
-//! only where they go on with more than one label.
+//! Two lexicons are walked together, from each label that one of them has to the next. That of a word list is the list of its
+//! rotated paths in order: a node is a stretch of them without their first labels, and a step costs a search only if they continue
+//! with more than one label.
 #![tactic(auto)]
 
 mod checks;

@@ -13,13 +13,13 @@ use lex_file::PathLex;
 pub enum Meeting<M, N> {
     /// They are the same.
     Agree,
-    /// The label alone is a tail of both nodes or of neither, and both go on behind it, to these nodes.
+    /// The label alone is a tail of both nodes or of neither, and both continue after it, with these nodes.
     Deeper(M, N),
     /// They differ, first here.
     Differ(Difference),
 }
 
-/// The difference where a string ends with the label in one of the two alone.
+/// The difference if a string ends with the label in only one of the two.
 fn ended(label: u8, in_file: bool) -> Difference
     ensures { IsEnded label in_file result }
 {
@@ -30,7 +30,7 @@ fn ended(label: u8, in_file: bool) -> Difference
     }
 }
 
-/// Compares the tails of two nodes that begin with the label of a fork, as far as one step tells.
+/// Compares the tails of two nodes that begin with the label of a fork, as far as one step decides.
 pub fn meet<A: PathLex, B: PathLex>(
     file: &A,
     list: &B,

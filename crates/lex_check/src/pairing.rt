@@ -1,4 +1,4 @@
-//! A word list and a lexicon become a pair where they agree.
+//! A word list and a lexicon become a pair if they agree.
 ghost use Rattle.std.specs.Prelude.{◌≡◌, IfOk, IfErr, OnOk};
 ghost use Rattle.lex_file.specs.Files.{bytes_of};
 ghost use Rattle.lex_check.specs.Checks.{IsAgreed, IsMismatch};
@@ -10,7 +10,7 @@ use lex_file::LexFile;
 use lex_list::WordList;
 use std::alloc::Global;
 
-/// Compares a compiled lexicon with the rotated paths of a word list as [`check`] does, and keeps both where they
+/// Compares a compiled lexicon with the rotated paths of a word list as [`check`] does, and keeps both if they
 /// agree.
 pub fn pair<'a>(
     alloc: Global,

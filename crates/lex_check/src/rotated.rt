@@ -8,13 +8,13 @@ ghost use Rattle.lex_check.specs.Held.{held};
 
 use std::marker::Model;
 
-/// The most labels of a rotated path: the letters of a word, and the mark.
+/// The maximum number of labels of a rotated path: the letters of a word, and the mark.
 pub const MAX_LABELS: usize = 16;
 
 /// A rotated path: at most 16 labels. Contracts see the list of them.
 ///
-/// Each label is held as the number above it, and zeros follow the last one. So the order of paths, label by label and a path
-/// before all that it begins, is that of the numbers that their 16 bytes spell, the first byte the highest.
+/// Each label is stored as the number above it, and zeros follow the last one. So the order of paths, label by label and a path
+/// before all longer paths that begin with it, is that of the numbers that their 16 bytes spell, the first byte the highest.
 #[derive(Debug, Drop)]
 pub struct Rotated {
     bytes: [u8; MAX_LABELS],
@@ -64,7 +64,7 @@ impl Rotated {
         depth == MAX_LABELS || self.bytes[depth] == 0
     }
 
-    /// The number that the bytes of the path spell: paths are in order where their numbers are.
+    /// The number that the bytes of the path spell: paths are in order if their numbers are.
     #[tactic(auto, using(crate::proofs::Held::number_of_row))]
     pub fn number(&self) -> u128
         ensures number { result ≡ from_be_bytes w128 (held 16 self.now) }

@@ -75,7 +75,7 @@ fn push_paths(paths: &mut Vec<Rotated>, word: &[u8]) -> Result<(), AllocError>
     Ok(())
 }
 
-/// The rotated paths of the words of a list, word by word. They are as many as the letters: each letter ends one front.
+/// The rotated paths of the words of a list, word by word. There are as many as letters: each letter ends one front.
 pub fn gather(alloc: Global, list: &WordList) -> Result<Vec<Rotated>, AllocError>
     ensures { IfOk result (λ paths. paths.items ≡ gathered list.now (length list.now)) }
 {

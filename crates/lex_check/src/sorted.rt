@@ -52,7 +52,7 @@ fn label_at(paths: &[Rotated], place: usize, depth: usize) -> u8
     paths[place].label(depth)
 }
 
-/// The first place of a stretch whose path has, at the stretch's depth, that label or a higher one, by halves.
+/// The first place of a stretch whose path has, at the stretch's depth, that label or a higher one, by binary search.
 #[inline(never)]
 fn search_from(paths: &[Rotated], stretch: Stretch, label: u8) -> usize
     requires { IsStretch paths.now stretch }
@@ -71,8 +71,8 @@ fn search_from(paths: &[Rotated], stretch: Stretch, label: u8) -> usize
     low
 }
 
-/// The first place of a stretch whose path has, at the stretch's depth, that label or a higher one. The first and the
-/// last path of the stretch tell it at once where it is the first or none.
+/// The first place of a stretch whose path has, at the stretch's depth, that label or a higher one. The first and the last path of
+/// the stretch decide at once whether it is the first place or there is none.
 #[tactic(auto, using(crate::proofs::Stretches::place_empty, crate::proofs::Stretches::place_first))]
 #[inline(always)]
 fn first_from(paths: &[Rotated], stretch: Stretch, label: u8) -> usize
@@ -123,7 +123,7 @@ fn ends_at(paths: &[Rotated], depth: usize, place: usize) -> bool
     paths[place].ends_at(depth)
 }
 
-/// What stands behind the label of a part of a stretch.
+/// What follows the label of a part of a stretch.
 #[inline(always)]
 fn step_behind(paths: &[Rotated], stretch: Stretch, part: Part) -> Step<Stretch>
     requires stretch { IsStretch paths.now stretch }
@@ -152,7 +152,7 @@ fn step_behind(paths: &[Rotated], stretch: Stretch, part: Part) -> Step<Stretch>
     }
 }
 
-/// The first label from `from` on with which a path of a stretch goes on, and what stands behind it.
+/// The first label from `from` on with which a path of a stretch continues, and what follows it.
 #[tactic(auto, using(crate::proofs::Stretches::branch_none))]
 #[inline(always)]
 fn branch_in(paths: &[Rotated], stretch: Stretch, from: u8) -> Option<Branch<Stretch>>
@@ -173,7 +173,7 @@ fn branch_in(paths: &[Rotated], stretch: Stretch, from: u8) -> Option<Branch<Str
     })
 }
 
-/// What stands behind a label in a stretch.
+/// What follows a label in a stretch.
 fn step_in(paths: &[Rotated], stretch: Stretch, label: u8) -> Option<Step<Stretch>>
     requires { IsStretch paths.now stretch }
     ensures none { IfNone result (NoTail (stretch_tail paths.now) stretch label) }

@@ -7,8 +7,8 @@ use crate::forks::fork_from;
 use crate::meetings::{Meeting, meet};
 use lex_file::PathLex;
 
-/// Compares two lexicons string by string: they are the same, or this is the first difference. The second one has
-/// strings of at most 16 labels, as its heights tell.
+/// Compares two lexicons string by string: they are the same, or this is the first difference. The second one has strings of at
+/// most 16 labels, as its heights say.
 pub fn check_paths<A: PathLex, B: PathLex>(file: &A, list: &B) -> Result<(), Difference>
     requires low { (node : B.Node) → B.is_node list.now node → B.height list.now node ≤ 16 }
     ensures same { OnOk result ((string : List ℕ) → A.language file.now string ≡ B.language list.now string) }

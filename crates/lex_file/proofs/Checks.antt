@@ -78,7 +78,7 @@ start_first words (suc (suc place)) start some = by (is_last (get_or words (suc 
     by true go start = absurd (omega arith)
     by false go start = go start
 
--- a node that begins with the second arc: the first arc is a node
+-- a node that begins with the second arc: the first arc is a node of its own
 start_second : (words : List ℕ) (place : ℕ) → start_at words place ≡ 2 → is_last (get_or words 0 0) ≡ true
 unfolding start_at
 start_second words zero start = absurd (omega arith)
@@ -89,7 +89,7 @@ start_second words (suc place) start = by (is_last (get_or words place 0)) refl 
     by true e go start = let here : place ≡ 0 = omega arith in subst (λ (n : ℕ). is_last (get_or words n 0) ≡ true) here e
     by false e go start = go start
 
--- where the node before does not end behind the first arc, a node begins with the second arc or with the first one
+-- if the node before does not end after the first arc, a node begins with the second arc or with the first one
 pub start_two : (words : List ℕ) (place : ℕ) → start_at words place - 2 ≡ 0 → 0 < place → is_last (get_or words 0 0) ≡ true → 2 ≡ start_at words place
 start_two words place behind some last =
     let low = start_low words place in
@@ -107,7 +107,7 @@ start_one words place behind not =
       | inr more ↦ let e : start_at words place ≡ 2 = omega arith in absurd (true≢false (sym (start_second words place e) ∙ not (omega arith)))
     ]
 
--- where the node ends whose arc is next, and which labels are in order at that arc
+-- where the node of the next arc ends, and which labels are in order at that arc
 pub next_of_last : (words : List ℕ) (place : ℕ) → is_last (get_or words place 0) ≡ true
     → (place ≡ start_at words (place + 1) - 2) × IsLeast words (place + 1) 0
 next_of_last words place last = (rw (start_last words place last) (omega arith), λ label. rw add-one (rw last (grind arith)))
@@ -130,7 +130,7 @@ pub low_label : (words : List ℕ) (place : ℕ) → arc_fault words place ≡ N
 unfolding arc_fault
 low_label words place fine = (arc_facts words place fine).0.label
 
--- a target behind the last arc of a node
+-- a target after the last arc of a node
 pub leads_behind : (words : List ℕ) (start target : ℕ) → 2 ≤ target → target < start → start ≤ length words → is_last (get_or words (target - 2) 0) ≡ true → leads_back words start target ≡ true
 leads_behind words start zero low below inside last = absurd (omega arith)
 leads_behind words start (suc zero) low below inside last = absurd (omega arith)
@@ -160,7 +160,7 @@ leads_to_first words start below some =
     let within : nat_lt 0 (length words) ≡ true = grind arith in
     rw (before, within) refl
 
--- What the tests of a label and of a target say, where their differences go round at 2 ^ 32 and 2 ^ 64.
+-- What the tests of a label and of a target say; their differences wrap at 2 ^ 32 and 2 ^ 64.
 pub in_order : (label room : ℕ) → label < 256 → room ≤ 27 → (label + room + 4294967269) % 4294967296 < room → (label ≤ greatest_label) × (27 - room ≤ label)
 in_order label room low few h = (omega arith, omega arith)
 

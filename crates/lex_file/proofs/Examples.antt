@@ -8,7 +8,7 @@ use Rattle.lex_file.specs.Nodes.{run_of, start_at}
 use Rattle.lex_file.specs.Shapes.{arc_fault, arcs_fault, body_fault, header_fault, form_fault, fault_of, file_node, arc_count_of, word_count_of}
 use Rattle.lex_file.specs.Languages.{tail_in, language_of}
 
--- the labels of a text, where + stands for the mark: 0, and 1 for A
+-- the labels of a text in which + is the mark: 0, and 1 for A
 abbrev labels : List ℕ → List ℕ
 labels text = map (λ byte. if byte == 43 then 0 else byte - 64) text
 
@@ -32,7 +32,7 @@ at_file = header 5 4 1 ++ arcs_of_at
 abbrev at_it_file : List ℕ
 at_it_file = header 7 5 2 ++ word 0x74 0 ++ word 0xc0 0 ++ word 0x21 0 ++ word 0x69 0 ++ word 0x01 1 ++ word 0x09 1 ++ word 0xd4 1
 
--- which of some texts are in the language of a file
+-- which texts are in the language of a file
 abbrev accepted : List ℕ → List (List ℕ) → List Bool
 accepted bytes texts = map (λ text. language_of bytes (labels text)) texts
 

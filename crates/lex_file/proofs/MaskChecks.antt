@@ -26,7 +26,7 @@ label_passed : (words : List ℕ) (place label : ℕ) → labels_fault words pla
 unfolding labels_fault
 label_passed words place label before no_bit = rw (before, no_bit) refl
 
--- numbers that are no labels of a node have no fault
+-- numbers that are not labels of a node have no fault
 pub labels_passed : (words : List ℕ) (place from next : ℕ) → labels_fault words place from ≡ None → from ≤ next
     → ((label : ℕ) → from ≤ label → label < next → has_bit (get_or words place 0) label ≡ false) → labels_fault words place next ≡ None
 labels_passed words place from zero before le clear = let same : from ≡ zero = omega arith in subst (λ (n : ℕ). labels_fault words place n ≡ None) same before
@@ -63,7 +63,7 @@ label_here words place label fault lt before has here = fault_stays words place 
 
 -- ---- the nodes
 
--- that there are enough for the nodes is all that matters of the number that is left
+-- the number that is left does not matter if it is enough for the nodes
 same_left : (words : List ℕ) (left more place : ℕ) → length words ≤ place + left → length words ≤ place + more → nodes_fault words left place ≡ nodes_fault words more place
 unfolding nodes_fault
 same_left words zero zero place l m = refl
@@ -76,7 +76,7 @@ same_left words (suc left) (suc more) place l m =
 pub node_inside : (words : List ℕ) (place : ℕ) → node_fault words place ≡ None → place + (2 + label_count (get_or words place 0)) ≤ length words
 node_inside words place e = (node_facts words place e).room
 
--- a node without a fault is passed over
+-- a node without a fault is skipped
 pub nodes_more : (words : List ℕ) (place : ℕ) → place < length words → node_fault words place ≡ None
     → nodes_fault words (length words - place) place
     ≡ nodes_fault words (length words - (place + (2 + label_count (get_or words place 0)))) (place + (2 + label_count (get_or words place 0)))

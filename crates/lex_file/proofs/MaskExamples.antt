@@ -1,5 +1,5 @@
--- A file of the second format, its nodes, its language and its faults as the definitions give them, computed. The number of
--- bits of a number does not compute where the number is large: it is told of each that the file needs.
+-- A file of the second format, its nodes, its language and its faults as the definitions give them, computed. The number of bits of
+-- a large number does not compute, so it is stated for each one that the file needs.
 use Rattle.std.proofs.Common.{◌≡◌, ℕ, suc, ◌+◌, ◌*◌, Bool, true, false, ltb, List, [], ◌∷◌, ◌++◌, length, get_or, Some, None, map, take, drop, refl, ◌∙◌, arith}
 use Rattle.std.specs.Prelude.{codes, ◌-◌, ◌==◌, if◌then◌else◌, count_ones}
 use Rattle.std.proofs.lemmas.Nat.{ones_cat}
@@ -40,7 +40,7 @@ abt_set = ones_cat 20 1 6 (omega arith)
 
 -- ---- the file
 
--- the labels of a text, where + stands for the mark: 0, and 1 for A
+-- the labels of a text in which + is the mark: 0, and 1 for A
 abbrev labels : List ℕ → List ℕ
 labels text = map (λ byte. if byte == 43 then 0 else byte - 64) text
 
@@ -53,7 +53,7 @@ at_file =
     2 ∷ 0 ∷ 0 ∷ 0x80 ∷ 2 ∷ 0 ∷ 0 ∷ 0 ∷ 0 ∷ 0 ∷ 0 ∷ 0 ∷
     2 ∷ 0 ∷ 0x10 ∷ 0x80 ∷ 0 ∷ 0 ∷ 0 ∷ 0 ∷ 4 ∷ 0 ∷ 0 ∷ 0 ∷ 7 ∷ 0 ∷ 0 ∷ 0 ∷ []
 
--- the words behind its header
+-- the words after its header
 abbrev at_words : List ℕ
 at_words = 0x80100000 ∷ 0x100000 ∷ 0 ∷ 0x80000001 ∷ 0 ∷ 1 ∷ 0x80000002 ∷ 2 ∷ 0 ∷ 0x80100002 ∷ 0 ∷ 4 ∷ 7 ∷ []
 
@@ -116,7 +116,7 @@ at_shape = at_fine
 
 -- ---- the language
 
--- which of some texts are in the language of the file
+-- which texts are in the language of the file
 abbrev accepted : List (List ℕ) → List Bool
 accepted texts = map (λ text. language_of at_file (labels text)) texts
 
@@ -190,7 +190,7 @@ open_run =
     ∙ past words 10 6 3 refl (rw a_set refl) (rw (a_set, none_set) (refl {a = None}))
     ∙ stop words 9 9 why.OpenRun refl (rw abt_set refl)
 
--- the accept bit of A in the last node: without a fault, and A is in the language beside the paths
+-- the accept bit of A in the last node: without a fault, and A is in the language along with the paths
 root_accepts_a : fault_of (changed 11 (2 ∷ 0 ∷ 0 ∷ 0 ∷ [])) ≡ None
 unfolding fault_of form_fault mask_header_fault words_in node_fault labels_fault label_fault
 root_accepts_a =

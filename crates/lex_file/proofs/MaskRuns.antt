@@ -159,7 +159,7 @@ past_from words place label next le =
     let size : 27 - next ≡ zero = omega arith in
     rw size (rw (among_none words place next) refl)
 
--- ---- the lowest bit of a word behind some others
+-- ---- the lowest bit of a word after some others
 
 clear_step : (n i bit rest : ℕ) → n % 2 ≡ bit → i < under bit rest → ((j : ℕ) → j < rest → bit_at (n / 2) j ≡ 0) → bit_at n i ≡ 0
 clear_step n i (suc bit) rest e lt more = absurd (omega arith)

@@ -34,7 +34,7 @@ word (a ∷ b ∷ c ∷ []) place lt = absurd (omega arith)
 word (a ∷ b ∷ c ∷ d ∷ rest) zero lt = refl
 word (a ∷ b ∷ c ∷ d ∷ rest) (suc place) lt = ap (little_number 4) (drop_four a b c d rest place) ∙ word rest place (omega arith)
 
--- ---- going over the arcs of a node
+-- ---- the arcs of a node, one by one
 
 pub not_equal : (a b : ℕ) → a ≢ b → eqb a b ≡ false
 not_equal a b apart = elim (eqb_tells a b) [ inl same ↦ absurd (apart same.1) | inr other ↦ other.0 ]
@@ -62,7 +62,7 @@ pub past_all : (words : List ℕ) (place : ℕ) (wanted : Arc → Bool) → leng
 unfolding run_of
 past_all words place wanted le = rw (drop_of_length-le words le) refl
 
--- what is left of a node behind an arc
+-- what is left of a node after an arc
 pub left_more : (words : List ℕ) (place : ℕ) (wanted : Arc → Bool) → place < length words → wanted (arc_of (get_or words place 0)) ≡ false
     → is_last (get_or words place 0) ≡ false → find wanted (run_of (drop place words)) ≡ find wanted (node_at words (place + 2))
 left_more words place wanted lt apart last =

@@ -1,4 +1,4 @@
--- The recursion on a string tells exactly the strings that arcs spell.
+-- The recursion on a string accepts exactly the strings that arcs spell.
 use Rattle.std.proofs.Common.{◌≡◌, ℕ, zero, suc, ◌+◌, ◌-◌, ◌<◌, Bool, true, false, eqb, List, [], ◌∷◌, length, map, Option, Some, None, inl, inr, refl, sym, ap, subst, ◌∙◌, add-one, arith}
 use Rattle.std.specs.Prelude.{IsTrue, is_none, ◌↔◌, slice_get}
 use Rattle.std.proofs.lemmas.Bool.{false≢true, eqb-true, eq-eqb}
@@ -26,7 +26,7 @@ only_with_label (first ∷ arcs) arc rising h =
 
 -- ---- arcs that spell a string, step by step
 
--- arcs that lead on from a node, the last accepting
+-- successive arcs from a node, the last accepting
 abbrev Chain : (ℕ → List Arc) → ℕ → List Arc → Type 0
 Chain node from [] = ⊥
 Chain node from (arc ∷ []) = Contains (node from) arc × (arc.accepts ≡ true)
@@ -50,7 +50,7 @@ chain_from_spelt node from (arc ∷ after ∷ arcs) some first next last = (
     ending : (x : Arc) → slice_get (after ∷ arcs) (length (after ∷ arcs) - 1) ≡ Some x → slice_get (arc ∷ after ∷ arcs) (length (arc ∷ after ∷ arcs) - 1) ≡ Some x
     ending x e = let same : length (arc ∷ after ∷ arcs) - 1 ≡ suc (length (after ∷ arcs) - 1) = omega arith in rw same e
 
--- arcs that lead on are those of a string that is spelt
+-- successive arcs are those of a string that is spelt
 pub record IsChained (node : ℕ → List Arc) (from : ℕ) (arcs : List Arc) : Type 0 where
   pub some : 0 < length arcs
   pub first : (arc : Arc) → slice_get arcs 0 ≡ Some arc → Contains (node from) arc
@@ -105,7 +105,7 @@ tail_from_chain node is_node graph n (arc ∷ after ∷ arcs) is h =
     no_chain (x ∷ []) c = none_there x (rw (graph.none) at c.0)
     no_chain (x ∷ y ∷ more) c = none_there x (rw (graph.none) at c.0)
 
--- the arcs that the recursion goes along
+-- the arcs that the recursion follows
 record Spells (node : ℕ → List Arc) (n : ℕ) (string : List ℕ) : Type 0 where
   arcs : List Arc
   chain : Chain node n arcs

@@ -1,4 +1,4 @@
--- Labels that are tried one after the other.
+-- Labels that are tried one after another.
 use Rattle.std.proofs.Common.{◌≡◌, ℕ, ◌<◌, ◌≤◌, Bool, true, false, List, ◌∷◌, arith, refl, inl, inr}
 use Rattle.std.specs.Prelude.{IsTrue}
 use Rattle.std.specs.List.{list_all}
@@ -9,7 +9,7 @@ not_held : (b : Bool) → (b ≡ true → ⊥) → b ≡ false
 not_held true h = absurd (h refl)
 not_held false h = refl
 
--- where each label below 27 was tried, no label is left
+-- if each label below 27 was tried, no label is left
 pub none_left : (has : List ℕ → Bool) (from end : ℕ) → 27 ≤ end
     → ((string : List ℕ) → has string ≡ true → IsTrue (list_all is_label string))
     → ((label : ℕ) → from ≤ label → label < end → (rest : List ℕ) → has (label ∷ rest) ≡ false)

@@ -27,7 +27,7 @@ header_words bytes shape = runs.header_words bytes (long bytes shape)
 pub root_is_node : (bytes : List ℕ) → IsTrue (is_none (fault_of bytes)) → is_file_node bytes (root_of bytes) ≡ true
 root_is_node bytes shape = (files.sound bytes shape).root
 
--- ---- by the format, with the words that are read behind the header
+-- ---- by the format, with the words that are read after the header
 
 is_named : (file : LexFile) (format : Format) → file.format ≡ format → format_of file.bytes.now ≡ Some format
 is_named file format e = file.named ∙ ap (λ (f : Format). Some f) e
@@ -79,7 +79,7 @@ few_labels words few = let low = few_within words (length words) in omega (arith
 
 -- ---- nodes in the file's order
 
--- a node has a number of a word behind the header, or 0
+-- a node is numbered by a word after the header, or 0
 stored : (bytes : List ℕ) (format : Format) (n : ℕ) → format_of bytes ≡ Some format → 0 < n → is_file_node bytes n ≡ true → n ≤ length (words_in (drop 16 bytes))
 stored bytes format zero is some e = absurd (omega arith)
 stored bytes form.Gad1 (suc place) is some e =
@@ -136,7 +136,7 @@ pub rest_has : (file : LexFile) (n label rest : ℕ) (body : List ℕ) → file.
 rest_has file n label rest body e is left above le =
     left above le ∙ sym (ap (arc_from above) (nodes_are file form.Gad1 rest body e is))
 
--- and so has what is left of that, from a label further on
+-- and so has what is left of that, from a higher label on
 pub rest_of_rest : (file : LexFile) (n label rest after more : ℕ) (body : List ℕ) → file.format ≡ form.Gad1 → body ≡ drop 16 file.bytes.now → IsRest file.bytes.now n label rest → label ≤ after
     → ((above : ℕ) → after < above → arc_from above (node_at (words_in body) rest) ≡ arc_from above (node_at (words_in body) more)) → IsRest file.bytes.now n (after + 1) more
 rest_of_rest file n label rest after more body e is left reached behind above le =

@@ -1,4 +1,4 @@
--- What a step from a node of a file gives: what stands behind an arc of a sound graph.
+-- What a step from a node of a file gives: what follows an arc of a sound graph.
 use Rattle.std.proofs.Common.{◌≡◌, ℕ, zero, suc, ◌<◌, ◌≤◌, Bool, true, false, cond, Option, eqb, leb, ltb, List, [], ◌∷◌, length, Some, None, inl, inr, refl, sym, ap, ◌∙◌, arith}
 use Rattle.std.specs.Prelude.{IsTrue, is_none}
 use Rattle.std.proofs.lemmas.Bool.{ltb-true, leb-true, leb-false, eqb-true, eq-eqb, false≢true}
@@ -56,7 +56,7 @@ pub step_accepts : (bytes : List ℕ) (n label : ℕ) (arc : Arc) → arc_with l
 unfolding tail_in
 step_accepts bytes n label arc e = rw e refl
 
--- the longer tails are those behind the arc
+-- the longer tails are those after the arc
 longer : (bytes : List ℕ) (n label : ℕ) (arc : Arc) → arc_with label (file_node bytes n) ≡ Some arc
     → (after : ℕ) (rest : List ℕ) → file_tail bytes n (label ∷ after ∷ rest) ≡ file_tail bytes arc.target (after ∷ rest)
 unfolding tail_in
@@ -69,7 +69,7 @@ step_ends bytes shape n label arc e none after rest =
     ∙ ap (λ (m : ℕ). file_tail bytes m (after ∷ rest)) none
     ∙ none_of_zero (file_node bytes) (after ∷ rest) (sound bytes shape).graph.none
 
--- an arc that does not accept leads on
+-- an arc that does not accept has a target
 pub step_lives : (bytes : List ℕ) → IsTrue (is_none (fault_of bytes)) → (n label : ℕ) (arc : Arc) → IsTrue (is_file_node bytes n)
     → arc_with label (file_node bytes n) ≡ Some arc → arc.accepts ≡ false → 0 < arc.target
 step_lives bytes shape n label arc is e dead =
@@ -103,7 +103,7 @@ arc_label = graphs.arc_label
 pub arc_itself : (label : ℕ) (arcs : List Arc) (arc : Arc) → arc_with label arcs ≡ Some arc → arc_with arc.label arcs ≡ Some arc
 arc_itself label arcs arc e = ap (λ (l : ℕ). arc_with l arcs) (graphs.arc_label label arcs arc e) ∙ e
 
--- no arc has a label from one on where none reaches it
+-- no arc has a label from one on if no arc reaches it
 none_reaches : (from label : ℕ) (arcs : List Arc) → arc_from from arcs ≡ None → from ≤ label → arc_with label arcs ≡ None
 none_reaches from label [] e le = refl
 none_reaches from label (arc ∷ arcs) e le = by (leb from arc.label) (eqb arc.label label) refl refl e (none_reaches from label arcs)

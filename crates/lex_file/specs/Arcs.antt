@@ -27,12 +27,12 @@ reaches label arc = nat_le label arc.label
 abbrev pub arc_from : ℕ → List Arc → Option Arc
 arc_from label arcs = find (reaches label) arcs
 
--- whether an arc is one that is sought
+-- whether an arc is the one that is sought
 abbrev pub is_sought : Sought → Arc → Bool
 is_sought (Exactly label) = has_label label
 is_sought (AtLeast label) = reaches label
 
--- each arc that is passed over has a label below this one
+-- each arc that is skipped has a label below this one
 abbrev pub PassesBelow : Sought → ℕ → Type 0
 PassesBelow sought above = (arc : Arc) → is_sought sought arc ≡ false → arc.label < above
 
@@ -41,7 +41,7 @@ abbrev pub accepts_of : Option Arc → Bool
 accepts_of None = false
 accepts_of (Some arc) = arc.accepts
 
--- the number of the node that the arc leads to, 0 for none
+-- the number of the node to which the arc leads, 0 for none
 abbrev pub target_of : Option Arc → ℕ
 target_of None = 0
 target_of (Some arc) = arc.target

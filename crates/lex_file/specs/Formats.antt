@@ -21,10 +21,10 @@ greatest_label = 26
 abbrev pub most_arcs : ℕ
 most_arcs = 33554431
 
--- the most words of a GAD2 file behind its header
+-- the most words of a GAD2 file after its header
 abbrev pub most_body_words : ℕ
 most_body_words = 67108863
 
--- the most bytes of a file: the header and the most words behind it, four bytes each
+-- the most bytes of a file: the header and the most words after it, four bytes each
 abbrev pub most_file_bytes : ℕ
 most_file_bytes = header_bytes + 4 * most_body_words

@@ -1,5 +1,5 @@
--- Graphs of nodes, whatever the format that stores them: each node has a number and arcs. What makes a graph sound, and
--- what follows for the strings that its arcs spell.
+-- Graphs of nodes, whatever the format that stores them: each node has a number and arcs. What makes a graph sound, and what
+-- follows for the strings that its arcs spell.
 use Rattle.std.proofs.Common.{◌≡◌, ℕ, zero, suc, ◌<◌, ◌≤◌, Bool, true, false, cond, ◌||◌, ltb, List, [], ◌∷◌, length, Option, Some, None, inl, inr, ◌⊎◌, refl, sym, subst, ◌∙◌, arith}
 use Rattle.std.specs.Prelude.{IsTrue}
 use Rattle.std.proofs.lemmas.Bool.{eqb-true, false≢true, and_from, lt-ltb}
@@ -12,19 +12,19 @@ use Rattle.lex_file.specs.Languages.{tail_in}
 
 -- ---- what makes a graph sound
 
--- The arc of a node: its label is that of the mark or a letter; its target is none, or a node of a smaller number; and
--- it accepts or has a target.
+-- The arc of a node: its label is that of the mark or of a letter; its target is none, or a node with a smaller number; and it
+-- accepts or has a target.
 pub record IsSoundArc (is_node : ℕ → Bool) (n : ℕ) (arc : Arc) : Type 0 where
   pub label : arc.label ≤ greatest_label
   pub target : (arc.target ≡ 0) ⊎ ((arc.target < n) × IsTrue (is_node arc.target))
   pub alive : IsTrue (arc.accepts || ltb 0 arc.target)
 
--- each label is below those of all arcs behind it
+-- each label is below those of all arcs after it
 abbrev pub AreRising : List Arc → Type 0
 AreRising [] = Unit {0}
 AreRising (arc ∷ arcs) = ((after : Arc) → Contains arcs after → arc.label < after.label) × AreRising arcs
 
--- A sound graph: 0 has no arcs, and is none or the one node of the empty set; every other node has arcs, all of them
+-- A sound graph: 0 has no arcs, and is not a node or is the only node of the empty set; every other node has arcs, all of them
 -- sound, in rising order of their labels.
 pub record IsSoundGraph (node : ℕ → List Arc) (is_node : ℕ → Bool) : Type 0 where
   pub none : node 0 ≡ []
@@ -82,7 +82,7 @@ none_of_zero node [] e = refl
 none_of_zero node (label ∷ []) e = rw e refl
 none_of_zero node (label ∷ after ∷ rest) e = rw e (none_of_zero node (after ∷ rest) e)
 
--- a target with a tail is a node of a smaller number
+-- a target with a tail is a node with a smaller number
 pub target_of_tail : (node : ℕ → List Arc) (is_node : ℕ → Bool) → node 0 ≡ [] → (n : ℕ) (arc : Arc) (string : List ℕ) → IsSoundArc is_node n arc
     → tail_in node arc.target string ≡ true → (arc.target < n) × IsTrue (is_node arc.target)
 target_of_tail node is_node none n arc string sound t =
@@ -91,7 +91,7 @@ target_of_tail node is_node none n arc string sound t =
       | inr there ↦ there
     ]
 
--- a label with which a tail begins is one of an arc of the node
+-- a label with which a tail begins is that of an arc of the node
 pub arc_of_tail : (node : ℕ → List Arc) (n label : ℕ) (rest : List ℕ) → node 0 ≡ [] → tail_in node n (label ∷ rest) ≡ true
     → (arc : Arc) × (arc_with label (node n) ≡ Some arc)
 unfolding tail_in
@@ -120,7 +120,7 @@ bounded_in node is_node graph n (label ∷ after ∷ rest) is t =
     let more = bounded_in node is_node graph found.0.target (after ∷ rest) there.1 behind in
     omega (arith, there.0, more)
 
--- the labels of a tail of a node are 26 at most
+-- the labels of a tail of a node are at most 26
 pub labels_in : (node : ℕ → List Arc) (is_node : ℕ → Bool) → IsSoundGraph node is_node
     → (n : ℕ) (string : List ℕ) → IsTrue (is_node n) → tail_in node n string ≡ true → list_all is_label string ≡ true
 unfolding tail_in

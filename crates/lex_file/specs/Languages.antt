@@ -21,7 +21,7 @@ pub record IsSpelt (node : ℕ → List Arc) (from : ℕ) (string : List ℕ) : 
 abbrev pub IsInLanguage : List ℕ → List ℕ → Type 0
 IsInLanguage bytes string = IsSpelt (file_node bytes) (root_of bytes) string
 
--- ---- what the code goes by: a recursion on the string
+-- ---- what the code uses: a recursion on the string
 
 -- whether a string is one of the tails of a node
 unfoldable pub tail_in : (ℕ → List Arc) → ℕ → List ℕ → Bool

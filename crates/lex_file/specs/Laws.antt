@@ -1,4 +1,4 @@
--- Laws about the definitions that contracts cite.
+-- Laws of the definitions that contracts cite.
 use Rattle.std.specs.Prelude.{◌≡◌, ◌⊎◌, ℕ, ◌+◌, ◌<◌, ◌≤◌, true, List, length, IsTrue, is_none, ◌↔◌}
 use Rattle.lex_file.specs.Nodes.{node_at, is_first, start_at}
 use Rattle.lex_file.specs.Shapes.{leads_back, fault_of, file_node, is_file_node}
@@ -25,11 +25,11 @@ pub record EndsBefore (words : List ℕ) (target start : ℕ) : Type 0 where
   pub first : is_first words target ≡ true
   pub ends : target + length (node_at words target) ≤ start
 
--- each arc is in the node that the checks take for its own
+-- each arc is in the node that the checks take as its own
 abbrev pub NodesHoldArcs : Type 0
 NodesHoldArcs = (words : List ℕ) (place : ℕ) → place < length words → HoldsArc words (start_at words place) place
 
--- what the check of a target says, where the arc's own node begins at `start`
+-- what the check of a target says, if the arc's own node begins at `start`
 abbrev pub TargetsEndBefore : Type 0
 TargetsEndBefore =
     (words : List ℕ) (start target : ℕ) → IsTrue (is_first words start)

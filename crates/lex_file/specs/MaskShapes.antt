@@ -1,4 +1,4 @@
--- The checks of the form of a GAD2 file behind its header.
+-- The checks of the form of a GAD2 file after its header.
 use Rattle.std.specs.Prelude.{ℕ, zero, suc, ◌+◌, ◌/◌, ◌%◌, ◌^◌, Bool, ◌&&◌, ◌||◌, ◌==◌, nat_lt, nat_le, bit_and, List, [], ◌∷◌, length, slice_index, Option, None, if◌then◌else◌}
 use Rattle.std.specs.Option.{option_or}
 use Rattle.first_faults.specs.Checks.{passes, first_fault}
@@ -14,7 +14,7 @@ is_mask word = word / 2 ^ 27 % 16 == 0 && nat_lt 0 (label_count word)
 abbrev pub accepts_labels : ℕ → ℕ → Bool
 accepts_labels labels accepts = bit_and accepts (labels % 2 ^ 27) == accepts
 
--- whether a target of the node of a number is none, or a node of a smaller number
+-- whether a target of the node with a number is none, or a node with a smaller number
 abbrev pub points_back : List ℕ → ℕ → ℕ → Bool
 points_back words n target = target == 0 || (nat_lt target n && is_mask_node words target)
 
@@ -33,8 +33,8 @@ labels_fault words place zero = None
 labels_fault words place (suc label) =
     option_or (labels_fault words place label) (if has_bit (slice_index words place) label then label_fault words place label else None)
 
--- What is wrong with the node at a place: there is no label word; it has a bit of 27 to 30, or no label; fewer words
--- follow than its labels ask for; the accept word has a bit that is no label of the node; a label.
+-- What is wrong with the node at a place: there is no label word; it has a bit of 27 to 30, or no label; fewer words follow than
+-- its labels require; the accept word has a bit that is not a label of the node; a label.
 unfoldable pub node_fault : List ℕ → ℕ → Option FileFault
 node_fault words place =
     let labels = slice_index words place in
@@ -46,8 +46,7 @@ node_fault words place =
     ∷ labels_fault words place 27
     ∷ [])
 
--- The first fault of the nodes from a place on, each behind the words of the one before. `left` is no less than the
--- number of nodes.
+-- The first fault of the nodes from a place on, each after the words of the one before. `left` is at least the number of nodes.
 unfoldable pub nodes_fault : List ℕ → ℕ → ℕ → Option FileFault
 nodes_fault words zero place = None
 nodes_fault words (suc left) place =

@@ -1,6 +1,5 @@
--- The nodes of a GAD2 file, over the list of its words behind the header. Words are numbered from 1; word n stands at
--- place n - 1. A node is a label word, an accept word and a word for each label, its target, and is named by the number
--- of its label word.
+-- The nodes of a GAD2 file, over the list of its words after the header. Words are numbered from 1; word n is at place n - 1. A
+-- node is a label word, an accept word and a word for each label, its target, and is named by the number of its label word.
 use Rattle.std.specs.Prelude.{ℕ, zero, suc, ◌+◌, ◌/◌, ◌%◌, ◌^◌, ◌≤◌, Bool, ◌&&◌, ◌==◌, nat_lt, List, [], length, slice_index, map, count_ones, if◌then◌else◌}
 use Rattle.std.specs.List.{filter, range_with_len}
 use Rattle.lex_file.specs.declared.arcs.Arc.{Arc}
@@ -13,7 +12,7 @@ has_bit word bit = word / 2 ^ bit % 2 == 1
 abbrev pub is_marked : ℕ → Bool
 is_marked word = has_bit word 31
 
--- how many labels of a label word are below this one: label l is bit l
+-- the number of labels of a label word below this one: label l is bit l
 abbrev pub labels_below : ℕ → ℕ → ℕ
 labels_below label word = count_ones (word % 2 ^ label)
 
@@ -25,7 +24,7 @@ label_count word = labels_below 27 word
 abbrev pub node_size : ℕ → ℕ
 node_size word = 2 + label_count word
 
--- the arc with a label of the node at a place: the targets stand in rising order of their labels
+-- the arc with a label of the node at a place: the targets are in rising order of their labels
 abbrev pub mask_arc : List ℕ → ℕ → ℕ → Arc
 mask_arc words place label =
     record {
@@ -52,7 +51,7 @@ abbrev pub HasRoom : List ℕ → ℕ → Type 0
 HasRoom words zero = Unit {0}
 HasRoom words (suc place) = IsInside words place
 
--- Whether a number names a node: a label word, or where there are no words 0, the node of the empty set.
+-- Whether a number names a node: a label word, or if there are no words 0, the node of the empty set.
 abbrev pub is_mask_node : List ℕ → ℕ → Bool
 is_mask_node words zero = length words == 0
 is_mask_node words (suc place) = nat_lt place (length words) && is_marked (slice_index words place)

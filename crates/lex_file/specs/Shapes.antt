@@ -42,7 +42,7 @@ abbrev pub label_before : List ℕ → ℕ → ℕ
 label_before words zero = 0
 label_before words (suc place) = (arc_of (slice_index words place)).label
 
--- whether the labels that are in order at a place, behind the arc before it, are those from one on
+-- whether the labels that are in order at a place, after the arc before it, are those from one on
 abbrev pub IsLeast : List ℕ → ℕ → ℕ → Type 0
 IsLeast words place least = (label : ℕ) → (begins words place || nat_lt (label_before words place) label) ≡ nat_le least label
 
@@ -67,11 +67,11 @@ unfoldable pub arcs_fault : List ℕ → ℕ → Option FileFault
 arcs_fault words zero = None
 arcs_fault words (suc place) = option_or (arcs_fault words place) (arc_fault words place)
 
--- the faults behind the header: of the arcs in rising order, and that the last arc is not last of its node
+-- the faults after the header: of the arcs in rising order, and that the last arc is not marked as the last of its node
 unfoldable pub body_fault : List ℕ → Option FileFault
 body_fault words = option_or (arcs_fault words (length words)) (passes (begins words (length words)) why.OpenRun)
 
--- the faults of a header: more than these many arcs or words, or a length that is not that of them, and a root that is no node
+-- the faults of a header: more than `most` arcs or words, a length that does not match them, or a root that is not a node
 abbrev pub header_fault_by : (most : ℕ) (has_root : Bool) → List ℕ → Option FileFault
 header_fault_by most has_root bytes =
     first_fault
@@ -79,17 +79,17 @@ header_fault_by most has_root bytes =
     ∷ passes has_root why.Root
     ∷ [])
 
--- those of the header of arcs
+-- those of the header of a GAD1 file
 unfoldable pub header_fault : List ℕ → Option FileFault
 header_fault bytes = header_fault_by most_arcs (is_node (body_of bytes) (root_of bytes)) bytes
 
 -- ---- GAD2
 
--- the faults of the header of words
+-- the faults of the header of a GAD2 file
 unfoldable pub mask_header_fault : List ℕ → Option FileFault
 mask_header_fault bytes = header_fault_by most_body_words (is_mask_node (body_of bytes) (root_of bytes)) bytes
 
--- ---- every format
+-- ---- both formats
 
 -- the first fault of a file that is not too short to have a header, by its format
 unfoldable pub form_fault : Option Format → List ℕ → Option FileFault
@@ -97,7 +97,7 @@ form_fault None bytes = Some why.Magic
 form_fault (Some form.Gad1) bytes = option_or (header_fault bytes) (body_fault (body_of bytes))
 form_fault (Some form.Gad2) bytes = option_or (mask_header_fault bytes) (nodes_fault (body_of bytes) (length (body_of bytes)) 0)
 
--- The first fault of a file. A file has the shape of a compiled lexicon where there is none.
+-- The first fault of a file. A file has the shape of a compiled lexicon if there is none.
 unfoldable pub fault_of : List ℕ → Option FileFault
 fault_of bytes = if nat_lt (length bytes) header_bytes then Some why.Short else form_fault (format_of bytes) bytes
 
@@ -113,7 +113,7 @@ names_node None words n = n == 0
 names_node (Some form.Gad1) words n = is_node words n
 names_node (Some form.Gad2) words n = is_mask_node words n
 
--- the number of stored arcs, by the format: one a word, or one a label of each node
+-- the number of stored arcs, by the format: one for each word, or one for each label of each node
 abbrev pub arcs_by : Option Format → List ℕ → ℕ
 arcs_by None words = 0
 arcs_by (Some form.Gad1) words = length words

@@ -1,4 +1,4 @@
--- What holds of every file without a fault, whatever its format: lemmas, for the laws of a lexicon that is walked.
+-- What holds for every file without a fault, whatever its format: lemmas for the laws of a lexicon that is walked.
 use Rattle.std.proofs.Common.{◌≡◌, ℕ, ◌+◌, ◌*◌, ◌<◌, ◌≤◌, Bool, true, false, cond, ◌&&◌, eqb, ltb, leb, List, [], ◌∷◌, length, drop, length-drop, Option, Some, None, refl, ap, arith}
 use Rattle.std.specs.Prelude.{IsTrue, is_none}
 use Rattle.std.specs.List.{list_all}
@@ -22,7 +22,7 @@ use Rattle.lex_file.specs.Graphs.{IsSoundGraph, labels_in, bounded_in}
 use Rattle.lex_file.specs.SoundNodes.{gad1_graph}
 use Rattle.lex_file.specs.SoundMasks.{gad2_graph}
 
--- how many words there are: four bytes each
+-- the number of words: four bytes each
 pub sizes : (bytes : List ℕ) → (4 * length (words_in bytes) ≤ length bytes) × (length bytes < 4 * length (words_in bytes) + 4)
 unfolding words_in
 sizes [] = (omega arith, omega arith)
@@ -118,7 +118,7 @@ pub names_are : (bytes : List ℕ) (format : Format) → format_of bytes ≡ Som
 unfolding is_file_node
 names_are bytes format is = let names : Option Format → ℕ → Bool = λ form n. names_node form (body_of bytes) n in ap names is
 
--- the words behind the header are as many as it states
+-- there are as many words after the header as it states
 pub body_size : (bytes : List ℕ) (count : ℕ) → length bytes ≡ header_bytes + 4 * count → length (body_of bytes) ≡ count
 body_size bytes count size = let words = sizes (drop header_bytes bytes) in omega (arith, size, words.0, words.1, length-drop header_bytes bytes)
 

@@ -1,4 +1,4 @@
--- The nodes of a GAD2 file without a fault are a sound graph: lemmas, for the laws of a lexicon that is walked.
+-- The nodes of a GAD2 file without a fault are a sound graph: lemmas for the laws of a lexicon that is walked.
 use Rattle.std.proofs.Common.{◌≡◌, ℕ, zero, suc, ◌+◌, ◌-◌, ◌*◌, ◌/◌, ◌%◌, ◌^◌, ◌<◌, ◌≤◌, Bool, true, false, cond, ◌&&◌, ◌||◌, eqb, ltb, leb, List, [], ◌∷◌, length, get_or, Option, Some, None, inl, inr, ◌⊎◌, refl, sym, ap, subst, ◌∙◌, arith}
 use Rattle.std.specs.Prelude.{count_ones, bit_and}
 use Rattle.std.specs.List.{Contains}
@@ -182,7 +182,7 @@ node_facts words place e =
       labels = last_none (labels_fault words place 27) accepts.1;
     }
 
--- a word below bit 31 is no label word
+-- a word below 2 ^ 31 is not a label word
 unmarked : (word : ℕ) → word < 2 ^ 31 → is_marked word ≡ true → ⊥
 unmarked word low is = let bit = bit_one word 31 is in absurd (omega (arith, bit, low))
 

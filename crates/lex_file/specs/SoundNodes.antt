@@ -1,4 +1,4 @@
--- The nodes of a GAD1 file without a fault are a sound graph: lemmas, for the laws of a lexicon that is walked.
+-- The nodes of a GAD1 file without a fault are a sound graph: lemmas for the laws of a lexicon that is walked.
 use Rattle.std.proofs.Common.{◌≡◌, ℕ, zero, suc, ◌+◌, ◌-◌, ◌<◌, ◌≤◌, Bool, true, false, cond, ◌&&◌, ◌||◌, eqb, ltb, leb, List, [], ◌∷◌, length, get_or, drop, drop-cons, None, inl, inr, ◌⊎◌, refl, sym, subst, ◌∙◌, arith}
 use Rattle.std.proofs.Math.ListN.{drop_of_length-le}
 use Rattle.std.proofs.lemmas.Bool.{ltb-true, leb-true, eqb-true, false≢true, cases_lt, and_parts}
@@ -44,7 +44,7 @@ arc_facts words place e =
 
 -- ---- the arcs of a node
 
--- the first arc of what is left of a node, or one behind it
+-- the first arc of what is left of a node, or one after it
 pub run_cases : (words : List ℕ) (place : ℕ) (arc : Arc) → place < length words → Contains (run_of (drop place words)) arc
     → (arc_of (get_or words place 0) ≡ arc) ⊎ ((is_last (get_or words place 0) ≡ false) × Contains (run_of (drop (suc place) words)) arc)
 unfolding run_of

@@ -8,7 +8,7 @@ pub struct Arc {
     pub label: u8,
     /// Whether the string that ends with this arc is in the set.
     pub accepts: bool,
-    /// The number of the node that the arc leads to, 0 for none.
+    /// The number of the node to which the arc leads, 0 for none.
     pub target: u32,
 }
 
@@ -21,19 +21,19 @@ pub enum Sought {
     AtLeast(u8),
 }
 
-/// An arc of a node, and where its node goes on behind it.
+/// An arc of a node, and where its node continues after it.
 #[derive(Clone, Copy)]
 pub struct ArcOn {
     /// The arc.
     pub arc: Arc,
-    /// The number of the arc behind it, 0 where it is the last of its node.
+    /// The number of the arc after it, 0 if it is the last of its node.
     pub rest: usize,
 }
 
 impl Sought {
     ghost use Rattle.lex_file.specs.Arcs.{is_sought};
 
-    /// Whether an arc is one that is sought.
+    /// Whether an arc is the one that is sought.
     #[inline(always)]
     pub(crate) fn is_met_by(self, arc: Arc) -> bool
         ensures { result ≡ is_sought self arc }

@@ -1,18 +1,18 @@
-//! Why bytes are no compiled lexicon.
+//! Why bytes are not a compiled lexicon.
 
-/// Why bytes are no compiled lexicon. `Short` to `Root` are looked for first, in this order. Of a GAD1 file `Label` to
-/// `DeadArc` come next, arc by arc in rising order, and then `OpenRun`; of a GAD2 file `NoMark`, `Mask`, `OpenRun`,
-/// `Accept` and then, label by label, `Target` and `DeadArc`, node by node in rising order.
+/// Why bytes are not a compiled lexicon. `Short` to `Root` are checked first, in this order. For a GAD1 file, `Label` to `DeadArc`
+/// come next, arc by arc in rising order, and then `OpenRun`; for a GAD2 file `NoMark`, `Mask`, `OpenRun`, `Accept` and then, label
+/// by label, `Target` and `DeadArc`, node by node in rising order.
 #[derive(Clone, Copy, Debug, PartialEq, Eq)]
 pub enum FileFault {
     /// There are fewer than 16 bytes, too few for a header.
     Short,
-    /// The first four bytes are those of no format.
+    /// The first four bytes are not those of a format.
     Magic,
-    /// There are more than 33,554,431 arcs, or more than 67,108,863 words behind the header of a GAD2 file; or the length
+    /// There are more than 33,554,431 arcs, or more than 67,108,863 words after the header of a GAD2 file; or the length
     /// is not that of the header and the arcs or words.
     Length,
-    /// The root is not the number of a node; where there are no nodes, it is not 0.
+    /// The root is not the number of a node; if there are no nodes, it is not 0.
     Root,
     /// The label of an arc is over 26.
     Label,
@@ -22,14 +22,14 @@ pub enum FileFault {
     Target,
     /// An arc neither accepts nor has a target.
     DeadArc,
-    /// The last arc of a GAD1 file is not the last of its node; or fewer words follow the label word of a GAD2 node than
-    /// its labels ask for.
+    /// The last arc of a GAD1 file is not the last of its node; or fewer words follow the label word of a GAD2 node than its labels
+    /// require.
     OpenRun,
-    /// The word where a GAD2 node has to begin is no label word.
+    /// The word at which a GAD2 node must begin is not a label word.
     NoMark,
     /// A label word of a GAD2 node has no label, or one over 26.
     Mask,
-    /// An accept word of a GAD2 node has a bit that is no label of the node.
+    /// An accept word of a GAD2 node has a bit that is not a label of the node.
     Accept,
 }
 

@@ -1,4 +1,4 @@
-//! The view on a compiled lexicon, and its nodes.
+//! The view of a compiled lexicon, and its nodes.
 ghost use Rattle.std.specs.Prelude.{◌≡◌, Some, IsTrue, is_none};
 ghost use Rattle.lex_file.specs.Shapes.{fault_of, format_of};
 
@@ -16,7 +16,7 @@ pub struct Node {
     first: u32,
 }
 
-/// A view on the bytes of a compiled lexicon, which it borrows and never copies. The bytes have the shape of one.
+/// A view of the bytes of a compiled lexicon, which it borrows and never copies. The bytes have the shape of one.
 #[derive(Clone, Copy, Debug)]
 pub struct LexFile<'a> {
     bytes: &'a [u8],
@@ -35,11 +35,11 @@ impl<'a> LexFile<'a> {
     ghost use Rattle.lex_file.specs.Files.{bytes_of, number_of, IsNextNode, IsRest};
     ghost use Rattle.lex_file.specs.Formats.{header_bytes};
 
-    /// Opens a compiled lexicon. It is refused exactly where it has not the shape of one, with its first fault: the
-    /// header's first, `Short`, `Magic`, `Length` and `Root`, then by the format. Of a GAD1 file that is the first of
-    /// the first arc with one, `Label`, `Order`, `Target` and `DeadArc`, and then `OpenRun`. Of a GAD2 file it is that
-    /// of the first node with one: `NoMark`, `Mask`, `OpenRun`, `Accept`, and then of its first label with one
-    /// `Target` and `DeadArc`. The words are gone over once.
+    /// Opens a compiled lexicon. It is refused exactly when it does not have the shape of one, with its first fault: first that of
+    /// the header, `Short`, `Magic`, `Length` or `Root`, and then by the format. For a GAD1 file that is the first fault of the
+    /// first arc with one, `Label`, `Order`, `Target` or `DeadArc`, and then `OpenRun`. For a GAD2 file it is the first fault of
+    /// the first node with one: `NoMark`, `Mask`, `OpenRun`, `Accept`, and then that of its first label with one, `Target` or
+    /// `DeadArc`. The words are read once.
     pub fn open(bytes: &'a [u8]) -> Result<LexFile<'a>, FileFault>
         ensures shape { Refuses result (fault_of bytes.now) }
         ensures bytes { IfOk result (λ file. bytes_of file ≡ bytes.now) }
@@ -63,8 +63,7 @@ impl<'a> LexFile<'a> {
         word_at(self.bytes, 3)
     }
 
-    /// The number of stored arcs; of a GAD2 file, the number of labels over all nodes, for which its words are gone
-    /// over.
+    /// The number of stored arcs; for a GAD2 file, the number of labels over all nodes, for which all its words are read.
     #[tactic(auto, using(crate::proofs::Views::few_words))]
     pub fn arc_count(&self) -> u32
         ensures { result ≡ arc_count_of (bytes_of self.now) }
@@ -75,7 +74,7 @@ impl<'a> LexFile<'a> {
         }
     }
 
-    /// The stored node that comes first in the file, or None where there is none.
+    /// The first stored node of the file, or None if there is none.
     pub fn first(&self) -> Option<Node>
         ensures none { IfNone result ((n : ℕ) → 0 < n → is_file_node (bytes_of self.now) n ≡ false) }
         ensures some { IfSome result (λ node. IsNextNode (bytes_of self.now) 0 (number_of node)) }
@@ -83,7 +82,7 @@ impl<'a> LexFile<'a> {
         self.next_node(0)
     }
 
-    /// The stored node that comes next in the file behind one of its nodes, or None behind the last.
+    /// The next stored node of the file after one of its nodes, or None after the last.
     pub fn after(&self, node: Node) -> Option<Node>
         ensures none { IfNone result ((n : ℕ) → number_of node < n → is_file_node (bytes_of self.now) n ≡ false) }
         ensures some { IfSome result (λ next. IsNextNode (bytes_of self.now) (number_of node) (number_of next)) }
@@ -91,15 +90,15 @@ impl<'a> LexFile<'a> {
         self.next_node(node.first)
     }
 
-    /// The number by which the file names one of its nodes: that of the node's first arc, or of its label word; 0 for the
-    /// root of a file without words.
+    /// The number by which the file names one of its nodes: that of the node's first arc, or of its label word; 0 for the root of a
+    /// file without words.
     pub fn place(&self, node: Node) -> u32
         ensures { result ≡ number_of node }
     {
         node.first
     }
 
-    /// The stored node with the least number above one.
+    /// The stored node with the least number above the given one.
     #[tactic(auto, using(crate::proofs::Views::few_words, crate::proofs::Views::none_yet, crate::proofs::Views::one_more, crate::proofs::Views::next_is))]
     fn next_node(&self, number: u32) -> Option<Node>
         ensures none { IfNone result ((n : ℕ) → number < n → is_file_node (bytes_of self.now) n ≡ false) }
@@ -124,7 +123,7 @@ impl<'a> LexFile<'a> {
         }
     }
 
-    /// The bytes behind the header.
+    /// The bytes after the header.
     #[tactic(auto, using(crate::proofs::Views::long))]
     #[inline(always)]
     fn body(&self) -> &'a [u8]
@@ -147,7 +146,7 @@ impl<'a> LexFile<'a> {
         }
     }
 
-    /// The first stored arc of one of the file's nodes whose label is this one or a higher one, or None where there is none.
+    /// The first stored arc of one of the file's nodes whose label is this one or a higher one, or None if there is none.
     pub fn arc_from(&self, node: Node, label: u8) -> Option<Arc>
         requires { IsTrue (is_file_node (bytes_of self.now) (number_of node)) }
         ensures { result ≡ arc_from label (file_node (bytes_of self.now) (number_of node)) }
@@ -159,7 +158,7 @@ impl<'a> LexFile<'a> {
     }
 
     /// The first stored arc of one of the file's nodes whose label is this one or a higher one, and what is left of the node
-    /// behind it, from what is left of the node for these labels.
+    /// after it, from what is left of the node for these labels.
     #[inline(always)]
     fn arc_on(&self, node: Node, label: u8, rest: usize) -> Option<ArcOn>
         requires node { IsTrue (is_file_node (bytes_of self.now) node.first) }
@@ -181,9 +180,10 @@ impl<'a> LexFile<'a> {
         }
     }
 
-    /// The first label from `from` on with which some tail of one of the file's nodes begins, what stands behind it, and where the node
-    /// goes on behind that label; or None where there is no such label. `branch_on` does the same with a node for what is left; this
-    /// one is for walks over whole files. The rest is the place of the node, or what was given of it for the labels from `from` on.
+    /// The first label from `from` on with which some tail of one of the file's nodes begins, what follows it, and where the node
+    /// continues after that label; or None if there is no such label. `branch_on` does the same with a node for the rest; this one
+    /// is for walks over whole files. The rest is the place of the node, or what was given as left of it for the labels from `from`
+    /// on.
     #[tactic(auto, using(crate::proofs::Walks::branch_none, crate::proofs::Walks::branch_reached, crate::proofs::Walks::first_itself))]
     #[inline(always)]
     pub fn walk_on(&self, node: Node, from: u8, rest: usize) -> Option<Onward<Node, usize>>
@@ -211,7 +211,7 @@ impl<'a> LexFile<'a> {
         })
     }
 
-    /// What stands behind an arc of a node.
+    /// What follows an arc of a node.
     #[tactic(auto, using(crate::proofs::Walks::step_accepts, crate::proofs::Walks::step_ends))]
     #[inline(always)]
     fn step_over(&self, node: Node, arc: Arc) -> Step<Node>

@@ -1,6 +1,6 @@
 //! The numbers of both formats of a lexicon file.
 
-/// The bytes of the header.
+/// The number of bytes of the header.
 pub const HEADER_BYTES: usize = 16;
 
 /// The first bytes of a GAD1 file.
@@ -9,13 +9,13 @@ pub const GAD1_MAGIC: [u8; 4] = *b"GAD1";
 /// The first bytes of a GAD2 file.
 pub const GAD2_MAGIC: [u8; 4] = *b"GAD2";
 
-/// The most arcs of a GAD1 file.
+/// The maximum number of arcs of a GAD1 file.
 pub const MAX_ARCS: u32 = 33_554_431;
 
-/// The most words of a GAD2 file behind its header.
+/// The maximum number of words of a GAD2 file after its header.
 pub const MAX_BODY_WORDS: u32 = 67_108_863;
 
-/// The most bytes of a file: those of a GAD2 file with the most words.
+/// The maximum number of bytes of a file: that of a GAD2 file with the maximum number of words.
 pub const MAX_FILE_BYTES: usize = HEADER_BYTES + 4 * MAX_BODY_WORDS as usize;
 
 /// A format of compiled lexicon files.

@@ -1,4 +1,4 @@
-//! What a lexicon is that is walked label by label.
+//! Lexicons that are walked label by label.
 ghost use Rattle.std.specs.Prelude.{◌≡◌, ◌<◌, ◌≤◌, ◌+◌, ℕ, List, [], ◌∷◌, Bool, true, false, IfSome, IfNone, IsSome, IsTrue, length};
 ghost use Rattle.std.specs.List.{list_all};
 ghost use Rattle.lex_file.specs.Lexicons.{is_label, NoTail, NextGives, IsLeft};
@@ -14,37 +14,37 @@ pub const MARK: u8 = 0;
 pub struct Step<N> {
     /// Whether the label alone is a tail of the node.
     pub accepts: bool,
-    /// The node of the longer tails that begin with the label, without it, where there are some.
+    /// The node of the longer tails that begin with the label, without it, if there are any.
     pub next: Option<N>,
 }
 
-/// A label with which some tail of a node begins, and what stands behind it.
+/// A label with which some tail of a node begins, and what follows it.
 #[derive(Clone, Copy, Debug, PartialEq, Eq)]
 pub struct Branch<N> {
     /// The label.
     pub label: u8,
-    /// What stands behind it.
+    /// What follows it.
     pub step: Step<N>,
 }
 
-/// A branch of a node, and where to go on from behind its label.
+/// A branch of a node, and where to continue after its label.
 #[derive(Clone, Copy, Debug, PartialEq, Eq)]
 pub struct Onward<N, R> {
     /// The branch.
     pub branch: Branch<N>,
-    /// What is left of the node behind the branch's label, or the whole node.
+    /// What is left of the node after the branch's label, or the whole node.
     pub rest: R,
 }
 
 /// A finite set of strings of labels, none of them empty, that is walked label by label.
 ///
 /// `root` and `step` make a lexicon. `branch_from` tries the labels one by one, unless a lexicon has a faster way. `branch_on` goes
-/// over the labels of a node from the lowest to the highest, and a lexicon may go on there from what is left of the node, so that
-/// it looks at nothing twice.
+/// through the labels of a node from the lowest to the highest, and a lexicon may continue there from what is left of the node, so
+/// that it reads nothing twice.
 ///
-/// Each node has a set of tails; those of the root are the set. A whole number of the node, its height, falls with
-/// each step, so every walk ends. Labels are below 27, and a tail has no more labels than the height of its node, so
-/// the tails of a node are finitely many.
+/// Each node has a set of tails; those of the root are the set. A natural number of the node, its height, falls with each step, so
+/// every walk ends. Labels are below 27, and a tail has no more labels than the height of its node, so a node has finitely many
+/// tails.
 pub trait PathLex {
     /// A place in a walk.
     type Node: Copy;
@@ -61,7 +61,7 @@ pub trait PathLex {
     // A number that falls with each step.
     ghost height: { Self → Self.Node → ℕ };
 
-    // What is left of a node for the labels from one on, as a lexicon writes it that goes on from there.
+    // What is left of a node for the labels from one on, as written by a lexicon that continues from there.
     ghost is_rest: { Self → Self.Node → ℕ → Self.Node → Type 0 } = { λ _ node _ rest. rest ≡ node };
 
     /// The node whose tails are the whole set.
@@ -69,8 +69,7 @@ pub trait PathLex {
         ensures node { is_node self.now result }
         ensures tails { (string : List ℕ) → tail self.now result string ≡ language self.now string };
 
-    /// What stands behind a label, or None where no tail of the node begins with it. The node is one that this
-    /// lexicon gave.
+    /// What follows a label, or None if no tail of the node begins with it. The node must be one that this lexicon gave.
     fn step(&self, node: Self::Node, label: u8) -> Option<Step<Self::Node>>
         requires { is_node self.now node }
         ensures none { IfNone result (NoTail (tail self.now) node label) }
@@ -78,8 +77,8 @@ pub trait PathLex {
         ensures next { IfSome result (λ step. NextGives (is_node self.now) (tail self.now) (height self.now) node label step.next) }
         ensures alive { IfSome result (λ step. step.accepts ≡ false → IsSome step.next) };
 
-    /// The first label from `from` on with which some tail of the node begins, and what stands behind it, or None
-    /// where there is no such label. The node is one that this lexicon gave.
+    /// The first label from `from` on with which some tail of the node begins, and what follows it, or None if there is no such
+    /// label. The node must be one that this lexicon gave.
     fn branch_from(&self, node: Self::Node, from: u8) -> Option<Branch<Self::Node>>
         requires { is_node self.now node }
         ensures none { IfNone result ((label : ℕ) → from ≤ label → NoTail (tail self.now) node label) }
@@ -97,9 +96,9 @@ pub trait PathLex {
         None
     }
 
-    /// The first label from `from` on with which some tail of the node begins, what stands behind it, and what is left of
-    /// the node behind that label; or None where there is no such label. The node is one that this lexicon gave. The rest is
-    /// the node itself, or what the lexicon gave as left of it for the labels from `from` on.
+    /// The first label from `from` on with which some tail of the node begins, what follows it, and what is left of the node after
+    /// that label; or None if there is no such label. The node must be one that this lexicon gave. The rest must be the node
+    /// itself, or what the lexicon gave as left of it for the labels from `from` on.
     fn branch_on(
         &self,
         node: Self::Node,

@@ -29,7 +29,7 @@ pub fn check_mask_header(bytes: &[u8]) -> Result<(), FileFault>
     Ok(())
 }
 
-/// Looks for the first fault of the nodes, each behind the words of the one before.
+/// Looks for the first fault of the nodes, each after the words of the one before.
 #[tactic(auto, using(crate::proofs::MaskChecks::nodes_more, crate::proofs::MaskChecks::nodes_end, crate::proofs::MaskChecks::node_inside, crate::proofs::Runs::shorter))]
 pub fn check_nodes(body: &[u8]) -> Result<(), FileFault>
     ensures { Refuses result (nodes_fault (words_in body.now) (length (words_in body.now)) 0) }
@@ -112,7 +112,7 @@ fn check_label(body: &[u8], place: usize, label: u8) -> Result<(), FileFault>
     Ok(())
 }
 
-/// Whether a target of the node of a number is none, or a node of a smaller number.
+/// Whether a target of the node with a number is none, or a node with a smaller number.
 fn points_back(body: &[u8], number: usize, target: u32) -> bool
     ensures { result ≡ points_back (words_in body.now) number target }
 {

@@ -24,7 +24,7 @@ pub fn is_marked(word: u32) -> bool
     has_bit(word, 31)
 }
 
-/// How many labels of a label word are below this one.
+/// The number of labels of a label word below this one.
 #[tactic(auto, using(crate::proofs::MaskRuns::below, crate::proofs::MaskRuns::one_above))]
 pub fn labels_below(label: u8, word: u32) -> u32
     requires { label ≤ 27 }

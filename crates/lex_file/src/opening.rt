@@ -19,7 +19,7 @@ const LABELS: u32 = lexicons::LABELS as u32;
 /// The greatest label, that of Z.
 const MAX_LABEL: u32 = LABELS - 1;
 
-/// The format of a file without a fault, or its first fault. The words are gone over once.
+/// The format of a file without a fault, or its first fault. The words are read once.
 #[tactic(auto, unfolding(crate::specs::Shapes::fault_of, crate::specs::Shapes::form_fault))]
 pub fn check_form(bytes: &[u8]) -> Result<Format, FileFault>
     ensures fault { Refuses result (fault_of bytes.now) }
@@ -96,8 +96,8 @@ fn check_arcs(arcs: &[u8]) -> Result<(), FileFault>
     Ok(())
 }
 
-/// Whether the arc at a place has no fault. The node before its own ends at the place `behind`, 0 where there is none, and the `room`
-/// greatest labels are in order there. A file may have millions of arcs, so this takes few jumps; [`check_arc`] names the fault where
+/// Whether the arc at a place has no fault. The node before its own ends at the place `behind`, 0 if there is none, and the `room`
+/// greatest labels are in order there. A file may have millions of arcs, so this takes few jumps; [`check_arc`] names the fault if
 /// there is one.
 #[inline(always)]
 fn is_fine(arcs: &[u8], place: usize, behind: usize, room: u32) -> bool
@@ -123,8 +123,7 @@ fn is_fine(arcs: &[u8], place: usize, behind: usize, room: u32) -> bool
     }
 }
 
-/// The number of the first arc of the node in which the arc at a place stands. The node before it ends at the place `behind`, 0 where
-/// there is none.
+/// The number of the first arc of the node that has the arc at a place. The node before it ends at the place `behind`, 0 if there is none.
 #[cold]
 #[inline(never)]
 fn start_of(arcs: &[u8], place: usize, behind: usize) -> usize

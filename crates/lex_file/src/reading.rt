@@ -65,7 +65,7 @@ pub fn is_node(arcs: &[u8], number: u32) -> bool
     is_first(arcs, number)
 }
 
-/// The first arc that is sought, from an arc on in its node, and where the node goes on behind it.
+/// The first arc that is sought, from an arc on in its node, and where the node continues after it.
 #[tactic(auto, using(crate::proofs::Runs::starts_at, crate::proofs::Runs::found_here, crate::proofs::Runs::past_all))]
 #[inline(always)]
 pub fn find_arc(arcs: &[u8], number: usize, sought: Sought) -> Option<ArcOn>

@@ -4,8 +4,8 @@ ghost use Rattle.lex_file.specs.Walking.{strings, IsOpen};
 
 use crate::lexicons::{PathLex, Step};
 
-/// One more label behind a step: what stands behind it, or None where no string goes on so. The step's node is one that
-/// this lexicon gave.
+/// One more label after a step: what follows it, or None if no string continues with it. The step's node must be one that this
+/// lexicon gave.
 pub fn advance<L: PathLex>(lex: &L, at: Step<L::Node>, label: u8) -> Option<Step<L::Node>>
     requires { IsOpen (L.is_node lex.now) at.next }
     ensures none { IfNone result ((t : List ℕ) → strings (L.tail lex.now) at (label ∷ t) ≡ false) }

@@ -48,29 +48,29 @@ fifteen_letters : list_of (codes "ABCDEFGHIJKLMNO") ≡ Ok (codes "ABCDEFGHIJKLM
 unfolding list_of list_in first_bad_line words_in fault_of spelling_fault with_line most_words lines_in
 fifteen_letters = refl
 
--- the letters are looked at before the length
+-- the letters are checked before the length
 sixteen_with_digit : list_of (codes "ABCDEFGHIJKLMNO1") ≡ fails_as 1 why.BadLetter
 unfolding list_of list_in first_bad_line words_in fault_of spelling_fault with_line most_words lines_in
 sixteen_with_digit = refl
 
--- A mark at the front, both ends of lines, both cases, repeats and empty lines; the words come in byte order, a
--- word before those that it begins.
+-- A mark at the front, both line ends, both cases, repeats and empty lines; the words come in byte order, a word before those that
+-- begin with it.
 mixed : list_of ((0xef ∷ 0xbb ∷ 0xbf ∷ codes "Word") ++ cr_lf ++ codes "atE" ++ lf ++ lf ++ codes "AT" ++ cr_lf ++ cr_lf ++ codes "at" ++ lf ++ codes "zA" ++ (13 ∷ []))
     ≡ Ok (codes "AT" ∷ codes "ATE" ∷ codes "WORD" ∷ codes "ZA" ∷ [])
 unfolding list_of list_in first_bad_line words_in fault_of spelling_fault with_line most_words lines_in
 mixed = refl
 
--- one CR at an end is dropped, and a second is no letter
+-- one CR at an end is dropped, and a second one is not a letter
 two_returns : list_of (codes "AT" ++ (13 ∷ cr_lf)) ≡ fails_as 1 why.BadLetter
 unfolding list_of list_in first_bad_line words_in fault_of spelling_fault with_line most_words lines_in
 two_returns = refl
 
--- a mark is no letter but at the front
+-- a mark is not a letter, except at the front
 late_mark : list_of (lf ++ (0xef ∷ 0xbb ∷ 0xbf ∷ codes "AT")) ≡ fails_as 2 why.BadLetter
 unfolding list_of list_in first_bad_line words_in fault_of spelling_fault with_line most_words lines_in
 late_mark = refl
 
--- one word more than there may be, and a repeat of a word where there are as many as there may be
+-- one more word than there may be, and a repeated word when there are as many as there may be
 too_many : (rest : List (List ℕ)) → length rest ≡ 399999 → fault_of (codes "AT" ∷ rest) (codes "as") ≡ Some why.TooMany
 unfolding fault_of spelling_fault with_line most_words
 too_many rest e = rw e refl
@@ -85,7 +85,7 @@ small_letters_unlisted = refl
 
 -- ---- paths
 
--- the labels of a text, where + stands for the mark
+-- the labels of a text, if + stands for the mark
 abbrev labels : List ℕ → List ℕ
 labels text = map (λ byte. if byte == 43 then mark else label_of byte) text
 

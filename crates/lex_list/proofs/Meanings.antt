@@ -1,4 +1,4 @@
--- What the words of lines are: a word list, with the words that the lines hold.
+-- What the words of lines are: a word list that has the words on the lines.
 use Rattle.std.specs.Prelude.{nat_eq}
 use Rattle.std.proofs.Common.{◌≡◌, ℕ, ◌+◌, ◌≤◌, Bool, true, false, cond, ◌||◌, leb, ltb, List, [], ◌∷◌, ◌++◌, length, Option, Some, None, Result, Ok, Err, arith, sym, ap, refl, ◌∙◌, subst, append_assoc, append-nil, inl, inr, ◌⊎◌}
 use Rattle.std.specs.BTreeSet.{insert_key}
@@ -79,7 +79,7 @@ list_proper lines list e =
     let parts = list_parts (first_bad_line [] lines) (words_in lines) list e in
     subst IsWordList parts.1 (proper_from [] lines no_words parts.0)
 
--- ---- the words that lines hold
+-- ---- the words on lines
 
 holds : List ℕ → List ℕ → Bool
 holds word [] = false
@@ -113,7 +113,7 @@ unfolding holds
 holds_from word [] h = absurd (h.filled refl)
 holds_from word (byte ∷ line) h = (bytes_eq-Decides word (capitals (byte ∷ line))).1 (sym h.letters)
 
--- the words of lines are those that they hold
+-- the words of lines are exactly those on them
 pub list_holds : (lines list : List (List ℕ)) → list_in lines ≡ Ok list → HoldsWordsOf list lines
 unfolding list_in
 list_holds lines list e =

@@ -17,7 +17,7 @@ use Rattle.std.specs.Char.{is_ascii_uppercase}
 use Rattle.std.proofs.lemmas.List.Sums.{AllPass-from_list_all}
 use Rattle.lex_list.specs.Words.{word_order, is_listed, is_word, has_word_length}
 
--- words that tie are the same
+-- words that tie are equal
 pub same_word : (x y : List ℕ) → word_order x y ≡ Equal → x ≡ y
 same_word = slice_cmp-IsAntisymmetric nat_cmp-IsAntisymmetric
 
@@ -42,7 +42,7 @@ pub is_member : (words : List (List ℕ)) (word : List ℕ) (r : Bool) → r ≡
 is_member words word true e = (λ _. member_from_listed words word (sym e), λ _. refl)
 is_member words word false e = (λ no. absurd (false≢true no), λ h. e ∙ listed_from_member words word h)
 
--- ---- a search by halves
+-- ---- binary search
 
 not_less : (x y : List ℕ) → word_order x y ≡ Less → is_lt (word_order y x) ≡ false
 not_less x y e = rw (nat_list_cmp_total.antisymm y x, e) refl
@@ -131,7 +131,7 @@ any_more test (x ∷ xs) word = by (word_order word x) refl (any_more test xs wo
     by Equal e h = rw (same_word word x e) (or_same (test x) (list_any test xs))
     by Greater e h = rw h (or_first (test x) (test word) (list_any test xs))
 
--- where each word passes a test and one more word does, all do
+-- if each word passes a test and one more word does, all do
 pub all_more : (test : List ℕ → Bool) (words : List (List ℕ)) (word : List ℕ) → test word ≡ true → list_all test words ≡ true → list_all test (insert_key word_order words word) ≡ true
 all_more test [] word here a = rw here refl
 all_more test (x ∷ xs) word here a = by (word_order word x) (all_more test xs word here (and_parts (test x) (list_all test xs) a).1)

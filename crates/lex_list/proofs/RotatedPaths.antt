@@ -1,4 +1,4 @@
--- The test of a rotated path tells exactly the rotated paths.
+-- The test of a rotated path accepts exactly the rotated paths.
 use Rattle.std.proofs.Common.{◌≡◌, ℕ, ◌+◌, ◌-◌, ◌<◌, Bool, true, false, cond, ◌&&◌, eqb, ltb, leb, List, [], ◌∷◌, ◌++◌, length, map, refl, sym, ap, subst, ◌∙◌, arith, append_assoc, append-nil}
 use Rattle.std.specs.Prelude.{IsTrue, ◌↔◌, reverse}
 use Rattle.std.specs.Char.{is_ascii_uppercase}
@@ -39,9 +39,9 @@ letter_again (letter ∷ letters) all =
     let rest = letter_again letters parts.1 in
     cc
 
--- ---- what the test tells, behind a front
+-- ---- what the test says, after a front
 
--- what is read behind a front: more letters of the front, in the order of reading, and the back
+-- what is read after a front: more letters of the front, in the order of reading, and the back
 record Behind (words : List (List ℕ)) (front string : List ℕ) : Type 0 where
   more : List ℕ
   back : List ℕ
@@ -49,7 +49,7 @@ record Behind (words : List (List ℕ)) (front string : List ℕ) : Type 0 where
   some : 0 < length (reverse more ++ front)
   read : string ≡ map label_of more ++ marked back
 
--- a letter that is read goes in front of the front
+-- a letter that is read goes before the front
 turned : (letter : ℕ) (more front : List ℕ) → reverse (letter ∷ more) ++ front ≡ reverse more ++ (letter ∷ front)
 turned letter more front = ap (λ (x : List ℕ). x ++ front) (reverse-append (letter ∷ []) more) ∙ append_assoc (reverse more) (letter ∷ []) front
 
@@ -94,7 +94,7 @@ behind_from_test words front (label ∷ rest) t = by (eqb label 0) refl t (behin
         (member_from_listed words (front ++ map letter_of rest) parts.1)
     by false is h f = behind_more words front rest label (f h)
 
--- ---- and the other way
+-- ---- the converse
 
 test_from_split : (words : List (List ℕ)) (front more back : List ℕ) → list_all is_ascii_uppercase (reverse more ++ front ++ back) ≡ true
     → Contains words (reverse more ++ front ++ back) → 0 < length (reverse more ++ front) → is_path_behind words front (map label_of more ++ marked back) ≡ true
@@ -153,7 +153,7 @@ tested words capitals string = (
   (λ p. test_from_path words string capitals p),
 )
 
--- ---- what stands for the paths of a list
+-- ---- lexicons that stand for the paths of a list
 
 pub capitals_in : (words : List (List ℕ)) → list_all is_word words ≡ true → has_capitals_alone words ≡ true
 capitals_in [] all = refl

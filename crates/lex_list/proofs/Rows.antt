@@ -11,7 +11,7 @@ use Rattle.std.proofs.lemmas.Cmp.{nat_list_cmp_total}
 use Rattle.lex_list.specs.Words.{word_order}
 use Rattle.lex_list.proofs.Orders.{ordered_more}
 
--- ---- a word behind the last one
+-- ---- a word after the last one
 
 greater : (x y : List ℕ) → word_order x y ≡ Less → word_order y x ≡ Greater
 greater x y e = nat_list_cmp_total.antisymm y x ∙ ap ordering_reverse e
@@ -21,7 +21,7 @@ all_at P [] i word a at = absurd cc
 all_at P (x ∷ xs) zero word a at = let same : x ≡ word = cc in subst P same a.0
 all_at P (x ∷ xs) (suc i) word a at = all_at P xs i word a.1 at
 
--- a word behind the last of a row is behind all of it
+-- a word after the last of a row is after all of it
 put_behind : (row : List (List ℕ)) (last word : List ℕ) → IsStrictlySortedBy word_order row → slice_get row (length row - 1) ≡ Some last
     → word_order last word ≡ Less → insert_key word_order row word ≡ row ++ word ∷ []
 unfolding IsStrictlySortedBy
@@ -43,7 +43,7 @@ less_from Less e = refl
 less_from Equal e = absurd cc
 less_from Greater e = absurd cc
 
--- whether it is behind the last
+-- whether a word is after the last
 pub told_behind : (row : List (List ℕ)) (last word : List ℕ) (r : Bool) → IsStrictlySortedBy word_order row → Some last ≡ slice_get row (length row - 1)
     → r ≡ is_lt (word_order last word) → OnTrue r (insert_key word_order row word ≡ row ++ word ∷ [])
 told_behind row last word r s at is =

@@ -1,4 +1,4 @@
--- What stands for rotated paths has each split of a word.
+-- A lexicon that stands for rotated paths has each split of a word.
 use Rattle.std.proofs.Common.{◌≡◌, ℕ, ◌+◌, ◌<◌, Bool, true, false, eqb, ltb, List, [], ◌∷◌, ◌++◌, length, map, All, refl, sym, ap, ◌∙◌, arith, append_assoc, append-nil}
 use Rattle.std.specs.Prelude.{reverse}
 use Rattle.std.proofs.lemmas.Bool.{eqb-true, lt-ltb}
@@ -14,13 +14,13 @@ no_mark label above = by (eqb label 0) refl
     by true e = let zero = eqb-true label 0 e in absurd (omega arith)
     by false e = refl
 
--- a letter that is read goes in front of the front
+-- a letter that is read goes before the front
 turned : (label : ℕ) (labels front : List ℕ) → map letter_of (reverse (label ∷ labels)) ++ front ≡ map letter_of (reverse labels) ++ (letter_of label ∷ front)
 turned label labels front =
     ap (λ (x : List ℕ). map letter_of x ++ front) (reverse-append (label ∷ []) labels) ∙ ap (λ (x : List ℕ). x ++ front) (map-append letter_of (reverse labels) (label ∷ []))
     ∙ append_assoc (map letter_of (reverse labels)) (letter_of label ∷ []) front
 
--- the test, behind a front
+-- the test, after a front
 read : (words : List (List ℕ)) (front labels rest : List ℕ) → 0 < length front + length labels → All (λ label. 0 < label) labels
     → is_path_behind words front (labels ++ behind_mark rest) ≡ is_listed words (map letter_of (reverse labels) ++ front ++ map letter_of rest)
 unfolding is_path_behind

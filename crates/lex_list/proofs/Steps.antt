@@ -1,4 +1,4 @@
--- Lines read one after the other.
+-- Lines read one after another.
 use Rattle.std.specs.Prelude.{option_map}
 use Rattle.std.proofs.Common.{◌≡◌, ℕ, ◌+◌, ◌<◌, ◌≤◌, arith, List, [], ◌∷◌, ◌++◌, length, Some, None, Ok, Err, sym, subst, ap, ◌∙◌, refl, ◌⊎◌, inl, inr, append_assoc, true, false}
 use Rattle.std.proofs.lemmas.Bool.{lt-leb, le-leb}
@@ -15,8 +15,8 @@ use Rattle.lex_list.specs.declared.faults.ListWhy.TheVariants as why
 use Rattle.lex_list.specs.Words.{word_order, most_words}
 use Rattle.lex_list.specs.Lists.{with_line, words_in, spelling_fault, fault_of, fault_behind, first_bad_line, at_line, list_in, line_in, capitals}
 
--- how far a reading has come: these are the words of the lines so far, of which there are so many, and what is
--- wrong with the whole is wrong with what stands behind
+-- how far a reading has come: these are the words of the `line` lines so far, and what is wrong with the whole text is wrong with
+-- what follows
 pub record Progress (lines words : List (List ℕ)) (line : ℕ) (behind : List (List ℕ)) : Type 0 where
   pub before : List (List ℕ)
   pub count : length before ≡ line

@@ -12,11 +12,11 @@ name_of why.TooMany = codes "TooMany"
 name_of why.TooLong = codes "TooLong"
 name_of why.NoMemory = codes "NoMemory"
 
--- want of memory lies on no line
+-- lack of memory is not on a line
 abbrev pub no_memory : ListFault
 no_memory = record { line = 0; why = why.NoMemory }
 
--- What is answered is the meaning of the text, or its first fault, or want of memory.
+-- The answer is the meaning of the text, or its first fault, or lack of memory.
 abbrev pub Gives : {A : Type 0} → Result A ListFault → Result A ListFault → Type 0
 Gives (Ok x) meaning = meaning ≡ Ok x
 Gives (Err fault) meaning = (fault ≡ no_memory) ⊎ (meaning ≡ Err fault)

@@ -1,15 +1,15 @@
--- Laws about the definitions that contracts cite.
+-- Laws of the definitions that contracts cite.
 use Rattle.std.specs.Prelude.{◌≡◌, ℕ, ◌<◌, Bool, List, ◌++◌, length, map, reverse, All, Ok, IsTrue, ◌↔◌}
 use Rattle.lex_list.specs.Lines.{lines_of}
 use Rattle.lex_list.specs.Lists.{list_of, HoldsWordsOf}
 use Rattle.lex_list.specs.RotatedPaths.{letter_of, behind_mark, IsPath, is_path, StandsFor}
 use Rattle.lex_list.specs.Words.{is_listed, IsWordList, has_capitals_alone}
 
--- A text that has a meaning means a word list, and its words are those that the lines of the text hold.
+-- A text that has a meaning means a word list, and its words are exactly those on the lines of the text.
 abbrev pub MeaningsAreLists : Type 0
 MeaningsAreLists = (text : List ℕ) (words : List (List ℕ)) → list_of text ≡ Ok words → IsWordList words × HoldsWordsOf words (lines_of text)
 
--- the words of a list are of capitals alone
+-- the words of a list have only capitals
 abbrev pub ListsHaveCapitals : Type 0
 ListsHaveCapitals = (words : List (List ℕ)) → IsWordList words → IsTrue (has_capitals_alone words)
 
@@ -17,14 +17,14 @@ ListsHaveCapitals = (words : List (List ℕ)) → IsWordList words → IsTrue (h
 abbrev pub PathsAreTested : Type 0
 PathsAreTested = (words : List (List ℕ)) → IsTrue (has_capitals_alone words) → (string : List ℕ) → IsTrue (is_path words string) ↔ IsPath words string
 
--- what stands for the rotated paths of words has these strings and no others
+-- a lexicon that stands for the rotated paths of words has exactly these strings
 abbrev pub StandingIsExact : Type 0
 StandingIsExact =
     (words : List (List ℕ)) → IsTrue (has_capitals_alone words) → (language : List ℕ → Bool) → StandsFor language words
     → (string : List ℕ) → IsTrue (language string) ↔ IsPath words string
 
--- What stands for the rotated paths of words has the splits of each word: labels, none of them the mark, and others behind
--- a mark, are in it exactly where the first read backwards and then the others are a word.
+-- A lexicon that stands for the rotated paths of words has the splits of each word: labels other than the mark, and others after a
+-- mark, are in it exactly when the first read backwards and then the others are a word.
 abbrev pub SplitsAreStrings : Type 0
 SplitsAreStrings =
     (words : List (List ℕ)) (language : List ℕ → Bool) → StandsFor language words → (labels rest : List ℕ) → 0 < length labels → All (λ label. 0 < label) labels

@@ -21,7 +21,7 @@ most_list_bytes = 16777216
 abbrev pub capitals : List ℕ → List ℕ
 capitals line = map to_ascii_uppercase line
 
--- The set of words with that of one more line, where the line is not empty. A word that is there stays once.
+-- The set of words with that of one more line, if the line is not empty. A word that is already there stays once.
 unfoldable pub with_line : List (List ℕ) → List ℕ → List (List ℕ)
 with_line words [] = words
 with_line words (byte ∷ line) = insert_key word_order words (capitals (byte ∷ line))
@@ -30,13 +30,12 @@ with_line words (byte ∷ line) = insert_key word_order words (capitals (byte �
 unfoldable pub words_in : List (List ℕ) → List (List ℕ)
 words_in lines = fold with_line [] lines
 
--- what is wrong with the bytes of a line that is not empty: all are letters, of either case, and 2 to 15
+-- what is wrong with the bytes of a line that is not empty: they must all be letters, in either case, and 2 to 15
 unfoldable pub spelling_fault : List ℕ → Option ListWhy
 spelling_fault line =
     first_fault (passes (list_all is_ascii_alphabetic line) why.BadLetter ∷ passes (has_word_length line) why.BadLength ∷ [])
 
--- What is wrong with a line behind these words: its bytes, or that with its word there are too many. An empty line
--- is read over.
+-- What is wrong with a line after these words: its bytes, or with its word there are too many. An empty line is ignored.
 unfoldable pub fault_of : List (List ℕ) → List ℕ → Option ListWhy
 fault_of words [] = None
 fault_of words (byte ∷ line) =
@@ -46,7 +45,7 @@ fault_of words (byte ∷ line) =
 abbrev pub at_line : ℕ → ListWhy → ListFault
 at_line line w = record { line = line; why = w }
 
--- what is wrong with a line behind these lines
+-- what is wrong with a line after these lines
 abbrev pub fault_behind : List (List ℕ) → List ℕ → Option ListWhy
 fault_behind before line = fault_of (words_in before) line
 
@@ -62,23 +61,23 @@ list_in lines = or_fault (first_bad_line [] lines) (words_in lines)
 unfoldable pub list_of : List ℕ → Result (List (List ℕ)) ListFault
 list_of text = if nat_lt most_list_bytes (length text) then Err (at_line 0 why.TooLong) else list_in (lines_of text)
 
--- ---- what that says in other words
+-- ---- the same in other words
 
 -- a line holds a word: it is not empty, and its letters are those of the word
 pub record Holds (word line : List ℕ) : Type 0 where
   pub filled : line ≢ []
   pub letters : capitals line ≡ word
 
--- the words of a list are those that the lines hold, and no others
+-- the words of a list are exactly those on the lines
 abbrev pub HoldsWordsOf : List (List ℕ) → List (List ℕ) → Type 0
 HoldsWordsOf words lines = (word : List ℕ) → Contains words word ↔ Any (Holds word) lines
 
--- A line is the first with a fault: the lines before it have none, and behind their words it has this one. Lines are
+-- A line is the first with a fault: the lines before it have none, and after their words it has this one. Lines are
 -- numbered from 1.
 abbrev pub IsFirstFault : List (List ℕ) → ListFault → Type 0
 IsFirstFault lines fault = IsFirstBad at_line fault_behind lines fault
 
--- what a text has for a fault, want of memory apart: it is too long, or else a line of it is the first with a fault
+-- the fault of a text, apart from lack of memory: it is too long, or else a line of it is the first with a fault
 abbrev pub IsFaultOf : List ℕ → ListFault → Type 0
 IsFaultOf text fault =
     (fault ≡ no_memory)

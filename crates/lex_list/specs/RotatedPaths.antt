@@ -1,5 +1,5 @@
--- The rotated paths of a list of words: each word is split into a front that is not empty and a back; the letters of
--- the front stand in reverse, and where the back is not empty, a mark and the back follow.
+-- The rotated paths of a list of words: each word is split into a front that is not empty and a back; the letters of the front come
+-- in reverse, and if the back is not empty, a mark and the back follow.
 use Rattle.std.specs.Prelude.{◌≡◌, ℕ, ◌+◌, ◌-◌, ◌<◌, Bool, ◌&&◌, ◌==◌, nat_lt, List, [], ◌∷◌, ◌++◌, length, map, reverse, if◌then◌else◌}
 use Rattle.std.specs.List.{Contains}
 use Rattle.lex_list.specs.Words.{is_listed}
@@ -18,7 +18,7 @@ mark = 0
 
 -- ---- what it means
 
--- the mark and the back, where the back is not empty
+-- the mark and the back, if the back is not empty
 abbrev pub marked : List ℕ → List ℕ
 marked [] = []
 marked (letter ∷ back) = mark ∷ map label_of (letter ∷ back)
@@ -35,15 +35,15 @@ pub record IsPath (words : List (List ℕ)) (string : List ℕ) : Type 0 where
   pub some : 0 < length front
   pub path : string ≡ path_of front back
 
--- labels behind a mark, where there are some
+-- labels after a mark, if there are any
 abbrev pub behind_mark : List ℕ → List ℕ
 behind_mark [] = []
 behind_mark (label ∷ rest) = mark ∷ label ∷ rest
 
 -- ---- the test: the string is cut at its first mark, and the word is read back
 
--- Whether a string, read on behind a front, ends as a path of one of the words does. The front so far is read back from
--- the labels before, the latest of them first.
+-- Whether a string, read on after a front, ends as a path of one of the words does. The front so far is read back from the labels
+-- before, the latest of them first.
 unfoldable pub is_path_behind : List (List ℕ) → List ℕ → List ℕ → Bool
 is_path_behind words front [] = nat_lt 0 (length front) && is_listed words front
 is_path_behind words front (label ∷ rest) =
@@ -55,7 +55,7 @@ is_path_behind words front (label ∷ rest) =
 abbrev pub is_path : List (List ℕ) → List ℕ → Bool
 is_path words string = is_path_behind words [] string
 
--- A lexicon stands for the rotated paths of the words: the test that tells its strings agrees with that of the paths. By
--- the law of rotated paths it then has a string exactly where the string is a rotated path of one of the words.
+-- A lexicon stands for the rotated paths of the words: the test for its strings agrees with that for the paths. By the law of
+-- rotated paths it then has a string exactly when the string is a rotated path of one of the words.
 abbrev pub StandsFor : (List ℕ → Bool) → List (List ℕ) → Type 0
 StandsFor language words = (string : List ℕ) → language string ≡ is_path words string

@@ -1,4 +1,4 @@
--- Words, their order and sets of them.
+-- Words, their order, and sets of words.
 use Rattle.std.specs.Prelude.{◌≡◌, ℕ, ◌≤◌, Bool, true, ◌&&◌, nat_le, nat_eq, List, length}
 use Rattle.std.specs.Char.{is_ascii_uppercase}
 use Rattle.std.specs.Cmp.Lexicographic.{pointwise, slice_cmp}
@@ -26,11 +26,11 @@ has_word_length word = nat_le fewest_letters (length word) && nat_le (length wor
 abbrev pub is_word : List ℕ → Bool
 is_word word = list_all is_ascii_uppercase word && has_word_length word
 
--- words of capitals alone
+-- words with only capitals
 abbrev pub has_capitals_alone : List (List ℕ) → Bool
 has_capitals_alone words = list_all (list_all is_ascii_uppercase) words
 
--- the order of words: byte by byte, and a word before all that it begins
+-- the order of words: byte by byte, with a word before all longer words that begin with it
 abbrev pub word_order : List ℕ → List ℕ → Ordering
 word_order = slice_cmp nat_cmp
 

@@ -1,18 +1,18 @@
-//! Why a text is no word list.
+//! Why a text is not a word list.
 ghost use Rattle.std.specs.Prelude.{◌≡◌};
 
 use std::alloc::AllocError;
 
-/// Why a text is no word list, in the order in which the faults of one line are looked for.
+/// Why a text is not a word list, in the order in which the faults of one line are checked.
 #[derive(Clone, Copy, Debug, PartialEq, Eq)]
 pub enum ListWhy {
-    /// A byte of the line is not A to Z or a to z; spaces and tabs are no letters.
+    /// A byte of the line is not A to Z or a to z; spaces and tabs are not letters.
     BadLetter,
-    /// The line has letters alone, but not 2 to 15.
+    /// The line has only letters, but not 2 to 15.
     BadLength,
-    /// The line holds the word past the 400,000th distinct one.
+    /// The line has the word past the 400,000th distinct one.
     TooMany,
-    /// The text has more than 16,777,216 bytes. This is looked for before all else.
+    /// The text has more than 16,777,216 bytes. This is checked before all else.
     TooLong,
     /// Memory ran out.
     NoMemory,
@@ -38,7 +38,7 @@ impl ListWhy {
 /// The first fault of a word list.
 #[derive(Clone, Copy, Debug, PartialEq, Eq)]
 pub struct ListFault {
-    /// The line of the fault, counted from 1; 0 for `TooLong` and `NoMemory`, which lie on no line.
+    /// The line of the fault, counted from 1; 0 for `TooLong` and `NoMemory`, which are not on a line.
     pub line: u32,
     /// What is wrong there.
     pub why: ListWhy,
@@ -47,7 +47,7 @@ pub struct ListFault {
 impl ListFault {
     ghost use Rattle.lex_list.specs.Faults.{no_memory};
 
-    /// Want of memory, which lies on no line.
+    /// Lack of memory, which is not on a line.
     pub fn no_memory() -> ListFault
         ensures { result ≡ no_memory }
     {

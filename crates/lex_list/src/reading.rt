@@ -14,21 +14,20 @@ use crate::words::{MAX_LETTERS, Word};
 use std::alloc::Global;
 use text_lines::{Lines, without_mark};
 
-/// The most bytes of a word list: 16 MiB.
+/// The maximum number of bytes of a word list: 16 MiB.
 pub const MAX_BYTES: usize = 16_777_216;
 
-/// The most words of a word list.
+/// The maximum number of words of a word list.
 pub const MAX_WORDS: usize = 400_000;
 
-/// The fewest letters of a word.
+/// The minimum number of letters of a word.
 const MIN_LETTERS: usize = 2;
 
 impl WordList {
     /// Reads a word list, and gives the set of the words of its lines, or its first fault: the first by line,
     /// and on a line the first in the order of [`ListWhy`].
     ///
-    /// `TooMany` is on the line of the 400,001st distinct word; a repeat of a word is none. `TooLong` comes before
-    /// all else.
+    /// `TooMany` is on the line of the 400,001st distinct word; a repeated word does not count. `TooLong` comes before all else.
     #[tactic(auto, using(crate::proofs::Meanings::list_proper, crate::proofs::Meanings::list_holds, crate::proofs::Meanings::text_fault), unfolding(crate::specs::Lists::list_of))]
     pub fn read(alloc: Global, bytes: &[u8]) -> Result<WordList, ListFault>
         ensures meaning { Gives result (list_of bytes.now) }

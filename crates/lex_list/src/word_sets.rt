@@ -1,4 +1,4 @@
-//! The set of the words that were read so far.
+//! The set of the words read so far.
 ghost use Rattle.std.specs.Prelude.{◌≡◌, ◌++◌, ◌∷◌, [], IfOk, OnOk, length};
 ghost use Rattle.std.specs.Bool.{OnTrue};
 ghost use Rattle.std.specs.BTreeSet.{insert_key};
@@ -12,8 +12,8 @@ use std::marker::Model;
 
 /// A set of words that grows. Contracts see the list of the words, in byte order.
 ///
-/// While each word comes behind all others, the words stand in a row, and none is searched for. From the first on that does
-/// not, they stand in a balanced tree.
+/// As long as each word comes after all others, the words are in a row, and none is searched for. From the first one that does not,
+/// they are in a balanced tree.
 #[derive(Drop)]
 pub(crate) struct WordSet {
     row: Vec<Word>,
@@ -54,7 +54,7 @@ impl WordSet {
         self.tree.len()
     }
 
-    /// Adds a word. One that is there stays once.
+    /// Adds a word. One that is already there stays once.
     pub(crate) fn insert(&mut self, word: Word) -> Result<(), AllocError>
         ensures { OnOk result (self.new ≡ insert_key word_order self.old word) }
     {
@@ -81,7 +81,7 @@ impl WordSet {
     }
 }
 
-/// Whether a word comes behind all words of a row in order.
+/// Whether a word comes after all words of a row in order.
 fn is_behind(row: &[Word], word: &Word) -> bool
     requires { IsStrictlySortedBy word_order row.now }
     ensures { OnTrue result (insert_key word_order row.now word.now ≡ row.now ++ word.now ∷ []) }

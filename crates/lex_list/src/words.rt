@@ -8,10 +8,10 @@ ghost use Rattle.lex_list.specs.Words.{most_letters};
 use std::cmp::Ordering;
 use std::marker::Model;
 
-/// The most letters of a word.
+/// The maximum number of letters of a word.
 pub const MAX_LETTERS: usize = 15;
 
-/// At most 15 bytes in 16, ordered as bytes. Contracts see the list of them.
+/// At most 15 bytes, stored in 16, ordered as bytes. Contracts see the list of them.
 #[derive(Debug, Drop)]
 pub struct Word {
     letters: [u8; MAX_LETTERS],
@@ -30,7 +30,7 @@ impl Model for Word {
 }
 
 impl Word {
-    /// The word with these bytes; none where there are more than 15.
+    /// The word with these bytes; none if there are more than 15.
     pub fn of_bytes(bytes: &[u8]) -> Option<Word>
         ensures none { IfNone result (most_letters < length bytes.now) }
         ensures word { IfSome result (λ word. word ≡ bytes.now) }
@@ -46,7 +46,7 @@ impl Word {
         })
     }
 
-    /// The word with the letters of a line as capitals.
+    /// The word of a line, with its letters as capitals.
     pub fn of_line(line: &[u8]) -> Word
         requires { length line.now ≤ most_letters }
         ensures { result ≡ capitals line.now }

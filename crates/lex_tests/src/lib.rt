@@ -1,6 +1,6 @@
 //! The tests of the crates of word lists and compiled lexicons.
 //!
-//! They stand here, and not in the crates that they test, since a crate with tests is proved twice.
+//! They are here, and not in the crates that they test, since a crate with tests is proved twice.
 #![tactic(auto)]
 
 #[cfg(test)]

@@ -1,7 +1,7 @@
-//! The tests by what they show: how a text falls into lines (`lines`), which texts are word lists (`lists`), which bytes are a
-//! compiled lexicon (`changes`) and what it holds (`files`, and `masks` for the format of label words), where a lexicon first
-//! differs from a list (`checks`), which files are told at once to be that of a list (`agreements`), the bytes that are built
-//! (`builds`), and those of a file in another format (`conversions`). `samples` has lists that several of them use.
+//! The tests by what they show: how a text is split into lines (`lines`), which texts are word lists (`lists`), which bytes
+//! are a compiled lexicon (`changes`) and what it holds (`files`, and `masks` for the format of label words), where a lexicon
+//! first differs from a list (`checks`), which files are seen at once to be that of a list (`agreements`), the bytes that are
+//! built (`builds`), and those of a file in another format (`conversions`). `samples` has lists that several of them use.
 
 mod agreements;
 mod builds;

@@ -6,7 +6,7 @@ use Rattle.std.specs.Str.Lossy.{utf8_lossy}
 use Rattle.name_texts.specs.declared.encodings.Encoding.{Encoding}
 use Rattle.name_texts.specs.declared.encodings.Encoding.TheVariants.{Utf8, Latin1}
 
--- the UTF-8 of bytes: of those that are UTF-8 already, or of the characters of their numbers
+-- the UTF-8 of bytes: of those that are UTF-8 already, or of the characters with their numbers
 abbrev pub text_by : Encoding → List ℕ → List ℕ
 text_by Utf8 bytes = utf8_lossy bytes
 text_by Latin1 bytes = flat_map encode_utf8 bytes

@@ -7,7 +7,7 @@ use text_lines::{Lines, next_field, without_mark};
 /// How the bytes of a record are read as text.
 #[derive(Clone, Copy, Debug, PartialEq, Eq)]
 pub enum Encoding {
-    /// As UTF-8; what is none stands as U+FFFD.
+    /// As UTF-8; bytes that are not UTF-8 become U+FFFD.
     Utf8,
     /// As ISO-8859-1: each byte is the character of that number.
     Latin1,
@@ -64,7 +64,7 @@ fn states_latin(text: &[u8]) -> bool
 }
 
 impl Encoding {
-    /// The encoding of a record: ISO-8859-1 where a line `#character-encoding ISO-8859-1` states it, else UTF-8.
+    /// The encoding of a record: ISO-8859-1 if a line `#character-encoding ISO-8859-1` states it, otherwise UTF-8.
     pub fn of(text: &[u8]) -> Encoding
         ensures { result ≡ encoding_of text.now }
     {

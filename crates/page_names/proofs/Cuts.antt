@@ -11,7 +11,7 @@ parts_end name e = split_none is_slash name (sym e)
 pub parts_cut : (name : List ℕ) (i : ℕ) → Some i ≡ position is_slash name → parts_of name ≡ take i name ∷ parts_of (take (length name - (i + 1)) (drop (i + 1) name))
 parts_cut name i e = rw (rest_is (i + 1) name) (split_at is_slash name i (sym e))
 
--- a folder more, and the slash after it
+-- one more folder, and the slash after it
 pub one_part_more : (out part next : List ℕ) (parts behind : List (List ℕ)) → parts ≡ next ∷ behind
     → ((out ++ folder_text part) ++ 47 ∷ []) ++ page_path (next ∷ behind) ≡ out ++ page_path (part ∷ parts)
 one_part_more out part next parts behind e =

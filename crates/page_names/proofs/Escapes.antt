@@ -8,7 +8,7 @@ use Rattle.page_names.specs.Names.{is_slash, escaped_byte, escaped}
 pub same_byte : (a b : ℕ) → (a == b) ≡ true → a ≡ b
 same_byte a b e = grind (arith, nat_tests)
 
--- a text with % in the place of each %25; the first bytes, as many as `behind` says, are those of an escape that was taken
+-- a text with % in place of each %25; the first bytes, as many as `behind` says, are those of an escape that was taken
 abbrev pub unescaped_behind : (behind : ℕ) → List ℕ → List ℕ
 unescaped_behind behind [] = []
 unescaped_behind (suc behind) (byte ∷ text) = unescaped_behind behind text

@@ -1,4 +1,4 @@
--- The names of folders are told apart.
+-- The names of folders differ.
 use Rattle.std.proofs.Common.{◌≡◌, ℕ, ◌==◌, ◌&&◌, Bool, true, false, not, List, [], ◌∷◌, ◌++◌, refl, sym, ap, ◌∙◌, if◌then◌else◌}
 use Rattle.page_names.specs.Names.{is_step, escaped_byte, escaped, folder_text}
 use Rattle.page_names.proofs.Escapes.{same_byte, unescaped_behind, unescaped, begins_two, is_whole, escaped_whole}

@@ -1,4 +1,4 @@
--- The names of the files of pages are told apart.
+-- The names of the files of pages differ.
 use Rattle.std.proofs.Common.{◌≡◌, ℕ, ◌-◌, ◌≤◌, arith, ◌==◌, ◌&&◌, Bool, true, false, not, List, [], ◌∷◌, ◌++◌, length, take, drop, codes, refl, sym, ap, subst, ◌∙◌, if◌then◌else◌}
 use Rattle.std.specs.List.{ends_with}
 use Rattle.std.specs.Cmp.Lexicographic.{pointwise}
@@ -31,7 +31,7 @@ with_ending part e =
     let same : codes ".gcg" ≡ drop (length part - 4) part = same_list (codes ".gcg") (drop (length part - 4) part) ends.0 in
     ap (λ l. front part ++ l) same ∙ take-append-drop (length part - 4) part
 
--- an ending that is left out is not taken for one that is not
+-- an ending that is left out is not mistaken for one that is not
 mixed : (one other : List ℕ) → escaped one ++ codes ".html" ≡ escaped other ++ codes "%.html" → ⊥
 mixed one other e =
     let moved : escaped one ++ codes ".html" ≡ (escaped other ++ 37 ∷ []) ++ codes ".html" = e ∙ sym (append_assoc (escaped other) (37 ∷ []) (codes ".html")) in

@@ -1,4 +1,4 @@
--- What the names of pages are good for.
+-- What the names of pages guarantee.
 use Rattle.std.specs.Prelude.{◌≡◌, ℕ, true, not, List, codes}
 use Rattle.std.specs.List.{list_all}
 use Rattle.page_names.specs.Names.{parts_of, is_step, page_name}
@@ -7,7 +7,7 @@ use Rattle.page_names.specs.Names.{parts_of, is_step, page_name}
 abbrev pub AreNamedApart : Type 0
 AreNamedApart = (one other : List ℕ) → page_name one ≡ page_name other → one ≡ other
 
--- no page is called as the index is
+-- no page has the name of the index
 abbrev pub NoneIsIndex : Type 0
 NoneIsIndex = (name : List ℕ) → page_name name ≡ codes "index.html" → ⊥
 

@@ -3,7 +3,7 @@ use Rattle.std.specs.Prelude.{ℕ, ◌-◌, Bool, true, false, not, ◌==◌, �
 use Rattle.std.specs.Borrow.{Bor}
 use Rattle.std.specs.List.{flat_map, slice_split, starts_with, ends_with}
 
--- / (47) parts the name of a file from those of its folders
+-- / (47) separates the name of a file from those of its folders
 abbrev pub is_slash : ℕ → Bool
 is_slash byte = byte == 47
 
@@ -11,12 +11,12 @@ is_slash byte = byte == 47
 abbrev pub parts_of : List ℕ → List (List ℕ)
 parts_of name = slice_split is_slash name
 
--- the parts of what stands after a slash
+-- the parts of what is after a slash
 abbrev pub parts_behind : Option (Bor (List ℕ)) → List (List ℕ)
 parts_behind None = []
 parts_behind (Some after) = parts_of after.now
 
--- % (37) stands as %25
+-- % (37) is written %25
 abbrev pub escaped_byte : ℕ → List ℕ
 escaped_byte byte = if byte == 37 then codes "%25" else byte ∷ []
 
@@ -34,7 +34,7 @@ is_step (a ∷ b ∷ c ∷ rest) = false
 unfoldable pub folder_text : List ℕ → List ℕ
 folder_text part = if is_step part then 37 ∷ part else escaped part
 
--- a file whose ending is left out: that of a record, but for what would be the page `index.html`
+-- a file whose ending is left out: that of a record, except for what would be the page `index.html`
 unfoldable pub has_ending : List ℕ → Bool
 has_ending part = ends_with ◌==◌ part (codes ".gcg") && not (starts_with ◌==◌ part (codes "index.gcg"))
 

@@ -1,7 +1,7 @@
 //! The names of the pages of many games.
 //!
-//! The name of a page follows from the name of its game alone: `r1/final.gcg` has the page `r1/final.html`. So runs that go on, and runs
-//! beside each other, give the same pages. [`law_of_page_names`] says that no two games share one.
+//! The name of a page depends only on the name of its game: `r1/final.gcg` has the page `r1/final.html`. So runs that go on, and runs at
+//! the same time, give the same pages. [`law_of_page_names`] says that no two games share one.
 #![tactic(auto)]
 
 mod laws;

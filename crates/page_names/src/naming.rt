@@ -11,7 +11,7 @@ use std::alloc::AllocError;
 struct Cut<'a> {
     /// The part.
     part: &'a [u8],
-    /// What stands after its slash, where it has one.
+    /// What is after its slash, if it has one.
     after: Option<&'a [u8]>,
 }
 
@@ -106,9 +106,9 @@ fn push_page(out: &mut Vec<u8>, part: &[u8]) -> Result<(), AllocError>
     out.extend_from_slice(b"%.html")
 }
 
-/// Appends the name of the page of a game: its path in the folder of the pages. It is the name of the game with `.html` in the place of
-/// its ending `.gcg`, or with `%.html` after it where it has no such ending. A `%` stands as `%25`, and a `%` stands before a part that is
-/// empty, `.` or `..`.
+/// Appends the name of the page of a game: its path in the folder of the pages. It is the name of the game with `.html` in place of its
+/// ending `.gcg`, or with `%.html` after it if it has no such ending. A `%` is written `%25`, and a part that is empty, `.` or `..` has a
+/// `%` before it.
 ///
 /// # Errors
 ///

@@ -1,4 +1,4 @@
--- The pieces of a page, and what they are written as.
+-- The pieces of a page, and their written forms.
 use Rattle.std.specs.Prelude.{◌≡◌, ℕ, List, [], ◌∷◌, decimal, map, Option, Some, None, if◌then◌else◌}
 use Rattle.std.specs.Fmt.{signed_decimal}
 use Rattle.std.specs.List.{flat_map}
@@ -15,11 +15,11 @@ use Rattle.page_pieces.specs.declared.texts.PageText.{PageText}
 abbrev pub text_in : PageText → List ℕ
 text_in page = page.bytes.items
 
--- text of any origin in a page: as one of UTF-8, with the names of the signs that mean something in markup
+-- text of any origin in a page: as UTF-8, with the names of the signs that mean something in markup
 abbrev pub shown : List ℕ → List ℕ
 shown text = html_text (utf8_lossy text)
 
--- what a piece is written as: markup as it is, and all else as a text of any origin
+-- the written form of a piece: markup as it is, and all else as a text of any origin
 abbrev pub written : Piece → List ℕ
 written (piece.Markup markup) = markup.now
 written (piece.Text text) = shown text.now
@@ -29,13 +29,13 @@ written (piece.Many n) = shown (decimal n)
 written (piece.Tiles tiles) = shown (tiles_text tiles.now)
 written (piece.Play at dir word) = shown (play_text at dir word.now)
 
--- the same of pieces, one behind the other
+-- the same for pieces, one after the other
 abbrev pub text_of : List Piece → List ℕ
 text_of pieces = flat_map written pieces
 
 -- ---- laws
 
--- the shape of a piece: of markup its text, and of any other piece that it is none
+-- the shape of a piece: its text if it is markup, and of any other piece that it is not
 abbrev pub shape : Piece → Option (List ℕ)
 shape (piece.Markup markup) = Some markup.now
 shape (piece.Text text) = None
@@ -59,6 +59,6 @@ marks_by (Some markup) = marks markup
 abbrev pub AreOfMarkup : Type 0
 AreOfMarkup = (pieces : List Piece) → marks (text_of pieces) ≡ flat_map marks_by (map shape pieces)
 
--- The markup of a page depends on the shape of its pieces alone, and on no text, number or name in them.
+-- The markup of a page depends only on the shape of its pieces, and on no text, number or name in them.
 abbrev pub DependOnShape : Type 0
 DependOnShape = (pieces others : List Piece) → map shape pieces ≡ map shape others → marks (text_of pieces) ≡ marks (text_of others)

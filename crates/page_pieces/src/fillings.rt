@@ -1,4 +1,4 @@
-//! What stands between the markup of a page: numbers, tiles and plays as texts.
+//! What is between the markup of a page: numbers, tiles and plays as texts.
 ghost use Rattle.std.specs.Prelude.{◌≡◌, decimal, IfOk};
 ghost use Rattle.std.specs.Fmt.{signed_decimal};
 ghost use Rattle.gcg_write.specs.Fields as fields;

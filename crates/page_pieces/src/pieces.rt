@@ -7,7 +7,8 @@ use ref_tiles::{Counts, Symbol};
 /// A piece of a page.
 #[derive(Clone, Copy)]
 pub enum Piece<'a> {
-    /// Markup, or text without a sign that means something in markup. It stands in the program, so nothing of a record is such a piece.
+    /// Markup, or text without a sign that means something in markup. It is part of the program, so nothing from a record is such a
+    /// piece.
     Markup(&'static str),
     /// Text of any origin.
     Text(&'a [u8]),

@@ -9,7 +9,7 @@ use html_text::push_text;
 use name_texts::Encoding;
 use std::alloc::{AllocError, Global};
 
-/// The text of a page, which grows by pieces alone.
+/// The text of a page, which grows only by pieces.
 #[derive(Drop)]
 pub struct PageText {
     alloc: Global,
@@ -56,7 +56,7 @@ fn push_piece(alloc: Global, bytes: &mut Vec<u8>, piece: &Piece<'_>) -> Result<(
     }
 }
 
-/// Appends pieces, one behind the other.
+/// Appends pieces, one after the other.
 fn push_pieces(alloc: Global, bytes: &mut Vec<u8>, pieces: &[Piece<'_>]) -> Result<(), AllocError>
     ensures { OnOk result (bytes.new.items ≡ bytes.old.items ++ text_of pieces.now) }
 {
@@ -79,7 +79,7 @@ impl PageText {
         }
     }
 
-    /// Appends pieces, one behind the other. It fails only where memory runs out.
+    /// Appends pieces, one after the other. It fails only if memory runs out.
     pub fn push(&mut self, pieces: &[Piece<'_>]) -> Result<(), AllocError>
         ensures { OnOk result (text_in self.new ≡ text_in self.old ++ text_of pieces.now) }
     {
@@ -100,14 +100,14 @@ impl PageText {
         self.bytes.len()
     }
 
-    /// Leaves so many bytes at the front, and takes the others away.
+    /// Keeps the first `many` bytes, and removes the others.
     pub fn truncate(&mut self, many: usize)
         ensures { text_in self.new ≡ take many (text_in self.old) }
     {
         self.bytes.truncate(many);
     }
 
-    /// Takes all bytes away.
+    /// Removes all bytes.
     pub fn clear(&mut self)
         ensures { text_in self.new ≡ [] }
     {

@@ -17,7 +17,7 @@ added : (own : Option (List (Option Tile))) (kept xs : List Given) → add_all (
 added own kept [] = sym (append-nil kept)
 added own kept (x ∷ xs) = added own (kept ++ x ∷ []) xs ∙ append_assoc kept (x ∷ []) xs
 
--- a sink that was not refused has all
+-- a sink that did not refuse has all
 pub all_taken : (rules : Rules) (words : List (List ℕ)) (board : List (Option Tile)) (rack : List ℕ) (all : List Given) (own : Option (List (Option Tile))) (old new : List Given)
     → AreAll rules words board rack all → old ≡ [] → new ≡ add_all (add_last own) old all → AreGivenLegal board new
 all_taken rules words board rack all own old new are none took =

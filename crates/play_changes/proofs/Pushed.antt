@@ -1,4 +1,4 @@
--- Changes of plays, one more after another.
+-- Changes of plays, one after another.
 use Rattle.std.proofs.Common.{◌≡◌, ◌<◌, ◌≤◌, ℕ, List, [], ◌∷◌, ◌++◌, length, sym, subst, arith}
 use Rattle.std.proofs.lemmas.List.Elements.{All-nil, All-push}
 use Rattle.gcg_read.specs.declared.events.Event.{Event}

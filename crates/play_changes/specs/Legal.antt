@@ -9,6 +9,6 @@ use Rattle.ref_play.specs.Legality.{IsLegal}
 abbrev pub AreGivenLegal : List (Option Tile) → List Given → Type 0
 AreGivenLegal board given = All (λ (g : Given). IsLegal board g.tiles) given
 
--- the same of plays with their scores
+-- the same for plays with their scores
 abbrev pub AreLegal : List (Option Tile) → List (Play × ℤ) → Type 0
 AreLegal board plays = All (λ (scored : Play × ℤ). IsLegal board scored.0.tiles.items) plays

@@ -1,4 +1,4 @@
--- Changes of plays: a play that is missing, and a play that is another one altogether.
+-- Changes of plays: a play that is missing, and a play that is a different one altogether.
 use Rattle.std.specs.Prelude.{◌≤◌, ⊤, List, length, All}
 use Rattle.gcg_read.specs.declared.events.Event.{Event}
 use Rattle.game_rows.specs.declared.walking.Walk.{Walk}
@@ -13,13 +13,13 @@ abbrev pub IsMissingPlay : MissingLine → Type 0
 IsMissingPlay (line.Play player play) = ⊤
 IsMissingPlay other = ⊥
 
--- a play is missing, or is another one altogether
+-- a play is missing, or is a different one altogether
 abbrev pub IsOfPlay : Slip → Type 0
 IsOfPlay (slip.Missing line) = IsMissingPlay line
 IsOfPlay (slip.Replayed play) = ⊤
 IsOfPlay other = ⊥
 
--- A change of a play at a place of a record: up to the event at which its correction stops, or behind the last event.
+-- A change of a play at a place of a record: up to the event at which its correction stops, or after the last event.
 pub record IsPlayChange (written : List Event) (walk : Walk) (change : Change) : Type 0 where
   pub within : change.place ≤ length written
   pub tried : change.place ≤ length walk.rows.items

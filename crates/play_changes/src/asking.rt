@@ -1,15 +1,15 @@
-//! Which plays of a search are asked for.
+//! Which plays of a search are wanted.
 
 use record_changes::one_more;
 use ref_play::Play;
 use ref_tiles::Counts;
 
-/// Which plays are asked for.
+/// Which plays are wanted.
 #[derive(Clone, Copy)]
 pub(crate) enum Asked {
-    /// Those of exactly these tiles.
+    /// Those with exactly these tiles.
     Tiles(Counts),
-    /// Those with this score that are not of exactly these tiles.
+    /// Those with this score that do not have exactly these tiles.
     Score {
         /// The score.
         score: i32,
@@ -28,7 +28,7 @@ fn tiles_of(play: &Play) -> Counts {
 }
 
 impl Asked {
-    /// Whether a play with its score is asked for.
+    /// Whether a play with its score is wanted.
     pub(crate) fn has(&self, play: &Play, scores: i32) -> bool {
         match self {
             Asked::Tiles(tiles) => tiles_of(play) == *tiles,

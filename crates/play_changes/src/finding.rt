@@ -16,13 +16,13 @@ use std::alloc::{AllocError, Global};
 /// What a record says of its tiles.
 #[derive(Clone, Copy)]
 struct Tiles {
-    /// Whether it has a last rack, by which all tiles are on its lines.
+    /// Whether it has a last rack, so that all tiles are on its lines.
     ended: bool,
     /// The tiles that are on no line.
     left: Counts,
 }
 
-/// Adds each play that may be missing before a place, where the tiles that are on no line can be its tiles.
+/// Adds each play that may be missing before a place, if the tiles that are on no line can be its tiles.
 fn push_missing_at(
     alloc: Global,
     changes: &mut Vec<Change>,
@@ -85,11 +85,11 @@ fn push_at(
     push_missing_at(alloc, changes, rules, pair, walk, events, place, tiles)
 }
 
-/// The changes of plays that a record may want, at each place up to the event at which its correction stops. In a record that has a last rack
+/// The changes of plays that a record may need, at each place up to the event at which its correction stops. In a record that has a last rack
 /// all tiles are on its lines: those that are on none may be a play that is missing, and a play must have had those that are on no other
-/// line. Where the line of a play states a rack, it may be another play of this rack with the score that is written.
+/// line. If the line of a play states a rack, it may be another play of this rack with the score that is written.
 ///
-/// They are only looked for, so each has to be tried. It fails only where memory runs out.
+/// These are only candidates, so each has to be tried. It fails only if memory runs out.
 pub fn plays_for(
     alloc: Global,
     rules: &Rules,

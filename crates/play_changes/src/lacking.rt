@@ -8,7 +8,7 @@ use ref_board::{Board, Dir, SIDE, Square};
 use ref_play::{Placed, placement_of};
 use ref_tiles::{Counts, Rules, Symbol};
 
-/// Whether a record has a last rack, by which all tiles are on its lines.
+/// Whether a record has a last rack, so that all tiles are on its lines.
 pub(crate) fn has_last_rack(events: &[Event]) -> bool {
     for event in events {
         if let EventKind::LastRack(_) = &event.kind {
@@ -18,14 +18,14 @@ pub(crate) fn has_last_rack(events: &[Event]) -> bool {
     false
 }
 
-/// Puts a tile on its square, where that is empty.
+/// Puts a tile on its square, if that is empty.
 fn put_on(board: &mut Board, placed: &Placed) {
     if board.at(placed.square).is_none() {
         board.put(placed.square, placed.tile);
     }
 }
 
-/// Lays the tiles of a text over a board, those that find an empty square there.
+/// Lays the tiles of a text over a board: those whose square there is empty.
 fn lay_over(board: &mut Board, at: Square, dir: Dir, word: &[Symbol]) {
     let many = word.len().min(SIDE - at.place(dir));
     let tiles = placement_of(board, at, dir, &word[..many]);
@@ -34,7 +34,7 @@ fn lay_over(board: &mut Board, at: Square, dir: Dir, word: &[Symbol]) {
     }
 }
 
-/// Lays the play at a place over a board, where it stands: where no withdrawal follows it.
+/// Lays the play at a place over a board, if it stands: if no withdrawal follows it.
 fn lay_at(board: &mut Board, events: &[Event], place: usize)
     requires { place < length events.now }
 {
@@ -58,14 +58,14 @@ pub(crate) fn tiles_on_no_line(rules: &Rules, events: &[Event]) -> Counts {
     tiles_on_none_of(rules, events, &events[events.len()..])
 }
 
-/// The tiles that are on no other line than the one at a place.
+/// The tiles that are on no line except the one at a place.
 pub(crate) fn tiles_on_no_other(rules: &Rules, events: &[Event], place: usize) -> Counts
     requires { place < length events.now }
 {
     tiles_on_none_of(rules, &events[..place], &events[place + 1..])
 }
 
-/// The tiles of a game that are neither on one of the lines before nor on one of those behind.
+/// The tiles of a game that are neither on one of the lines before nor on one of those after.
 fn tiles_on_none_of(rules: &Rules, before: &[Event], behind: &[Event]) -> Counts {
     let mut board = Board::empty();
     lay_all(&mut board, before);

@@ -24,7 +24,7 @@ fn last_mover(events: &[Event]) -> Option<Seat> {
     mover
 }
 
-/// Whose play may be missing before a place: that of the player who did not have the turn before it, or, where there was none, of the one who
+/// Whose play may be missing before a place: that of the player who did not have the turn before it, or, if there was none, of the one who
 /// does not have the line there.
 fn player_at(events: &[Event], place: usize) -> Option<Seat>
     requires { place ≤ length events.now }
@@ -89,9 +89,9 @@ fn push_each(
     Ok(())
 }
 
-/// Adds each play of exactly these tiles that may be missing before a place.
+/// Adds each play with exactly these tiles that may be missing before a place.
 ///
-/// It fails only where memory runs out.
+/// It fails only if memory runs out.
 pub(crate) fn push_missing_plays(
     alloc: Global,
     changes: &mut Vec<Change>,

@@ -1,4 +1,4 @@
-//! Plays that are other ones altogether.
+//! Plays that are different ones altogether.
 ghost use Rattle.std.specs.Prelude.{◌≤◌, ◌<◌, length, OnOk};
 ghost use Rattle.play_changes.specs.PlayChanges.{ArePlayChanges};
 
@@ -26,7 +26,7 @@ fn has_play(events: &[Event], place: usize) -> bool
     }
 }
 
-/// Adds that the play at a place is another one, where that is not written there.
+/// Adds that the play at a place is another one, if that one is not written there.
 #[tactic(auto, using(crate::proofs::Pushed::other_more))]
 fn push_other(
     changes: &mut Vec<Change>,
@@ -72,8 +72,8 @@ fn push_each(
     Ok(())
 }
 
-/// The tiles that the play at a place must have had, by those that are on no other line; none where no last rack tells it, and where they are
-/// no rack.
+/// The tiles that the play at a place must have had, by those that are on no other line; none if there is no last rack to say so, or if
+/// they are not a rack.
 fn tiles_had(rules: &Rules, events: &[Event], place: usize, ended: bool) -> Option<Counts>
     requires { place < length events.now }
 {
@@ -84,7 +84,7 @@ fn tiles_had(rules: &Rules, events: &[Event], place: usize, ended: bool) -> Opti
     if is_rack(&tiles) { Some(tiles) } else { None }
 }
 
-/// Adds each play of exactly these tiles in the place of the one at a place.
+/// Adds each play with exactly these tiles in place of the one at a place.
 fn push_of_tiles(
     alloc: Global,
     changes: &mut Vec<Change>,
@@ -109,8 +109,8 @@ fn push_of_tiles(
     push_each(changes, walk, events, place, plays.as_slice())
 }
 
-/// Adds each play of the rack that the line states, with the score that is written, in the place of the one at a place; those of exactly the
-/// tiles that it must have had are there already.
+/// Adds each play of the rack that the line states, with the score that is written, in place of the one at a place; those with exactly the
+/// tiles that it must have had have been added already.
 fn push_of_rack(
     alloc: Global,
     changes: &mut Vec<Change>,
@@ -138,10 +138,10 @@ fn push_of_rack(
     push_each(changes, walk, events, place, plays.as_slice())
 }
 
-/// Adds each play that the one at a place may have been, where it stands: those of the tiles that it must have had, and those of the rack
+/// Adds each play that the one at a place may have been, if it stands: those with the tiles that it must have had, and those of the rack
 /// that its line states with the score that is written.
 ///
-/// It fails only where memory runs out.
+/// It fails only if memory runs out.
 pub(crate) fn push_other_plays(
     alloc: Global,
     changes: &mut Vec<Change>,

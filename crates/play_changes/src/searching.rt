@@ -53,14 +53,14 @@ fn plays_by_list<L: PathLex>(
     requires cross { IsRight rules.now list.now board.old cross.now }
     ensures { IfOk result (λ all. AreGivenLegal board.old (⟦<All as Sink>⟧.items all)) }
 {
-    // What reads the length of a list knows what a word list is.
+    // The prover learns from the call of `len` what a word list is.
     let _words = list.len();
     plays_by_words(alloc, rules, list, lex, board, rack, cross)
 }
 
 /// All plays that a rack allows on a board by the words of a pair, each once.
 ///
-/// It fails only where memory runs out.
+/// It fails only if memory runs out.
 #[tactic(auto, using(game_notes::proofs::FirstPlays::file_stands))]
 pub(crate) fn all_plays(
     alloc: Global,

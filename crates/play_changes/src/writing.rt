@@ -1,4 +1,4 @@
-//! The plays that are asked for, as a record writes them.
+//! The plays that are wanted, as a record writes them.
 ghost use Rattle.play_changes.specs.Legal.{AreLegal};
 
 use crate::asking::Asked;
@@ -11,7 +11,7 @@ use ref_play::{Notation, Play, notation};
 use ref_tiles::{Counts, Rules};
 use std::alloc::{AllocError, Global};
 
-/// The plays that are asked for, as they are written.
+/// The plays that are wanted, as they are written.
 fn asked_of(
     alloc: Global,
     board: &Board,
@@ -29,10 +29,10 @@ fn asked_of(
     Ok(written)
 }
 
-/// The plays of a rack on a board that are asked for, as they are written: those across before those down, then by the first square, row by
+/// The plays of a rack on a board that are wanted, as they are written: those across before those down, then by the first square, row by
 /// row, and then by the bytes of the text.
 ///
-/// It fails only where memory runs out.
+/// It fails only if memory runs out.
 pub(crate) fn plays_asked_for(
     alloc: Global,
     rules: &Rules,
@@ -47,7 +47,7 @@ pub(crate) fn plays_asked_for(
     Ok(written)
 }
 
-/// A play as it should be; none where its text were empty.
+/// A play as it should be; none if its text is empty.
 pub(crate) fn right_play(play: &Notation) -> Option<RightPlay> {
     let word = Text::new(&play.word)?;
     Some(RightPlay {
@@ -57,7 +57,7 @@ pub(crate) fn right_play(play: &Notation) -> Option<RightPlay> {
     })
 }
 
-/// Whether a play is written so on a line.
+/// Whether a line has exactly this play.
 pub(crate) fn is_written(play: &Notation, kind: &EventKind) -> bool {
     match kind {
         EventKind::Play { at, dir, word } => {

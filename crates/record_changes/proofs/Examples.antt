@@ -1,5 +1,5 @@
--- Records with a change, as the definitions give them, computed. Squares are numbered row by row from 1A, which is 0: 8E is 109, 10F is
--- 140, and F10, with row and column the other way round, would be 6J, which is 84.
+-- Records after a change, as the definitions give them, computed. Squares are numbered row by row from 1A, which is 0: 8E is 109,
+-- 10F is 140, and F10, with row and column interchanged, would be 6J, which is 84.
 use Rattle.std.proofs.Common.{ℕ, ℤ, pos, negsuc, true, false, List, [], ◌∷◌, get_or, None, refl}
 use Rattle.std.specs.Prelude.{codes}
 use Rattle.first_faults.proofs.Rows.{Agree}
@@ -29,7 +29,7 @@ use Rattle.record_changes.specs.Weights.{weight_of}
 abbrev word : List ℕ → List Symbol
 word letters = symbols_of letters
 
--- an event on a line: whose, what happened, its score and the total
+-- an event on a line: its player, what happened, its score and the total
 abbrev event_on : ℕ → Seat → EventKind → ℤ → ℤ → Event
 event_on at player what score total = record { line = at; player = player; rack = None; kind = what; score = score; total = total }
 
@@ -49,7 +49,7 @@ game = word_play ∷ at_play ∷ pass ∷ []
 abbrev with : ℕ → Slip → List Event
 with place what = applied (record { place = place; slip = what }) game
 
--- ---- what a record is with a change
+-- ---- records after a change
 
 -- a play in another place, direction or spelling
 moved : Agree (
@@ -80,7 +80,7 @@ respelled : Agree (
 unfolding spliced letter_at
 respelled = refl
 
--- A8 AB in the place of each line: one that is no play stays
+-- A8 AB in place of each line: one that is not a play stays
 abbrev ab_play : EventKind
 ab_play = kind.Play 105 Down (word (codes "AB"))
 
@@ -92,7 +92,7 @@ replayed : Agree (
 unfolding spliced letter_at
 replayed = refl
 
--- a line that is another one, that should not be there, that is missing, or that stands in the place of another
+-- a line that is a different one, that should not be there, that is missing, or that is in the place of another
 other_lines : Agree (
     (with 2 slip.OtherPlayer, word_play ∷ at_play ∷ record pass { player = Second } ∷ [])
     ∷ (with 2 (slip.Code (code.Exchange 3)), word_play ∷ at_play ∷ record pass { kind = kind.ExchangeUnknown 3 } ∷ [])

@@ -1,4 +1,4 @@
--- A record with a change.
+-- A record after a change.
 use Rattle.std.specs.Prelude.{ℕ, ℤ, pos, nat_le, ◌&&◌, List, [], ◌∷◌, map, reverse, length, Option, None, if◌then◌else◌}
 use Rattle.std.specs.Option.{option_map}
 use Rattle.ref_tiles.specs.declared.symbols.Symbol.{Symbol}
@@ -44,7 +44,7 @@ abbrev pub right_dir : PositionSlip → Dir → Dir
 right_dir position.OtherDirection d = other_dir d
 right_dir other d = d
 
--- the place of a text that is wrong, and how many symbols are, from there on
+-- the place of a text at which it is wrong, and the number of wrong symbols from there on
 abbrev pub wrong_place : SpellingSlip → ℕ
 wrong_place (spelling.OtherTile place right) = place
 wrong_place (spelling.Dot place) = place
@@ -63,7 +63,7 @@ wrong_symbols (spelling.Twisted place) = 2
 wrong_symbols (spelling.Laid word) = 0
 wrong_symbols other = 1
 
--- what should stand there in the place of these symbols
+-- what should be in place of these symbols
 abbrev pub right_symbols : SpellingSlip → List Symbol → List Symbol
 right_symbols (spelling.OtherTile place right) there = right ∷ []
 right_symbols (spelling.Dot place) there = symbol.Dot ∷ []
@@ -75,7 +75,7 @@ right_symbols (spelling.MissingLetter place right) there = symbol.Letter right �
 right_symbols (spelling.Twisted place) there = reverse there
 right_symbols (spelling.Laid word) there = []
 
--- a text has 1 to 15 symbols; what has not is none, and the text stays
+-- a text has 1 to 15 symbols; other symbols do not make one, and the text stays
 abbrev pub text_or : List Symbol → List Symbol → List Symbol
 text_or right word = if nat_le 1 (length right) && nat_le (length right) 15 then right else word
 
@@ -106,7 +106,7 @@ abbrev pub right_spelling : SpellingSlip → EventKind → EventKind
 right_spelling s (kind.Play at d word) = kind.Play at d (right_word s word)
 right_spelling s other = other
 
--- a play that is another one altogether
+-- a play that is a different one altogether
 abbrev pub right_play : RightPlay → EventKind → EventKind
 right_play right (kind.Play at d word) = kind.Play right.at right.dir right.word
 right_play right other = other
@@ -134,12 +134,12 @@ right_rack (slip.Tile tiles_of.Rack s) rack = option_map (right_tiles s) rack
 right_rack slip.NoRack rack = None
 right_rack other rack = rack
 
--- whose line it is
+-- the player whose line it is
 abbrev pub right_player : Slip → Seat → Seat
 right_player slip.OtherPlayer player = other_seat player
 right_player other player = player
 
--- the score, where it is one that the rules do not give
+-- the score, if it is one that the rules do not give
 abbrev pub right_amount : Slip → ℤ → ℤ
 right_amount (slip.Amount right) score = right
 right_amount other score = score
@@ -156,7 +156,7 @@ right_event s e =
       total = e.total;
     }
 
--- ---- a line that is missing
+-- ---- a missing line
 
 abbrev pub missing_player : MissingLine → Seat
 missing_player (line.Play player play) = player
@@ -181,21 +181,21 @@ missing_score (line.Time player score early) = score
 missing_score (line.Challenge player score several) = score
 missing_score other = pos 0
 
--- The event of a line that is missing. It stands on no line of the record, which is line 0, and nothing is written of its numbers
--- but an amount that the rules do not give.
+-- The event of a missing line. It is not on a line of the record, which is line 0, and no number of it is written except an amount
+-- that the rules do not give.
 abbrev pub missing_event : MissingLine → Event
 missing_event m = record { line = 0; player = missing_player m; rack = None; kind = missing_kind m; score = missing_score m; total = pos 0 }
 
 -- ---- the record
 
--- how many events a slip concerns, from its place on
+-- the number of events that a slip concerns, from its place on
 abbrev pub wrong_events : Slip → ℕ
 wrong_events slip.Swapped = 2
 wrong_events slip.SwappedOver = 3
 wrong_events (slip.Missing m) = 0
 wrong_events other = 1
 
--- what should stand there in the place of these events
+-- what should be in place of these events
 abbrev pub right_events : Slip → List Event → List Event
 right_events slip.Repeated there = []
 right_events slip.ExtraPass there = []
@@ -205,6 +205,6 @@ right_events slip.SwappedOver there = reverse there
 right_events (slip.Missing m) there = missing_event m ∷ []
 right_events s there = map (right_event s) there
 
--- The events of a record with a change. Those before and behind stay.
+-- The events of a record after a change. Those before and after it stay as they are.
 abbrev pub applied : Change → List Event → List Event
 applied change events = spliced change.place (wrong_events change.slip) (right_events change.slip) events

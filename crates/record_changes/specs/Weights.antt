@@ -1,4 +1,4 @@
--- How much a slip weighs: the less, the likelier it is.
+-- The weight of a slip: a smaller one is likelier.
 use Rattle.std.specs.Prelude.{ℕ, Bool, true, false}
 use Rattle.record_changes.specs.declared.slips.Slip.{Slip}
 use Rattle.record_changes.specs.declared.slips.Slip.TheVariants as slip
@@ -30,14 +30,14 @@ spelling_weight (spelling.MissingLetter place right) = 4
 spelling_weight (spelling.Twisted place) = 2
 spelling_weight (spelling.Laid word) = 2
 
--- one tile for another weighs less on a last rack, which is seen by both players
+-- one tile for another weighs less on a last rack, which both players see
 abbrev pub other_weight : TilesOf → ℕ
 other_weight tiles_of.Rack = 3
 other_weight tiles_of.Exchange = 3
 other_weight tiles_of.LastRack = 2
 
--- a tile too many or too few weighs less on a stated rack, of which any part may be written, and still less in an exchange, of which
--- nothing is seen on the board
+-- a tile too many or too few weighs less on a stated rack, of which any part may be written, and still less in an exchange, of
+-- which nothing is seen on the board
 abbrev pub number_weight : TilesOf → ℕ
 number_weight tiles_of.Rack = 3
 number_weight tiles_of.Exchange = 2
@@ -53,7 +53,7 @@ abbrev pub early_weight : (early : Bool) → ℕ
 early_weight true = 6
 early_weight false = 3
 
--- a challenge of more words than one
+-- a challenge of more than one word
 abbrev pub several_weight : (several : Bool) → ℕ
 several_weight true = 5
 several_weight false = 3

@@ -1,4 +1,4 @@
-//! A record with a change.
+//! Applying a change to a record.
 ghost use Rattle.std.specs.Prelude.{◌≡◌, ◌+◌, ◌≤◌, ◌++◌, ◌∷◌, [], pos, map, reverse, take, drop, length, IfOk};
 ghost use Rattle.record_changes.specs.Applied.{right_event, missing_player, missing_kind, missing_score, missing_event, wrong_events, right_events, applied};
 
@@ -8,7 +8,7 @@ use crate::slips::{Change, MissingLine, Slip};
 use gcg_read::{Event, EventKind, Events, Points, Seat};
 use std::alloc::{AllocError, Global};
 
-/// The player of a line that is missing.
+/// The player of a missing line.
 fn missing_player(line: &MissingLine) -> Seat
     ensures { result ≡ missing_player line.now }
 {
@@ -23,7 +23,7 @@ fn missing_player(line: &MissingLine) -> Seat
     }
 }
 
-/// What happened on a line that is missing.
+/// What happened on a missing line.
 fn missing_kind(line: &MissingLine) -> EventKind
     ensures { result ≡ missing_kind line.now }
 {
@@ -45,7 +45,7 @@ fn no_points() -> Points
     Points::new(0).unwrap()
 }
 
-/// The score of a line that is missing, where it is one that the rules do not give.
+/// The score of a missing line, if it is one that the rules do not give.
 fn missing_score(line: &MissingLine) -> Points
     ensures { result ≡ missing_score line.now }
 {
@@ -56,7 +56,7 @@ fn missing_score(line: &MissingLine) -> Points
     }
 }
 
-/// The event of a line that is missing.
+/// The event of a missing line.
 fn missing_event(line: &MissingLine) -> Event
     ensures { result ≡ missing_event line.now }
 {
@@ -70,7 +70,7 @@ fn missing_event(line: &MissingLine) -> Event
     }
 }
 
-/// How many events a slip concerns, from its place on.
+/// The number of events that a slip concerns, from its place on.
 pub fn wrong_events(slip: &Slip) -> usize
     ensures number { result ≡ wrong_events slip.now }
     ensures few { result ≤ 3 }
@@ -83,7 +83,7 @@ pub fn wrong_events(slip: &Slip) -> usize
     }
 }
 
-/// The events of one.
+/// The list of one event.
 fn only(alloc: Global, event: Event) -> Result<Events, AllocError>
     ensures { IfOk result (λ events. events ≡ event ∷ []) }
 {
@@ -92,7 +92,7 @@ fn only(alloc: Global, event: Event) -> Result<Events, AllocError>
     Ok(events)
 }
 
-/// Events the other way round.
+/// Events in reverse order.
 fn reversed(alloc: Global, there: &[Event]) -> Result<Events, AllocError>
     ensures { IfOk result (λ events. events ≡ reverse there.now) }
 {
@@ -114,9 +114,9 @@ fn each_right(alloc: Global, slip: &Slip, there: &[Event]) -> Result<Events, All
     Ok(events)
 }
 
-/// What should stand in a record in the place of the events that a slip concerns.
+/// What should be in a record in place of the events that a slip concerns.
 ///
-/// It fails only where memory runs out.
+/// It fails only if memory runs out.
 pub fn right_events(alloc: Global, slip: &Slip, there: &[Event]) -> Result<Events, AllocError>
     ensures { IfOk result (λ events. events ≡ right_events slip.now there.now) }
 {
@@ -137,7 +137,7 @@ fn copies(alloc: Global, events: &[Event]) -> Result<Events, AllocError>
     Ok(same)
 }
 
-/// The events in which those from a place on, so many, are others.
+/// The events with the given number of them, from a place on, replaced by others.
 fn joined(
     alloc: Global,
     events: &[Event],
@@ -155,9 +155,9 @@ fn joined(
     Ok(all)
 }
 
-/// The events of a record with a change. Those before and behind stay.
+/// The events of a record after a change. Those before and after it stay as they are.
 ///
-/// It fails only where memory runs out.
+/// It fails only if memory runs out.
 #[tactic(auto, unfolding(crate::specs::Splices::spliced))]
 pub fn apply(alloc: Global, change: &Change, events: &[Event]) -> Result<Events, AllocError>
     ensures { IfOk result (λ right. right ≡ applied change.now events.now) }

@@ -6,14 +6,14 @@ use crate::slips::RightPlay;
 use gcg_read::{Event, EventKind, Events, Text};
 use std::alloc::AllocError;
 
-/// The same text.
+/// A copy of the text.
 pub(crate) fn copy_text(text: &Text) -> Text
     ensures { result ≡ text.now }
 {
     Text::new(text.as_slice()).unwrap()
 }
 
-/// That a play is made.
+/// The kind of an event that is this play.
 pub(crate) fn play_kind(play: &RightPlay) -> EventKind
     ensures { result ≡ kind_of.Play play.now.at play.now.dir play.now.word }
 {
@@ -24,7 +24,7 @@ pub(crate) fn play_kind(play: &RightPlay) -> EventKind
     }
 }
 
-/// The same of what happened.
+/// A copy of the kind of an event.
 pub(crate) fn copy_kind(kind: &EventKind) -> EventKind
     ensures { result ≡ kind.now }
 {
@@ -44,7 +44,7 @@ pub(crate) fn copy_kind(kind: &EventKind) -> EventKind
     }
 }
 
-/// The same event.
+/// A copy of the event.
 pub(crate) fn copy_event(event: &Event) -> Event
     ensures { result ≡ event.now }
 {
@@ -58,7 +58,7 @@ pub(crate) fn copy_event(event: &Event) -> Event
     }
 }
 
-/// Puts copies of events behind others.
+/// Appends copies of events.
 pub(crate) fn push_copies(events: &mut Events, more: &[Event]) -> Result<(), AllocError>
     ensures { OnOk result (events.new ≡ events.old ++ more.now) }
 {

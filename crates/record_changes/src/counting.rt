@@ -1,10 +1,10 @@
-//! One tile less or more.
+//! One tile fewer, or one more.
 ghost use Rattle.std.specs.Prelude.{◌≡◌};
 ghost use Rattle.record_changes.specs.TileCounts.{one_less, one_more};
 
 use ref_tiles::{Counts, Kind};
 
-/// One tile of a kind less, where there is one.
+/// One fewer tile of a kind, if there is one.
 pub fn one_less(counts: &Counts, kind: Kind) -> Counts
     ensures { result ≡ one_less counts.now kind }
 {
@@ -16,7 +16,7 @@ pub fn one_less(counts: &Counts, kind: Kind) -> Counts
     less
 }
 
-/// One tile of a kind more, where there are few enough.
+/// One more tile of a kind, if there is room for it.
 pub fn one_more(counts: &Counts, kind: Kind) -> Counts
     ensures { result ≡ one_more counts.now kind }
 {

@@ -1,4 +1,4 @@
-//! A single change of a record: a slip of the pen on one line, what it weighs, and the record without it.
+//! A single change of a record: a slip of the pen on one line, its weight, and the record without it.
 #![tactic(auto)]
 
 mod applying;

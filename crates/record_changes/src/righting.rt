@@ -12,7 +12,7 @@ use gcg_read::{Event, EventKind, Points, Seat};
 use ref_board::{Dir, Square};
 use ref_tiles::Counts;
 
-/// The square whose row and column are those of another one, the other way round.
+/// The square with the row and the column of another one interchanged.
 fn mirrored(at: Square) -> Square
     ensures { result ≡ mirrored at }
 {
@@ -91,7 +91,7 @@ fn right_spelling(slip: &SpellingSlip, kind: &EventKind) -> EventKind
     }
 }
 
-/// Another play in the place of one.
+/// Another play in place of one.
 fn right_play(right: &RightPlay, kind: &EventKind) -> EventKind
     ensures { result ≡ right_play right.now kind.now }
 {
@@ -132,7 +132,7 @@ fn right_kind(slip: &Slip, kind: &EventKind) -> EventKind
     }
 }
 
-/// The right tiles of a rack, where one is stated.
+/// The right tiles of a rack, if one is stated.
 fn right_tiles_of(slip: &TileSlip, rack: &Option<Counts>) -> Option<Counts>
     ensures { result ≡ option_map (right_tiles slip.now) rack.now }
 {
@@ -156,7 +156,7 @@ fn right_rack(slip: &Slip, rack: &Option<Counts>) -> Option<Counts>
     }
 }
 
-/// Whose line it is.
+/// The player whose line it is.
 fn right_player(slip: &Slip, player: Seat) -> Seat
     ensures { result ≡ right_player slip.now player }
 {
@@ -166,7 +166,7 @@ fn right_player(slip: &Slip, player: Seat) -> Seat
     }
 }
 
-/// The score, where it is one that the rules do not give.
+/// The score, if it is one that the rules do not give.
 fn right_amount(slip: &Slip, score: Points) -> Points
     ensures { result ≡ right_amount slip.now score }
 {

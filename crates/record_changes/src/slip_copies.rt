@@ -4,7 +4,7 @@ ghost use Rattle.std.specs.Prelude.{◌≡◌};
 use crate::copying::copy_text;
 use crate::slips::{MissingLine, PositionSlip, RightPlay, Slip, SpellingSlip};
 
-/// The same play.
+/// A copy of a play.
 fn copy_play(play: &RightPlay) -> RightPlay
     ensures { result ≡ play.now }
 {
@@ -15,7 +15,7 @@ fn copy_play(play: &RightPlay) -> RightPlay
     }
 }
 
-/// The same of the position of a play.
+/// A copy of a slip in the position of a play.
 fn copy_position(slip: &PositionSlip) -> PositionSlip
     ensures { result ≡ slip.now }
 {
@@ -27,7 +27,7 @@ fn copy_position(slip: &PositionSlip) -> PositionSlip
     }
 }
 
-/// The same of the text of a play.
+/// A copy of a slip in the text of a play.
 fn copy_spelling(slip: &SpellingSlip) -> SpellingSlip
     ensures { result ≡ slip.now }
 {
@@ -56,7 +56,7 @@ fn copy_spelling(slip: &SpellingSlip) -> SpellingSlip
     }
 }
 
-/// The same line that is missing.
+/// A copy of a missing line.
 fn copy_missing(line: &MissingLine) -> MissingLine
     ensures { result ≡ line.now }
 {
@@ -96,7 +96,7 @@ fn copy_missing(line: &MissingLine) -> MissingLine
     }
 }
 
-/// The same slip.
+/// A copy of a slip.
 pub fn copy_slip(slip: &Slip) -> Slip
     ensures { result ≡ slip.now }
 {

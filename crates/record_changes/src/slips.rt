@@ -13,7 +13,7 @@ pub enum PositionSlip {
     OneOff(Square),
     /// It begins further off in the same row or column: on this one.
     Further(Square),
-    /// It begins on the square whose row and column are the other way round.
+    /// It begins on the square with row and column interchanged.
     Interchanged,
 }
 
@@ -24,7 +24,7 @@ pub enum SpellingSlip {
     OtherTile {
         /// The place of the symbol.
         place: usize,
-        /// What should stand there.
+        /// What should be there.
         right: Symbol,
     },
     /// A letter is a tile that was on the board before: a dot.
@@ -43,7 +43,7 @@ pub enum SpellingSlip {
     OtherLetter {
         /// The place of the symbol.
         place: usize,
-        /// What should stand there.
+        /// What should be there.
         right: Symbol,
     },
     /// A symbol should not be there.
@@ -53,17 +53,17 @@ pub enum SpellingSlip {
     },
     /// A dot is missing.
     MissingDot {
-        /// The place before which it should stand.
+        /// The place before which it should be.
         place: usize,
     },
     /// A letter is missing.
     MissingLetter {
-        /// The place before which it should stand.
+        /// The place before which it should be.
         place: usize,
         /// The letter.
         right: Letter,
     },
-    /// A symbol and the next one stand in each other's place.
+    /// A symbol and the next one are in each other's place.
     Twisted {
         /// The place of the first of the two.
         place: usize,
@@ -105,12 +105,12 @@ pub enum TileSlip {
     },
 }
 
-/// What a line should be that is a pass, an exchange of tiles that are not known, or a withdrawal.
+/// What a pass, an exchange of unknown tiles or a withdrawal should be.
 #[derive(Clone, Copy)]
 pub enum CodeSlip {
     /// A pass.
     Pass,
-    /// An exchange of so many tiles.
+    /// An exchange of this number of tiles.
     Exchange(u8),
     /// A withdrawal.
     Withdrawal,
@@ -127,7 +127,7 @@ pub struct RightPlay {
     pub word: Text,
 }
 
-/// A line that is missing.
+/// A missing line.
 #[derive(Drop)]
 pub enum MissingLine {
     /// A player makes a play.
@@ -139,11 +139,11 @@ pub enum MissingLine {
     },
     /// A player passes.
     Pass(Seat),
-    /// A player exchanges so many tiles.
+    /// A player exchanges a number of tiles.
     Exchange {
         /// The player.
         player: Seat,
-        /// How many tiles.
+        /// The number of tiles.
         number: u8,
     },
     /// A player gets a penalty for time.
@@ -152,7 +152,7 @@ pub enum MissingLine {
         player: Seat,
         /// The penalty, as the score of the line.
         score: Points,
-        /// Whether a turn comes behind it.
+        /// Whether a turn comes after it.
         early: bool,
     },
     /// A player takes back the play before it.
@@ -182,24 +182,24 @@ pub enum Slip {
     Position(PositionSlip),
     /// A play has another text.
     Spelling(SpellingSlip),
-    /// A play is another one altogether: this one.
+    /// A play is a different one altogether: this one.
     Replayed(RightPlay),
-    /// Tiles are others.
+    /// Tiles are wrong.
     Tile {
         /// Which tiles.
         of: TilesOf,
         /// What is wrong with them.
         slip: TileSlip,
     },
-    /// The rack that the line states is wrong, and which one it was is not known.
+    /// The rack that the line states is wrong, and the right one is not known.
     NoRack,
-    /// So many tiles are exchanged that are not known.
+    /// This number of unknown tiles is exchanged.
     Number(u8),
     /// The line is a pass, an exchange or a withdrawal in place of another of these.
     Code(CodeSlip),
     /// The tiles of a last rack are those that are on no other line: these.
     Rest(Counts),
-    /// A bonus for a challenge or a penalty for time is another one.
+    /// The amount of a bonus for a challenge or of a penalty for time is wrong: it is this one.
     Amount(Points),
     /// The line is the other player's.
     OtherPlayer,
@@ -209,18 +209,18 @@ pub enum Slip {
     ExtraPass,
     /// The line should not be there.
     Extra,
-    /// The line and the next one stand in each other's place.
+    /// The line and the next one are in each other's place.
     Swapped,
-    /// The line and the one after the next one stand in each other's place.
+    /// The line and the second line after it are in each other's place.
     SwappedOver,
     /// A line is missing before this one.
     Missing(MissingLine),
 }
 
-/// A single change of a record: what is wrong with one line, and so what stands there in its place.
+/// A single change of a record: what is wrong with one line, and so what replaces it.
 #[derive(Drop)]
 pub struct Change {
-    /// The place of the line among the events, counted from 0. A line may be missing behind the last event too.
+    /// The place of the line among the events, counted from 0. A line may be missing after the last event too.
     pub place: usize,
     /// What is wrong there.
     pub slip: Slip,

@@ -12,7 +12,7 @@ use ref_tiles::{SIDE, Symbol};
 /// Room for a text and the symbols that one slip may add.
 const ROOM: usize = SIDE + 2;
 
-/// The place of a text from which on it is wrong.
+/// The place of a text at which it begins to be wrong.
 fn wrong_place(slip: &SpellingSlip) -> usize
     ensures { result ≡ wrong_place slip.now }
 {
@@ -29,7 +29,7 @@ fn wrong_place(slip: &SpellingSlip) -> usize
     }
 }
 
-/// How many symbols are wrong, from there on.
+/// The number of wrong symbols, from there on.
 fn wrong_symbols(slip: &SpellingSlip) -> usize
     ensures number { result ≡ wrong_symbols slip.now }
     ensures few { result ≤ 2 }
@@ -66,7 +66,7 @@ fn pair(first: Symbol, second: Symbol) -> ArrayVec<Symbol, 2>
     symbols
 }
 
-/// Two symbols or fewer, the other way round.
+/// At most two symbols, in reverse order.
 fn reversed(there: &[Symbol]) -> ArrayVec<Symbol, 2>
     requires { length there.now ≤ 2 }
     ensures { result.items ≡ reverse there.now }
@@ -78,7 +78,7 @@ fn reversed(there: &[Symbol]) -> ArrayVec<Symbol, 2>
     }
 }
 
-/// What should stand there in the place of these symbols.
+/// What should be in place of these symbols.
 fn right_symbols(slip: &SpellingSlip, there: &[Symbol]) -> ArrayVec<Symbol, 2>
     requires { length there.now ≤ 2 }
     ensures { result.items ≡ right_symbols slip.now there.now }
@@ -96,7 +96,7 @@ fn right_symbols(slip: &SpellingSlip, there: &[Symbol]) -> ArrayVec<Symbol, 2>
     }
 }
 
-/// Puts symbols behind others.
+/// Appends symbols.
 fn push_all(symbols: &mut ArrayVec<Symbol, ROOM>, more: &[Symbol])
     requires { length symbols.old.items + length more.now ≤ 17 }
     ensures { symbols.new.items ≡ symbols.old.items ++ more.now }
@@ -106,7 +106,7 @@ fn push_all(symbols: &mut ArrayVec<Symbol, ROOM>, more: &[Symbol])
     }
 }
 
-/// A text in which the symbols from a place on, so many, are others.
+/// A text in which the given number of symbols, from a place on, are replaced.
 fn spliced(word: &[Symbol], place: usize, many: usize, right: &[Symbol]) -> ArrayVec<Symbol, ROOM>
     requires within { place + many ≤ length word.now }
     requires word { length word.now ≤ 15 }
@@ -120,7 +120,7 @@ fn spliced(word: &[Symbol], place: usize, many: usize, right: &[Symbol]) -> Arra
     symbols
 }
 
-/// A text of symbols, where they are one, else the other one.
+/// The text of these symbols if they make one, otherwise the given one.
 fn text_or(right: &[Symbol], word: &Text) -> Text
     ensures { result ≡ text_or right.now word.now }
 {
@@ -130,7 +130,7 @@ fn text_or(right: &[Symbol], word: &Text) -> Text
     }
 }
 
-/// The text with other symbols in the place of those that are wrong.
+/// The text with other symbols in place of the wrong ones.
 #[tactic(auto, unfolding(crate::specs::Splices::spliced))]
 fn respelled(slip: &SpellingSlip, word: &Text) -> Text
     ensures { result ≡ text_or (spliced (wrong_place slip.now) (wrong_symbols slip.now) (right_symbols slip.now) word.now) word.now }

@@ -1,4 +1,4 @@
-//! How much a slip weighs.
+//! The weight of a slip.
 ghost use Rattle.std.specs.Prelude.{◌≡◌};
 ghost use Rattle.record_changes.specs.Weights.{position_weight, spelling_weight, other_weight, number_weight, tile_weight, early_weight, several_weight, missing_weight, weight_of};
 
@@ -84,7 +84,7 @@ fn missing_weight(line: &MissingLine) -> usize
     }
 }
 
-/// How much a slip weighs, 1 to 7: the less, the likelier it is.
+/// The weight of a slip, 1 to 7: a smaller one is likelier.
 pub fn weight_of(slip: &Slip) -> usize
     ensures { result ≡ weight_of slip.now }
 {

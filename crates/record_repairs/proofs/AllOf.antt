@@ -12,7 +12,7 @@ use Rattle.record_repairs.specs.Candidates.{rank_in, IsCandidate, MayBeTold, IsT
 use Rattle.record_repairs.specs.declared.listed.Listed.{Listed}
 use Rattle.record_repairs.specs.declared.candidate.Candidate.{Candidate}
 
--- ---- pairs of a list that is joined of two
+-- ---- pairs of a list that is joined from two
 
 front_or : {X : Type 0} (xs ys : List X) (i : ℕ) (d : X) → i < length xs → get_or (xs ++ ys) i d ≡ get_or xs i d
 front_or [] ys i d within = absurd (omega (arith, within))
@@ -78,7 +78,7 @@ one_of rules list written plays below c is =
     only zero d within = (is, refl)
     only (suc k) d within = absurd (omega (arith, within))
 
--- the candidates among other changes, which are the same as far as they may be told
+-- the candidates among other changes, which are the same as far as they may be repairs
 pub among_others : (rules : Rules) (list : List (List ℕ)) (written : List Event) (plays : List Change) (below : Option ℕ) (W V : Listed → Type 0) (xs : List Candidate) → AreAllOf rules list written plays below W xs
     → ((l : Listed) → W l → V l) → ((l : Listed) → V l → MayBeTold rules list written plays below l → W l) → AreAllOf rules list written plays below V xs
 among_others rules list written plays below W V xs are more less =
@@ -88,7 +88,7 @@ among_others rules list written plays below W V xs are more less =
       all = λ l of_l may. are.all l (less l of_l may) may;
     }
 
--- the candidates among some changes, and behind them those among later ones
+-- the candidates among some changes, and after them those among later ones
 pub joined : (rules : Rules) (list : List (List ℕ)) (written : List Event) (plays : List Change) (below : Option ℕ) (W V U : Listed → Type 0) (xs ys : List Candidate) → AreAllOf rules list written plays below W xs
     → AreAllOf rules list written plays below V ys → ((l : Listed) → W l → U l) → ((l : Listed) → V l → U l)
     → ((l : Listed) → U l → MayBeTold rules list written plays below l → W l ⊎ V l)

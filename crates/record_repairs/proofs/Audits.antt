@@ -1,4 +1,4 @@
--- What an audit of the sheet with a change tells.
+-- What an audit of the sheet with a change says.
 use Rattle.std.proofs.Common.{◌≡◌, ◌⊎◌, inl, inr, ℕ, zero, suc, ◌+◌, ◌<◌, List, [], ◌∷◌, ◌++◌, map, length, set, take, get_or, slice_get, Option, Some, None, refl, sym, ap, ◌∙◌, subst, arith}
 use Rattle.std.specs.List.{filter, flat_map, range_with_len}
 use Rattle.std.proofs.lemmas.Bool.{cases_eq}
@@ -34,7 +34,7 @@ use Rattle.record_repairs.specs.Trying.{IsWritable}
 use Rattle.record_repairs.proofs.SheetLines.{one_spliced, none_spliced}
 use Rattle.record_repairs.proofs.WrongLines.{lines_alone}
 
--- ---- the events on the sheet are the right ones but for their numbers
+-- ---- the events on the sheet are the right ones except for their numbers
 
 line_renumbered : (changed right : List Event) (place : ℕ) (e b : Event) → slice_get right place ≡ Some b → IsRenumbered e b → IsRenumbered (line_on_sheet changed right place e) b
 line_renumbered changed right place e b at is =
@@ -89,7 +89,7 @@ sheet_renumbered change changed right sheet is are =
 
 -- ---- its audit
 
--- the right events are those of the sheet too, and the wrong numbers are those beside them
+-- the right events are those of the sheet too, and the wrong numbers are those compared with them
 pub record IsAuditOf (sheet right audited : List Event) (wrong : List WrongNumber) : Type 0 where
   pub same : audited ≡ right
   pub all : wrong ≡ wrong_lines sheet right ++ wrong_totals sheet right
@@ -142,7 +142,7 @@ audited_words rules list changed sheet right audited wrong walk words is are aud
     let end = end_by rules list sheet right here.end walk.stopped here.ends own in
     told ∙ words_by rules list sheet right walk.rows.items (subst (λ n. AreRowsTo rules list sheet right n walk.rows.items) end here.rows)
 
--- one row more
+-- one more row
 pub rows_more : (list : List (List ℕ)) (rows : List Row) (place : ℕ) (row : Row) (words more all : List (List ℕ)) → place < length rows → row ≡ get_or rows place row
     → words ≡ words_of_rows list (take place rows) → more ≡ words_of_row list row → all ≡ words ++ more → all ≡ words_of_rows list (take (place + 1) rows)
 unfolding words_of_rows

@@ -17,7 +17,7 @@ pub stands_first : (rules : Rules) (list : List (List ℕ)) (events : List Event
 stands_first rules list events machine by state =
     record { front = events; renumbered = all_themselves events; allowed = λ k below. absurd (omega (arith, below)); by = by; state = state }
 
--- from the first place on there is no other front than the events
+-- from the first place on the only front is the events
 same_front : (rules : Rules) (list : List (List ℕ)) (old now : List Event) (place : ℕ) (machine : Machine) (at : GoesTo rules list old now 0 place machine) → at.front ≡ now
 same_front rules list old now place machine at =
     same_items at.front now (at.up.renumbered.as_many ∙ sym at.long) (same_take at.front now (length at.front) (λ k below. at.there k (omega arith)))

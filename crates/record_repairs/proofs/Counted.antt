@@ -1,4 +1,4 @@
--- The scores and words that a trial of a change counts are wrong beside each correction.
+-- The scores and words that a trial of a change counts are wrong compared with each correction.
 use Rattle.std.proofs.Common.{◌≡◌, ◌⊎◌, inl, inr, ℕ, ◌+◌, ◌-◌, ◌<◌, ◌≤◌, Bool, true, false, List, [], ◌∷◌, length, take, drop, slice_get, Option, Some, None, refl, sym, ap, ◌∙◌, subst, arith, if◌then◌else◌}
 use Rattle.std.specs.Ordering.{int_eq}
 use Rattle.std.proofs.lemmas.Bool.{cases_lt}
@@ -61,7 +61,7 @@ words_by : (rules : Rules) (list : List (List ℕ)) (right : List Event) (place 
     → length (unlisted_at rules list right place) ≡ length (unlisted_of list (standing_words s.latest))
 words_by rules list right place s same = ap (λ (t : State). length (unlisted_of list (standing_words t.latest))) same
 
--- An event that was given its right numbers counts no more than what is wrong there beside a correction.
+-- An event that was given its right numbers counts no more than what is wrong there compared with a correction.
 pub event_counted : (rules : Rules) (list : List (List ℕ)) (old now new : List Event) (start place : ℕ) (machine next : Machine) (missing : Option ℕ) (right sheet : List Event) (o e : Event) (gone : Bool)
     → GoesTo rules list old now start place machine → GoesTo rules list old new start (place + 1) next → start ≤ place → place < length old → IsWritable rules list old right
     → IsSheetBut old missing sheet → slice_get now place ≡ Some o → slice_get new place ≡ Some e → (missing ≡ Some place → gone ≡ true)
@@ -167,7 +167,7 @@ row_counted rules list written right front sheet rows start end k (Some row) are
     let words = words_by rules list right k (state_of row.behind) (agree.tallies k below ∙ sym here.behind) in
     omega (arith, scores, many, by_row, words)
 
--- The rows before a start count no more than what is wrong there beside a correction of the changed record.
+-- The rows before a start count no more than what is wrong there compared with a correction of the changed record.
 pub rows_counted : (rules : Rules) (list : List (List ℕ)) (written changed right sheet : List Event) (walk : Walk) (missing : Option ℕ) (place start : ℕ) → IsWalkOf rules list written walk
     → IsStart written changed place start → start ≤ length written → start ≤ length changed → start ≤ length walk.rows.items
     → ((j : ℕ) → j < place → slice_get changed j ≡ slice_get written j) → IsWritable rules list changed right → IsSheetBut changed missing sheet → ((k : ℕ) → missing ≡ Some k → place ≤ k)
@@ -205,7 +205,7 @@ missing_at slip.Extra place k is = cc
 missing_at slip.Swapped place k is = cc
 missing_at slip.SwappedOver place k is = cc
 
--- Where the sums, the rows before a start and the events from there on leave no room, too many numbers and words stay wrong.
+-- If the sums, the rows before a start and the events from there on leave no room, too many numbers and words stay wrong.
 pub none_by : (rules : Rules) (list : List (List ℕ)) (change : Change) (written changed : List Event) (walk : Walk) (start : ℕ) (missing below first left : Option ℕ) → changed ≡ applied change written
     → IsWalkOf rules list written walk → IsStart written changed change.place start → start ≤ length written → start ≤ length changed → start ≤ length walk.rows.items
     → ((j : ℕ) → j < change.place → slice_get changed j ≡ slice_get written j) → missing ≡ missing_place change

@@ -26,7 +26,7 @@ use Rattle.record_repairs.proofs.Itself.{itself_as}
 use Rattle.record_repairs.proofs.Ranks.{not_both, not_itself}
 use Rattle.record_repairs.proofs.Weighing.{cost_is}
 
--- what is told and left of the candidates before an index
+-- what is given and left of the candidates before an index
 pub record AreSoFar (rules : Rules) (list : List (List ℕ)) (written : List Event) (plays : List Change) (below : Option ℕ) (most : ℕ) (found : List Candidate) (index : ℕ) (told : List Repair) (left : List Listed)
     : Type 0 where
   pub repairs : All (IsRepair rules list written plays below) told
@@ -72,7 +72,7 @@ same_right rules list written c d right other has same is =
     one_correction rules list (applied c.listed.change written) right other has.is.correction
     (subst (λ (x : Candidate). IsWritable rules list (applied x.listed.change written) other) same is).correction
 
--- ---- a repair more
+-- ---- one more repair
 
 rank_told : (rules : Rules) (list : List (List ℕ)) (written : List Event) (c : Candidate) (right : List Event) (r : Repair) → HasRight rules list written c right → r.listed ≡ c.listed
     → Remain rules list c.listed.change written right r.remains → rank_of r ≡ rank_in c
@@ -147,7 +147,7 @@ told_more rules list written plays below most found index c right told left r ar
           (before_or index k (λ less. so.others k d other less of_d is game) (cases_lt k index));
     }
 
--- ---- a change more that is left open
+-- ---- one more change that is left open
 
 others_open : (found : List Candidate) (index : ℕ) (c : Candidate) (told : List Repair) (left : List Listed) → slice_get found index ≡ Some c → (k : ℕ) (d : Candidate) (other : List Event)
     → k < index + 1 → slice_get found k ≡ Some d → (Contains left d.listed ⊎ IsToldAt told other (rank_in d)) ⊎ (index ≤ k)
@@ -216,7 +216,7 @@ none_more rules list written plays below most found index c right told left so a
           (before_or index k (λ less. so.others k d other less of_d is game) (cases_lt k index));
     }
 
--- ---- one candidate more
+-- ---- one more candidate
 
 put : (rules : Rules) (list : List (List ℕ)) (written : List Event) (plays : List Change) (below : Option ℕ) (most : ℕ) (found : List Candidate) (index : ℕ) (told more : List Repair) (left open_ones : List Listed)
     → more ≡ told → open_ones ≡ left → AreSoFar rules list written plays below most found index told left → AreSoFar rules list written plays below most found index more open_ones
@@ -301,7 +301,7 @@ first_ones rules list written plays below most found index told left are so done
           (subst (λ (x : Listed). IsWritable rules list (applied x.change written) right) (sym there.same) makes.correction) makes.game);
     }
 
--- what is told of candidates with all plays with which they are candidates is told of them with these
+-- what is given for candidates with all plays with which they are candidates is given for them with these
 pub told_with : {E : Type 0} (rules : Rules) (list : List (List ℕ)) (written : List Event) (plays : List Change) (below : Option ℕ) (most : ℕ) (found : List Candidate) (r : Result Found E)
     → AreCandidates rules list written plays below found
     → IfOk r (λ f. (others : List Change) → AreCandidates rules list written others below found → AreFirstRepairs rules list written others below most f.told.items f.left.items)

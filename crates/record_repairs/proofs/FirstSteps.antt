@@ -1,4 +1,4 @@
--- The steps of the first events of a record are those of each correction: where no racks fit them, the record makes no game.
+-- The steps of the first events of a record are those of each correction: if no racks fit them, the record makes no game.
 use Rattle.std.proofs.Common.{◌≡◌, ◌⊎◌, inl, inr, ℕ, ℤ, zero, suc, ◌+◌, ◌<◌, ◌≤◌, Bool, true, List, [], ◌∷◌, ◌++◌, length, take, drop, get_or, slice_get, Option, Some, None, refl, sym, ap, ◌∙◌, subst, arith}
 use Rattle.std.specs.Option.{is_some, option_or}
 use Rattle.std.proofs.lemmas.Bool.{cases_lt}
@@ -33,7 +33,7 @@ use Rattle.record_repairs.proofs.Fronts.{same_tally as tally_of_front, same_faul
 use Rattle.record_repairs.proofs.Starts.{joined_at, front_like, IsReady}
 use Rattle.record_repairs.proofs.Trials.{GoesTo}
 
--- ---- the step of an event hangs on none of its numbers
+-- ---- the step of an event depends on none of its numbers
 
 step_kept : (s : State) (line : ℕ) (player : Seat) (rack : Option (List ℕ)) (what : EventKind) (a b x y : ℤ) (w : Bool)
     → step_in s (made line player rack what a x) w ≡ step_in s (made line player rack what b y) w
@@ -84,7 +84,7 @@ steps_of_right rules list events right steps are writable =
     sym (take_all (length steps) steps (omega arith))
     ∙ same_take steps (steps_of rules right) (length steps) (λ k below. same_at rules list events right steps k (slice_get steps k) are writable below refl)
 
--- ---- where no racks fit them, there is no game
+-- ---- if no racks fit them, there is no game
 
 neither : {X : Type 0} (a b : Option X) → option_or a b ≡ None → (a ≡ None) × (b ≡ None)
 neither None b none = (refl, none)
@@ -159,7 +159,7 @@ steps_before rules list written changed place start steps are is same k step the
     step_moved rules list written changed k step (are k step (sym (get_take steps start k below) ∙ there)) (λ j less. same j (omega (arith, less, below, near)))
     (next_same written changed place start k is same below is.same (cases_lt (k + 1) place))
 
--- ---- one step more
+-- ---- one more step
 
 pub got_last : {X : Type 0} (xs : List X) (y : X) (k : ℕ) (x : X) → slice_get (xs ++ y ∷ []) k ≡ Some x → (slice_get xs k ≡ Some x) ⊎ ((k ≡ length xs) × (y ≡ x))
 got_last [] y zero x there = inr (refl, cc)

@@ -1,4 +1,4 @@
--- What is said of a place of a record hangs on the events up to it.
+-- What is said of a place of a record depends on the events up to it.
 use Rattle.std.proofs.Common.{◌≡◌, ℕ, ◌+◌, ◌<◌, ◌≤◌, List, length, reverse, take, slice_get, Option, Some, sym, ap, ◌∙◌, arith}
 use Rattle.std.specs.Prelude.{min}
 use Rattle.std.proofs.lemmas.List.{length-take}

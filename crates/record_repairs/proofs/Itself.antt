@@ -7,7 +7,7 @@ use Rattle.gcg_read.specs.declared.events.EventKind.{EventKind}
 use Rattle.gcg_read.specs.declared.events.EventKind.TheVariants as kind
 use Rattle.record_repairs.specs.Repairs.{SameSymbol, SameText, SameKind, SameEvent, SameRecord}
 
--- of each element of a list beside itself something holds
+-- something holds for each element of a list and itself
 each_itself : {X : Type 0} (P : X → X → Type 0) → ((x : X) → P x x) → (xs : List X) (place : ℕ) (a b : X) → slice_get xs place ≡ Some a → slice_get xs place ≡ Some b → P a b
 each_itself P all xs place a b of_a of_b = subst (P a) (same_Some a b (sym of_a ∙ of_b)) (all a)
 

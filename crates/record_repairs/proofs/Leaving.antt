@@ -1,4 +1,4 @@
--- How many may be wrong still, and how many are in all at some places.
+-- How many may still be wrong, and how many are in all at some places.
 use Rattle.std.proofs.Common.{◌≡◌, ℕ, zero, suc, ◌+◌, ◌-◌, ◌<◌, ◌≤◌, Bool, true, false, List, [], ◌∷◌, ◌++◌, length, slice_get, get_or, Option, Some, None, refl, sym, ap, ◌∙◌, subst, arith, if◌then◌else◌}
 use Rattle.std.specs.Prelude.{not, cond}
 use Rattle.std.specs.List.{flat_map, range_with_len}
@@ -26,7 +26,7 @@ leaves_less (Some room) many others fewer = omega (arith, fewer)
 pub leaves_by : (room left : Option ℕ) (many : ℕ) → left ≡ less room many → Leaves room many left
 leaves_by room left many is = subst (Leaves room many) (sym is) (leaves_less room many)
 
--- where nothing limits, nothing does behind it
+-- if there is no limit, there is none after it
 pub leaves_any : (room : Option ℕ) (many : ℕ) → room ≡ None → Leaves room many None
 leaves_any room many none others fewer = tt
 
@@ -37,7 +37,7 @@ pub leaves_both : (room left last : Option ℕ) (one two : ℕ) → Leaves room 
 leaves_both room left last one two of_one of_two others fewer =
     of_two others (of_one (two + others) (fewer_of room (one + (two + others)) (one + two + others) (omega arith) fewer))
 
--- where more are wrong than were counted
+-- if more are wrong than were counted
 pub leaves_more : (room left : Option ℕ) (one all : ℕ) → one ≤ all → Leaves room one left → Leaves room all left
 leaves_more room left one all within leaves others fewer = leaves others (fewer_of room (one + others) (all + others) (omega (arith, within)) fewer)
 
@@ -48,7 +48,7 @@ none_full : (left : Option ℕ) (others : ℕ) → left ≡ Some 0 → AreFewer 
 none_full None others full fewer = cc
 none_full (Some room) others full fewer = let is : room ≡ 0 = cc in absurd (omega (arith, fewer, is))
 
--- where no room is left
+-- if no room is left
 pub leaves_none : (room left : Option ℕ) (many all : ℕ) → Leaves room many left → left ≡ Some 0 → many ≤ all → AreFewer room all → ⊥
 leaves_none room left many all leaves full within fewer = none_full left 0 full (leaves_to room left many leaves 0 all (omega (arith, within)) fewer)
 
@@ -114,7 +114,7 @@ sum_more f start one two within =
     let same : sum_from f start (one + (two - one)) ≡ sum_from f start two = ap (sum_from f start) (omega (arith, within)) in
     omega (arith, all, same)
 
--- one place more
+-- one more place
 pub sum_step : (f : ℕ → ℕ) (start place : ℕ) → start ≤ place → sum_from f start (place + 1 - start) ≡ sum_from f start (place - start) + f place
 sum_step f start place behind =
     let step : place + 1 - start ≡ suc (place - start) = omega (arith, behind) in

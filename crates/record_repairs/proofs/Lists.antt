@@ -25,7 +25,7 @@ same_take {X} (x ∷ xs) (y ∷ ys) (suc k) same =
     let tail : take k xs ≡ take k ys = same_take xs ys k (λ j below. same (suc j) (omega arith)) in
     ap (λ (z : X). z ∷ take k xs) head ∙ ap (λ (zs : List X). y ∷ zs) tail
 
--- the first elements of a list, with others behind them
+-- the first elements of a list, with others after them
 pub get_front : {X : Type 0} (xs rest : List X) (n k : ℕ) → k < n → n ≤ length xs → slice_get (take n xs ++ rest) k ≡ slice_get xs k
 get_front [] rest n k below within = absurd (omega (arith, below, within))
 get_front (x ∷ xs) rest zero k below within = absurd (omega (arith, below))

@@ -1,4 +1,4 @@
--- Taking neighbours among some events one after the other.
+-- Taking consecutive events among some events one after the other.
 use Rattle.std.proofs.Common.{◌≡◌, ◌⊎◌, inl, inr, ℕ, ◌+◌, ◌-◌, ◌<◌, ◌≤◌, List, [], length, slice_get, Option, Some, refl, sym, ap, ◌∙◌, subst, arith}
 use Rattle.std.specs.Prelude.{true, false, Result, Ok, Err, IfErr, OnOk}
 use Rattle.std.specs.Result.{is_err}
@@ -25,7 +25,7 @@ use Rattle.record_repairs.proofs.FirstSteps.{got_last}
 use Rattle.record_repairs.proofs.Parts.{put, put_before, put_there, put_past, put_many}
 use Rattle.record_repairs.proofs.Trials.{GoesTo, begun, refused_by, went_by}
 
--- ---- neighbours that are put among the events again
+-- ---- consecutive events that are put among the events again
 
 -- before them, among them, and after them
 data Where (start many k : ℕ) : Type 0 where
@@ -106,7 +106,7 @@ pub record GoesNear (rules : Rules) (list : List (List ℕ)) (events first now :
   pub goes : GoesTo rules list events (put start now events) start (start + place) machine
   pub follow : AreStepsFrom rules list events start steps
 
--- The same wherever they are found, and a machine has the game before them.
+-- The same wherever they are found and a machine has the game before them.
 pub record GoAnywhere (rules : Rules) (list : List (List ℕ)) (first now : List Event) (old : Machine) (place : ℕ) (machine : Machine) (steps : List Step) : Type 0 where
   pub long : length now ≡ length first
   pub goes : (events : List Event) (start : ℕ) → IsPart events first start → StandsBefore rules list events start old → GoesNear rules list events first now start place machine steps

@@ -1,4 +1,4 @@
--- A few neighbours in a list, and the same neighbours of a list in which some elements are changed.
+-- A few consecutive elements of a list, and the same elements of a list in which some are changed.
 use Rattle.std.proofs.Common.{◌≡◌, ◌⊎◌, inl, inr, ℕ, zero, suc, ◌+◌, ◌<◌, ◌≤◌, Bool, true, false, List, [], ◌∷◌, ◌++◌, length, take, drop, slice_get, nat_le, refl, sym, ap, ◌∙◌, arith, if◌then◌else◌}
 use Rattle.std.proofs.lemmas.Bool.{cases_lt, le-leb}
 use Rattle.std.proofs.lemmas.List.{append_assoc, length-append, length-drop, length-take-le, take-append-drop}
@@ -25,7 +25,7 @@ pub get_after : {X : Type 0} (xs rest : List X) (n k : ℕ) → n ≤ length xs 
 get_after {X} xs rest n k within =
     ap (λ (m : ℕ). slice_get (take n xs ++ rest) (m + k)) (sym (length-take-le n xs within)) ∙ get_past (take n xs) rest k
 
--- ---- a list in which some neighbours are others
+-- ---- a list in which some consecutive elements are others
 
 abbrev pub put : {X : Type 0} → (start : ℕ) → (near all : List X) → List X
 put start near all = take start all ++ (near ++ drop (start + length near) all)
@@ -51,7 +51,7 @@ put_many start near all within =
     let back = length-drop (start + length near) all in
     omega (arith, one, two, front, back, within)
 
--- ---- a change among some neighbours
+-- ---- a change among some consecutive elements
 
 mid : {X : Type 0} (n many m : ℕ) (xs : List X) → n + many ≤ m → take many (drop n (take m xs)) ≡ take many (drop n xs)
 mid zero many m xs within = take_less xs m many (omega (arith, within))
@@ -93,8 +93,8 @@ back_laid {X} (suc s) n (suc p) many f (x ∷ xs) is within =
     ap (λ (q : ℕ). (x ∷ take p xs) ++ f (take many (drop p xs)) ++ drop q (x ∷ xs)) step
     ∙ ap (λ (zs : List X). x ∷ zs) (back_laid s n p many f xs (omega (arith, is)) (omega (arith, within)))
 
--- The neighbours of a changed list from a place on: they are those of the list itself with the change, and the last of them and all after it are as
--- they were.
+-- The consecutive elements of a changed list from a place on: they are those of the list itself with the change, and the last of them and all after
+-- it are as they were.
 pub record AreNear {X : Type 0} (s m : ℕ) (changed near xs : List X) : Type 0 where
   pub inner : ℕ
   pub long : length near ≡ inner + 1

@@ -66,7 +66,7 @@ same_listed rules written plays l m of_l of_m same_place same_index =
         let first : of_l ≡ record { change = m.change; index = l.index } = ap (λ (ch : Change). record { change = ch; index = l.index }) same_change in
         first ∙ ap (λ (n : ℕ). record { change = m.change; index = n }) same_index
 
--- ---- one candidate more, or none
+-- ---- one more candidate, or none
 
 pub adds_none : (rules : Rules) (list : List (List ℕ)) (written : List Event) (plays : List Change) (below : Option ℕ) (l : Listed) (found : List Candidate) → IsWeight rules list written below l.change None
     → AddsAllOf rules list written plays below (λ m. m ≡ l) found found
@@ -190,7 +190,7 @@ before_more rules list written plays below place old new before adds =
     (λ l of_l. omega (arith, of_l)) (λ l at. omega (arith, at)) (λ l of_l may. split_place place l of_l (cases_lt l.change.place place))
     (λ a b of_a of_b. earlier_place a.listed.change.place b.listed.change.place a.listed.index b.listed.index (omega (arith, of_a, of_b))))
 
--- ---- behind the end of the walk no change helps
+-- ---- after the end of the walk no change helps
 
 end_stops : (rules : Rules) (list : List (List ℕ)) (written right : List Event) (plays : List Change) (below : Option ℕ) (end : ℕ) (stopped : Option Stop) (l : Listed) → EndsAt rules list written right end stopped
     → MayBeTold rules list written plays below l → (l.change.place < end + 1) ⊎ (end + 1 ≤ l.change.place) → l.change.place < end + 1
@@ -211,7 +211,7 @@ within_walk rules list written plays below walk l walked may =
     let here = end_stops rules list written walked.right plays below is.end walk.stopped l is.ends may (cases_lt l.change.place (is.end + 1)) in
     omega (arith, many, here)
 
--- ---- nor does one behind the place where the racks stop
+-- ---- nor does one after the place where the racks stop
 
 stop_holds : (rules : Rules) (list : List (List ℕ)) (written : List Event) (plays : List Change) (below : Option ℕ) (end : ℕ) (steps : List Step) (l : Listed) → IsRackStop rules list written end steps
     → MayBeTold rules list written plays below l → (end < l.change.place) ⊎ (l.change.place ≤ end) → l.change.place < end + 1

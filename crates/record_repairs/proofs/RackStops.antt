@@ -1,4 +1,4 @@
--- Where no racks fit the first steps of a correction, no change behind them and the next event helps.
+-- If no racks fit the first steps of a correction, no change after them and the next event helps.
 use Rattle.std.proofs.Common.{◌≡◌, ℕ, ◌+◌, ◌<◌, List, [], take, slice_get, Option, Some, None, refl, sym, ap, ◌∙◌, subst, arith}
 use Rattle.std.proofs.lemmas.Option.{slice_get_past}
 use Rattle.ref_tiles.specs.declared.rulebook.Rules.{Rules}
@@ -32,7 +32,7 @@ step_by rules xs ys k (Some e) of_xs of_ys same next =
     let step : Step = step_in s e w in
     step_is rules ys k e s w step of_ys (sym same) (sym next) refl ∙ sym (step_is rules xs k e s w step of_xs refl refl refl)
 
--- the steps of lists that agree for two events more than there are steps before them
+-- the steps of lists that agree for two more events than there are steps before them
 same_steps : (rules : Rules) (xs ys : List Event) (place : ℕ) → take (place + 2) ys ≡ take (place + 2) xs → take (place + 1) (steps_of rules ys) ≡ take (place + 1) (steps_of rules xs)
 same_steps rules xs ys place same =
     same_take (steps_of rules ys) (steps_of rules xs) (place + 1)

@@ -1,4 +1,4 @@
--- The order of repairs is one: nothing is ahead of itself, and of two at most one is ahead of the other.
+-- The order of repairs is strict: nothing is ahead of itself, and of two at most one is ahead of the other.
 use Rattle.std.proofs.Common.{◌≡◌, ℕ, true, false, ◌&&◌, ◌||◌, ◌==◌, nat_lt, sym, ap, ◌∙◌, arith}
 use Rattle.std.proofs.lemmas.Bool.Decides.{nat_tests}
 use Rattle.record_repairs.specs.Costs.{Rank, is_ahead}

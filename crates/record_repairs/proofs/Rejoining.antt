@@ -1,4 +1,4 @@
--- Events that are, from a place on, those of another record from a place on, where the game there is the same.
+-- Events that are, from a place on, those of another record from a place on, if the game there is the same.
 use Rattle.std.proofs.Common.{◌≡◌, ◌⊎◌, inl, inr, ℕ, zero, suc, ◌+◌, ◌-◌, ◌<◌, ◌≤◌, List, ◌++◌, length, reverse, take, drop, slice_get, Option, Some, None, sym, ap, ◌∙◌, subst, arith}
 use Rattle.std.proofs.lemmas.Bool.{cases_lt}
 use Rattle.std.proofs.lemmas.List.{length-append, length-drop, length-take-le}

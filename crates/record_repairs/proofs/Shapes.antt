@@ -1,4 +1,5 @@
--- What of a tally does not hang on the numbers of the events: the board, the player who is out, and whether the game is complete.
+-- What in a tally does not depend on the numbers of the events: the board, the player who is out, and whether the game is
+-- complete.
 use Rattle.std.proofs.Common.{◌≡◌, ℕ, pos, suc, ◌&&◌, ◌||◌, Bool, true, false, List, [], ◌∷◌, ◌++◌, map, reverse, take, slice_get, Option, None, is_some, refl, sym, ap, ◌∙◌, arith}
 use Rattle.std.proofs.lemmas.List.{map-append, reverse-append, take-map}
 use Rattle.ref_tiles.specs.declared.rulebook.Rules.{Rules}
@@ -12,7 +13,7 @@ use Rattle.game_turns.specs.Tallies.{tally, tally_at, withdraws, is_last_rack, o
 use Rattle.game_sheets.specs.Corrections.{IsRenumbered, AreRenumbered}
 use Rattle.game_sheets.proofs.Fronts.{same_withdrawal}
 
--- an event by its player and by what happened alone
+-- an event with only its player and what happened
 abbrev pub shaped : Seat → EventKind → Event
 shaped player what = record { line = 0; player = player; rack = None; kind = what; score = pos 0; total = pos 0 }
 
@@ -42,7 +43,7 @@ map_reverse {X} {Y} f (x ∷ xs) =
 past_shape : (events : List Event) (place : ℕ) → map shape (reverse (take place events)) ≡ reverse (take place (map shape events))
 past_shape events place = map_reverse shape (take place events) ∙ ap (λ (es : List Event). reverse es) (sym (take-map shape place events))
 
--- ---- what hangs on shapes alone
+-- ---- what depends only on shapes
 
 standing_shape : (w : Bool) (past : List Event) → standing w (map shape past) ≡ standing w past
 standing_shape w [] = refl
@@ -78,7 +79,7 @@ complete_shape rules (e ∷ past) =
 
 -- ---- the tally at a place of renumbered events
 
--- what is read of the shapes of a past is the same of both
+-- what is read from the shapes of a past is the same for both
 by_shape : {X : Type 0} (f : List Event → X) → ((past : List Event) → f (map shape past) ≡ f past) → (written right : List Event) (place : ℕ) → AreRenumbered written right
     → f (reverse (take place right)) ≡ f (reverse (take place written))
 by_shape {X} f alone written right place are =

@@ -1,4 +1,4 @@
--- Where so much is wrong before a place that no change there leaves few enough numbers and words wrong.
+-- If so much is wrong before a place that no change there leaves few enough numbers and words wrong.
 use Rattle.std.proofs.Common.{◌≡◌, ◌⊎◌, inl, inr, ℕ, ℤ, ◌+◌, ◌-◌, ◌<◌, ◌≤◌, List, [], length, take, slice_get, Option, Some, None, refl, sym, ap, ◌∙◌, subst, arith, if◌then◌else◌}
 use Rattle.std.specs.Prelude.{pos}
 use Rattle.std.specs.Option.{unwrap_or}

@@ -38,7 +38,7 @@ kept_tail : {X : Type 0} (R : X → X → Type 0) (p : X → Bool) (x : X) (xs :
 kept_tail R p x xs true is all = pairs_tail R x (filter p xs) (subst (AllPairs R) (passes p x xs is) all)
 kept_tail R p x xs false is all = subst (AllPairs R) (fails p x xs is) all
 
--- two elements that pass a test stand in the order of all that pass
+-- two elements that pass a test are in the order of all that pass
 pub kept_pair : {X : Type 0} (R : X → X → Type 0) (p : X → Bool) (xs : List X) (i j : ℕ) (d : X) → AllPairs R (filter p xs) → i < j → j < length xs
     → p (get_or xs i d) ≡ true → p (get_or xs j d) ≡ true → R (get_or xs i d) (get_or xs j d)
 kept_pair R p [] i j d all less within is_i is_j = absurd (omega (arith, within))
@@ -66,7 +66,7 @@ either {X} R n xs ys i j d all stable less within rises (inr not_below) =
       kept_pair R p ys i j d (subst (AllPairs R) (sym (stable x)) (AllPairs-filter R p xs all)) less within (tie (n x) (n x) refl) (tie (n x) (n (get_or ys j d)) same),
     )
 
--- Where a list is sorted stably by a number, that number rises, or it stays and the elements stand in their old order.
+-- If a list is sorted stably by a number, that number rises, or it stays and the elements are in their old order.
 pub sorted_pairs : {X : Type 0} (R : X → X → Type 0) (n : X → ℕ) (xs ys : List X) → AllPairs R xs → IsNonDecreasingBy n ys → IsStableByKey n nat_cmp xs ys
     → AllPairs (λ a b. (n a < n b) ⊎ ((n a ≡ n b) × R a b)) ys
 sorted_pairs R n xs ys all rises stable =

@@ -15,7 +15,7 @@ use Rattle.record_repairs.specs.Trying.{StandsBefore, IsStart}
 use Rattle.record_repairs.proofs.Lists.{get_front, get_behind, take_front}
 use Rattle.record_repairs.proofs.Fronts.{same_fault}
 
--- a corrected front, with other events behind it
+-- a corrected front, with other events after it
 abbrev pub joined_at : (start : ℕ) → (front changed : List Event) → List Event
 joined_at start front changed = take start front ++ drop start changed
 
@@ -27,7 +27,7 @@ each_joined written changed front start k a b like within same of_a of_b (inl be
 each_joined written changed front start k a b like within same of_a of_b (inr behind) =
     subst (IsRenumbered a) (same_Some a b (sym of_a ∙ sym (get_behind front changed start k within behind) ∙ of_b)) (itself a)
 
--- at the first place of all it does not matter whether a withdrawal stands there
+-- at the first place of all it does not matter whether there is a withdrawal
 none_before : (rules : Rules) (a b : Bool) → tally rules a [] ≡ tally rules b []
 unfolding tally
 none_before rules true true = refl
@@ -47,7 +47,7 @@ tally_joined rules written changed front start like within (inr same) =
     ap (λ w. tally rules w (reverse (take start (joined_at start front changed)))) here
     ∙ ap (λ (events : List Event). tally rules (withdraws (slice_get front start)) (reverse events)) past
 
--- a machine stands before a place, and with a corrected front the events from there on are as they were
+-- a machine is before a place, and with a corrected front the events from there on are as they were
 pub record IsReady (rules : Rules) (list : List (List ℕ)) (events : List Event) (place : ℕ) (machine : Machine) : Type 0 where
   pub front : List Event
   pub renumbered : AreRenumbered events front
@@ -75,7 +75,7 @@ pub front_allowed : (rules : Rules) (list : List (List ℕ)) (changed front : Li
 front_allowed rules list changed front start enough allowed k below =
     same_fault rules list front (joined_at start front changed) k (take_front front (drop start changed) start (k + 1) (omega (arith, below)) enough) ∙ allowed k below
 
--- a machine that stands before a place of the one is ready there for the other
+-- a machine that is before a place of the one is ready there for the other
 pub ready : (rules : Rules) (list : List (List ℕ)) (written changed : List Event) (place start : ℕ) (machine : Machine) → StandsBefore rules list written start machine
     → IsStart written changed place start → start ≤ length written → start ≤ length changed → ((j : ℕ) → j < place → slice_get changed j ≡ slice_get written j)
     → IsReady rules list changed start machine
@@ -98,7 +98,7 @@ moved rules list written changed place start machine at is within long same =
     let new = ready rules list written changed place start machine at is within long same in
     record { front = new.front; renumbered = new.renumbered; allowed = new.allowed; by = new.by; state = new.state }
 
--- a machine that stands before a place is ready there
+-- a machine that is before a place is ready there
 pub ready_there : (rules : Rules) (list : List (List ℕ)) (events : List Event) (start : ℕ) (machine : Machine) → StandsBefore rules list events start machine → start ≤ length events
     → IsReady rules list events start machine
 ready_there rules list events start machine at within =

@@ -41,7 +41,7 @@ both_wrong sheet right place e r items first last had in_sheet in_right of_e of_
     added ∙ ap (λ (h : ℤ). first ++ wrong_sum h e) same ∙ ap (λ (xs : List WrongNumber). xs ++ wrong_sum (had_before sheet e.player place) e) made
     ∙ append_assoc items (wrong_score e r) (wrong_sum (had_before sheet e.player place) e) ∙ ap (λ (xs : List WrongNumber). items ++ xs) (sym here)
 
--- the elements of a list of lists, one list more
+-- the elements of a list of lists, with one more list
 pub one_more : {X : Type 0} (f : ℕ → List X) (place : ℕ) (old new : List X) → old ≡ flat_map f (range_with_len 0 place) → new ≡ old ++ f place → new ≡ flat_map f (range_with_len 0 (place + 1))
 one_more {X} f place old new so_far added =
     let step : place + 1 ≡ suc place = omega arith in

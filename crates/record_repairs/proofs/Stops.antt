@@ -1,4 +1,4 @@
--- Behind the event at which the correction of a record stops no change helps.
+-- After the event at which the correction of a record stops no change helps.
 use Rattle.std.proofs.Common.{◌≡◌, ℕ, ◌+◌, ◌<◌, List, take, ◌∙◌, subst, arith}
 use Rattle.gcg_read.specs.declared.events.Event.{Event}
 use Rattle.game_sheets.specs.Corrections.{IsCorrection}

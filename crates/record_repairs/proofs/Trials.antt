@@ -34,7 +34,7 @@ pub record GoesTo (rules : Rules) (list : List (List ℕ)) (old now : List Event
   pub by : rules_of machine ≡ rules
   pub state : state_of machine ≡ tally_at rules front place
 
--- ---- one event more is mended in the front too
+-- ---- one more event is mended in the front too
 
 each_mended : (front now new : List Event) (start k : ℕ) (a b : Event) → AreRenumbered now new → start ≤ length front
     → ((j : ℕ) → start ≤ j → slice_get front j ≡ slice_get now j) → slice_get front k ≡ Some a → slice_get (joined_at start front new) k ≡ Some b
@@ -87,7 +87,7 @@ begun rules list old start machine next stands within same_rules same_state =
       state = same_state ∙ at.state;
     }
 
--- ---- one event more
+-- ---- one more event
 
 -- the fault of the event that was mended, in the front
 told_there : (rules : Rules) (list : List (List ℕ)) (old now new : List Event) (start place : ℕ) (machine : Machine) (o : Option RuleFault) (at : GoesTo rules list old now start place machine)
@@ -100,7 +100,7 @@ told_there rules list old now new start place machine o at is near within told =
     fault_mended rules (rules_of machine) list at.front (joined_at start at.front new) place (state_of machine) o (front_mended at.front now new start place is enough long at.there) at.by at.state
     (told ∙ ap (fault_of_event (rules_of machine) list (state_of machine)) (sym (get_behind at.front new start place enough near)))
 
--- where it is refused, there is no correction
+-- if it is refused, there is no correction
 pub refused : (rules : Rules) (list : List (List ℕ)) (old now new : List Event) (start place : ℕ) (machine : Machine) (why : RuleFault) → GoesTo rules list old now start place machine
     → IsMendedAt now new place → start ≤ place → place < length old → Some why ≡ fault_of_event (rules_of machine) list (state_of machine) (slice_get new place) → IsLeft why
     → HaveNone rules list old
@@ -116,7 +116,7 @@ refused rules list old now new start place machine why at is near within told le
     let up = one_front rules list old at.front b place at.up mended in
     no_correction rules list old b right place event.event why up (before_kept rules list old at.front b place at.up mended) event.stands fails left writable.points writable.correction
 
--- else it goes on behind it
+-- otherwise it goes on after it
 pub went_on : NextTallyIsAfter → (rules : Rules) (list : List (List ℕ)) (old now new : List Event) (start place : ℕ) (machine next : Machine) → GoesTo rules list old now start place machine
     → IsMendedAt now new place → start ≤ place → place < length old → None ≡ fault_of_event (rules_of machine) list (state_of machine) (slice_get new place)
     → state_of next ≡ state_behind (rules_of machine) (state_of machine) new place → rules_of next ≡ rules_of machine → GoesTo rules list old new start (place + 1) next

@@ -1,4 +1,4 @@
--- What a change costs with which a record has a correction.
+-- What a change costs if a record has a correction with it.
 use Rattle.std.proofs.Common.{◌≡◌, ℕ, ◌+◌, List, length, ◌++◌, Option, sym, ap, ◌∙◌, subst}
 use Rattle.std.proofs.lemmas.List.{length-map, map-append}
 use Rattle.ref_tiles.specs.declared.rulebook.Rules.{Rules}
@@ -39,7 +39,7 @@ cost_is rules list change written right left number is sum =
     sum ∙ ap (λ n. costs n (length left.unlisted.items) change.slip) (wrong_many rules list change written right left is)
     ∙ ap (λ n. costs (length (wrong_with change written right)) n change.slip) (words_many rules list change written right left is)
 
--- where with the correction too much stays wrong, there is no other
+-- if too much stays wrong with the correction, there is no other
 pub none_fewer : (rules : Rules) (list : List (List ℕ)) (change : Change) (written changed right other : List Event) (below : Option ℕ) (many : ℕ) → IsWritable rules list changed right
     → many ≡ many_left rules list change written right → (AreFewer below many → ⊥) → IsWritable rules list changed other → AreFewer below (many_left rules list change written other) → ⊥
 none_fewer rules list change written changed right other below many is sum more of_other fewer =
@@ -47,7 +47,7 @@ none_fewer rules list change written changed right other below many is sum more 
     let here : AreFewer below (many_left rules list change written right) = subst (λ (es : List Event). AreFewer below (many_left rules list change written es)) same fewer in
     more (subst (AreFewer below) (sym sum) here)
 
--- ---- that a change is not told
+-- ---- that a change is not a repair
 
 pub told_by_fewer : (rules : Rules) (list : List (List ℕ)) (written : List Event) (below : Option ℕ) (change : Change) → NoneFewer rules list written below change
     → NoneTold rules list written below change

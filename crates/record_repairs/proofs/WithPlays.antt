@@ -8,7 +8,7 @@ use Rattle.record_changes.specs.declared.slips.Change.{Change}
 use Rattle.change_lists.specs.Changes.{changes_at}
 use Rattle.record_repairs.specs.Listing.{those_at, changes_with}
 
--- of the first plays so many are added, and then the next one
+-- the first `i` plays are added, and then the next one
 pub one_more : (all now next plays : List Change) (place i : ℕ) (play : Change) → i < length plays → play ≡ get_or plays i play → now ≡ all ++ those_at (take i plays) place
     → next ≡ now ++ those_at (play ∷ []) place → next ≡ all ++ those_at (take (i + 1) plays) place
 one_more all now next plays place i play within is so_far adds =
@@ -21,6 +21,6 @@ one_more all now next plays place i play within is so_far adds =
 pub all_added : (all now plays : List Change) (place i : ℕ) → length plays ≤ i → now ≡ all ++ those_at (take i plays) place → now ≡ all ++ those_at plays place
 all_added all now plays place i past so_far = so_far ∙ ap (λ (cs : List Change). all ++ those_at cs place) (take_all i plays (omega (arith, past)))
 
--- where none is added these are the changes of the list
+-- if none is added, these are the changes of the list
 pub none_with : (rules : Rules) (written : List Event) (place : ℕ) → changes_with rules written [] place ≡ changes_at rules written place
 none_with rules written place = append-nil (changes_at rules written place)

@@ -1,4 +1,4 @@
--- The numbers of an audit that stand on a line.
+-- The numbers of an audit that are on a line.
 use Rattle.std.proofs.Common.{◌≡◌, ℕ, ℤ, Bool, true, false, List, [], ◌∷◌, ◌++◌, length, min, slice_get, Option, Some, None, refl, ap, ◌∙◌, if◌then◌else◌}
 use Rattle.std.specs.Prelude.{◌+ℤ◌}
 use Rattle.std.specs.List.{filter, flat_map, range_with_len}
@@ -60,7 +60,7 @@ totals_go written right =
     ∙ ap (λ (xs : List WrongNumber). xs ++ filter is_on_line (wrong_total Second written right)) (none_of First (last_total First written) (last_total First right))
     ∙ none_of Second (last_total Second written) (last_total Second right)
 
--- what is left of an audit where its last totals are left out
+-- what is left of an audit without its last totals
 pub lines_alone : (written right : List Event) → filter is_on_line (wrong_lines written right ++ wrong_totals written right) ≡ wrong_lines written right
 lines_alone written right =
     filter-append is_on_line (wrong_lines written right) (wrong_totals written right)

@@ -71,7 +71,7 @@ lines_few sheet right many long same =
     subst (λ n. many_sums sheet many + sum_from (scores_at sheet right) 0 many ≤ length (flat_map (wrong_at sheet right) (range_with_len 0 n))) (sym all)
     (omega (arith, first, second, lines, sums, three, few))
 
--- ---- one line more
+-- ---- one more line
 
 sums_more : (player : Seat) (sheet : List Event) (place : ℕ) → length (sums_to player sheet (place + 1)) ≡ length (sums_to player sheet place) + length (sum_at player sheet place)
 sums_more player sheet place =
@@ -189,7 +189,7 @@ sheet_but slip.Extra place changed right = itself_but changed None
 sheet_but slip.Swapped place changed right = itself_but changed None
 sheet_but slip.SwappedOver place changed right = itself_but changed None
 
--- the sheet with a change, beside the right events
+-- the sheet with a change, compared with the right events
 pub sheet_with : (change : Change) (written changed right : List Event) → changed ≡ applied change written → IsSheetBut changed (missing_place change) (on_sheet change (applied change written) right)
 sheet_with change written changed right is =
     subst (λ (es : List Event). IsSheetBut es (missing_place change) (on_sheet change (applied change written) right)) (sym is) (sheet_but change.slip change.place (applied change written) right)

@@ -1,4 +1,4 @@
--- The changes with which a record has a correction, and which of them are told.
+-- The changes with which a record has a correction, and which of them are repairs.
 use Rattle.std.specs.Prelude.{◌≡◌, ℕ, ◌<◌, true, List, ◌++◌, All, AllPairs, Contains, Option}
 use Rattle.ref_tiles.specs.declared.rulebook.Rules.{Rules}
 use Rattle.gcg_read.specs.declared.events.Event.{Event}
@@ -28,13 +28,13 @@ pub record MayBeTold (rules : Rules) (list : List (List ℕ)) (written : List Ev
   pub fewer : AreFewer below (many_left rules list listed.change written right)
   pub game : IsGame rules list right
 
--- a candidate is there for a change
+-- a change has a candidate
 pub record IsThere (found : List Candidate) (listed : Listed) : Type 0 where
   pub candidate : Candidate
   pub among : Contains found candidate
   pub same : candidate.listed ≡ listed
 
--- Candidates among the changes of which something holds, in the order of the list: all that make a game, and maybe others.
+-- Candidates among the changes for which something holds, in the order of the list: all that make a game, and maybe others.
 pub record AreAllOf (rules : Rules) (list : List (List ℕ)) (written : List Event) (plays : List Change) (below : Option ℕ) (Which : Listed → Type 0) (found : List Candidate) : Type 0 where
   pub each : All (λ (c : Candidate). IsCandidate rules list written plays below c × Which c.listed) found
   pub ordered : AllPairs (λ (a b : Candidate). is_earlier (rank_in a) (rank_in b) ≡ true) found
@@ -44,7 +44,7 @@ pub record AreAllOf (rules : Rules) (list : List (List ℕ)) (written : List Eve
 abbrev pub AreBefore : Rules → (list : List (List ℕ)) → (written : List Event) → (plays : List Change) → (below : Option ℕ) → (end : ℕ) → List Candidate → Type 0
 AreBefore rules list written plays below end found = AreAllOf rules list written plays below (λ listed. listed.change.place < end) found
 
--- the candidates among some changes come behind those that were found
+-- the candidates among some changes come after those that were found
 pub record AddsAllOf (rules : Rules) (list : List (List ℕ)) (written : List Event) (plays : List Change) (below : Option ℕ) (Which : Listed → Type 0) (old new : List Candidate) : Type 0 where
   pub more : List Candidate
   pub added : new ≡ old ++ more
@@ -54,11 +54,11 @@ pub record AddsAllOf (rules : Rules) (list : List (List ℕ)) (written : List Ev
 abbrev pub AddsCandidates : Rules → (list : List (List ℕ)) → (written : List Event) → (plays : List Change) → (below : Option ℕ) → (place : ℕ) → (old new : List Candidate) → Type 0
 AddsCandidates rules list written plays below place old new = AddsAllOf rules list written plays below (λ listed. listed.change.place ≡ place) old new
 
--- that with a single change, or none
+-- the candidate with a single change, or none
 abbrev pub AddsListed : Rules → (list : List (List ℕ)) → (written : List Event) → (plays : List Change) → (below : Option ℕ) → Listed → (old new : List Candidate) → Type 0
 AddsListed rules list written plays below one old new = AddsAllOf rules list written plays below (λ listed. listed ≡ one) old new
 
--- Candidates, in the order in which they are told: all that make a game, and maybe others.
+-- Candidates, in the order in which they are given: all that make a game, and maybe others.
 pub record AreCandidates (rules : Rules) (list : List (List ℕ)) (written : List Event) (plays : List Change) (below : Option ℕ) (found : List Candidate) : Type 0 where
   pub each : All (IsCandidate rules list written plays below) found
   pub ordered : AllPairs (λ (a b : Candidate). is_ahead (rank_in a) (rank_in b) ≡ true) found

@@ -16,7 +16,7 @@ costs wrong unlisted what = 5 * wrong + 3 * unlisted + weight_of what
 unfoldable pub cost_of : Rules → (list : List (List ℕ)) → Change → (written right : List Event) → ℕ
 cost_of rules list change written right = costs (length (wrong_with change written right)) (length (unlisted_words rules list right)) change.slip
 
--- What a repair costs, and where its change stands in the list of all: at a place of the record, with a number among those of the place.
+-- What a repair costs, and the position of its change in the list of all: a place of the record, and a number among those of the place.
 pub record Rank : Type 0 where
   pub cost : ℕ
   pub place : ℕ
@@ -28,10 +28,10 @@ rank_at cost listed = record { cost = cost; place = listed.change.place; index =
 abbrev pub rank_of : Repair → Rank
 rank_of r = rank_at (costs (length r.remains.wrong.items) (length r.remains.unlisted.items) r.listed.change.slip) r.listed
 
--- whether a change stands before another one in the list
+-- whether a change is before another one in the list
 abbrev pub is_earlier : Rank → Rank → Bool
 is_earlier a b = nat_lt a.place b.place || a.place == b.place && nat_lt a.index b.index
 
--- The order of repairs: by what they cost, and of equal costs by the list of changes.
+-- The order of repairs: by what they cost, and those of equal cost by the list of changes.
 abbrev pub is_ahead : Rank → Rank → Bool
 is_ahead a b = nat_lt a.cost b.cost || a.cost == b.cost && is_earlier a b

@@ -12,26 +12,26 @@ use Rattle.game_sheets.specs.WrongNumbers.{wrong_score}
 use Rattle.record_repairs.specs.Sums.{sums_to}
 use Rattle.record_repairs.specs.Remaining.{AreFewer, unlisted_at, words_of_row}
 
--- how many may be wrong beside so many
+-- how many more may be wrong if `many` are
 abbrev pub less : (room : Option ℕ) → (many : ℕ) → Option ℕ
 less None many = None
 less (Some room) many = Some (room - many)
 
--- Where so many are wrong, and others too, no more than `left` has room for are wrong beside them.
+-- If `many` are wrong, and others too, the others are no more than `left` has room for.
 abbrev pub Leaves : (room : Option ℕ) → (many : ℕ) → (left : Option ℕ) → Type 0
 Leaves room many left = (others : ℕ) → AreFewer room (many + others) → AreFewer left others
 
--- the score of an event, where it is not the right one
+-- the score of an event, if it is not the right one
 abbrev pub score_of : Option Event → (right : Option Event) → List WrongNumber
 score_of (Some e) (Some r) = wrong_score e r
 score_of None o = []
 score_of (Some e) None = []
 
--- how many scores and words are wrong at a place of a sheet, beside the right events
+-- how many scores and words are wrong at a place of a sheet, compared with the right events
 abbrev pub many_at : Rules → (list : List (List ℕ)) → (sheet right : List Event) → (place : ℕ) → ℕ
 many_at rules list sheet right place = length (score_of (slice_get sheet place) (slice_get right place)) + length (unlisted_at rules list right place)
 
--- the sum of the numbers at so many places, from one on
+-- the sum of the numbers at `many` places, from one on
 abbrev pub sum_from : (at : ℕ → ℕ) → (start many : ℕ) → ℕ
 sum_from at start zero = 0
 sum_from at start (suc many) = sum_from at start many + at (start + many)
@@ -40,11 +40,11 @@ sum_from at start (suc many) = sum_from at start many + at (start + many)
 abbrev pub many_unlisted : (list : List (List ℕ)) → (words : List (List ℕ)) → ℕ
 many_unlisted list words = count_by (λ (word : List ℕ). not (is_listed list word)) words
 
--- whether a score is wrong, as a number: 1, or 0 where it is right
+-- 1 if a score is wrong, 0 if it is right
 abbrev pub many_scores : (written right : ℤ) → ℕ
 many_scores written right = if int_eq written right then 0 else 1
 
--- the same of a line, where that of the missing one is right whatever it is
+-- the same for a line; that of the missing one counts as right whatever it is
 abbrev pub scores_but : (is_missing : Bool) → (written right : ℤ) → ℕ
 scores_but is_missing written right = if is_missing then 0 else many_scores written right
 

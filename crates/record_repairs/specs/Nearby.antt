@@ -8,7 +8,7 @@ use Rattle.game_turns.specs.Tallies.{withdraws}
 use Rattle.record_repairs.specs.FirstSteps.{IsStepAt}
 use Rattle.record_repairs.specs.Trying.{StandsBefore, HaveNone}
 
--- neighbours among some events, from a place on
+-- consecutive events among some events, from a place on
 pub record IsPart (events near : List Event) (start : ℕ) : Type 0 where
   pub within : start + length near ≤ length events
   pub same : (k : ℕ) → k < length near → slice_get events (start + k) ≡ slice_get near k
@@ -17,16 +17,19 @@ pub record IsPart (events near : List Event) (start : ℕ) : Type 0 where
 abbrev pub AreStepsFrom : Rules → (list : List (List ℕ)) → (events : List Event) → (start : ℕ) → List Step → Type 0
 AreStepsFrom rules list events start steps = (k : ℕ) (step : Step) → slice_get steps k ≡ Some step → IsStepAt rules list events (start + k) step
 
--- Wherever these neighbours are found and a machine has the game before them, one of them is refused whatever its numbers are.
+-- Wherever these consecutive events are found and a machine has the game before them, one of them is refused whatever its
+-- numbers are.
 abbrev pub IsPartRefused : Rules → (list : List (List ℕ)) → (near : List Event) → Machine → Type 0
 IsPartRefused rules list near machine = (events : List Event) (start : ℕ) → IsPart events near start → StandsBefore rules list events start machine → HaveNone rules list events
 
--- Wherever these neighbours are found and a machine has the game before them, another one has the game before the last of them, and these are the steps of the others, as far as they go.
+-- Wherever these consecutive events are found and a machine has the game before them, another one has the game before the last of them, and these are
+-- the steps of the others, as far as they go.
 pub record IsPartTaken (rules : Rules) (list : List (List ℕ)) (near : List Event) (old new : Machine) (steps : List Step) : Type 0 where
   pub stands : (events : List Event) (start : ℕ) → IsPart events near start → StandsBefore rules list events start old → StandsBefore rules list events (start + (length near - 1)) new
   pub follow : (events : List Event) (start : ℕ) → IsPart events near start → StandsBefore rules list events start old → AreStepsFrom rules list events start steps
 
--- Neighbours of some events with a change, from a place on: the last of them and all events after it are those of the record from a place on.
+-- Consecutive events of some events with a change, from a place on: the last of them and all events after it are those of the record from a
+-- place on.
 pub record IsNear (changed near written : List Event) (start end : ℕ) : Type 0 where
   pub part : IsPart changed near start
   pub all : length changed + end ≡ length written + (start + (length near - 1))

@@ -1,4 +1,4 @@
--- What a sheet says with a change. Of a missing line nothing is written, so it has the numbers that it would have had there.
+-- What a sheet says with a change. Nothing is written of a missing line, so it has the numbers that it would have had there.
 use Rattle.std.specs.Prelude.{ℕ, ℤ, pos, neg_ℤ, ◌+ℤ◌, int_le, ◌&&◌, Bool, List, map, slice_get, Option, Some, None, if◌then◌else◌}
 use Rattle.gcg_read.specs.declared.events.Event.{Event}
 use Rattle.game_sheets.specs.WrongNumbers.{had_before}
@@ -11,16 +11,16 @@ use Rattle.record_changes.specs.declared.slips.Slip.TheVariants as slip
 abbrev pub is_written : ℤ → Bool
 is_written n = int_le (neg_ℤ (pos 999999)) n && int_le n (pos 999999)
 
--- The total that a player has behind a missing line: what the player had and the score, where a record can write that sum.
+-- The total that a player has after a missing line: what the player had and the score, if a record can write that sum.
 abbrev pub total_behind : (had score : ℤ) → ℤ
 total_behind had score = if is_written (had +ℤ score) then had +ℤ score else had
 
--- the score of an event, or 0 where there is none
+-- the score of an event, or 0 if there is none
 abbrev pub score_in : Option Event → ℤ
 score_in None = pos 0
 score_in (Some e) = e.score
 
--- a line with this score, and with the player's total behind it
+-- a line with this score, and with the player's total after it
 abbrev pub with_score : (had score : ℤ) → Event → Event
 with_score had score e = record e { score = score; total = total_behind had score }
 
@@ -32,6 +32,6 @@ abbrev pub sheet_by : Slip → (place : ℕ) → (changed right : List Event) �
 sheet_by (slip.Missing line) place changed right = spliced place 1 (map (line_on_sheet changed right place)) changed
 sheet_by other place changed right = changed
 
--- The events of a record with a change, with the numbers of the sheet, beside the same events with the right ones.
+-- The events of a record with a change, with the numbers of the sheet, given the same events with the right ones.
 abbrev pub on_sheet : Change → (changed right : List Event) → List Event
 on_sheet change changed right = sheet_by change.slip change.place changed right

@@ -16,12 +16,12 @@ MakeNoGame rules list events = (right : List Event) → IsWritable rules list ev
 abbrev pub NoneWith : Rules → List Step → Type 0
 NoneWith rules steps = (list : List (List ℕ)) (events : List Event) → AreFirstSteps rules list events steps → MakeNoGame rules list events
 
--- The first steps of a record, of which so many are those of no game.
+-- The first steps of a record, of which the first `end` are those of no game.
 pub record IsRackStop (rules : Rules) (list : List (List ℕ)) (written : List Event) (end : ℕ) (steps : List Step) : Type 0 where
   pub first : AreFirstSteps rules list written steps
   pub none : NoneWith rules (take end steps)
 
--- the place where the racks stop, where one is known
+-- the place where the racks stop, if one is known
 abbrev pub IsStop : Rules → (list : List (List ℕ)) → (written : List Event) → Option RackStop → Type 0
 IsStop rules list written None = Unit {0}
 IsStop rules list written (Some stop) = IsRackStop rules list written stop.end stop.steps.items
@@ -31,12 +31,12 @@ abbrev pub steps_in : Option RackStop → List Step
 steps_in None = []
 steps_in (Some stop) = stop.steps.items
 
--- The steps of a record, with others in the place of those from one place up to another, up to some end.
+-- The steps of a record, with others in place of those from one place up to another, up to some end.
 pub record IsStepsAround (kept : List Step) (start : ℕ) (first : List Step) (end : ℕ) (all : List Step) : Type 0 where
   pub last : ℕ
   pub are : all ≡ take start kept ++ (first ++ take last (drop end kept))
 
--- With other steps in the place of those from one place up to another no events make a game.
+-- With other steps in place of those from one place up to another no events make a game.
 pub record StopsAgain (rules : Rules) (kept : List Step) (start many end : ℕ) (first : List Step) : Type 0 where
   pub all : List Step
   pub around : IsStepsAround kept start first end all

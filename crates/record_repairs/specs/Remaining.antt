@@ -16,11 +16,11 @@ use Rattle.record_changes.specs.Applied.{applied}
 use Rattle.record_repairs.specs.OnSheet.{on_sheet}
 use Rattle.record_repairs.specs.declared.remains.Remains.{Remains}
 
--- The scores and sums of the sheet that are wrong, beside the right events.
+-- The scores and sums of the sheet that are wrong, compared with the right events.
 unfoldable pub wrong_with : Change → (written right : List Event) → List WrongNumber
 wrong_with change written right = wrong_lines (on_sheet change (applied change written) right) right
 
--- whether a number stands on a line, and is not the last total of a player
+-- whether a number is on a line, and is not the last total of a player
 abbrev pub is_on_line : WrongNumber → Bool
 is_on_line (number.Total player written right) = false
 is_on_line other = true
@@ -44,12 +44,12 @@ words_of_rows list rows = flat_map (words_of_row list) rows
 abbrev pub many_left : Rules → (list : List (List ℕ)) → Change → (written right : List Event) → ℕ
 many_left rules list change written right = length (wrong_with change written right) + length (unlisted_words rules list right)
 
--- fewer than these, where there is a number that they must stay below
+-- fewer than these, if there is a number that they must stay below
 abbrev pub AreFewer : (below : Option ℕ) → (many : ℕ) → Type 0
 AreFewer None many = ⊤
 AreFewer (Some below) many = many < below
 
--- what stays wrong, as it is told
+-- what stays wrong
 pub record Remain (rules : Rules) (list : List (List ℕ)) (change : Change) (written right : List Event) (remains : Remains) : Type 0 where
   pub wrong : remains.wrong.items ≡ wrong_with change written right
   pub unlisted : letters_in remains.unlisted.items ≡ unlisted_words rules list right

@@ -1,4 +1,4 @@
--- Which changes of a record are repairs, and which are told.
+-- Which changes of a record are repairs, and which are given.
 use Rattle.std.specs.Prelude.{◌≡◌, ◌⊎◌, ℕ, ◌≤◌, true, false, List, length, All, AllPairs, Any, Contains, slice_get, Option, Some}
 use Rattle.ref_tiles.specs.declared.rulebook.Rules.{Rules}
 use Rattle.ref_tiles.specs.declared.symbols.Symbol.{Symbol}
@@ -19,13 +19,13 @@ use Rattle.record_repairs.specs.declared.listed.Listed.{Listed}
 use Rattle.record_repairs.specs.declared.repair.Repair.{Repair}
 
 -- one of the single changes of a record, or of the plays that were added: it has this number among those at its place, which is that of
--- an event or behind the last
+-- an event or after the last
 pub record IsListed (rules : Rules) (written : List Event) (plays : List Change) (listed : Listed) : Type 0 where
   pub within : listed.change.place ≤ length written
   pub there : slice_get (changes_with rules written plays listed.change.place) listed.index ≡ Some listed.change
 
 -- A repair is a single change of a record after which its correction is a game: the rules allow each event with its right numbers, and
--- some deal yields every rack. Where the record itself is a game once its numbers are corrected, fewer numbers and words stay wrong.
+-- some deal yields every rack. If the record itself is a game once its numbers are corrected, fewer numbers and words stay wrong.
 pub record MakesGame (rules : Rules) (list : List (List ℕ)) (written : List Event) (plays : List Change) (below : Option ℕ) (listed : Listed) (right : List Event) : Type 0 where
   pub single : IsListed rules written plays listed
   pub correction : IsWritable rules list (applied listed.change written) right
@@ -37,12 +37,12 @@ pub record IsRepair (rules : Rules) (list : List (List ℕ)) (written : List Eve
   pub makes : MakesGame rules list written plays below r.listed r.right
   pub remain : Remain rules list r.listed.change written r.right r.remains
 
--- The same symbol at the same square, or a dot in one of the texts. A dot stands for the tile that lies on its square; in a game a letter on
--- such a square is the letter of that tile, and neither lays a tile.
+-- The same symbol at the same square, or a dot in one of the texts. A dot stands for the tile on its square; in a game a letter on such a
+-- square is the letter of that tile, and neither lays a tile.
 abbrev pub SameSymbol : Symbol → Symbol → Type 0
 SameSymbol a b = (a ≡ symbol.Dot) ⊎ (b ≡ symbol.Dot) ⊎ (a ≡ b)
 
--- two texts of one play, in which a tile that lay there is a letter or a dot
+-- two texts of one play, in which a tile that was there is a letter or a dot
 pub record SameText (text other : List Symbol) : Type 0 where
   pub as_many : length text ≡ length other
   pub each : (place : ℕ) (a b : Symbol) → slice_get text place ≡ Some a → slice_get other place ≡ Some b → SameSymbol a b
@@ -57,7 +57,7 @@ abbrev pub SameKind : EventKind → EventKind → Type 0
 SameKind what (kind.Play square way text) = IsPlayOf what square way text
 SameKind what other = what ≡ other
 
--- the same event, wherever its line stands, and however the tiles that lay on the board are written in its text
+-- the same event, whatever its line, and however the tiles that were on the board are written in its text
 pub record SameEvent (e other : Event) : Type 0 where
   pub player : e.player ≡ other.player
   pub rack : e.rack ≡ other.rack
@@ -65,7 +65,7 @@ pub record SameEvent (e other : Event) : Type 0 where
   pub total : e.total ≡ other.total
   pub kind : SameKind e.kind other.kind
 
--- The same record: the same events with the same numbers, whichever lines they stand on.
+-- The same record: the same events with the same numbers, whichever lines they are on.
 pub record SameRecord (events others : List Event) : Type 0 where
   pub as_many : length events ≡ length others
   pub each : (place : ℕ) (e other : Event) → slice_get events place ≡ Some e → slice_get others place ≡ Some other → SameEvent e other
@@ -74,28 +74,29 @@ pub record SameRecord (events others : List Event) : Type 0 where
 abbrev pub IsAmong : (told : List Repair) → (right : List Event) → Type 0
 IsAmong told right = Any (λ (r : Repair). SameRecord r.right right) told
 
--- A change of which it is not known whether it is a repair: with it the record has a correction, but neither a deal was found that
--- yields every rack, nor a proof that there is none.
+-- A change for which it is not known whether it is a repair: with it the record has a correction, but neither a deal that yields
+-- every rack nor a proof that there is none was found.
 pub record IsLeftOpen (rules : Rules) (list : List (List ℕ)) (written : List Event) (plays : List Change) (listed : Listed) : Type 0 where
   pub single : IsListed rules written plays listed
   pub right : List Event
   pub correction : IsWritable rules list (applied listed.change written) right
   pub open_deal : IsUnsettled rules list right
 
--- a repair that makes this record is told, and it is not behind this rank
+-- a repair that makes this record is given, and it is not behind this rank
 pub record IsToldAt (told : List Repair) (right : List Event) (by : Rank) : Type 0 where
   pub repair : Repair
   pub among : Contains told repair
   pub same : SameRecord repair.right right
   pub first : is_ahead by (rank_of repair) ≡ false
 
--- as many repairs are told as were asked for, each ahead of this rank
+-- `most` repairs are given, each ahead of this rank
 pub record AreAhead (most : ℕ) (told : List Repair) (by : Rank) : Type 0 where
   pub many : length told ≡ most
   pub each : All (λ (r : Repair). is_ahead (rank_of r) by ≡ true) told
 
--- The first so many repairs of a record, in their order. Each record that they make is made once, by the change that costs least, and
--- of these by the first. A repair is left out only for such a one, where so many others are ahead, or where its deal is left open.
+-- The first `most` repairs of a record, in their order. Each record that they make is made once, by the change that costs least, and
+-- by the first of several such changes. A repair is left out only for such a one, or if `most` others are ahead, or if its deal is
+-- left open.
 pub record AreFirstRepairs (rules : Rules) (list : List (List ℕ)) (written : List Event) (plays : List Change) (below : Option ℕ) (most : ℕ) (told : List Repair) (left : List Listed) : Type 0 where
   pub repairs : All (IsRepair rules list written plays below) told
   pub few : length told ≤ most

@@ -6,7 +6,7 @@ use Rattle.engine.specs.Verdicts.{IsGame, IsUnsettled}
 use Rattle.record_repairs.specs.declared.outcome.Outcome.{Outcome}
 use Rattle.record_repairs.specs.declared.outcome.Outcome.TheVariants as outcome
 
--- the events are a game, or none, or neither a deal was found nor a proof that there is none
+-- the events are a game, or not, or neither a deal nor a proof that there is none was found
 abbrev pub IsOutcome : Rules → (list : List (List ℕ)) → List Event → Outcome → Type 0
 IsOutcome rules list events outcome.Game = IsGame rules list events
 IsOutcome rules list events outcome.NoGame = IsGame rules list events → ⊥

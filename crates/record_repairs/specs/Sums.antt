@@ -10,7 +10,7 @@ use Rattle.record_changes.specs.declared.slips.Change.{Change}
 use Rattle.record_changes.specs.declared.slips.Slip.{Slip}
 use Rattle.record_changes.specs.declared.slips.Slip.TheVariants as slip
 
--- the total at a place, where the event there is the player's and the total is wrong
+-- the total at a place, if the event there is the player's and the total is wrong
 abbrev pub sum_of : Seat → (sheet : List Event) → (place : ℕ) → Option Event → List WrongNumber
 sum_of player sheet place None = []
 sum_of player sheet place (Some e) = if same_seat e.player player then wrong_sum (had_before sheet player place) e else []
@@ -22,7 +22,7 @@ sum_at player sheet place = sum_of player sheet place (slice_get sheet place)
 abbrev pub sums_to : Seat → (sheet : List Event) → (place : ℕ) → List WrongNumber
 sums_to player sheet place = flat_map (sum_at player sheet) (range_with_len 0 place)
 
--- A sheet of these events, whatever numbers the missing line has, where there is one.
+-- A sheet of these events, whatever numbers the missing line has, if there is one.
 pub record IsSheetBut (events : List Event) (missing : Option ℕ) (sheet : List Event) : Type 0 where
   pub as_many : length sheet ≡ length events
   pub same : (place : ℕ) → (missing ≡ Some place → ⊥) → slice_get sheet place ≡ slice_get events place
@@ -36,15 +36,15 @@ place_by other place = None
 abbrev pub missing_place : Change → Option ℕ
 missing_place change = place_by change.slip change.place
 
--- What a player had before a place, where it is known whatever numbers the missing line has.
+-- What a player had before a place, if it is known whatever numbers the missing line has.
 abbrev pub Knows : Seat → (sheet : List Event) → (place : ℕ) → Option ℤ → Type 0
 Knows player sheet place had = (h : ℤ) → had ≡ Some h → had_before sheet player place ≡ h
 
--- the same behind one event more
+-- the same after one more event
 abbrev pub next_had : Option ℤ → Event → Seat → (is_missing : Bool) → Option ℤ
 next_had had e player is_missing = if same_seat e.player player then (if is_missing then None else Some e.total) else had
 
--- how many sums are wrong in a line: 1, or 0 where the sum is right or not known
+-- how many sums are wrong in a line: 1, or 0 if the sum is right or not known
 abbrev pub many_by : Option ℤ → Event → ℕ
 many_by None e = 0
 many_by (Some had) e = length (wrong_sum had e)

@@ -1,4 +1,4 @@
--- What becomes of a candidate: it is told, it is left open, or neither.
+-- What becomes of a candidate: it is given as a repair, it is left open, or neither.
 use Rattle.std.specs.Prelude.{◌≡◌, ◌⊎◌, ℕ, List, [], ◌∷◌, ◌++◌}
 use Rattle.ref_tiles.specs.declared.rulebook.Rules.{Rules}
 use Rattle.gcg_read.specs.declared.events.Event.{Event}
@@ -12,7 +12,7 @@ use Rattle.record_repairs.specs.declared.found.Found.{Found}
 use Rattle.record_repairs.specs.declared.listed.Listed.{Listed}
 use Rattle.record_repairs.specs.declared.repair.Repair.{Repair}
 
--- the right events are a game that no repair makes so far, and the repair that makes them is told
+-- the right events are a game that no repair makes so far, and the repair that makes them is added
 pub record AddsRepair (rules : Rules) (list : List (List ℕ)) (written : List Event) (listed : Listed) (right : List Event) (old new : Found) : Type 0 where
   pub repair : Repair
   pub added : new.told.items ≡ old.told.items ++ repair ∷ []
@@ -29,7 +29,7 @@ pub record AddsOpen (rules : Rules) (list : List (List ℕ)) (listed : Listed) (
   pub same_told : new.told.items ≡ old.told.items
   pub unsettled : IsUnsettled rules list right
 
--- a repair makes the same record, or the right events are no game
+-- a repair makes the same record, or the right events are not a game
 pub record AddsNone (rules : Rules) (list : List (List ℕ)) (right : List Event) (old new : Found) : Type 0 where
   pub same_told : new.told.items ≡ old.told.items
   pub same_left : new.left.items ≡ old.left.items

@@ -24,19 +24,19 @@ pub record IsWritable (rules : Rules) (list : List (List ℕ)) (changed right : 
 abbrev pub HaveNone : Rules → (list : List (List ℕ)) → (changed : List Event) → Type 0
 HaveNone rules list changed = (right : List Event) → IsWritable rules list changed right → ⊥
 
--- With each correction that a record can write more scores and words are wrong from a place on than there is room for, whatever numbers a
--- missing line has on the sheet.
+-- With each correction that a record can write, more scores and words are wrong from a place on than there is room for, whatever numbers
+-- a missing line has on the sheet.
 abbrev pub NoneFrom : Rules → (list : List (List ℕ)) → (changed : List Event) → (start : ℕ) → (missing room : Option ℕ) → Type 0
 NoneFrom rules list changed start missing room =
     (right sheet : List Event) → IsWritable rules list changed right → IsSheetBut changed missing sheet
     → AreFewer room (sum_from (many_at rules list sheet right) start (length changed - start)) → ⊥
 
--- With each correction that a record can write too many numbers and words stay wrong.
+-- With each correction that a record can write, too many numbers and words stay wrong.
 abbrev pub NoneFewer : Rules → (list : List (List ℕ)) → (written : List Event) → (below : Option ℕ) → Change → Type 0
 NoneFewer rules list written below change =
     (right : List Event) → IsWritable rules list (applied change written) right → AreFewer below (many_left rules list change written right) → ⊥
 
--- With no correction that a record can write it is a game in which few enough numbers and words stay wrong.
+-- With no correction that a record can write is it a game in which few enough numbers and words stay wrong.
 abbrev pub NoneTold : Rules → (list : List (List ℕ)) → (written : List Event) → (below : Option ℕ) → Change → Type 0
 NoneTold rules list written below change =
     (right : List Event) → IsWritable rules list (applied change written) right → AreFewer below (many_left rules list change written right) → IsGame rules list right → ⊥
@@ -46,7 +46,7 @@ abbrev pub IsCorrectionOf : Rules → (list : List (List ℕ)) → (changed : Li
 IsCorrectionOf rules list changed None = HaveNone rules list changed
 IsCorrectionOf rules list changed (Some right) = IsWritable rules list changed right
 
--- A machine stands before a place of some events: once they are corrected before it, the machine has the game there.
+-- A machine is before a place of some events: once they are corrected before it, the machine has the game there.
 pub record StandsBefore (rules : Rules) (list : List (List ℕ)) (events : List Event) (place : ℕ) (machine : Machine) : Type 0 where
   pub front : List Event
   pub renumbered : AreRenumbered events front
@@ -54,12 +54,12 @@ pub record StandsBefore (rules : Rules) (list : List (List ℕ)) (events : List 
   pub by : rules_of machine ≡ rules
   pub state : state_of machine ≡ tally_at rules front place
 
--- A place not behind another one, at which a withdrawal stands in both lists or in neither; or the first place of all.
+-- A place not after another one, with a withdrawal in both lists or in neither; or the first place of all.
 pub record IsStart (written changed : List Event) (place start : ℕ) : Type 0 where
   pub before : start ≤ place
   pub same : (start ≡ 0) ⊎ (withdraws (slice_get changed start) ≡ withdraws (slice_get written start))
 
--- What a change costs with which the record has a correction that leaves few enough numbers and words wrong.
+-- What a change costs if the record has a correction with it that leaves few enough numbers and words wrong.
 pub record IsWeighed (rules : Rules) (list : List (List ℕ)) (written : List Event) (below : Option ℕ) (change : Change) (number : ℕ) : Type 0 where
   pub right : List Event
   pub is : IsWritable rules list (applied change written) right

@@ -29,7 +29,7 @@ use record_changes::{Change, Slip, law_of_changes};
 use ref_tiles::Rules;
 use std::alloc::{AllocError, Global};
 
-/// Adds a change of the list, where the record has a correction with it.
+/// Adds a change of the list, if the record has a correction with it.
 fn push_listed(
     alloc: Global,
     found: &mut Vec<Candidate>,
@@ -63,7 +63,7 @@ fn push_listed(
     Ok(())
 }
 
-/// Adds the changes at a place with which the record has a correction, by all slips that there may be, in their order.
+/// Adds the changes at a place with which the record has a correction, for all slips that there may be, in their order.
 fn push_slips(
     alloc: Global,
     found: &mut Vec<Candidate>,
@@ -92,8 +92,8 @@ fn push_slips(
     Ok(())
 }
 
-/// Whether so many numbers and words are wrong before a place that too many stay wrong with each change there. The row before the place
-/// does not count: with a change its event may be taken back, or no longer.
+/// Whether so much is wrong before a place that too many numbers and words stay wrong with each change there. The row before the place
+/// does not count: with a change its event may be taken back, or no longer be.
 fn is_past_room(
     list: &WordList,
     walk: &Walk,
@@ -143,8 +143,8 @@ fn push_candidates(
     )
 }
 
-/// The changes at the first so many places with which the record has a correction that leaves few enough numbers and words wrong, in the
-/// order of the list. Of those with which it makes no game, some are left out.
+/// The changes before place `end` with which the record has a correction that leaves few enough numbers and words wrong, in the order of
+/// the list. Some of those with which it makes no game are left out.
 fn candidates_before(
     alloc: Global,
     rules: &Rules,
@@ -170,7 +170,7 @@ fn candidates_before(
     Ok(found)
 }
 
-/// How many places have a change that makes a game: up to the event at which the walk stops, and up to the one behind those whose racks no
+/// How many places have a change that makes a game: up to the event at which the walk stops, and up to the one after those whose racks no
 /// deal yields.
 #[tactic(auto, using(crate::proofs::PlaceChanges::within_walk, crate::proofs::PlaceChanges::within_both))]
 fn many_places(walk: &Walk, stop: &Option<RackStop>) -> usize
@@ -186,10 +186,10 @@ fn many_places(walk: &Walk, stop: &Option<RackStop>) -> usize
     }
 }
 
-/// The changes of a record with which it has a correction that leaves few enough numbers and words wrong, those that cost least first,
-/// and of equal costs in the order of the list. Of those with which it makes no game, some are left out.
+/// The changes of a record with which it has a correction that leaves few enough numbers and words wrong: those that cost least first,
+/// and those of equal cost in the order of the list. Some of those with which it makes no game are left out.
 ///
-/// It fails only where memory runs out.
+/// It fails only if memory runs out.
 pub(crate) fn all_candidates(
     alloc: Global,
     rules: &Rules,

@@ -13,7 +13,7 @@ use record_changes::{Change, apply};
 use ref_tiles::Rules;
 use std::alloc::{AllocError, Global};
 
-/// Gives each event of a record its right numbers. It is false where an event is refused whatever its numbers are.
+/// Gives each event of a record its right numbers. It is false if an event is refused whatever its numbers are.
 fn correct(rules: &Rules, list: &WordList, events: &mut Events) -> bool
     ensures right { IsTrue result → IsCorrection rules.now list.now events.old events.new }
     ensures none { IsFalse result → HaveNone rules.now list.now events.old }
@@ -28,9 +28,9 @@ fn correct(rules: &Rules, list: &WordList, events: &mut Events) -> bool
     true
 }
 
-/// The events of a record with a change and with their right numbers, where there are such numbers that a record can write.
+/// The events of a record with a change and with their right numbers, if there are such numbers that a record can write.
 ///
-/// It fails only where memory runs out.
+/// It fails only if memory runs out.
 pub(crate) fn corrected(
     alloc: Global,
     rules: &Rules,

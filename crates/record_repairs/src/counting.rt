@@ -22,7 +22,7 @@ fn many_unlisted(list: &WordList, words: &[Word]) -> usize
         .count()
 }
 
-/// Whether a score is wrong, as a number: 1, or 0 where it is right.
+/// 1 if a score is wrong, 0 if it is right.
 fn many_scores(written: Points, right: Points) -> usize
     ensures { result ≡ many_scores written right }
 {
@@ -32,7 +32,7 @@ fn many_scores(written: Points, right: Points) -> usize
     1
 }
 
-/// The same of a line. What the score of the missing one is, is not known.
+/// The same for a line. Whether the score of the missing line is wrong is not known.
 pub(crate) fn scores_but(is_missing: bool, written: Points, right: Points) -> usize
     ensures { result ≡ scores_but is_missing written right }
 {
@@ -42,7 +42,7 @@ pub(crate) fn scores_but(is_missing: bool, written: Points, right: Points) -> us
     many_scores(written, right)
 }
 
-/// The room that the words leave which stand behind an event and are not in the list. Where nothing limits, none is looked up.
+/// The room that is left by the words that stand after an event and are not in the list. If there is no limit, none is looked up.
 #[tactic(auto, using(crate::proofs::Leaving::words_leave, crate::proofs::Leaving::leaves_any))]
 fn behind_words(room: Option<usize>, list: &WordList, game: &Machine) -> Option<usize>
     ensures { Leaves room (many_unlisted list.now (standing_words (state_of game.now).latest)) result }
@@ -53,7 +53,7 @@ fn behind_words(room: Option<usize>, list: &WordList, game: &Machine) -> Option<
     less(room, many_unlisted(list, game.standing_words()))
 }
 
-/// The room that an event leaves, with so many wrong scores, and behind it a game in which its words stand.
+/// The room that an event leaves, with `scores` wrong scores, and after it a game in which its words stand.
 #[tactic(auto, using(crate::proofs::Leaving::event_leaves))]
 pub(crate) fn behind_event(
     room: Option<usize>,
@@ -66,7 +66,7 @@ pub(crate) fn behind_event(
     behind_words(less(room, scores), list, game)
 }
 
-/// The room that a row leaves. Only where a word of it is not in the list its words are looked up.
+/// The room that a row leaves. Its words are looked up only if one of them is not in the list.
 #[tactic(auto, using(crate::proofs::Leaving::row_leaves, crate::proofs::Leaving::scores_leave))]
 fn behind_row(room: Option<usize>, list: &WordList, row: &Row) -> Option<usize>
     ensures { Leaves room (many_by_row list.now (Some row.now)) result }

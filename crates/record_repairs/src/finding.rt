@@ -14,7 +14,7 @@ use record_changes::Change;
 use ref_tiles::Rules;
 use std::alloc::{AllocError, Global};
 
-/// The first so many repairs among candidates, in their order.
+/// The first `most` repairs among candidates, in their order.
 fn first_repairs(
     alloc: Global,
     rules: &Rules,
@@ -40,11 +40,11 @@ fn first_repairs(
     Ok(first)
 }
 
-/// The first so many repairs of a record, the likeliest first: single changes after which it is a legal game once its numbers are
-/// corrected. `plays` are more changes, those of plays that a generator found: they come after those of the list at each place. Where
-/// `below` is given, fewer numbers and words stay wrong with each. Behind it the events are as they are written.
+/// The first `most` repairs of a record, the likeliest first: single changes after which it is a legal game once its numbers are
+/// corrected. `plays` are more changes, those of plays that a generator found: they come after those of the list at each place. If
+/// `below` is given, fewer numbers and words stay wrong with each. After the call the events are as they were.
 ///
-/// It fails only where memory runs out.
+/// It fails only if memory runs out.
 pub fn repairs(
     alloc: Global,
     rules: &Rules,

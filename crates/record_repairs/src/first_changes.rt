@@ -1,4 +1,4 @@
-//! What is asked of a first change where a second one is looked for: the record that it makes, and whether a repair makes the same.
+//! What the search for a second change needs from a first one: the record that it makes, and whether a repair makes the same.
 ghost use Rattle.std.specs.Prelude.{◌≡◌, ◌↔◌, IsTrue, IfOk};
 ghost use Rattle.record_changes.specs.Applied.{applied};
 ghost use Rattle.record_repairs.specs.OnSheet.{on_sheet};
@@ -13,7 +13,7 @@ use std::alloc::{AllocError, Global};
 
 /// The events of a record with a change, with the numbers of the sheet: a missing line has the score that it has in the right events.
 ///
-/// It fails only where memory runs out.
+/// It fails only if memory runs out.
 pub fn sheet_with(
     alloc: Global,
     change: &Change,

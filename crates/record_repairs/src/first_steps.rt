@@ -12,7 +12,7 @@ use gcg_read::{Event, EventKind};
 use ref_play::from_text;
 use std::alloc::{AllocError, Global};
 
-/// Whether the text of an event names a placement, where it is a play.
+/// Whether the text of an event names a placement, if it is a play.
 fn is_named(machine: &Machine, kind: &EventKind) -> bool
     ensures { IsTrue result → IsNamed (state_of machine.now).board kind.now }
 {
@@ -29,7 +29,7 @@ fn is_named(machine: &Machine, kind: &EventKind) -> bool
 pub(crate) struct FirstSteps {
     /// The steps.
     pub(crate) steps: Vec<Step>,
-    /// How many are asked for at the most.
+    /// The greatest number of steps that are kept.
     pub(crate) most: usize,
 }
 
@@ -46,7 +46,7 @@ impl FirstSteps {
         }
     }
 
-    /// The first so many of these.
+    /// The first `many` of these.
     pub(crate) fn of(
         alloc: Global,
         steps: &[Step],
@@ -61,7 +61,7 @@ impl FirstSteps {
         Ok(FirstSteps { steps: first, most })
     }
 
-    /// Adds these behind the others.
+    /// Adds these after the others.
     pub(crate) fn add(&mut self, steps: &[Step]) -> Result<(), AllocError>
         ensures { OnOk result (self.new.steps.items ≡ self.old.steps.items ++ steps.now) }
     {
@@ -69,7 +69,7 @@ impl FirstSteps {
         Ok(())
     }
 
-    /// Adds the step of the event at a place, where it comes next and is asked for. The machine took the events before it.
+    /// Adds the step of the event at a place, if it comes next and is wanted. The machine took the events before it.
     pub(crate) fn note(
         &mut self,
         machine: &Machine,

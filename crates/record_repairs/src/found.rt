@@ -21,14 +21,15 @@ use std::alloc::{AllocError, Global};
 pub struct Found {
     /// The first repairs, the likeliest first.
     pub told: Vec<Repair>,
-    /// The changes of which it is not known whether they are repairs, since neither a deal was found nor a proof that there is none.
+    /// The changes for which it is not known whether they are repairs, since neither a deal nor a proof that there is none was
+    /// found.
     pub left: Vec<Listed>,
 }
 
 impl Found {
     ghost use Rattle.record_repairs.specs.Telling.{IsTried, IsTriedWith};
 
-    /// Adds a change with which the record has these right events, where no repair makes the same record and some deal yields every rack.
+    /// Adds a change with which the record has these right events, if no repair makes the same record and some deal yields every rack.
     fn push_right(
         &mut self,
         alloc: Global,
@@ -68,7 +69,7 @@ impl Found {
         }
     }
 
-    /// Adds a candidate, where it is a repair that makes another record than those before.
+    /// Adds a candidate, if it is a repair that makes a different record from those before.
     pub(crate) fn push_candidate(
         &mut self,
         alloc: Global,

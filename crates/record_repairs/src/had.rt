@@ -7,11 +7,11 @@ use gcg_read::{Event, Points, Seat, same_seat};
 /// What a player had before a line.
 #[derive(Drop)]
 pub(crate) struct Had {
-    /// The last total that is written, or 0; none where that is not known.
+    /// The last total that is written, or 0; none if that is not known.
     pub(crate) total: Option<Points>,
 }
 
-/// How many sums are wrong in a line of a player who had this: 1, or 0 where the sum is right or what the player had is not known.
+/// How many sums are wrong in a line of a player who had this: 1, or 0 if the sum is right or what the player had is not known.
 fn many_by(had: Option<Points>, event: &Event) -> usize
     ensures { result ≡ many_by had event.now }
 {
@@ -25,7 +25,7 @@ fn many_by(had: Option<Points>, event: &Event) -> usize
     }
 }
 
-/// How many sums of a player are wrong in a line. Of the missing line that is not known.
+/// How many sums of a player are wrong in a line. For the missing line that is not known, so 0.
 fn many_wrong(had: Option<Points>, event: &Event, player: Seat, is_missing: bool) -> usize
     ensures { result ≡ many_wrong had event.now player is_missing }
 {
@@ -38,7 +38,7 @@ fn many_wrong(had: Option<Points>, event: &Event, player: Seat, is_missing: bool
     0
 }
 
-/// What a player has behind a line. Behind the missing one that is not known.
+/// What a player has after a line. After the missing one that is not known.
 fn next_had(had: Option<Points>, event: &Event, player: Seat, is_missing: bool) -> Option<Points>
     ensures { result ≡ next_had had event.now player is_missing }
 {
@@ -54,7 +54,7 @@ fn next_had(had: Option<Points>, event: &Event, player: Seat, is_missing: bool) 
 impl Had {
     ghost use Rattle.std.specs.Prelude.{Some, pos};
 
-    /// Nothing, as before the first line.
+    /// 0, as before the first line.
     pub(crate) fn new() -> Had
         ensures { result.total ≡ Some (pos 0) }
     {
@@ -63,7 +63,7 @@ impl Had {
         }
     }
 
-    /// Notes one line more, and tells how many sums are wrong in it: 1, or 0 where the sum is right or not known.
+    /// Notes one more line, and returns how many sums are wrong in it: 1, or 0 if the sum is right or not known.
     pub(crate) fn note(&mut self, event: &Event, player: Seat, is_missing: bool) -> usize
         ensures had { self.new.total ≡ next_had self.old.total event.now player is_missing }
         ensures many { result ≡ many_wrong self.old.total event.now player is_missing }

@@ -1,7 +1,7 @@
 //! Repairs of a faulty record: the single changes after which it is a legal game once its numbers are corrected, the likeliest first.
 //!
-//! [`repairs`] tries each change of the list of a record, and each play that is added to it. What a sheet says of its scores and totals is a checksum: the fewer of its
-//! numbers are wrong with a change, the likelier it is.
+//! [`repairs`] tries each change of the list of a record, and each play that is added to it. The scores and totals of a sheet are a checksum: the
+//! fewer of its numbers are wrong with a change, the likelier it is.
 #![tactic(auto)]
 
 mod candidate;

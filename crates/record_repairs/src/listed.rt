@@ -2,7 +2,7 @@
 
 use record_changes::Change;
 
-/// A single change of a record, and where it stands in the list of all.
+/// A single change of a record, and its position in the list of all.
 #[derive(Drop)]
 pub struct Listed {
     /// The change.

@@ -1,4 +1,4 @@
-//! Taking one event with its right numbers, where its total is mostly known before.
+//! Taking one event with its right numbers; mostly its total is known in advance.
 ghost use Rattle.std.specs.Prelude.{◌≡◌, IfErr, OnOk, slice_get};
 ghost use Rattle.game_turns.specs.Answers.{Tells};
 ghost use Rattle.game_turns.specs.Machines.{rules_of, state_of};
@@ -31,8 +31,8 @@ fn foresee_total(machine: &Machine, events: &mut Events, place: usize)
     events.set_total(place, total);
 }
 
-/// Takes the event at a place, with the score and the total that the rules give if its own are wrong. An event whose total alone is wrong
-/// is taken once, and not refused before.
+/// Takes the event at a place, with the score and the total that the rules give if its own are wrong. An event of which only the total is
+/// wrong is taken once, without being refused first.
 ///
 /// # Errors
 ///

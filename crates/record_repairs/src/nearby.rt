@@ -1,4 +1,4 @@
-//! Whether a change helps, as far as the events near it tell: one of them is refused, or the game is soon as it was without the change.
+//! Whether a change helps, as far as the events near it show: one of them is refused, or the game is soon as it was without the change.
 ghost use Rattle.std.specs.Prelude.{◌≡◌, [], ◌≤◌, ◌<◌, ◌+◌, ℕ, List, length, IsTrue, IsFalse, IfOk, IfSome};
 ghost use Rattle.game_turns.specs.Machines.{rules_of};
 ghost use Rattle.game_rows.specs.Walks.{IsWalkOf};
@@ -20,7 +20,7 @@ use ref_tiles::Rules;
 use std::alloc::{AllocError, Global};
 
 /// How many events after a change are taken before the game is compared with that of the record. A play that is taken back leaves its tiles
-/// in view for one event more.
+/// in view for one more event.
 const NEAR: usize = 3;
 
 /// Takes all of these events but the last, each with its right numbers, and adds their steps. It is false if one of them is refused whatever
@@ -86,7 +86,7 @@ fn near_events(
     apply(alloc, &here, &events[start..end + 1])
 }
 
-/// The steps that are kept with a stop, with others in the place of those from one place up to another.
+/// The steps that are kept with a stop, with others in place of those from one place up to another.
 fn steps_around(
     alloc: Global,
     stop: &RackStop,
@@ -104,7 +104,7 @@ fn steps_around(
     Ok(all)
 }
 
-/// Whether no deal yields the racks of a record up to where they stop, with these steps in the place of those from one place up to another.
+/// Whether no deal yields the racks of a record up to where they stop, with these steps in place of those from one place up to another.
 fn stops_again(
     alloc: Global,
     rules: &Rules,
@@ -161,7 +161,7 @@ fn goes_wrong_again(
     stops_again(alloc, rules, stop, start, many, end, first)
 }
 
-/// Whether a record makes no game with a change, as far as the events near it tell: one of them is refused with it whatever its numbers are, or
+/// Whether a record makes no game with a change, as far as the events near it show: one of them is refused with it whatever its numbers are, or
 /// the game after them is as it was without the change, and either a later event is refused or no deal yields the racks.
 ///
 /// It fails only if memory runs out.

@@ -19,9 +19,9 @@ use std::alloc::{AllocError, Global};
 /// Where the racks of a record stop.
 #[derive(Drop)]
 pub(crate) struct RackStop {
-    /// No deal yields the racks of the first so many events.
+    /// No deal yields the racks of the first `end` events.
     pub(crate) end: usize,
-    /// What proves it, where these racks exceed no bound.
+    /// What proves it, if these racks exceed no bound.
     pub(crate) cut: Option<Cut>,
     /// The steps of the first events of the record.
     pub(crate) steps: Vec<Step>,
@@ -68,7 +68,7 @@ fn bound_end(rules: &Rules, steps: &[Step]) -> Option<usize> {
     None
 }
 
-/// Where the racks of these steps stop, for all that is known. Nothing is claimed of it but that it keeps the steps: `rack_stop` checks it.
+/// Where the racks of these steps stop, as far as is known. The contract says only that it keeps the steps: `rack_stop` checks the rest.
 fn likely_stop(
     alloc: Global,
     rules: &Rules,
@@ -92,7 +92,7 @@ fn likely_stop(
 
 /// Where the racks of a record stop, up to where its walk ends.
 ///
-/// It fails only where memory runs out.
+/// It fails only if memory runs out.
 pub(crate) fn rack_stop(
     alloc: Global,
     rules: &Rules,
@@ -114,8 +114,8 @@ pub(crate) fn rack_stop(
     Ok(Some(stop))
 }
 
-/// The first steps of a record that are kept with its stop, so many, to go on from there with a change. Behind its stop no more than one
-/// is asked for, that of a line that may be missing before it.
+/// The first `many` steps of a record that are kept with its stop, to go on from there with a change. At most one step after its stop is
+/// needed: that of a line that may be missing before it.
 pub(crate) fn first_steps(
     alloc: Global,
     stop: &Option<RackStop>,
@@ -132,7 +132,7 @@ pub(crate) fn first_steps(
     }
 }
 
-/// Whether no events that begin with these steps make a game, as far as the bounds and what proves the stop of the record tell.
+/// Whether no events that begin with these steps make a game, as far as the bounds and the proof of the record's stop show.
 pub(crate) fn are_stopped(rules: &Rules, stop: &Option<RackStop>, steps: &[Step]) -> bool
     ensures { IsTrue result → NoneWith rules.now steps.now }
 {

@@ -1,4 +1,4 @@
-//! What stays wrong with a change, beside the right events.
+//! What stays wrong with a change, compared with the right events.
 ghost use Rattle.std.specs.Prelude.{◌≡◌, ◌<◌, ◌++◌, length, IfOk, OnOk};
 ghost use Rattle.gcg_read.specs.Numerals.{IsPoints};
 ghost use Rattle.game_sheets.specs.WrongNumbers.{wrong_score, wrong_sum, wrong_at, wrong_lines};
@@ -19,7 +19,7 @@ use record_changes::Change;
 use ref_tiles::Rules;
 use std::alloc::{AllocError, Global};
 
-/// Adds the score of an event, where it is not the right one.
+/// Adds the score of an event, if it is not the right one.
 fn push_score(wrong: &mut Vec<WrongNumber>, event: &Event, right: &Event) -> Result<(), AllocError>
     ensures { OnOk result (wrong.new.items ≡ wrong.old.items ++ wrong_score event.now right.now) }
 {
@@ -33,7 +33,7 @@ fn push_score(wrong: &mut Vec<WrongNumber>, event: &Event, right: &Event) -> Res
     Ok(())
 }
 
-/// Adds the total of an event, where it is not what the player had and the score.
+/// Adds the total of an event, if it is not what the player had and the score.
 fn push_sum(wrong: &mut Vec<WrongNumber>, had: i32, event: &Event) -> Result<(), AllocError>
     requires { IsPoints had }
     ensures { OnOk result (wrong.new.items ≡ wrong.old.items ++ wrong_sum had event.now) }
@@ -66,7 +66,7 @@ fn push_wrong(
     Ok(())
 }
 
-/// The wrong scores and sums of a sheet beside the right events, in the order of the sheet.
+/// The wrong scores and sums of a sheet, compared with the right events, in the order of the sheet.
 fn wrong_lines(
     alloc: Global,
     sheet: &[Event],
@@ -82,7 +82,7 @@ fn wrong_lines(
     Ok(wrong)
 }
 
-/// Puts words behind others.
+/// Puts words after others.
 #[tactic(auto, using(crate::proofs::Weighing::letters_joined))]
 fn push_words(words: &mut Vec<SpelledWord>, mut more: Vec<SpelledWord>) -> Result<(), AllocError>
     ensures { OnOk result (letters_in words.new.items ≡ letters_in words.old.items ++ letters_in more.items) }
@@ -91,7 +91,7 @@ fn push_words(words: &mut Vec<SpelledWord>, mut more: Vec<SpelledWord>) -> Resul
     Ok(())
 }
 
-/// The words of a record that stand and are not in the list, where the rules allow each of its events.
+/// The words of a record that stand and are not in the list, if the rules allow each of its events.
 fn unlisted_words(
     alloc: Global,
     rules: &Rules,
@@ -114,9 +114,9 @@ fn unlisted_words(
     Ok(words)
 }
 
-/// What stays wrong with a change, beside the right events.
+/// What stays wrong with a change, compared with the right events.
 ///
-/// It fails only where memory runs out.
+/// It fails only if memory runs out.
 pub(crate) fn what_remains(
     alloc: Global,
     rules: &Rules,

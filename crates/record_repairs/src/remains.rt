@@ -24,7 +24,7 @@ impl Remains {
         self.wrong.len() as u128 + self.unlisted.len() as u128
     }
 
-    /// What a slip costs with which these stay wrong.
+    /// What a slip costs if these stay wrong with it.
     pub fn cost(&self, slip: &Slip) -> u128
         ensures { result ≡ costs (length self.now.wrong.items) (length self.now.unlisted.items) slip.now }
     {

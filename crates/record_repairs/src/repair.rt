@@ -11,6 +11,6 @@ pub struct Repair {
     pub listed: Listed,
     /// The events with the change, and with the scores and totals that the rules give.
     pub right: Events,
-    /// What of the sheet stays wrong.
+    /// What stays wrong on the sheet.
     pub remains: Remains,
 }

@@ -1,8 +1,9 @@
-//! How many numbers and words may be wrong still, where there is a number that they must stay below: a room. Where there is none, nothing limits.
+//! How many numbers and words may still be wrong, if there is a number that they must stay below: a room. Without such a number there is no
+//! limit.
 ghost use Rattle.std.specs.Prelude.{◌≡◌, ◌↔◌, Some, IsTrue};
 ghost use Rattle.record_repairs.specs.Counting.{less};
 
-/// How many may be wrong beside so many.
+/// How many more may be wrong if `many` are.
 pub(crate) fn less(room: Option<usize>, many: usize) -> Option<usize>
     ensures { result ≡ less room many }
 {
@@ -12,7 +13,7 @@ pub(crate) fn less(room: Option<usize>, many: usize) -> Option<usize>
     }
 }
 
-/// Whether there is no room: as many are wrong as there may be, or more.
+/// Whether there is no room: as many are wrong as may be, or more.
 pub(crate) fn is_full(room: Option<usize>) -> bool
     ensures { IsTrue result ↔ (room ≡ Some 0) }
 {

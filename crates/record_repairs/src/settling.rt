@@ -30,9 +30,9 @@ fn outcome_of(alloc: Global, passed: &Passed<'_>) -> Result<Outcome, AllocError>
     }
 }
 
-/// What is found of a record of which the rules allow every event.
+/// What is found of a record in which the rules allow every event.
 ///
-/// It fails only where memory runs out.
+/// It fails only if memory runs out.
 pub(crate) fn settled(
     alloc: Global,
     rules: &Rules,

@@ -10,7 +10,7 @@ use gcg_read::{Event, Events, Points};
 use record_changes::{Change, Slip, apply};
 use std::alloc::{AllocError, Global};
 
-/// The score of the event at a place, or 0 where there is none.
+/// The score of the event at a place, or 0 if there is none.
 fn score_at(right: &[Event], place: usize) -> Points
     ensures { result ≡ score_in (slice_get right.now place) }
 {
@@ -20,7 +20,7 @@ fn score_at(right: &[Event], place: usize) -> Points
     }
 }
 
-/// The total that a player has behind a missing line with this score.
+/// The total that a player has after a missing line with this score.
 fn total_behind(had: i32, score: Points) -> Points
     requires { IsPoints had }
     ensures { result ≡ total_behind had score }
@@ -31,7 +31,7 @@ fn total_behind(had: i32, score: Points) -> Points
     }
 }
 
-/// Gives a missing line the numbers that it would have on the sheet. Where there is no line, nothing is changed.
+/// Gives a missing line the numbers that it would have on the sheet. If there is no line, nothing is changed.
 #[tactic(auto, using(crate::proofs::SheetLines::line_written, crate::proofs::SheetLines::none_spliced))]
 fn write_line(sheet: &mut Events, place: usize, right: &[Event])
     ensures { sheet.new ≡ spliced place 1 (map (line_on_sheet sheet.old right.now place)) sheet.old }
@@ -46,9 +46,9 @@ fn write_line(sheet: &mut Events, place: usize, right: &[Event])
     sheet.set_total(place, total);
 }
 
-/// The events of a record with a change, with the numbers of the sheet, beside the same events with the right ones.
+/// The events of a record with a change, with the numbers of the sheet, given the same events with the right ones.
 ///
-/// It fails only where memory runs out.
+/// It fails only if memory runs out.
 pub(crate) fn on_sheet(
     alloc: Global,
     change: &Change,

@@ -10,7 +10,7 @@ use game_rows::Walk;
 use game_turns::{Machine, withdraws};
 use gcg_read::Event;
 
-/// The game before the event at a place, counted from 0, and behind the last row; none behind that.
+/// The game before the event at a place, counted from 0, and after the last row; none beyond that.
 #[tactic(auto, using(crate::proofs::Walked::first_game, crate::proofs::Walked::next_game))]
 pub(crate) fn game_before(walk: &Walk, place: usize) -> Option<&Machine>
     ensures there { IsSome result ↔ (place ≤ length walk.now.rows.items) }
@@ -26,7 +26,7 @@ pub(crate) fn game_before(walk: &Walk, place: usize) -> Option<&Machine>
     }
 }
 
-/// Whether a withdrawal stands at a place.
+/// Whether the event at a place is a withdrawal.
 #[tactic(auto, using(game_turns::proofs::PlaceLaws::copied_get))]
 pub(crate) fn withdraws_at(events: &[Event], place: usize) -> bool
     ensures { result ≡ withdraws (slice_get events.now place) }
@@ -34,8 +34,8 @@ pub(crate) fn withdraws_at(events: &[Event], place: usize) -> bool
     withdraws(events.get(place))
 }
 
-/// The place from which on a change at a place has to be tried: that place, or the one before it, where with the change the event before
-/// it is taken back and else is not, or the other way round.
+/// The place from which on a change at a place has to be tried: that place, or the one before it, if with the change the event before it
+/// is taken back and otherwise is not, or the other way round.
 #[tactic(auto, using(crate::proofs::Starts::starts_first, crate::proofs::Starts::starts_there, crate::proofs::Starts::starts_before))]
 pub(crate) fn start_of(events: &[Event], changed: &[Event], place: usize) -> usize
     requires { (k : ℕ) → k < place → slice_get changed.now k ≡ slice_get events.now k }

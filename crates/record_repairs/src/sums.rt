@@ -9,7 +9,7 @@ use crate::rooms::less;
 use gcg_read::{Event, Seat};
 use record_changes::{Change, Slip};
 
-/// The place of the line that is missing, where the change is such a line.
+/// The place of the line that is missing, if the change is such a line.
 pub(crate) fn missing_place(change: &Change) -> Option<usize>
     ensures { result ≡ missing_place change.now }
 {
@@ -29,7 +29,7 @@ pub(crate) fn is_missing_at(missing: Option<usize>, place: usize) -> bool
     }
 }
 
-/// How many sums of a player are wrong at the least, whatever numbers the missing line has.
+/// The least number of sums of a player that are wrong, whatever numbers the missing line has.
 fn sums_of(events: &[Event], player: Seat, missing: Option<usize>) -> usize
     ensures { (sheet : List Event) → IsSheetBut events.now missing sheet → result ≤ length (sums_to player sheet (length events.now)) }
 {
@@ -41,7 +41,7 @@ fn sums_of(events: &[Event], player: Seat, missing: Option<usize>) -> usize
     many
 }
 
-/// The room that the wrong sums of a sheet leave, whatever numbers the missing line has. Where nothing limits, none is counted.
+/// The room that the wrong sums of a sheet leave, whatever numbers the missing line has. If there is no limit, none is counted.
 #[tactic(auto, using(crate::proofs::Leaving::leaves_any))]
 pub(crate) fn behind_sums(
     room: Option<usize>,

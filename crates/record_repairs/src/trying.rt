@@ -25,11 +25,10 @@ use record_changes::{Change, apply, law_of_changes};
 use ref_tiles::Rules;
 use std::alloc::{AllocError, Global};
 
-/// Goes on from a place with a machine that stands before it, gives each event its right numbers, and adds the steps that come next. It
-/// is false where an event is refused whatever its numbers are, and where more scores and words are wrong from there on than there is
-/// room for.
+/// Goes on from a place with a machine that is before it, gives each event its right numbers, and adds the steps that come next. It is
+/// false if an event is refused whatever its numbers are, and if more scores and words are wrong from there on than there is room for.
 ///
-/// It fails only where memory runs out.
+/// It fails only if memory runs out.
 fn goes_on(
     game: &Machine,
     events: &mut Events,
@@ -66,10 +65,10 @@ fn goes_on(
     Ok(!is_full(room))
 }
 
-/// Whether a change may be told. It is false only where with it the record has no correction that a record can write, or none that is a game,
-/// or too many numbers and words stay wrong.
+/// Whether a change may be a repair. It is false only if with it the record has no correction that a record can write, or none that is a
+/// game, or too many numbers and words stay wrong.
 ///
-/// It fails only where memory runs out.
+/// It fails only if memory runs out.
 fn may_be_told(
     alloc: Global,
     rules: &Rules,
@@ -104,7 +103,7 @@ fn may_be_told(
     Ok(!are_stopped(rules, stop, first.steps.as_slice()))
 }
 
-/// Whether so many are few enough.
+/// Whether `many` are few enough.
 fn are_fewer(below: Option<usize>, many: u128) -> bool
     ensures { IsTrue result ↔ AreFewer below many }
 {
@@ -114,10 +113,10 @@ fn are_fewer(below: Option<usize>, many: u128) -> bool
     }
 }
 
-/// What a change costs, where the record has a correction with it that a record can write, and few enough numbers and words stay wrong. None
-/// where it has no such correction, or none that is a game.
+/// What a change costs, if the record has a correction with it that a record can write, and few enough numbers and words stay wrong. None if
+/// it has no such correction, or none that is a game.
 ///
-/// It fails only where memory runs out.
+/// It fails only if memory runs out.
 #[tactic(auto, using(crate::proofs::Weighing::told_by_none))]
 pub(crate) fn weigh(
     alloc: Global,

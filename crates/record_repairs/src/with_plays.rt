@@ -11,7 +11,7 @@ use record_changes::{Change, Slip, copy_slip};
 use ref_tiles::Rules;
 use std::alloc::{AllocError, Global};
 
-/// Adds a copy of a change to those at a place, where it stands there.
+/// Adds a copy of a change to those at a place, if its place is this one.
 fn push_play(slips: &mut Vec<Slip>, play: &Change, place: usize) -> Result<(), AllocError>
     ensures { OnOk result (map (change_at place) slips.new.items ≡ map (change_at place) slips.old.items ++ those_at (play.now ∷ []) place) }
 {
@@ -22,7 +22,7 @@ fn push_play(slips: &mut Vec<Slip>, play: &Change, place: usize) -> Result<(), A
     Ok(())
 }
 
-/// Adds copies of the changes that stand at a place.
+/// Adds copies of the changes at a place.
 fn push_plays(slips: &mut Vec<Slip>, plays: &[Change], place: usize) -> Result<(), AllocError>
     ensures { OnOk result (map (change_at place) slips.new.items ≡ map (change_at place) slips.old.items ++ those_at plays.now place) }
 {
@@ -32,9 +32,9 @@ fn push_plays(slips: &mut Vec<Slip>, plays: &[Change], place: usize) -> Result<(
     Ok(())
 }
 
-/// All that may be wrong at a place of a record, by the game before it, and behind it the plays that were added there.
+/// All that may be wrong at a place of a record, by the game before it, and then the plays that were added there.
 ///
-/// It fails only where memory runs out.
+/// It fails only if memory runs out.
 pub(crate) fn slips_with(
     alloc: Global,
     rules: &Rules,

@@ -2,7 +2,7 @@
 
 use text_lines::next_field;
 
-/// How many fields are counted at the most: one more than an event has.
+/// The greatest number of fields that are counted: one more than an event has.
 const FIELDS: usize = 6;
 
 /// Where the colon of an event line is, and whether the line is one.
@@ -13,13 +13,13 @@ fn colon_of(written: &[u8]) -> Option<usize> {
     written.iter().position(|byte| *byte == b':')
 }
 
-/// What stands between the > and the colon of an event line.
+/// What is between the > and the colon of an event line.
 pub fn before_colon(written: &[u8]) -> Option<&[u8]> {
     let colon = colon_of(written)?;
     written.get(1..colon)
 }
 
-/// What stands behind the colon of an event line.
+/// What is after the colon of an event line.
 pub fn after_colon(written: &[u8]) -> &[u8] {
     let Some(colon) = colon_of(written) else {
         return b"";

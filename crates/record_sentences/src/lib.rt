@@ -1,4 +1,4 @@
-//! Why a text is no record, in plain words: what is wrong with the line of its fault, and what the line lacks.
+//! Why a text is not a record, in plain words: what is wrong with the line of its fault, and what the line lacks.
 #![tactic(auto)]
 
 mod fields;

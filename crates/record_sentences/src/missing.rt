@@ -1,4 +1,4 @@
-//! What a line lacks that is no line of a record, beside what is wrong with it.
+//! What is missing in a line that is not a line of a record, besides what is wrong with it.
 
 use crate::fields::{after_colon, before_colon, field_at, many_fields};
 use game_facts::line_of;
@@ -6,7 +6,8 @@ use gcg_read::{Points, ReadFault, Why};
 use std::alloc::AllocError;
 use text_lines::next_field;
 
-/// Appends what the line of a fault lacks, where that can be told: its score or its total; or how a nickname with a blank is written.
+/// Appends what the line of a fault lacks, if that can be found out: its score or its total; or how a nickname with a blank is
+/// written.
 pub fn push_missing(text: &mut Vec<u8>, bytes: &[u8], fault: ReadFault) -> Result<(), AllocError> {
     let written = line_of(bytes, fault.line).unwrap_or(b"");
     match fault.why {
@@ -20,7 +21,7 @@ pub fn push_missing(text: &mut Vec<u8>, bytes: &[u8], fault: ReadFault) -> Resul
     }
 }
 
-/// Appends how a nickname is written that has a blank inside.
+/// Appends how a nickname with a blank inside is written.
 fn push_nickname(text: &mut Vec<u8>, nick: &[u8]) -> Result<(), AllocError> {
     if many_fields(nick) < 2 {
         return Ok(());

@@ -1,4 +1,4 @@
-//! What is wrong with a line that is no line of a record.
+//! What is wrong with a line that is not a line of a record.
 
 use crate::fields::{after_colon, before_colon, field_at, many_fields};
 use game_facts::line_of;
@@ -7,7 +7,7 @@ use sentence_parts::{Part, say};
 use std::alloc::{AllocError, Global};
 use text_lines::{cut_line, next_field};
 
-/// Appends what is wrong with a line of a text that is no record.
+/// Appends what is wrong with a line of a text that is not a record.
 pub fn push_record_fault(
     alloc: Global,
     text: &mut Vec<u8>,
@@ -125,7 +125,7 @@ fn push_third(
     push_nicks(text, &record, nick)
 }
 
-/// Appends the nicknames of both players, beside a third one.
+/// Appends the nicknames of both players, next to a third one.
 fn push_nicks(text: &mut Vec<u8>, record: &Record, nick: &[u8]) -> Result<(), AllocError> {
     text.extend_from_slice(nick)?;
     say(
@@ -158,7 +158,7 @@ fn push_fields(text: &mut Vec<u8>, written: &[u8]) -> Result<(), AllocError> {
     )
 }
 
-/// Appends which of score and total is no number.
+/// Appends which of score and total is not a number.
 fn push_number(text: &mut Vec<u8>, written: &[u8]) -> Result<(), AllocError> {
     let fields = after_colon(written);
     let many = many_fields(fields);

@@ -1,7 +1,7 @@
 //! Tests of the crates that read, write and judge records: tiles, boards, plays, the reader, the normal form, the turns and the best
 //! plays.
 //!
-//! They stand here, and not in the crates that they test, since a crate with tests of its own is proved a second time with
+//! They are here, and not in the crates that they test, since a crate with tests of its own is proved a second time with
 //! them.
 #![tactic(auto)]
 

@@ -4,7 +4,7 @@ use Rattle.std.specs.List.{starts_with}
 use Rattle.record_words.specs.declared.notes.Note.{Note}
 use Rattle.record_words.specs.Pragmas.{said}
 
--- a note: how many lines of events stand before it, and what it says
+-- a note: how many lines of events are before it, and what it says
 pub record NoteText : Type 0 where
   pub after : ℕ
   pub text : List ℕ
@@ -17,7 +17,7 @@ abbrev pub note_by : (after : ℕ) → Option (List ℕ) → List NoteText
 note_by after None = []
 note_by after (Some text) = record { after = after; text = text } ∷ []
 
--- the note of a line, where it begins with the word `#note`
+-- the note of a line, if it begins with the word `#note`
 abbrev pub note_on : (after : ℕ) → (line : List ℕ) → List NoteText
 note_on after line = note_by after (said (codes "#note") line)
 
@@ -25,11 +25,11 @@ note_on after line = note_by after (said (codes "#note") line)
 abbrev pub is_event : List ℕ → Bool
 is_event line = starts_with ◌==◌ line (62 ∷ [])
 
--- how many lines of events stand before the next line
+-- how many lines of events are before the next line
 unfoldable pub behind : (after : ℕ) → (line : List ℕ) → ℕ
 behind after line = if is_event line then after + 1 else after
 
--- the notes of further lines, before which so many lines of events stand
+-- the notes of further lines, with `after` lines of events before them
 unfoldable pub notes_from : (after : ℕ) → List (List ℕ) → List NoteText
 notes_from after [] = []
 notes_from after (line ∷ lines) = note_on after line ++ notes_from (behind after line) lines

@@ -1,4 +1,4 @@
--- What a record says in words beside its events.
+-- What a record says in words besides its events.
 use Rattle.std.specs.Prelude.{◌≡◌, ℕ, List, codes, map, Option, option_map}
 use Rattle.std.specs.Borrow.{Bor}
 use Rattle.text_lines.specs.Lines.{lines_of}
@@ -6,7 +6,7 @@ use Rattle.record_words.specs.declared.words.RecordWords.{RecordWords}
 use Rattle.record_words.specs.Pragmas.{first_said}
 use Rattle.record_words.specs.Notes.{note_in, notes_from}
 
--- the bytes of a text, where it is there
+-- the bytes of a text, if it is there
 abbrev pub text_in : Option (Bor (List ℕ)) → Option (List ℕ)
 text_in text = option_map (λ (x : Bor (List ℕ)). x.now) text
 

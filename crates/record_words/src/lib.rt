@@ -1,6 +1,6 @@
-//! What a record says in words beside its events: its title, its event, its lexicon, and the notes that stand with its events.
+//! What a record says in words besides its events: its title, its event, its lexicon, and the notes that go with its events.
 //!
-//! Nothing of it is judged: it is what the writer of the record says, in the bytes of the record.
+//! None of it is judged: it is what the writer of the record says, in the bytes of the record.
 #![tactic(auto)]
 
 mod notes;

@@ -10,7 +10,7 @@ use text_lines::Lines;
 /// A note of a record.
 #[derive(Clone, Copy)]
 pub struct Note<'a> {
-    /// How many lines of events stand before it: it stands with the last of them.
+    /// How many lines of events are before it: it goes with the last of them.
     pub after: usize,
     /// What it says.
     pub text: &'a [u8],
@@ -23,7 +23,7 @@ fn is_event(line: &[u8]) -> bool
     line.starts_with(b">")
 }
 
-/// How many lines of events stand before the line behind this one.
+/// How many lines of events are before the line after this one.
 #[tactic(auto, unfolding(crate::specs::Notes::behind))]
 fn behind(after: usize, line: &[u8]) -> usize
     requires { after < 9223372036854775808 }
@@ -33,7 +33,7 @@ fn behind(after: usize, line: &[u8]) -> usize
     if is_event(line) { after + 1 } else { after }
 }
 
-/// Adds the note of a line, where it is one.
+/// Adds the note of a line, if it is one.
 fn push_note<'a>(notes: &mut Vec<Note<'a>>, after: usize, line: &'a [u8]) -> Result<(), AllocError>
     ensures { OnOk result (map note_in notes.new.items ≡ map note_in notes.old.items ++ note_on after line.now) }
 {

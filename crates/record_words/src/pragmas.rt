@@ -1,4 +1,4 @@
-//! What a line says behind its first word.
+//! What a line says after its first word.
 ghost use Rattle.std.specs.Prelude.{◌≡◌, option_map};
 ghost use Rattle.std.specs.List.{before_first, after_first};
 ghost use Rattle.text_lines.specs.Fields.{is_blank};
@@ -31,7 +31,7 @@ fn cut_at_blank(text: &[u8]) -> Halves<'_>
     }
 }
 
-/// The text without the blanks at its front; none where nothing is left.
+/// The text without the blanks at its front; none if nothing is left.
 #[tactic(auto, unfolding(crate::specs::Pragmas::filled))]
 fn filled(text: &[u8]) -> Option<&[u8]>
     ensures { option_map (λ said. said.now) result ≡ filled text.now }
@@ -42,7 +42,7 @@ fn filled(text: &[u8]) -> Option<&[u8]>
     }
 }
 
-/// What a line says behind a word and a blank; none where it begins with another word, or says nothing.
+/// What a line says after a word and a blank; none if it begins with another word, or says nothing.
 #[tactic(auto, unfolding(crate::specs::Pragmas::said))]
 pub fn said<'a>(word: &[u8], line: &'a [u8]) -> Option<&'a [u8]>
     ensures { option_map (λ text. text.now) result ≡ said word.now line.now }
@@ -54,7 +54,7 @@ pub fn said<'a>(word: &[u8], line: &'a [u8]) -> Option<&'a [u8]>
     filled(halves.after)
 }
 
-/// What the first line that says something behind a word says there.
+/// What the first line that says something after a word says there.
 #[tactic(auto, using(crate::proofs::Steps::said_later, crate::proofs::Steps::said_nowhere))]
 pub fn first_said<'a>(word: &[u8], text: &'a [u8]) -> Option<&'a [u8]>
     ensures { option_map (λ said. said.now) result ≡ first_said word.now (lines_in text.now) }

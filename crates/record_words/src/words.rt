@@ -7,7 +7,7 @@ use crate::pragmas::first_said;
 use std::alloc::{AllocError, Global};
 use text_lines::without_mark;
 
-/// What a record says in words beside its events. None is what it does not say.
+/// What a record says in words besides its events. What it does not say is `None`.
 #[derive(Drop)]
 pub struct RecordWords<'a> {
     /// Its title: what the first `#title` says.
@@ -22,9 +22,9 @@ pub struct RecordWords<'a> {
     pub notes: Vec<Note<'a>>,
 }
 
-/// What the text of a record says in words beside its events.
+/// What the text of a record says in words besides its events.
 ///
-/// It fails only where memory runs out.
+/// It fails only if memory runs out.
 pub fn words_of<'a>(alloc: Global, text: &'a [u8]) -> Result<RecordWords<'a>, AllocError>
     ensures { IfOk result (AreWordsOf text.now) }
 {

@@ -1,4 +1,4 @@
--- A square is beside a tile exactly where one of its four neighbours has one.
+-- A square is beside a tile exactly when one of its four neighbours has one.
 use Rattle.std.proofs.Common.{◌≡◌, ℕ, ◌+◌, ◌-◌, ◌<◌, ◌≤◌, Bool, true, false, ◌||◌, nat_lt, List, length, refl, sym, ap, ◌∙◌, arith, ◌⊎◌, inl, inr, ⊎_elim, Option, Some, None, is_some}
 use Rattle.std.specs.Prelude.{◌↔◌}
 use Rattle.std.proofs.lemmas.List.{get_or_past}
@@ -112,7 +112,7 @@ anchor_parts board square size anchor =
     (λ (b : (other : ℕ) × AreBeside square other × (holds board other ≡ true)). inl (beside-touches board square b.0 size b.1 b.2))
     anchor.near
 
--- what the tests of the neighbours and of an opening play tell of an empty square
+-- what the tests of the neighbours and of an opening play say about an empty square
 pub anchor_told : (board : List (Option Tile)) (square : ℕ) (touched : Bool) → length board ≡ 225 → square < 225 → is_some (tile_at board square) ≡ false
     → touched ≡ touches board square → ((square ≡ centre) × HasNoTile board → ⊥) → (touched ≡ true) ↔ IsAnchor board square
 anchor_told board square touched size on free told later = (

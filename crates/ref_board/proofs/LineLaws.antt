@@ -33,7 +33,7 @@ pub square_at_rises : (d : Dir) (line a b : ℕ) → a < b → square_at d line 
 square_at_rises Across line a b h = omega arith
 square_at_rises Down line a b h = omega arith
 
--- a square is known by its line and its place
+-- squares with the same line and the same place are equal
 pub same_square : (d : Dir) (a b : ℕ) → line_of d a ≡ line_of d b → place_of d a ≡ place_of d b → a ≡ b
 same_square Across a b l p = omega arith
 same_square Down a b l p = omega arith

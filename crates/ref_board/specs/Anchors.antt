@@ -16,7 +16,7 @@ abbrev pub AreBeside : ℕ → ℕ → Type 0
 AreBeside a b =
     (d : Dir) × (line_of d a ≡ line_of d b) × ((place_of d a + 1 ≡ place_of d b) ⊎ (place_of d b + 1 ≡ place_of d a))
 
--- an empty square orthogonally beside a tile; on an empty board the centre alone
+-- an empty square orthogonally beside a tile; on an empty board, only the centre
 pub record IsAnchor (board : List (Option Tile)) (square : ℕ) : Type 0 where
   pub free : tile_at board square ≡ None
   pub near : (HasNoTile board × (square ≡ centre)) ⊎ ((other : ℕ) × AreBeside square other × (holds board other ≡ true))
@@ -26,7 +26,7 @@ abbrev pub follows_tile : Dir → List (Option Tile) → ℕ → Bool
 follows_tile d board square =
     nat_lt 0 (place_of d square) && occupied_on d board (line_of d square) (place_of d square - 1)
 
--- whether the place at this distance behind it on the line has a tile
+-- whether the place at this distance after it on the line has a tile
 abbrev pub precedes_tile : Dir → List (Option Tile) → ℕ → ℕ → Bool
 precedes_tile d board square len =
     nat_lt (place_of d square + len) 15 && occupied_on d board (line_of d square) (place_of d square + len)

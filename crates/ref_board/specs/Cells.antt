@@ -17,7 +17,7 @@ tile_at board square = slice_index_or board square None
 abbrev pub holds : List (Option Tile) → ℕ → Bool
 holds board square = is_some (tile_at board square)
 
--- the board with another content of one square
+-- the board with the given content of one square
 abbrev pub with_tile : List (Option Tile) → ℕ → Option Tile → List (Option Tile)
 with_tile board square tile = slice_set board square tile
 

@@ -1,4 +1,4 @@
--- Squares by number, and the lines that they lie on. A row is a line across, a column a line down.
+-- Squares by number, and the lines on which they lie. A row is a line across, a column a line down.
 use Rattle.std.specs.Prelude.{ℕ, ◌+◌, ◌*◌, ◌/◌, ◌%◌}
 use Rattle.ref_board.specs.declared.directions.Dir.{Dir}
 use Rattle.ref_board.specs.declared.directions.Dir.TheVariants.{Across, Down}
@@ -12,7 +12,7 @@ other_dir Down = Across
 abbrev pub square_in : ℕ → ℕ → ℕ
 square_in row column = 15 * row + column
 
--- which line of the direction a square lies on: its row across, its column down
+-- the line of the direction on which a square lies: its row across, its column down
 abbrev pub line_of : Dir → ℕ → ℕ
 line_of Across square = square / 15
 line_of Down square = square % 15

@@ -13,7 +13,7 @@ pub record IsWhole (occupied : ℕ → Bool) (first len : ℕ) : Type 0 where
   pub before : 0 < first → occupied (first - 1) ≡ false
   pub after : first + len < 15 → occupied (first + len) ≡ false
 
--- the maximal stretch through a square: its first square and how many tiles it has
+-- the maximal stretch through a square: its first square and the number of its tiles
 pub record IsRunThrough (board : List (Option Tile)) (d : Dir) (square start len : ℕ) : Type 0 where
   pub same_line : line_of d start ≡ line_of d square
   pub not_after : place_of d start ≤ place_of d square
@@ -26,7 +26,7 @@ pub record IsFirstBack (occupied : ℕ → Bool) (place first : ℕ) : Type 0 wh
   pub filled : (k : ℕ) → first ≤ k → k < place → occupied k ≡ true
   pub before : 0 < first → occupied (first - 1) ≡ false
 
--- behind `place` each place up to just before `end` has a tile, and `end` is off the line or has none
+-- after `place` each place up to just before `end` has a tile, and `end` is off the line or has none
 pub record IsEndOn (occupied : ℕ → Bool) (place end : ℕ) : Type 0 where
   pub behind : place < end
   pub inside : end ≤ 15

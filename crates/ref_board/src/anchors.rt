@@ -1,4 +1,4 @@
-//! What lies beside a square or a stretch of a line.
+//! Tiles next to a square or to a stretch of a line.
 ghost use Rattle.std.specs.Prelude.{◌≡◌, ◌≤◌};
 ghost use Rattle.ref_board.specs.Anchors.{follows_tile, precedes_tile, touches};
 
@@ -16,7 +16,7 @@ pub fn follows_tile(board: &Board, dir: Dir, square: Square) -> bool
     place > 0 && board.at(Square::on_line(dir, line, place - 1)).is_some()
 }
 
-/// Whether the place at a distance behind this square on its line has a tile.
+/// Whether the place at a distance after this square on its line has a tile.
 pub fn precedes_tile(board: &Board, dir: Dir, square: Square, len: usize) -> bool
     requires { len ≤ 15 }
     ensures { result ≡ precedes_tile dir board.now square len }

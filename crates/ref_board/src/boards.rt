@@ -55,7 +55,7 @@ impl Board {
         self.cells[square.number()] = Some(tile);
     }
 
-    /// Takes the tile off a square, and gives it.
+    /// Takes the tile off a square and returns it.
     pub fn lift(&mut self, square: Square) -> Tile
         requires { IsSome (tile_at self.old square) }
         ensures tile { tile_at self.old square ≡ Some result }
@@ -73,7 +73,7 @@ impl Board {
         has_no_tile(&self.cells)
     }
 
-    /// How many squares the board has: always 225.
+    /// The number of squares of the board, always 225.
     pub fn len(&self) -> usize
         ensures len { result ≡ length self.now }
         ensures size { length self.now ≡ 225 }
@@ -125,8 +125,8 @@ impl Board {
         Board { cells }
     }
 
-    /// The run through a square that has a tile: the maximal stretch of tiles in a direction, as its first
-    /// square and how many tiles it has. A single tile is a run of one.
+    /// The run through a square that has a tile: the maximal stretch of tiles in a direction, as its first square and the number of
+    /// its tiles. A single tile is a run of one.
     pub fn run(&self, square: Square, dir: Dir) -> (Square, usize)
         requires { holds self.now square ≡ true }
         ensures { IsRunThrough self.now dir square result.0 result.1 }
@@ -146,8 +146,8 @@ impl Board {
         self.at(Square::on_line(dir, line, place)).is_some()
     }
 
-    /// The first place of the stretch of tiles that ends directly before a place of a line; the place itself where the one
-    /// before it has none.
+    /// The first place of the stretch of tiles that ends directly before a place of a line; the place itself if there is no tile
+    /// directly before it.
     pub fn first_of_run(&self, dir: Dir, line: usize, place: usize) -> usize
         requires line { line < 15 }
         requires place { place < 15 }
@@ -160,8 +160,7 @@ impl Board {
         first
     }
 
-    /// The place after the stretch of tiles that begins directly behind a place of a line; the next place where that has
-    /// none.
+    /// The place after the stretch of tiles that begins directly after a place of a line; the next place if that has no tile.
     pub fn end_of_run(&self, dir: Dir, line: usize, place: usize) -> usize
         requires line { line < 15 }
         requires place { place < 15 }

@@ -39,7 +39,7 @@ impl Square {
         }
     }
 
-    /// The square at a place of a line: of a row where the line goes across, of a column where it goes down.
+    /// The square at a place of a line: of a row if the line goes across, of a column if it goes down.
     pub fn on_line(dir: Dir, line: usize, place: usize) -> Square
         requires line { line < 15 }
         requires place { place < 15 }
@@ -87,7 +87,7 @@ impl Square {
         self.number as usize % SIDE
     }
 
-    /// The line of a direction on which the square lies: its row across, its column down.
+    /// The line of a direction through the square: its row across, its column down.
     pub fn line(&self, dir: Dir) -> usize
         ensures line { result ≡ line_of dir self.now }
         ensures in_range { result < 15 }

@@ -1,4 +1,4 @@
--- What lies on one line decides its runs and their words.
+-- The runs of a line and their words depend only on what lies on the line.
 use Rattle.std.proofs.Common.{◌≡◌, ℕ, zero, suc, ◌+◌, ◌-◌, ◌<◌, ◌≤◌, Bool, true, ◌==◌, List, [], ◌∷◌, map, length, sum_by, refl, sym, ap, ◌∙◌, arith, ⊎_elim, Option, Some, None, is_some}
 use Rattle.std.specs.Prelude.{All, filter}
 use Rattle.std.specs.List.{range_with_len}
@@ -24,7 +24,7 @@ use Rattle.ref_play.proofs.Reading.{along_at}
 abbrev pub AgreeOn : Dir → ℕ → List (Option Tile) → List (Option Tile) → Type 0
 AgreeOn d line a b = (place : ℕ) → place < 15 → tile_at a (square_at d line place) ≡ tile_at b (square_at d line place)
 
--- a map and a sum depend on the function's values at the elements alone
+-- a map and a sum depend only on the function's values at the elements
 pub map_agree : {X Y : Type 0} (P : X → Type 0) (f g : X → Y) → ((x : X) → P x → f x ≡ g x) → (xs : List X) → All P xs → map f xs ≡ map g xs
 map_agree P f g h [] all = refl
 map_agree P f g h (x ∷ xs) all =
@@ -44,7 +44,7 @@ All-range P a zero h = All-nil P
 All-range P a (suc n) h =
     All-cons P a (range_with_len (a + 1) n) (h a (omega arith) (omega arith)) (All-range P (a + 1) n (λ k low high. h k (omega arith) (omega arith)))
 
--- a whole stretch of a line is one of each line with tiles on the same places
+-- a whole stretch of a line is one of each line that has tiles in the same places
 pub whole_agree : (f g : ℕ → Bool) → ((place : ℕ) → place < 15 → f place ≡ g place) → (first len : ℕ) → IsWhole f first len → IsWhole g first len
 whole_agree f g same first len w =
     let inside = w.inside in
@@ -55,7 +55,7 @@ whole_agree f g same first len w =
       after = λ more. sym (same (first + len) more) ∙ w.after more;
     }
 
--- the run through a square is told by the places of its line that have a tile
+-- the run through a square depends only on the places of its line that have a tile
 runs_same : (e : Dir) (a b : List (Option Tile)) (square : ℕ)
     → ((place : ℕ) → place < 15 → occupied_on e a (line_of e square) place ≡ occupied_on e b (line_of e square) place) → runs_through e a square ≡ runs_through e b square
 runs_same e a b square same =
@@ -114,7 +114,7 @@ shown_some None (Some t) e = absurd (omega arith)
 shown_some (Some t) None e = absurd (omega arith)
 shown_some (Some t) (Some u) e = refl
 
--- the run through a square and its word are told by the letters shown on its line
+-- the run through a square and its word depend only on the letters shown on its line
 pub runs_alike : (e : Dir) (a b : List (Option Tile)) (square : ℕ) → ShowAlike e (line_of e square) a b → runs_through e a square ≡ runs_through e b square
 runs_alike e a b square same =
     let at : ℕ → ℕ = square_at e (line_of e square) in
@@ -136,7 +136,7 @@ letters_alike e a b square same =
     map_agree (IsStretch e a square) (letters_of a) (letters_of b) (λ run s. letters_on e a b a square same run s) (runs_through e a square) (runs_are e a square)
     ∙ ap (map (letters_of b)) (runs_alike e a b square same)
 
--- and so by the tiles of the line
+-- and so only on the tiles of the line
 pub show_alike : (e : Dir) (line : ℕ) (a b : List (Option Tile)) → AgreeOn e line a b → ShowAlike e line a b
 show_alike e line a b same = λ place below. ap capital_shown (same place below)
 

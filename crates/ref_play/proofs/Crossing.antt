@@ -1,4 +1,4 @@
--- What a play forms across its line is told by the board and each new tile alone.
+-- What a play forms across its line depends only on the board and each new tile.
 use Rattle.std.proofs.Common.{◌≡◌, true, false, List, [], ◌∷◌, ◌++◌, map, length, refl, sym, ap, ◌∙◌, arith, ⊎_elim, Option, Some, None}
 use Rattle.std.specs.Prelude.{Contains, All}
 use Rattle.std.specs.List.{flat_map}
@@ -35,7 +35,7 @@ pub one_across : (d : Dir) (ps : List Placed) → is_play d ps ≡ true → (q r
 one_across d ps play q r has_q has_r across =
     let parts = is_play-parts d ps play in same_by_lines d r.square q.square (on_same_line d ps r q parts.3 has_r has_q) across
 
--- on the cross line of a new tile the board has that tile alone besides the old ones
+-- on the cross line of a new tile the board has only that tile besides the old ones
 pub cross_line_is : (d : Dir) (board : List (Option Tile)) (ps : List Placed) → length board ≡ 225 → is_play d ps ≡ true → (q : Placed) → Contains ps q
     → AgreeOn (other_dir d) (line_of (other_dir d) q.square) (with_tiles board ps) (with_tile board q.square (Some q.tile))
 cross_line_is d board ps size play q has_q =
@@ -62,7 +62,7 @@ pub map_flat_map : {X A B : Type 0} (f : A → B) (g : X → List A) (xs : List 
 map_flat_map f g [] = refl
 map_flat_map f g (x ∷ xs) = map-append f (g x) (flat_map g xs) ∙ ap (λ ys. map f (g x) ++ ys) (map_flat_map f g xs)
 
--- a join depends on the pieces at the elements alone
+-- a join depends only on the pieces at the elements
 pub flat_map_each : {X A : Type 0} (P : X → Type 0) (f g : X → List A) → ((x : X) → P x → f x ≡ g x) → (xs : List X) → All P xs → flat_map f xs ≡ flat_map g xs
 flat_map_each P f g h [] all = refl
 flat_map_each P f g h (x ∷ xs) all =

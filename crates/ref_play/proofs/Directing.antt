@@ -22,7 +22,7 @@ use Rattle.ref_play.proofs.PlaceLaws.{is_play-parts, on_board}
 use Rattle.ref_play.proofs.FormedRuns.{along_runs, run_through, no_run_through, laid_from}
 use Rattle.ref_play.proofs.Stretches.{lies_in}
 
--- a play lies on a line of any direction in which its tiles are in line
+-- a play is also a play in any direction in which its tiles are in line
 pub is_play-turned : (d e : Dir) (ps : List Placed) → is_play d ps ≡ true → are_in_line e ps ≡ true → is_play e ps ≡ true
 unfolding is_play
 is_play-turned d e ps play line =

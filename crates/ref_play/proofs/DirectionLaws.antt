@@ -1,4 +1,4 @@
--- Plays of one tile have no direction, plays of more have one.
+-- Plays of one tile do not have a direction, plays of more have one.
 use Rattle.std.proofs.Common.{◌≡◌, ℕ, ◌-◌, true, false, ◌==◌, nat_lt, List, [], ◌∷◌, ◌++◌, length, refl, ap, arith, Option}
 use Rattle.std.specs.Prelude.{All, IsPermutation}
 use Rattle.std.specs.List.{list_all}

@@ -112,8 +112,8 @@ plays_score : Agree (
 unfolding score_of letters_score words_factor english english_premiums empty_board runs_along stretches_on text_cells placement_of letter_at
 plays_score = refl
 
--- The notations: a blank is a small letter, an old tile is a dot. A lone tile is written across where its run across has
--- two tiles, whichever text put it down, and else down: what F8 `.E` puts down is 9F `E..`, and an A below the W of 8E
+-- The notations: a blank is a small letter, an old tile is a dot. A lone tile is written across if its run across has
+-- two tiles, whichever text put it down, and otherwise down: what F8 `.E` puts down is 9F `E..`, and an A below the W of 8E
 -- WORD, alone in its row, is E8 `.A`.
 plays_are_written : Agree (
     (notates empty_board Across 109 (codes "WOrD"), written Across 109 (codes "WOrD"))

@@ -141,7 +141,7 @@ KeysRise key (p ∷ ps) = ((q : Placed) → Contains ps q → key p < key q) × 
 pub none_contained : (q : Placed) → Contains [] q → ⊥
 none_contained q c = omega (arith, c.1)
 
--- a join over successive numbers is a join over the items whose keys they are
+-- a join over successive numbers is a join over the items that have them as keys
 pub join_keys : {A : Type 0} (g : ℕ → List A) (h : Placed → List A) (key : Placed → ℕ) (from n : ℕ) (ps : List Placed)
     → ((q : Placed) → Contains ps q → from ≤ key q) → ((q : Placed) → Contains ps q → key q < from + n) → KeysRise key ps
     → ((q : Placed) → Contains ps q → g (key q) ≡ h q)
@@ -179,7 +179,7 @@ other_line : (d : Dir) (square : ℕ) → line_of (other_dir d) square ≡ place
 other_line Across square = refl
 other_line Down square = refl
 
--- a square is known by its line and its place in the other direction
+-- squares with the same line and the same place in the other direction are equal
 pub same_by_lines : (d : Dir) (a b : ℕ) → line_of d a ≡ line_of d b → line_of (other_dir d) a ≡ line_of (other_dir d) b → a ≡ b
 same_by_lines d a b l o = same_square d a b l (sym (other_line d a) ∙ o ∙ other_line d b)
 
@@ -238,7 +238,7 @@ runs_of_play d after p ps laid =
     ap (λ rs. rs ++ runs_along (other_dir d) after (p ∷ ps)) (along_runs d after p ps laid)
     ∙ ap (λ rs. runs_through d after p.square ++ rs) (cross_runs d after p ps laid)
 
--- the run through a square, where it has two tiles
+-- the run through a square, if it has two tiles
 pub run_through : (d : Dir) (after : List (Option Tile)) (square start len : ℕ) → square < 225 → IsRunThrough after d square start len → 2 ≤ len
     → runs_through d after square ≡ record { start = start; dir = d; len = len } ∷ []
 run_through d after square start len on run long =
@@ -251,7 +251,7 @@ run_through d after square start len on run long =
     (λ k below t. let here : k ≡ place_of d square = eqb-true k (place_of d square) t in (omega arith, omega arith)))
     ∙ ap (λ (n : ℕ). let r : Run = record { start = n; dir = d; len = len } in r ∷ []) (ap (λ l. square_at d l (place_of d start)) (sym run.same_line) ∙ square_at-of d start)
 
--- a tile that stands alone is no run
+-- a tile without neighbours is not a run
 pub no_run_through : (d : Dir) (after : List (Option Tile)) (square start len : ℕ) → IsRunThrough after d square start len → len < 2
     → runs_through d after square ≡ []
 no_run_through d after square start len run short =
@@ -272,7 +272,7 @@ laid_from d board ps size play no_gap =
       no_gap = no_gap;
     }
 
--- the same of a list by its first tile and the others
+-- the same for a list given by its first tile and the others
 pub runs_at : (d : Dir) (after : List (Option Tile)) (ps : List Placed) (p : Placed) (rest : List Placed) → ps ≡ p ∷ rest → IsLaid d after ps
     → runs_formed d after ps ≡ runs_through d after p.square ++ flat_map (λ q. runs_through (other_dir d) after q.square) ps
 runs_at d after ps p rest e laid =

@@ -1,5 +1,5 @@
--- A play is legal exactly where it is sound: where its tiles lie on empty squares, in one whole stretch of their line, form
--- a run and cover an anchor.
+-- A play is legal exactly when it is sound: its tiles lie on empty squares, in one whole stretch of their line, form a run and
+-- cover an anchor.
 use Rattle.std.proofs.Common.{◌≡◌, ℕ, ◌<◌, true, List, [], ◌∷◌, length, sym, ap, ◌∙◌, subst, arith, inl, inr, ⊎_elim, Option, None}
 use Rattle.std.specs.Prelude.{Contains, ◌↔◌}
 use Rattle.std.proofs.lemmas.List.Elements.{All-contains}

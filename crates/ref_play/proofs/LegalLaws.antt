@@ -1,4 +1,4 @@
--- A play has no fault exactly where it is legal.
+-- A play has no fault exactly when it is legal.
 use Rattle.std.proofs.Common.{◌≡◌, ℕ, zero, suc, ◌-◌, ◌<◌, ◌≤◌, true, false, not, nat_lt, List, [], ◌∷◌, length, refl, sym, ap, ◌∙◌, subst, arith, ◌⊎◌, inl, inr, ⊎_elim, Option, Some, None, is_some, Result, Ok, Err, is_ok}
 use Rattle.std.specs.Prelude.{Contains, All, ◌↔◌, is_none}
 use Rattle.std.specs.List.{list_any, list_all, range_with_len}
@@ -221,7 +221,7 @@ no_fault-legal d board ps size play =
           (check-from (is_apart board ps) _ _ (is_apart-from board ps size legal.anchored) refl)))),
     )
 
--- an answer that tells the first fault is Ok exactly where the play is legal
+-- an answer that gives the first fault is Ok exactly when the play is legal
 pub legal_from : (r : Result (Unit {0}) PlayFault) (d : Dir) (board : List (Option Tile)) (ps : List Placed) → length board ≡ 225 → is_play d ps ≡ true
     → Refuses r (fault_of d board ps) → (is_ok r ≡ true → IsLegal board ps) × (IsLegal board ps → is_ok r ≡ true)
 legal_from (Ok u) d board ps size play told = (λ _. (no_fault-legal d board ps size play).0 told, λ _. refl)

@@ -80,7 +80,7 @@ is_whole-from_IsWhole occupied first len w =
     (cases_eq (first + len) 15) in
     and_from _ _ (and_from _ _ (and_from _ _ within full) start) end
 
--- two whole stretches that share a place are one
+-- two whole stretches that share a place are equal
 pub same_whole : (occupied : ℕ → Bool) (a m b n k : ℕ) → IsWhole occupied a m → IsWhole occupied b n
     → a ≤ k → k < a + m → b ≤ k → k < b + n → (a ≡ b) × (m ≡ n)
 same_whole occupied a m b n k v w al ah bl bh =
@@ -102,7 +102,7 @@ same_whole occupied a m b n k v w al ah bl bh =
     (cases_order (a + m) (b + n)) in
     (starts, omega arith)
 
--- the stretches that a placement forms, of so many first places and so many lengths
+-- the stretches that a placement forms, with the given numbers of first places and of lengths
 unfoldable pub stretches_within : (ℕ → Bool) → (ℕ → Bool) → ℕ → ℕ → List (ℕ × ℕ)
 stretches_within occupied fresh n m =
     flat_map (λ first. map (λ len. (first, len)) (filter (is_formed occupied fresh first) (range_with_len 2 m))) (range_with_len 0 n)
@@ -152,7 +152,7 @@ stretches_on-none occupied fresh h =
     let inside = parts.0.inside in
     both_ways (fresh parts.1.0) (h parts.1.0 (omega arith)) parts.1.3))
 
--- a line whose new places all lie in one tile that stands alone, or in a stretch of none
+-- a line whose new places all lie in one tile without neighbours, or in an empty stretch
 pub stretches_on-short : (occupied fresh : ℕ → Bool) (first len : ℕ) → IsWhole occupied first len → len < 2
     → ((k : ℕ) → k < 15 → fresh k ≡ true → (first ≤ k) × (k < first + len)) → stretches_on occupied fresh ≡ []
 stretches_on-short occupied fresh first len w short h =

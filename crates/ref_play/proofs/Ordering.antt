@@ -28,11 +28,11 @@ use Rattle.ref_play.specs.Legality.{IsLegal}
 use Rattle.ref_play.specs.Notations.{Written, notation_of, dir_number, written, written_cmp, ComesBefore}
 use Rattle.ref_play.proofs.Naming.{notation_tells}
 
--- ---- the order of texts and where they stand
+-- ---- the order of texts and of where they are
 pub written_total : IsTotalOrder written_cmp
 written_total = then_total (on_total (λ (w : Written). dir_number w.dir) nat_cmp_total) (then_total (on_total (λ (w : Written). w.at) nat_cmp_total) (on_texts (λ (w : Written). map byte_of w.word)))
 
--- an answer of two orders in turn is a tie only where both tie
+-- an answer of two orders in turn is a tie only if both are ties
 both_tied : (o p : Ordering) → ordering_then o p ≡ Equal → (o ≡ Equal) × (p ≡ Equal)
 both_tied Less p e = absurd (let same : Less ≡ Equal = e in cc)
 both_tied Equal p e = (refl, e)
@@ -76,7 +76,7 @@ irreflexive board ps e =
 pub transitive : (board : List (Option Tile)) (a b c : List Placed) → ComesBefore board a b → ComesBefore board b c → ComesBefore board a c
 transitive board a b c = written_total.trans (notation_of board a) (notation_of board b) (notation_of board c)
 
--- two texts are one, or one comes first
+-- two texts are equal, or one comes first
 of_answer : (v w : Written) (o p : Ordering) → written_cmp v w ≡ o → written_cmp w v ≡ p → o ≡ ordering_reverse p
     → (v ≡ w) ⊎ ((written_cmp v w ≡ Less) ⊎ (written_cmp w v ≡ Less))
 of_answer v w Less p e f turned = inr (inl e)
@@ -85,7 +85,7 @@ of_answer v w Greater Less e f turned = inr (inr f)
 of_answer v w Greater Equal e f turned = absurd (let h : Greater ≡ Equal = turned in cc)
 of_answer v w Greater Greater e f turned = absurd (let h : Greater ≡ Less = turned in cc)
 
--- of two legal placements that differ one comes first
+-- of two different legal placements one comes first
 pub one_first : (d e : Dir) (board : List (Option Tile)) (a b : List Placed) → length board ≡ 225 → is_play d a ≡ true → is_play e b ≡ true → IsLegal board a → IsLegal board b
     → (a ≡ b) ⊎ (ComesBefore board a b ⊎ ComesBefore board b a)
 one_first d e board a b size play_a play_b legal_a legal_b =
@@ -103,7 +103,7 @@ dirs Across Down = refl
 dirs Down Across = refl
 dirs Down Down = refl
 
--- numbers keep their order where the same is added to both
+-- numbers keep their order if the same is added to both
 moved : (k x y : ℕ) (o : Ordering) → MatchOrdering o (x < y) (x ≡ y) (y < x) → MatchOrdering o (k + x < k + y) (k + x ≡ k + y) (k + y < k + x)
 moved k x y Less h = omega arith
 moved k x y Equal h = ap (λ n. k + n) h
@@ -144,7 +144,7 @@ less-from Less e = refl
 less-from Equal e = absurd (let h = e in cc)
 less-from Greater e = absurd (let h = e in cc)
 
--- one notation is less than another exactly where its placement comes before the other's
+-- one notation is less than another exactly when its placement comes before the other's
 pub before_is : (board : List (Option Tile)) (a b : List Placed) (x y : Notation) (r : Bool) → written x ≡ notation_of board a → written y ≡ notation_of board b
     → r ≡ partial_lt (notation_partial_ord.partial_cmp-value).it x y → IsTrue r ↔ ComesBefore board a b
 before_is board a b x y r first second e =

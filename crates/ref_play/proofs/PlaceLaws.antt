@@ -28,7 +28,7 @@ is_play-parts d ps e =
 pub on_board : (ps : List Placed) (p : Placed) → list_all (λ (p : Placed). nat_lt p.square 225) ps ≡ true → Contains ps p → p.square < 225
 on_board ps p e c = ltb-true p.square 225 (list_all-in (λ (q : Placed). nat_lt q.square 225) ps p e c)
 
--- each tile lies on the line of the first, not before it, and not behind the last
+-- each tile lies on the line of the first, not before it, and not after the last
 pub on_one_line : (d : Dir) (first : Placed) (ps : List Placed) (p : Placed) → are_in_line d (first ∷ ps) ≡ true → Contains (first ∷ ps) p
     → line_of d p.square ≡ line_of d first.square
 on_one_line d first ps p e c =
@@ -68,7 +68,7 @@ last_is_there first [] = (first, Contains-here first [], refl)
 last_is_there first (q ∷ ps) =
     let rest = last_is_there q ps in (rest.0, Contains-there first (q ∷ ps) rest.0 rest.1, rest.2)
 
--- a tile stays where others are put
+-- a tile stays when others are put down
 pub with_tiles-kept : (ps : List Placed) (board : List (Option Tile)) (square : ℕ) → square < length board → holds board square ≡ true
     → holds (with_tiles board ps) square ≡ true
 with_tiles-kept [] board square h e = e

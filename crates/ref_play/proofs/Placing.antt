@@ -30,7 +30,7 @@ overlaps-with_tile board square tile (p ∷ ps) later free =
     let other : p.square ≢ square = let below = ltb-true square p.square l.0 in omega arith in
     or_from _ _ (rw get_or-set_other f.0) (overlaps-with_tile board square tile ps l.1 f.1)
 
--- the first tile of a placement that overlaps none, and the others on the board with it
+-- the first tile of a placement that does not overlap any, and the others on the board with it
 pub record IsNext (board : List (Option Tile)) (p : Placed) (ps : List Placed) : Type 0 where
   pub free : tile_at board p.square ≡ None
   pub others_free : overlaps (with_tile board p.square (Some p.tile)) ps ≡ false
@@ -81,7 +81,7 @@ unfolding has_no_tile
 cells_empty [] h = refl
 cells_empty (o ∷ board) h = and_from (is_none o) (list_all is_none board) (ap is_none (h 0)) (cells_empty board (λ square. h (suc square)))
 
--- the test of the blank board says that no square has a tile
+-- the test of the empty board says that no square has a tile
 pub empty_decides : (board : List (Option Tile)) → Decides (has_no_tile board) (HasNoTile board)
 empty_decides board = (empty_cells board, cells_empty board)
 

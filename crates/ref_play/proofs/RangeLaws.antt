@@ -1,4 +1,4 @@
--- Lists over a range of places: what a join, a filter and a tally of it are, where one place alone counts.
+-- Lists over a range of places: a join, a filter and a tally of it, if only one place counts.
 use Rattle.std.proofs.Common.{◌≡◌, ℕ, zero, suc, ◌+◌, ◌<◌, ◌≤◌, Bool, true, false, cond, ◌&&◌, ◌==◌, List, [], ◌∷◌, ◌++◌, length, get_or, refl, sym, ap, ◌∙◌, arith, ◌⊎◌, inl, inr, ⊎_elim}
 use Rattle.std.specs.Prelude.{filter, Contains, All}
 use Rattle.std.specs.List.{flat_map, range_with_len, list_any, list_all, AllPairs}
@@ -97,7 +97,7 @@ list_any-found p xs e = let a = Any-from_list_any p xs e in (a.1, (a.0, a.2, a.3
 pub list_any-in : {X : Type 0} (p : X → Bool) (xs : List X) (x : X) → Contains xs x → p x ≡ true → list_any p xs ≡ true
 list_any-in p xs x c e = list_any-from_Any p xs (c.0, x, c.1, c.2, e)
 
--- what holds of each element of a filter, and of a join, over a range
+-- what holds for each element of a filter, and of a join, over a range
 pub All-filter_range : (P : ℕ → Type 0) (q : ℕ → Bool) (a n : ℕ) → ((k : ℕ) → a ≤ k → k < a + n → q k ≡ true → P k)
     → All P (filter q (range_with_len a n))
 All-filter_range P q a zero h = All-nil P
@@ -115,7 +115,7 @@ All-flat_map_range P f a (suc n) h =
     All-append P (f a) (flat_map f (range_with_len (a + 1) n)) (h a (omega arith) (omega arith))
     (All-flat_map_range P f (a + 1) n (λ k b c. h k (omega arith) (omega arith)))
 
--- an element that is tallied is there, and one that stands at two places is tallied twice
+-- an element that is tallied is in the list, and one that is in two places is tallied twice
 pub Contains-from_tally : {X : Type 0} (p : X → Bool) (x : X) → ((y : X) → p y ≡ true → x ≡ y) → (xs : List X) → 0 < tally p xs → Contains xs x
 Contains-from_tally p x same [] h = absurd (omega arith)
 Contains-from_tally p x same (y ∷ xs) h =
@@ -140,7 +140,7 @@ tally-twice p (x ∷ xs) zero (suc j) d h l e s =
     let z : once (p x) ≡ 1 = ap once e in omega arith
 tally-twice p (x ∷ xs) (suc i) (suc j) d h l e s = let rest = tally-twice p xs i j d (omega arith) (omega arith) e s in omega arith
 
--- a list that tallies each of its elements once has no two that are equal
+-- if each element of a list is tallied once, no two are equal
 pub AllPairs-from_tally : {X : Type 0} (same : X → X → Bool) → ((x y : X) → x ≡ y → same x y ≡ true) → (xs : List X)
     → ((x : X) → Contains xs x → tally (same x) xs ≡ 1) → AllPairs (λ x y. x ≡ y → ⊥) xs
 AllPairs-from_tally same refl' xs h i j d b l e =
@@ -149,7 +149,7 @@ AllPairs-from_tally same refl' xs h i j d b l e =
     let one = h x (Contains-get_or xs i d (omega arith)) in
     omega arith
 
--- where an element of a list with a first one stands
+-- where an element of a list with a first one is
 pub Contains-cases : {X : Type 0} (y : X) (xs : List X) (x : X) → Contains (y ∷ xs) x → (y ≡ x) ⊎ Contains xs x
 Contains-cases y xs x (zero, h, e) = inl e
 Contains-cases y xs x (suc k, h, e) = inr (k, omega arith, e)

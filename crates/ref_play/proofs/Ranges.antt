@@ -18,7 +18,7 @@ pub list_all_range_false : (f : ℕ → Bool) (a n k : ℕ) → a ≤ k → k < 
 list_all_range_false f a n k low high empty =
     false_from_ne_true _ (λ yes. both_ways (f k) empty (each_of_range f a n k yes low high))
 
--- one number more
+-- one more number
 pub range_push : (a n : ℕ) → range_with_len a (suc n) ≡ range_with_len a n ++ (a + n) ∷ []
 range_push a zero = let same : a ≡ a + 0 = omega arith in ap (λ k. k ∷ []) same
 range_push a (suc n) =

@@ -35,7 +35,7 @@ pub along_at : (d : Dir) (line first k : ℕ) → along d (square_at d line firs
 along_at Across line first k = omega arith
 along_at Down line first k = omega arith
 
--- the tile that a placement puts on a square: none where it does not cover the square, else that of the square
+-- the tile that a placement puts on a square: none if it does not cover the square, otherwise that of the square
 pub tile_in-cases : (ps : List Placed) (square : ℕ) → ((tile_in ps square ≡ None) × (covers ps square ≡ false))
     ⊎ ((q : Placed) × Contains ps q × (q.square ≡ square) × (tile_in ps square ≡ Some q.tile))
 tile_in-cases [] square = inl (refl, refl)

@@ -1,4 +1,4 @@
--- The runs that a placement forms are those of the board that meet it, each once.
+-- The runs that a placement forms are those of the board that share a tile with it, each once.
 use Rattle.std.proofs.Common.{◌≡◌, ℕ, ◌+◌, ◌<◌, ◌≤◌, Bool, true, false, ◌&&◌, ◌==◌, nat_le, nat_lt, List, map, refl, sym, ap, ◌∙◌, subst, arith, ◌⊎◌, inl, inr, ⊎_elim, Option}
 use Rattle.std.specs.Prelude.{filter, Contains, All, ◌↔◌}
 use Rattle.std.specs.List.{range_with_len, AllPairs}

@@ -47,7 +47,7 @@ sum_one_more f g c a (suc n) m low high same here =
     omega arith)
     (cases_eq a m)
 
--- a product over the tiles of a rising placement of which one alone counts
+-- a product over the tiles of a rising placement of which only one counts
 product_none : (f : Placed → ℕ) (ps : List Placed) → ((r : Placed) → Contains ps r → f r ≡ 1) → product (map f ps) ≡ 1
 product_none f [] ones = refl
 product_none f (p ∷ ps) ones =
@@ -75,7 +75,7 @@ product_one f q (p ∷ ps) rising c ones =
 nothing : (n : ℕ) → 0 + n ≡ n
 nothing n = omega arith
 
--- on a cross run of a new tile that tile alone is new
+-- on a cross run of a new tile only that tile is new
 cross_only : (d : Dir) (board : List (Option Tile)) (ps : List Placed) → is_play d ps ≡ true → (q : Placed) → Contains ps q → (run : Run)
     → IsStretch (other_dir d) (with_tiles board ps) q.square run → (r : Placed) → Contains ps r → is_on run r.square ≡ true → r.square ≡ q.square
 cross_only d board ps play q has_q run s r has_r on =

@@ -43,7 +43,7 @@ factor_limit i n f h g =
 pub factors_limit : (i : ℕ) → i ≤ 7 → 3 ^ i ≤ 2187
 factors_limit i h = pow-le-pow_right {n = 3} (omega arith) {i = i} {j = 7} h
 
--- the sum over the runs does not depend on the direction that is told first
+-- the sum over the runs does not depend on the direction that comes first
 pub score_is : (d : Dir) (rules : Rules) (board : List (Option Tile)) (ps : List Placed)
     → sum_by (run_score rules (with_tiles board ps) ps) (runs_formed d (with_tiles board ps) ps) + bonus_score rules ps ≡ score_of rules board ps
 unfolding score_of

@@ -18,7 +18,7 @@ use Rattle.ref_play.proofs.RunLaws.{stretch_meets}
 use Rattle.ref_play.proofs.PlaceLaws.{is_play-parts, on_board, on_one_line, with_tiles-holds}
 use Rattle.ref_play.proofs.FormedRuns.{reach, covered}
 
--- the first of the tiles directly before a place, and the place behind those directly behind it
+-- the first of the tiles directly before a place, and the place after the tiles directly after it
 pub first_back : (occupied : ℕ → Bool) (place : ℕ) → (first : ℕ) × IsFirstBack occupied place first
 first_back occupied zero = (0, record { not_after = omega arith; filled = λ k low high. absurd (omega arith); before = λ some. absurd (omega arith) })
 first_back occupied (suc n) =

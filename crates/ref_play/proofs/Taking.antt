@@ -16,7 +16,7 @@ none_from_false : (o : Option Tile) → is_some o ≡ false → o ≡ None
 none_from_false None e = refl
 none_from_false (Some t) e = cc
 
--- a square that was emptied has no tile, also one past the board
+-- a square that was emptied has no tile, even one past the board
 emptied-tile : (board : List (Option Tile)) (square : ℕ) → tile_at (with_tile board square None) square ≡ None
 emptied-tile board square =
     let same = length-set board square None in
@@ -94,7 +94,7 @@ without-with board ps free =
     (λ (c : covers ps square ≡ false). without-kept ps (with_tiles board ps) square c ∙ with-kept ps board square c)
     (cases_Bool (covers ps square)))
 
--- the tiles behind one of a rising placement do not lie on its square
+-- the tiles after one of a rising placement do not lie on its square
 uncovered : (ps : List Placed) (square : ℕ) → list_all (λ q. nat_lt square q.square) ps ≡ true → covers ps square ≡ false
 uncovered [] square e = refl
 uncovered (p ∷ ps) square e =

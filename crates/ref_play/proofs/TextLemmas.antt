@@ -48,7 +48,7 @@ pub tile_of_blank : (cell : Option Tile) (l : Letter) → is_some cell ≡ false
 tile_of_blank None l e = refl
 tile_of_blank (Some t) l e = absurd (true≢false e)
 
--- A test of squares that holds of each square of a text holds of each new tile.
+-- A test of squares that holds for each square of a text holds for each new tile.
 placed_pass : (test : ℕ → Bool) (square : ℕ) (o : Option Tile) (ps : List Placed) → test square ≡ true → list_all (λ (p : Placed). test p.square) ps ≡ true
     → list_all (λ (p : Placed). test p.square) (placed_on square o ++ ps) ≡ true
 placed_pass test square None ps h hs = hs
@@ -92,7 +92,7 @@ pub along_board : (d : Dir) (at k : ℕ) → at < 225 → place_of d at + k < 15
 along_board Across at k b h = omega arith
 along_board Down at k b h = omega arith
 
--- a text that stays on the board names a play where it has one to seven new tiles
+-- a text that stays on the board names a play if it has one to seven new tiles
 pub is_play-placement_of : (board : List (Option Tile)) (d : Dir) (at : ℕ) (word : List Symbol) → at < 225 → place_of d at + length word ≤ 15
     → 1 ≤ length (placement_of board d at word) → length (placement_of board d at word) ≤ 7 → is_play d (placement_of board d at word) ≡ true
 unfolding is_play placement_of text_cells

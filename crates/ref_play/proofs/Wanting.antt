@@ -33,12 +33,12 @@ wanted_from : (d : Dir) (board : List (Option Tile)) (ps : List Placed) → dire
 wanted_from d board ps is same few =
     and_from (same_dir (direction_of board ps) d) (nat_le (length ps) 7) (ap (λ (e : Dir). same_dir e d) is ∙ same) (le-leb (length ps) 7 few)
 
--- what runs across is written across
+-- a play that runs across is written across
 pub wanted_across : (board : List (Option Tile)) (ps : List Placed) → RunsAlong Across board ps → length ps ≤ 7 → is_wanted board Across ps ≡ true
 wanted_across board ps runs few =
     let parts = is_play-parts Across ps runs.play in wanted_from Across board ps (across_from board ps _ parts.3 runs.runs) refl few
 
--- what runs down with two tiles or more is written down
+-- a play that runs down with two tiles or more is written down
 pub wanted_down : (board : List (Option Tile)) (p q : Placed) (ps : List Placed) → RunsAlong Down board (p ∷ q ∷ ps) → length (p ∷ q ∷ ps) ≤ 7 → is_wanted board Down (p ∷ q ∷ ps) ≡ true
 wanted_down board p q ps runs few =
     let all = p ∷ q ∷ ps in
@@ -48,7 +48,7 @@ wanted_down board p q ps runs few =
     (ap (λ (b : Bool). if b then Across else Down) (and_left (are_in_line Across all) (not (length (runs_along Across (with_tiles board all) all) == 0)) apart))
     refl few
 
--- a lone tile is written down exactly where it forms no run of two tiles across
+-- a lone tile is written down exactly when it forms no run of two tiles across
 pub wanted_lone : (board : List (Option Tile)) (p : Placed) → length board ≡ 225 → RunsAlong Down board (p ∷ []) → IsLegal board (p ∷ []) → (start len : ℕ) → IsRunThrough (with_tiles board (p ∷ [])) Across p.square start len
     → is_wanted board Down (p ∷ []) ≡ nat_le len 1
 wanted_lone board p size runs legal start len run =

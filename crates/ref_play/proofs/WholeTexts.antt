@@ -25,7 +25,7 @@ second_false : (b c : Bool) → (b && c) ≡ false → b ≡ true → c ≡ fals
 second_false true c e h = e
 second_false false c e h = absurd (false≢true h)
 
--- a square that passes no test which all new tiles pass stays as it was
+-- a square that fails a test which all new tiles pass stays as it was
 with_tiles-other : (test : ℕ → Bool) (ps : List Placed) (board : List (Option Tile)) (square : ℕ) → test square ≡ false
     → list_all (λ (p : Placed). test p.square) ps ≡ true → holds (with_tiles board ps) square ≡ holds board square
 with_tiles-other test [] board square f h = refl

@@ -22,7 +22,7 @@ use Rattle.ref_play.proofs.Directing.{is_play-turned, written_along}
 pub row_of_across : (ps : List Placed) → is_play Across ps ≡ true → are_in_line Across ps ≡ true
 row_of_across ps play = (is_play-parts Across ps play).3
 
--- a play down lies in one row where it has one tile
+-- a play down lies in one row if it has one tile
 pub row_of_down : (ps : List Placed) → is_play Down ps ≡ true → (length ps == 1) ≡ are_in_line Across ps
 row_of_down [] play = let parts = is_play-parts Down [] play in absurd (omega (arith, parts.0))
 row_of_down (p ∷ []) play = refl

@@ -10,7 +10,7 @@ use Rattle.ref_play.specs.Directions.{direction_of}
 use Rattle.ref_play.specs.Notations.{ComesBefore}
 use Rattle.ref_play.specs.Candidates.{IsCandidate}
 
--- one placement scores more than another, or as much and comes before it
+-- one placement scores more than another, or scores as much and comes before it
 abbrev pub Outranks : Rules → List (Option Tile) → List Placed → List Placed → Type 0
 Outranks rules board a b = (score_of rules board b < score_of rules board a) ⊎ ((score_of rules board a ≡ score_of rules board b) × ComesBefore board a b)
 
@@ -34,7 +34,7 @@ abbrev pub IsAnnotation : Rules → List (List ℕ) → List (Option Tile) → L
 IsAnnotation rules words board rack None = (ps : List Placed) → IsCandidate words board rack ps → ⊥
 IsAnnotation rules words board rack (Some given) = IsBest rules words board rack given.tiles × (given ≡ given_of rules board given.tiles)
 
--- all candidates, each once, in the direction in which it is written and with its score, and no other
+-- all candidates and no others, each once, in the direction in which it is written and with its score
 pub record AreAll (rules : Rules) (words : List (List ℕ)) (board : List (Option Tile)) (rack : List ℕ) (all : List Given) : Type 0 where
   pub sound : All (λ (given : Given). IsCandidate words board rack given.tiles × (given ≡ given_of rules board given.tiles)) all
   pub complete : (ps : List Placed) → IsCandidate words board rack ps → Contains all (given_of rules board ps)

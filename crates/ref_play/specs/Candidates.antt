@@ -9,12 +9,12 @@ use Rattle.ref_play.specs.Placements.{is_play}
 use Rattle.ref_play.specs.Words.{words_formed}
 use Rattle.ref_play.specs.Legality.{IsLegal}
 
--- how many tiles of the kind with this number a placement puts down
+-- the number of tiles of the kind with this number that a placement puts down
 abbrev pub used : List Placed → ℕ → ℕ
 used ps k = count_by (λ (p : Placed). number_of p.tile.kind == k) ps
 
--- A candidate: a legal placement, all whose words are listed, and whose tiles are on the rack. `rack` has the number of
--- tiles of each kind.
+-- A candidate: a legal placement all of whose words are listed and whose tiles are on the rack. `rack` has the number of tiles of
+-- each kind.
 pub record IsCandidate (words : List (List ℕ)) (board : List (Option Tile)) (rack : List ℕ) (ps : List Placed) : Type 0 where
   pub play : (d : Dir) × (is_play d ps ≡ true)
   pub legal : IsLegal board ps

@@ -1,4 +1,4 @@
--- What a new tile on an empty square does across the play: the cross word and its score, by the board and the tile alone.
+-- What a new tile on an empty square does across the play: the cross word and its score, which depend only on the board and the tile.
 use Rattle.std.specs.Prelude.{ℕ, ◌+◌, ◌*◌, List, [], ◌∷◌, map, sum_by, nat_le, Option, Some, if◌then◌else◌}
 use Rattle.std.specs.List.{range_with_len}
 use Rattle.ref_tiles.specs.declared.tiles.Tile.{Tile}
@@ -11,7 +11,7 @@ use Rattle.ref_play.specs.Formed.{along, run_of, runs_through}
 use Rattle.ref_play.specs.Words.{letters_of}
 use Rattle.ref_play.specs.Scores.{points_on}
 
--- the run of a stretch of a line: none where it has fewer than two tiles
+-- the run of a stretch of a line: none if it has fewer than two tiles
 abbrev pub run_in : Dir → ℕ → ℕ → ℕ → List Run
 run_in d line first len = if nat_le 2 len then run_of d line (first, len) ∷ [] else []
 

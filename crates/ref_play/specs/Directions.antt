@@ -10,9 +10,9 @@ use Rattle.ref_play.specs.declared.placed.Placed.{Placed}
 use Rattle.ref_play.specs.Placements.{is_play, with_tiles, are_in_line}
 use Rattle.ref_play.specs.Formed.{run_of, runs_along}
 
--- The direction in which a placement is written: across where it lies in one row and forms a run of two tiles or more
--- along it, else down. So two tiles or more are written along their line, and a lone tile across where its run across has
--- two tiles.
+-- The direction in which a placement is written: across if it lies in one row and forms a run of two tiles or more along it,
+-- otherwise down. So two tiles or more are written along their line, and a lone tile is written across if its run across has two
+-- tiles.
 abbrev pub direction_of : List (Option Tile) → List Placed → Dir
 direction_of board ps = if are_in_line Across ps && not (length (runs_along Across (with_tiles board ps) ps) == 0) then Across else Down
 
@@ -23,7 +23,7 @@ same_dir Across Down = false
 same_dir Down Across = false
 same_dir Down Down = true
 
--- whether a placement is written in this direction, and has seven tiles at the most
+-- whether a placement is written in this direction, and has seven tiles at most
 abbrev pub is_wanted : List (Option Tile) → Dir → List Placed → Bool
 is_wanted board d ps = same_dir (direction_of board ps) d && nat_le (length ps) 7
 

@@ -11,7 +11,7 @@ use Rattle.ref_play.specs.declared.placed.Placed.{Placed}
 use Rattle.ref_play.specs.declared.runs.Run.{Run}
 use Rattle.ref_play.specs.Placements.{fresh_on}
 
--- the square so many places further on its line
+-- the square `k` places further on its line
 abbrev pub along : Dir → ℕ → ℕ → ℕ
 along Across square k = square + k
 along Down square k = square + 15 * k
@@ -26,7 +26,7 @@ is_whole occupied first len =
 abbrev pub is_formed : (ℕ → Bool) → (ℕ → Bool) → ℕ → ℕ → Bool
 is_formed occupied fresh first len = is_whole occupied first len && list_any fresh (range_with_len first len)
 
--- the stretches of one line that a placement forms, each as its first place and how many tiles it has, 2 to 15
+-- the stretches of one line that a placement forms, each as its first place and the number of its tiles, 2 to 15
 unfoldable pub stretches_on : (ℕ → Bool) → (ℕ → Bool) → List (ℕ × ℕ)
 stretches_on occupied fresh =
     flat_map (λ first. map (λ len. (first, len)) (filter (is_formed occupied fresh first) (range_with_len 2 14))) (range_with_len 0 15)
@@ -42,21 +42,21 @@ runs_of_line d after fresh line = map (run_of d line) (stretches_on (occupied_on
 unfoldable pub runs_along : Dir → List (Option Tile) → List Placed → List Run
 runs_along d after ps = flat_map (λ line. runs_of_line d after (fresh_on d ps line) line) (range_with_len 0 15)
 
--- all of them, those of the direction first
+-- all runs, those of the direction first
 abbrev pub runs_formed : Dir → List (Option Tile) → List Placed → List Run
 runs_formed d after ps = runs_along d after ps ++ runs_along (other_dir d) after ps
 
--- the run of a line that holds one square, where it has two tiles
+-- the run of a line that holds one square, if it has two tiles
 abbrev pub runs_through : Dir → List (Option Tile) → ℕ → List Run
 runs_through d after square = runs_of_line d after (λ place. place == place_of d square) (line_of d square)
 
--- A run of a board in the words of the rules: a maximal stretch of at least two tiles of one row or one column.
+-- A run of a board, in the words of the rules: a maximal stretch of at least two tiles in one row or one column.
 pub record IsRun (board : List (Option Tile)) (run : Run) : Type 0 where
   pub on_board : run.start < 225
   pub long : 2 ≤ run.len
   pub whole : IsWhole (occupied_on run.dir board (line_of run.dir run.start)) (place_of run.dir run.start) run.len
 
--- whether a square is one of the run's
+-- whether a square is on the run
 abbrev pub is_on : Run → ℕ → Bool
 is_on run square =
     line_of run.dir square == line_of run.dir run.start && nat_le (place_of run.dir run.start) (place_of run.dir square)

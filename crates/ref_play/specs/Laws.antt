@@ -1,4 +1,4 @@
--- Laws: the definitions that compute say what the rules say.
+-- Laws: the definitions that compute agree with the rules.
 use Rattle.std.specs.Prelude.{◌≡◌, ◌≢◌, ℕ, ◌+◌, ◌<◌, ◌↔◌, ◌⊎◌, true, false, List, [], ◌∷◌, ◌++◌, map, sum_by, Option, None, length, Contains, IsPermutation}
 use Rattle.std.specs.List.{AllPairs, flat_map}
 use Rattle.ref_tiles.specs.declared.tiles.Tile.{Tile}
@@ -19,7 +19,7 @@ use Rattle.ref_play.specs.Scores.{run_score, bonus_score, score_of}
 use Rattle.ref_play.specs.Crosses.{run_in, cross_words, cross_score}
 use Rattle.ref_play.specs.Soundness.{IsSound}
 
--- the list of runs holds the runs of the board that have a tile of the placement, and no other
+-- the list of runs has exactly the runs of the board that have a tile of the placement
 abbrev pub RunsAreThoseMet : Type 0
 RunsAreThoseMet =
     (d : Dir) (after : List (Option Tile)) (ps : List Placed) (run : Run) → Contains (runs_formed d after ps) run ↔ MeetsRun after ps run
@@ -28,12 +28,12 @@ RunsAreThoseMet =
 abbrev pub RunsAreDistinct : Type 0
 RunsAreDistinct = (d : Dir) (after : List (Option Tile)) (ps : List Placed) → AllPairs (λ a b. a ≢ b) (runs_formed d after ps)
 
--- a placement has no fault exactly where it is legal
+-- a placement has no fault exactly when it is legal
 abbrev pub FaultlessIsLegal : Type 0
 FaultlessIsLegal =
     (d : Dir) (board : List (Option Tile)) (ps : List Placed) → length board ≡ 225 → is_play d ps ≡ true → (fault_of d board ps ≡ None) ↔ IsLegal board ps
 
--- one tile is a play of both directions or of none
+-- one tile is a play in both directions or in neither
 abbrev pub OneTileFitsBoth : Type 0
 OneTileFitsBoth = (p : Placed) → is_play Across (p ∷ []) ≡ is_play Down (p ∷ [])
 
@@ -45,7 +45,7 @@ OneTileHasOneFault = (board : List (Option Tile)) (p : Placed) → fault_of Acro
 abbrev pub WordsFitBoth : Type 0
 WordsFitBoth = (board : List (Option Tile)) (ps : List Placed) → IsPermutation (words_formed Across board ps) (words_formed Down board ps)
 
--- two tiles or more are a play of one direction at the most
+-- two tiles or more are a play in at most one direction
 abbrev pub MoreTilesFitOne : Type 0
 MoreTilesFitOne = (ps : List Placed) → is_play Across ps ≡ true → is_play Down ps ≡ true → length ps ≡ 1
 
@@ -65,7 +65,7 @@ NotationsReadBack =
     → (text_fault board (notation_of board ps).dir (notation_of board ps).at (notation_of board ps).word ≡ None)
     × (placement_of board (notation_of board ps).dir (notation_of board ps).at (notation_of board ps).word ≡ ps)
 
--- two legal placements with one notation are one
+-- two legal placements with one notation are equal
 abbrev pub NotationsTell : Type 0
 NotationsTell =
     (d e : Dir) (board : List (Option Tile)) (a b : List Placed) → length board ≡ 225 → is_play d a ≡ true → is_play e b ≡ true → IsLegal board a → IsLegal board b
@@ -75,18 +75,18 @@ NotationsTell =
 abbrev pub NoneBeforeItself : Type 0
 NoneBeforeItself = (board : List (Option Tile)) (ps : List Placed) → ComesBefore board ps ps → ⊥
 
--- what comes before a placement comes before all that this one comes before
+-- if a placement comes before a second and the second before a third, the first comes before the third
 abbrev pub BeforeIsTransitive : Type 0
 BeforeIsTransitive = (board : List (Option Tile)) (a b c : List Placed) → ComesBefore board a b → ComesBefore board b c → ComesBefore board a c
 
--- of two legal placements that differ one comes before the other
+-- of two different legal placements one comes before the other
 abbrev pub OneComesBefore : Type 0
 OneComesBefore =
     (d e : Dir) (board : List (Option Tile)) (a b : List Placed) → length board ≡ 225 → is_play d a ≡ true → is_play e b ≡ true → IsLegal board a → IsLegal board b
     → (a ≡ b) ⊎ (ComesBefore board a b ⊎ ComesBefore board b a)
 
--- a play is legal exactly where it is sound: where its tiles lie on empty squares, in one whole stretch of their line, some
--- run is formed, and an anchor is covered
+-- a play is legal exactly when it is sound: its tiles lie on empty squares, in one whole stretch of their line, some run is formed,
+-- and an anchor is covered
 abbrev pub LegalIsSound : Type 0
 LegalIsSound = (d : Dir) (board : List (Option Tile)) (ps : List Placed) → length board ≡ 225 → is_play d ps ≡ true → IsLegal board ps ↔ IsSound d board ps
 

@@ -43,7 +43,7 @@ abbrev pub last_square : Placed → List Placed → ℕ
 last_square p [] = p.square
 last_square p (q ∷ ps) = last_square q ps
 
--- The tests of the faults, one each.
+-- The tests of the faults, one for each.
 unfoldable pub overlaps : List (Option Tile) → List Placed → Bool
 overlaps board ps = list_any (λ p. holds board p.square) ps
 
@@ -64,7 +64,7 @@ is_too_short d after ps = length (runs_formed d after ps) == 0
 unfoldable pub is_apart : List (Option Tile) → List Placed → Bool
 is_apart board ps = not (has_no_tile board) && not (list_any (λ p. touches board p.square) ps)
 
--- the first fault of a placement of this direction; none where it is legal
+-- the first fault of a placement of this direction; none if it is legal
 unfoldable pub fault_of : Dir → List (Option Tile) → List Placed → Option PlayFault
 fault_of d board ps =
     first_fault (

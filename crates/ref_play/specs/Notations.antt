@@ -26,7 +26,7 @@ abbrev pub symbol_by : Kind → Letter → Symbol
 symbol_by (kind.Letter l) shown = symbol.Letter shown
 symbol_by kind.Blank shown = symbol.Blank shown
 
--- the symbol of a square in the text of a play: that of its new tile, and a dot where it has none
+-- the symbol of a square in the text of a play: that of its new tile, or a dot if it has none
 abbrev pub symbol_for : Option Tile → Symbol
 symbol_for None = symbol.Dot
 symbol_for (Some tile) = symbol_by tile.kind tile.shown
@@ -40,13 +40,13 @@ tile_in (p ∷ ps) square = if p.square == square then Some p.tile else tile_in 
 abbrev pub text_on : List Placed → Run → List Symbol
 text_on ps run = map (λ k. symbol_for (tile_in ps (along run.dir run.start k))) (range_with_len 0 run.len)
 
--- a text and where it stands: its direction and its first square
+-- a text and where it is: its direction and its first square
 pub record Written : Type 0 where
   pub dir : Dir
   pub at : ℕ
   pub word : List Symbol
 
--- a notation as a text and where it stands
+-- a notation as a text and where it is
 abbrev pub written : Notation → Written
 written n = record { dir = n.dir; at = n.at; word = n.word.items }
 

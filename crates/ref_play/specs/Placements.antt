@@ -1,5 +1,4 @@
--- Placements: sets of squares with a tile each, as lists in rising order of the squares, so that equal lists are
--- equal sets.
+-- Placements: sets of squares with a tile each, as lists in rising order of the squares, so that equal lists are equal sets.
 use Rattle.std.specs.Prelude.{◌≡◌, ℕ, ◌==◌, ◌&&◌, Bool, true, false, List, [], ◌∷◌, length, Option, Some, None, All, nat_lt, nat_le}
 use Rattle.std.specs.List.{list_any, list_all}
 use Rattle.ref_tiles.specs.declared.tiles.Tile.{Tile}
@@ -41,7 +40,7 @@ HasTiles board ps = All (λ (p : Placed). tile_at board p.square ≡ Some p.tile
 abbrev pub covers : List Placed → ℕ → Bool
 covers ps square = list_any (λ p. p.square == square) ps
 
--- the squares of the placement are empty on the new board, and every other is as it was
+-- the squares of the placement are empty on the new board, and every other square is as it was
 pub record EmptiesSquares (ps : List Placed) (old new : List (Option Tile)) : Type 0 where
   pub emptied : (square : ℕ) → covers ps square ≡ true → tile_at new square ≡ None
   pub kept : (square : ℕ) → covers ps square ≡ false → tile_at new square ≡ tile_at old square

@@ -15,12 +15,12 @@ abbrev pub product : List ℕ → ℕ
 product [] = 1
 product (x ∷ xs) = x * product xs
 
--- the points of what lies on a square
+-- the points of the tile on a square
 abbrev pub points_on : Rules → Option Tile → ℕ
 points_on rules None = 0
 points_on rules (Some tile) = points_of rules tile.kind
 
--- by what the points of the tile on a square are multiplied: the letter premium under a new tile, and 1 under an old one
+-- the factor for the points of the tile on a square: the letter premium under a new tile, and 1 under an old one
 abbrev pub factor_on : Rules → List Placed → ℕ → ℕ
 factor_on rules ps square = if covers ps square then letter_factor (premium_at rules square) else 1
 
@@ -28,7 +28,7 @@ factor_on rules ps square = if covers ps square then letter_factor (premium_at r
 abbrev pub square_points : Rules → List (Option Tile) → List Placed → ℕ → ℕ
 square_points rules after ps square = points_on rules (tile_at after square) * factor_on rules ps square
 
--- by what a new tile multiplies a run: its word premium where it lies on the run
+-- the factor of a new tile for a run: its word premium if it lies on the run
 abbrev pub factor_in : Rules → Run → Placed → ℕ
 factor_in rules run p = if is_on run p.square then word_factor (premium_at rules p.square) else 1
 
@@ -45,7 +45,7 @@ words_factor rules ps run = product (map (factor_in rules run) ps)
 abbrev pub run_score : Rules → List (Option Tile) → List Placed → Run → ℕ
 run_score rules after ps run = letters_score rules after ps run * words_factor rules ps run
 
--- what a play of seven tiles scores on top
+-- the bonus for a play of seven tiles
 abbrev pub bonus_score : Rules → List Placed → ℕ
 bonus_score rules ps = if length ps == 7 then rules.bonus else 0
 

@@ -1,4 +1,4 @@
--- A legal placement, said of one line of the board.
+-- A legal placement, described by one line of the board.
 use Rattle.std.specs.Prelude.{◌≡◌, ℕ, List, Option, None, All, Contains}
 use Rattle.ref_tiles.specs.declared.tiles.Tile.{Tile}
 use Rattle.ref_board.specs.declared.directions.Dir.{Dir}
@@ -10,8 +10,7 @@ use Rattle.ref_play.specs.Placements.{with_tiles}
 use Rattle.ref_play.specs.Formed.{MeetsRun}
 use Rattle.ref_play.specs.Directions.{LiesIn}
 
--- Its tiles lie on empty squares, all in one whole stretch of a line of the direction; some run is formed; and it covers an
--- anchor.
+-- Its tiles lie on empty squares, all in one whole stretch of a line of the direction; some run is formed; and it covers an anchor.
 pub record IsSound (d : Dir) (board : List (Option Tile)) (ps : List Placed) : Type 0 where
   pub free : All (λ (p : Placed). tile_at board p.square ≡ None) ps
   pub line : ℕ

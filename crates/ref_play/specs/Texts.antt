@@ -15,7 +15,7 @@ use Rattle.ref_play.specs.declared.faults.PlayFault.TheVariants as fault
 use Rattle.ref_play.specs.Formed.{along}
 use Rattle.ref_board.specs.Anchors.{follows_tile, precedes_tile}
 
--- the squares from a first one on, in a direction
+-- the squares in a direction from the first one on
 abbrev pub squares_from : Dir → ℕ → ℕ → List ℕ
 squares_from d at len = map (along d at) (range_with_len 0 len)
 
@@ -61,7 +61,7 @@ mismatches board d at word = not (list_all (fits_board board) (text_cells d at w
 unfoldable pub is_open_ended : List (Option Tile) → Dir → ℕ → List Symbol → Bool
 is_open_ended board d at word = follows_tile d board at || precedes_tile d board at (length word)
 
--- the first fault of a text; none where it names a placement and covers its whole run
+-- the first fault of a text; none if it names a placement and covers its whole run
 unfoldable pub text_fault : List (Option Tile) → Dir → ℕ → List Symbol → Option PlayFault
 text_fault board d at word =
     first_fault (

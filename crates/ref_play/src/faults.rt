@@ -1,7 +1,7 @@
 //! The faults of a play.
 ghost use Rattle.std.specs.Prelude.{◌≡◌};
 
-/// Why the text of a play names no play, or why a play is not legal. The order is that in which they are checked.
+/// Why the text of a play does not name a play, or why a play is not legal, in the order in which the faults are checked.
 #[derive(Clone, Copy, Debug, PartialEq, Eq, PartialOrd, Ord, Hash)]
 pub enum PlayFault {
     /// The text leaves the board.
@@ -16,7 +16,7 @@ pub enum PlayFault {
     NotWhole,
     /// The first play does not cover the centre.
     MissesCentre,
-    /// The play forms no word of two letters.
+    /// The play does not form a word of two letters.
     TooShort,
     /// No new tile is orthogonally beside an old one.
     Apart,

@@ -22,7 +22,7 @@ pub fn laid(board: &Board, play: &Play) -> Board
     with_tiles(board, &play.tiles)
 }
 
-/// Whether a play without a gap forms no run of two tiles.
+/// Whether a play without a gap does not form a run of two tiles.
 #[tactic(auto, unfolding(crate::specs::Legality::is_too_short))]
 fn is_too_short(after: &Board, dir: Dir, tiles: &[Placed]) -> bool
     requires { IsLaid dir after.now tiles.now }
@@ -31,7 +31,7 @@ fn is_too_short(after: &Board, dir: Dir, tiles: &[Placed]) -> bool
     runs_of(after, dir, tiles).is_empty()
 }
 
-/// The tests of a play in their order.
+/// The tests of a play, in order.
 #[tactic(auto, unfolding(crate::specs::Legality::fault_of))]
 fn try_play(board: &Board, play: &Play) -> Result<(), PlayFault>
     ensures { Refuses result (fault_of play.now.dir board.now play.now.tiles.items) }
@@ -56,7 +56,7 @@ fn try_play(board: &Board, play: &Play) -> Result<(), PlayFault>
     Ok(())
 }
 
-/// Judges a play by the WESPA rules of placement. It is legal where its tiles lie on empty squares, with no empty
+/// Judges a play by the WESPA rules of placement. It is legal if its tiles lie on empty squares, with no empty
 /// square between them, form a word of at least two letters, and cover the centre of an empty board or are orthogonally
 /// beside a tile of any other.
 ///
@@ -80,8 +80,7 @@ pub fn apply(board: &mut Board, play: &Play)
     *board = laid(board, play);
 }
 
-/// Takes the tiles of a play off the board that holds them. The squares of the play are empty then, and every other
-/// square is as it was.
+/// Takes the tiles of a play off the board that holds them. The squares of the play are then empty, and every other square is as it was.
 #[tactic(auto, using(crate::proofs::Taking::without_empties))]
 pub fn undo(board: &mut Board, play: &Play)
     requires { HasTiles board.old play.now.tiles.items }

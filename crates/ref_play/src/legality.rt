@@ -44,7 +44,7 @@ fn is_filled(board: &Board, dir: Dir, line: usize, start: usize, end: usize) -> 
     true
 }
 
-/// The square of the last tile of a placement, of which `first` is the first.
+/// The square of the last tile of a placement whose first tile is `first`.
 fn last_square(first: &Placed, rest: &[Placed]) -> Square
     ensures { result ≡ last_square first.now rest.now }
 {

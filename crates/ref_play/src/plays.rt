@@ -7,10 +7,10 @@ use crate::texts::shortened;
 use arrayvec::ArrayVec;
 use ref_board::Dir;
 
-/// How many tiles a play has at the most: a full rack.
+/// The maximum number of tiles of a play: a full rack.
 pub const RACK: usize = 7;
 
-/// A play: one to seven new tiles, in rising order of one line.
+/// A play: one to seven new tiles, in rising order on one line.
 #[derive(Drop)]
 pub struct Play {
     /// The direction of the line.
@@ -21,7 +21,7 @@ pub struct Play {
 }
 
 impl Play {
-    /// An equal play.
+    /// A copy of the play.
     pub fn copy(&self) -> Play
         ensures { result ≡ self.now }
     {

@@ -8,7 +8,7 @@ use crate::placed::Placed;
 use arrayvec::ArrayVec;
 use ref_board::{Board, Dir, Square};
 
-/// How many runs a play forms at the most: one along it, and one across each of its tiles.
+/// The maximum number of runs that a play forms: one along it, and one across each of its tiles.
 pub const RUNS: usize = 8;
 
 /// A run: successive tiles of one row or one column.
@@ -18,7 +18,7 @@ pub struct Run {
     pub start: Square,
     /// Across in a row, down in a column.
     pub dir: Dir,
-    /// How many tiles it has.
+    /// The number of its tiles.
     pub len: usize,
 }
 
@@ -37,7 +37,7 @@ impl Default for Run {
     }
 }
 
-/// Adds the run through a square, where it has two tiles.
+/// Adds the run through a square, if it has two tiles.
 fn push_run(runs: &mut ArrayVec<Run, RUNS>, after: &Board, square: Square, dir: Dir)
     requires tile { holds after.now square ≡ true }
     requires room { length runs.old.items < 8 }
@@ -51,7 +51,7 @@ fn push_run(runs: &mut ArrayVec<Run, RUNS>, after: &Board, square: Square, dir: 
     }
 }
 
-/// The run through a square, where it has two tiles.
+/// The run through a square, if it has two tiles.
 fn run_along(after: &Board, square: Square, dir: Dir) -> ArrayVec<Run, RUNS>
     requires { holds after.now square ≡ true }
     ensures run { result.items ≡ runs_through dir after.now square }
@@ -62,7 +62,7 @@ fn run_along(after: &Board, square: Square, dir: Dir) -> ArrayVec<Run, RUNS>
     runs
 }
 
-/// The runs that a play without a gap forms: the one of its direction, where it has two tiles, and then the cross runs
+/// The runs that a play without a gap forms: the one along its direction, if it has two tiles, and then the cross runs
 /// in the order of the new tiles. `after` is the board with the tiles of the play.
 pub fn runs_of(after: &Board, dir: Dir, tiles: &[Placed]) -> ArrayVec<Run, RUNS>
     requires { IsLaid dir after.now tiles.now }

@@ -14,7 +14,7 @@ use crate::texts::along;
 use ref_board::{Board, Square};
 use ref_tiles::{Rules, Tile};
 
-/// The points of what lies on a square; a blank has none, whatever it stands for.
+/// The points of the tile on a square; a blank has none, whatever it stands for.
 pub fn points_on(rules: &Rules, cell: Option<Tile>) -> u8
     ensures points { result ≡ points_on rules.now cell }
     ensures limit { result ≤ 99 }
@@ -25,7 +25,7 @@ pub fn points_on(rules: &Rules, cell: Option<Tile>) -> u8
     }
 }
 
-/// By what the points of the tile on a square are multiplied: the letter premium under a new tile, and 1 under an old one.
+/// The factor for the points of the tile on a square: the letter premium under a new tile, and 1 under an old one.
 fn factor_on(rules: &Rules, tiles: &[Placed], square: Square) -> u8
     ensures factor { result ≡ factor_on rules.now tiles.now square }
     ensures limit { result ≤ 3 }
@@ -60,7 +60,7 @@ fn letters_score(rules: &Rules, after: &Board, tiles: &[Placed], run: &Run) -> u
     points
 }
 
-/// Whether a square is one of a run's.
+/// Whether a square is on a run.
 fn is_on(run: &Run, square: Square) -> bool
     requires { IsWithin run.now }
     ensures { result ≡ is_on run.now square }
@@ -70,7 +70,7 @@ fn is_on(run: &Run, square: Square) -> bool
     square.line(run.dir) == run.start.line(run.dir) && start <= place && place < start + run.len
 }
 
-/// By what a new tile multiplies a word: its word premium where it lies on the word.
+/// The factor of a new tile for a word: its word premium if it lies on the word.
 fn factor_in(rules: &Rules, run: &Run, placed: &Placed) -> u32
     requires { IsWithin run.now }
     ensures factor { result ≡ factor_in rules.now run.now placed.now }
@@ -107,7 +107,7 @@ pub fn run_score(rules: &Rules, after: &Board, tiles: &[Placed], run: &Run) -> u
     letters_score(rules, after, tiles, run) * words_factor(rules, tiles, run)
 }
 
-/// What the words of some runs score together.
+/// The score of the words of some runs together.
 fn runs_score(rules: &Rules, after: &Board, tiles: &[Placed], runs: &[Run]) -> u32
     requires within { All IsWithin runs.now }
     requires few { length tiles.now ≤ 7 }
@@ -122,7 +122,7 @@ fn runs_score(rules: &Rules, after: &Board, tiles: &[Placed], runs: &[Run]) -> u
     score
 }
 
-/// What a play of seven tiles scores on top.
+/// The bonus for a play of seven tiles.
 pub fn bonus_score(rules: &Rules, tiles: &[Placed]) -> u32
     ensures score { result ≡ bonus_score rules.now tiles.now }
     ensures limit { result ≤ 999 }
@@ -134,7 +134,7 @@ pub fn bonus_score(rules: &Rules, tiles: &[Placed]) -> u32
     }
 }
 
-/// What a legal play scores: the sum of its words, and the bonus where seven tiles were played. A word scores the points
+/// What a legal play scores: the sum of its words, and the bonus if seven tiles were played. A word scores the points
 /// of its letters, each new tile's times its letter premium, times the word premiums under its new tiles. A blank counts
 /// 0 points, and the premiums under it still count.
 pub fn score(rules: &Rules, board: &Board, play: &Play) -> i32

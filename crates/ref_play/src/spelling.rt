@@ -18,7 +18,7 @@ pub type Word = ArrayVec<u8, SIDE>;
 /// The words of a play, up to eight.
 pub type Words = ArrayVec<Word, RUNS>;
 
-/// The letter that a square shows, as a capital; 0 where it is empty.
+/// The letter that a square shows, as a capital; 0 if it is empty.
 fn capital_shown(cell: Option<Tile>) -> u8
     ensures { result ≡ capital_shown cell }
 {
@@ -54,7 +54,7 @@ fn words_of(after: &Board, runs: &[Run]) -> Words
     words
 }
 
-/// The words that a legal play forms: that of its direction first, where it has two letters, and then the cross words in
+/// The words that a legal play forms: that of its direction first, if it has two letters, and then the cross words in
 /// the order of the new tiles.
 #[tactic(auto, unfolding(crate::specs::Words::words_formed))]
 pub fn words(board: &Board, play: &Play) -> Words

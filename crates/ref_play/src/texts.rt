@@ -10,7 +10,7 @@ use arrayvec::ArrayVec;
 use ref_board::{Board, Dir, SIDE, Square, follows_tile, precedes_tile};
 use ref_tiles::{Symbol, Tile};
 
-/// The square so many places further on its line.
+/// The square `by` places further on its line.
 pub fn along(square: Square, dir: Dir, by: usize) -> Square
     requires { place_of dir square + by < 15 }
     ensures { result ≡ along dir square by }
@@ -94,7 +94,7 @@ fn is_open_ended(board: &Board, at: Square, dir: Dir, word: &[Symbol]) -> bool
     follows_tile(board, dir, at) || precedes_tile(board, dir, at, word.len())
 }
 
-/// The same tiles in room for a rack.
+/// The same tiles, in an array that has room for a rack.
 pub fn shortened(tiles: &[Placed]) -> ArrayVec<Placed, RACK>
     requires { length tiles.now ≤ 7 }
     ensures { result.items ≡ tiles.now }

@@ -33,7 +33,7 @@ fn tile_in(tiles: &[Placed], square: Square) -> Option<Tile>
         .map(|placed| placed.tile)
 }
 
-/// The symbol of a square in the text of a play: that of its new tile, and a dot where it has none.
+/// The symbol of a square in the text of a play: that of its new tile, or a dot if it has none.
 fn symbol_for(tiles: &[Placed], square: Square) -> Symbol
     ensures { result ≡ symbol_for (tile_in tiles.now square) }
 {
@@ -66,7 +66,7 @@ fn lies_across(play: &Play) -> bool
     }
 }
 
-/// The run of a direction through a square that has a tile; a tile that stands alone is a run of one.
+/// The run of a direction through a square that has a tile; a tile without neighbours is a run of one.
 fn run_through(after: &Board, square: Square, dir: Dir) -> Run
     requires { holds after.now square ≡ true }
     ensures dir { result.dir ≡ dir }
@@ -77,7 +77,7 @@ fn run_through(after: &Board, square: Square, dir: Dir) -> Run
 }
 
 /// The run of a legal play in the direction in which it is written. A play of one tile is written along its
-/// run across, where that has two tiles, and else along its run down.
+/// run across, if that has two tiles, and otherwise along its run down.
 fn run_written(board: &Board, play: &Play) -> Run
     requires { IsLegal board.now play.now.tiles.items }
     ensures run { runs_along (direction_of board.now play.now.tiles.items)

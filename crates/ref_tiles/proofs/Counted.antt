@@ -1,4 +1,4 @@
--- Lists of kinds as multisets: of none, of one more, and how often each kind is there.
+-- Lists of kinds as multisets: the empty list, one more tile, and how often a kind occurs.
 use Rattle.std.proofs.Common.{◌≡◌, ◌≢◌, ℕ, ◌+◌, ◌<◌, ◌≤◌, cond, eqb, List, [], ◌∷◌, ◌++◌, length, get_or, arith, sym, refl, ◌∙◌, inl, inr}
 use Rattle.std.specs.List.{count_by}
 use Rattle.std.proofs.lemmas.List.{get_or-set_same, get_or-set_other, length-set}
@@ -10,7 +10,7 @@ use Rattle.ref_tiles.specs.declared.kinds.Kind.TheVariants as kind
 use Rattle.ref_tiles.specs.Kinds.{number_of}
 use Rattle.ref_tiles.specs.Counting.{no_tiles, counted, count_of, with_count}
 
--- of no tiles
+-- the multiset of no tiles
 pub counted_none : no_tiles ≡ counted []
 unfolding no_tiles counted
 counted_none = refl
@@ -20,7 +20,7 @@ pub number_below : (k : Kind) → number_of k < 27
 number_below (kind.Letter l) = let below = l.in_range in omega arith
 number_below kind.Blank = omega arith
 
--- how often a kind is there
+-- how often a kind occurs
 pub counted_at : (kinds : List Kind) (n : ℕ) → n < 27 → get_or (counted kinds) n 0 ≡ count_by (λ kind. eqb (number_of kind) n) kinds
 unfolding counted
 counted_at kinds n h = get_or-map-range_with_len (λ k. count_by (λ kind. eqb (number_of kind) k) kinds) 0 27 n n 0 h (omega arith)
@@ -30,7 +30,7 @@ pub length-counted : (kinds : List Kind) → length (counted kinds) ≡ 27
 unfolding counted
 length-counted kinds = length-map-range_with_len (λ k. count_by (λ kind. eqb (number_of kind) k) kinds) 0 27
 
--- there are no more tiles of a kind than tiles
+-- there are at most as many tiles of a kind as tiles
 pub counted_small : (kinds : List Kind) (k : Kind) → count_of (counted kinds) k ≤ length kinds
 counted_small kinds k = rw (counted_at kinds (number_of k) (number_below k)) (count_by-le-length (λ kind. eqb (number_of kind) (number_of k)) kinds)
 
@@ -60,7 +60,7 @@ counted_set kinds k n h =
           omega (arith, placed, at_n, more2)
     ]
 
--- of one tile more
+-- the multiset with one more tile
 pub counted_push : (kinds : List Kind) (k : Kind) → with_count (counted kinds) k (count_of (counted kinds) k + 1) ≡ counted (kinds ++ k ∷ [])
 unfolding counted
 counted_push kinds k =

@@ -66,20 +66,20 @@ no_row_8 : meaning_of (codes "tile A 9 1" ++ 10 ∷ tiles_from_b ++ other_rows +
 unfolding meaning_of parts_in first_bad_line fault_behind whole_fault entries_in entry_in counts_with points_with premiums_with statement_of statement_in tile_in tile_of row_of number_in parameter_in lines_in fields_of premium_of letter_at most_tiles
 no_row_8 = refl
 
--- behind the 47 lines
+-- an extra line after the 47 lines
 bonus_again : meaning_of (english_text ++ codes "bonus 50") ≡ Err (at_line 48 why.Twice)
 unfolding meaning_of parts_in first_bad_line fault_behind entry_in statement_of statement_in tile_in tile_of row_of number_in parameter_in lines_in fields_of premium_of letter_at
 bonus_again = refl
 
--- before them
+-- an extra line before them
 blank_first : meaning_of (codes "tile ? 2 1" ++ 10 ∷ english_text) ≡ Err (at_line 1 why.Number)
 unfolding meaning_of parts_in first_bad_line fault_behind entry_in statement_of statement_in tile_in tile_of row_of number_in parameter_in lines_in fields_of premium_of letter_at
 blank_first = refl
 
 -- ---- short texts
 
--- the first fault of each text: empty lines, lines of blanks and lines that begin with # are read over, and counted; and a line with a fault of
--- its own, and about the item of an earlier line, has its own
+-- the first fault of each text: empty lines, lines of blanks and lines that begin with # are ignored, and counted; and a line that
+-- has a fault of its own and is about the item of an earlier line has its own fault
 first_faults : Agree (
     (meaning_of (codes "tiles A 9 1"), Err (at_line 1 why.Unknown))
     ∷ (meaning_of (codes "# tiles" ++ 10 ∷ 13 ∷ 10 ∷ 32 ∷ 9 ∷ 10 ∷ codes "Tile A 9 1"), Err (at_line 4 why.Unknown))

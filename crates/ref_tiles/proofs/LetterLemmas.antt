@@ -5,7 +5,7 @@ use Rattle.std.proofs.lemmas.Bool.Decides.{nat_tests}
 use Rattle.ref_tiles.specs.declared.letters.Letter.{Letter}
 use Rattle.ref_tiles.specs.Letters.{letter_if, letter_at}
 
--- a letter is known by its place
+-- letters at the same place are equal
 pub same_letter : (a b : Letter) → a.index ≡ b.index → a ≡ b
 same_letter a b e =
     let irrelevant : IsProp (a.index < 26) = hlevel props in

@@ -1,4 +1,4 @@
--- In a text that states rules each item has exactly one line.
+-- In a text that states rules, each item has exactly one line.
 use Rattle.std.specs.Prelude.{option_map, is_some, IfOk}
 use Rattle.std.proofs.Common.{◌≡◌, ℕ, ◌+◌, ◌<◌, Bool, true, false, arith, List, [], ◌∷◌, ◌++◌, length, get_or, Option, Some, None, Result, Ok, Err, sym, subst, ◌∙◌, refl, inl, inr, append_assoc}
 use Rattle.std.specs.List.{list_all}
@@ -25,7 +25,7 @@ some-or : (a b : Option Entry) → is_some a ≡ true → is_some (option_or a b
 some-or None b e = absurd cc
 some-or (Some x) b e = refl
 
--- a line without a fault is about no item that was stated
+-- a line without a fault is not about an item that was already stated
 not_again : (front : List (List ℕ)) (line : List ℕ) (item : ℕ) → fault_behind front line ≡ None → is_some (entry_in front item) ≡ true → stated_by item (statement_of line) ≡ None
 unfolding fault_behind
 not_again front line item fine some = by (statement_of line) fine

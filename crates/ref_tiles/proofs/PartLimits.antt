@@ -51,7 +51,7 @@ no_time_step parts e = second _ _ e
 -- a part outside its limits
 pub ruleset refusals = (no_counts, no_points, no_bonus, no_exchange_min, no_zero_limit, no_challenge_unit, no_time_step)
 
--- ---- one number that is past them
+-- ---- one number past its limit
 
 -- a kind with more tiles than a byte counts
 pub many_tiles : (draft : List (Option Entry)) (kind : ℕ) → kind < 27 → 255 < count_in (entry_at draft kind) → is_tile_set (counts_with draft) ≡ false

@@ -1,4 +1,4 @@
--- The lines of a rules text read one after the other.
+-- The lines of a rules text read one after another.
 use Rattle.std.specs.Prelude.{option_map, is_some, slice_set}
 use Rattle.std.proofs.Common.{◌≡◌, ◌≢◌, ℕ, ◌+◌, ◌<◌, cond, eqb, arith, List, [], ◌∷◌, ◌++◌, length, get_or, replicate, Option, Some, None, Result, Ok, Err, sym, subst, ap, ◌∙◌, refl, inl, inr, append_assoc}
 use Rattle.std.specs.Option.{option_or}
@@ -51,7 +51,7 @@ nothing_more before line e =
     sym (fill_by_all (entry_in (before ++ line ∷ [])) (entries_in before) 47 None (length-entries before)
     (λ k below. entries_at before k below ∙ sym (entry_in-append before line k ∙ rw e (or-none (entry_in before k)))))
 
--- something of an item of which nothing was stated
+-- something about an item of which nothing was stated
 put_at : (before : List (List ℕ)) (line : List ℕ) (s : Statement) → statement_of line ≡ Ok (Some s) → entry_in before s.item ≡ None
     → (k : ℕ) → k < 47 → get_or (slice_set (entries_in before) s.item (Some s.entry)) k None ≡ entry_in (before ++ line ∷ []) k
 put_at before line s e none k below =
@@ -81,7 +81,7 @@ put_more before line s e none =
     sym (fill_by_all (entry_in (before ++ line ∷ [])) (slice_set (entries_in before) s.item (Some s.entry)) 47 None
     (length-set (entries_in before) s.item (Some s.entry) ∙ length-entries before) (put_at before line s e none))
 
--- what a line makes of the entries of the lines before it: those with the line, unless it has a fault
+-- what a line makes of the entries of the lines before it: they are those with the line, unless it has a fault
 pub line_more : (before : List (List ℕ)) (line : List ℕ) (n : ℕ) → IsLinePlace (statement_of line)
     → more_by (entries_in before) n (statement_of line) ≡ or_fault (option_map (at_line n) (fault_behind before line)) (entries_in (before ++ line ∷ []))
 unfolding fault_behind
@@ -101,8 +101,8 @@ line_more before line n place = by (statement_of line) refl place
 
 -- ---- how far a reading has come
 
--- how far a reading has come: these are the entries of the lines so far, of which there are so many, and what is wrong
--- with the whole is wrong with what stands behind
+-- how far a reading has come: these are the entries of the `line` lines so far, and what is wrong with the whole text is wrong with
+-- what follows
 pub record Progress (lines : List (List ℕ)) (entries : List (Option Entry)) (line : ℕ) (behind : List (List ℕ)) : Type 0 where
   pub before : List (List ℕ)
   pub count : length before ≡ line

@@ -1,7 +1,7 @@
 -- How often a test holds in a list.
 use Rattle.std.proofs.Common.{◌≡◌, ℕ, ◌+◌, Bool, false, if◌then◌else◌, List, [], ◌∷◌, ◌++◌, map, refl, ap, arith}
 
--- one where it is so
+-- one if the test holds
 abbrev pub once : Bool → ℕ
 once b = if b then 1 else 0
 

@@ -6,7 +6,7 @@ use Rattle.ref_tiles.specs.declared.premiums.Premium.TheVariants as premium
 use Rattle.ref_tiles.specs.declared.rulebook.Rules.{Rules}
 use Rattle.ref_tiles.specs.Limits.{most_tiles}
 
--- how many tiles of A to Z there are, and of blanks
+-- the number of tiles of A to Z, and of blanks
 abbrev pub english_counts : List ℕ
 english_counts = 9 ∷ 2 ∷ 2 ∷ 4 ∷ 12 ∷ 2 ∷ 3 ∷ 2 ∷ 9 ∷ 1 ∷ 1 ∷ 4 ∷ 2 ∷ 6 ∷ 8 ∷ 2 ∷ 1 ∷ 6 ∷ 4 ∷ 6 ∷ 4 ∷ 2 ∷ 2 ∷ 1 ∷ 2 ∷ 1 ∷ 2 ∷ []
 

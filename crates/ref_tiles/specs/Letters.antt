@@ -11,6 +11,6 @@ letter_if n false past = None
 unfoldable pub letter_at : ℕ → Option Letter
 letter_at n = letter_if n (nat_lt n 26) refl
 
--- the letter that this byte writes, where `first` writes A
+-- the letter that this byte writes, if `first` writes A
 abbrev pub letter_from : ℕ → ℕ → Option Letter
 letter_from first byte = if nat_le first byte then letter_at (byte - first) else None

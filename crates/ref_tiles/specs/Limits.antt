@@ -2,11 +2,11 @@
 use Rattle.std.specs.Prelude.{ℕ, Bool, List, sum, nat_le, ◌&&◌}
 use Rattle.std.specs.List.{list_all}
 
--- no tile set has more tiles
+-- the most tiles of a tile set
 unfoldable pub most_tiles : ℕ
 most_tiles = 200
 
--- two full racks at the least
+-- at least two full racks
 abbrev pub is_tile_set : List ℕ → Bool
 is_tile_set counts = nat_le 14 (sum counts) && nat_le (sum counts) most_tiles
 

@@ -10,7 +10,7 @@ are_in_limits parts =
     is_tile_set parts.counts && are_points parts.points && is_bonus parts.bonus && is_parameter parts.exchange_min
     && is_parameter parts.zero_limit && is_parameter parts.challenge_unit && is_parameter parts.time_step
 
--- what rules are made of
+-- the parts of rules
 abbrev pub parts_of : Rules → RuleParts
 parts_of rules =
     record {

@@ -1,4 +1,4 @@
--- What the rules say of a kind and of a square.
+-- What the rules say about a kind and about a square.
 use Rattle.std.specs.Prelude.{ℕ, slice_index, slice_index_or}
 use Rattle.ref_tiles.specs.declared.kinds.Kind.{Kind}
 use Rattle.ref_tiles.specs.declared.kinds.Kind.TheVariants as kind
@@ -15,13 +15,13 @@ points_of rules kind.Blank = 0
 abbrev pub premium_at : Rules → ℕ → Premium
 premium_at rules square = slice_index_or rules.premiums square premium.Plain
 
--- by what a premium multiplies the points of the tile put there
+-- the factor of a premium for the points of the tile put there
 abbrev pub letter_factor : Premium → ℕ
 letter_factor premium.DoubleLetter = 2
 letter_factor premium.TripleLetter = 3
 letter_factor _ = 1
 
--- by what a premium multiplies the words through a tile put there
+-- the factor of a premium for the words through a tile put there
 abbrev pub word_factor : Premium → ℕ
 word_factor premium.DoubleWord = 2
 word_factor premium.TripleWord = 3

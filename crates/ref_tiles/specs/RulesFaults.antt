@@ -15,6 +15,6 @@ name_of why.Twice = codes "Twice"
 name_of why.Missing = codes "Missing"
 name_of why.Limits = codes "Limits"
 
--- a fault on a line; 0 for one that lies on no line
+-- a fault on a line; 0 for one that is not on a line
 abbrev pub at_line : ℕ → RulesWhy → RulesFault
 at_line line w = record { line = line; why = w }

@@ -31,7 +31,7 @@ stated_by item (Ok (Some s)) = if s.item == item then Some s.entry else None
 stated_by item (Ok None) = None
 stated_by item (Err w) = None
 
--- what lines state of an item: what the first line says that is about it
+-- what lines state of an item: what the first line about it says
 unfoldable pub entry_in : List (List ℕ) → ℕ → Option Entry
 entry_in [] item = None
 entry_in (line ∷ lines) item = option_or (stated_by item (statement_of line)) (entry_in lines item)
@@ -47,7 +47,7 @@ repeats before (Err w) = Some w
 repeats before (Ok None) = None
 repeats before (Ok (Some s)) = if is_some (entry_in before s.item) then Some why.Twice else None
 
--- What is wrong with a line behind these lines: it states nothing that can be read, or it is about the item of an earlier
+-- What is wrong with a line after these lines: it states nothing that can be read, or it is about the item of an earlier
 -- line.
 unfoldable pub fault_behind : List (List ℕ) → List ℕ → Option RulesWhy
 fault_behind before line = repeats before (statement_of line)
@@ -58,7 +58,7 @@ first_bad_line before lines = first_bad at_line fault_behind before lines
 
 -- ---- the rules that entries state
 
--- what is stated of an item
+-- what entries state of an item
 abbrev pub entry_at : List (Option Entry) → ℕ → Option Entry
 entry_at entries item = slice_index_or entries item None
 
@@ -111,8 +111,7 @@ parts_with entries =
 
 -- ---- the rules of a text
 
--- What is wrong with lines none of which has a fault: something is not stated, or what is stated is outside the limits of
--- rules.
+-- What is wrong with lines none of which has a fault: something is not stated, or what is stated is outside the limits of rules.
 unfoldable pub whole_fault : List (Option Entry) → Option RulesWhy
 whole_fault entries =
     first_fault (passes (list_all is_some entries) why.Missing ∷ passes (are_in_limits (parts_with entries)) why.Limits ∷ [])
@@ -126,14 +125,14 @@ parts_in lines =
 unfoldable pub meaning_of : List ℕ → Result RuleParts RulesFault
 meaning_of text = if nat_lt most_text_bytes (length text) then Err (at_line 0 why.TooLong) else parts_in (lines_of text)
 
--- What is answered is rules with the parts that the text states, or its first fault.
+-- The answer is rules with the parts that the text states, or its first fault.
 abbrev pub Gives : Result Rules RulesFault → Result RuleParts RulesFault → Type 0
 Gives (Ok rules) meaning = meaning ≡ Ok (parts_of rules)
 Gives (Err fault) meaning = meaning ≡ Err fault
 
--- ---- what that says in other words
+-- ---- the same in other words
 
--- A line is the first with a fault: the lines before it have none, and behind them it has this one. Lines are numbered
+-- A line is the first with a fault: the lines before it have none, and after them it has this one. Lines are numbered
 -- from 1.
 abbrev pub IsFirstFault : List (List ℕ) → RulesFault → Type 0
 IsFirstFault lines fault = IsFirstBad at_line fault_behind lines fault
@@ -144,8 +143,7 @@ pub record IsWholeFault (lines : List (List ℕ)) (fault : RulesFault) : Type 0 
   pub number : fault.line ≡ 0
   pub fails : whole_fault (entries_in lines) ≡ Some fault.why
 
--- what a text has for a fault: it is too long, or else a line of it is the first with a fault, or else it is one of the
--- whole
+-- the fault of a text: it is too long, or a line of it is the first with a fault, or the fault is one of the whole
 abbrev pub IsFaultOf : List ℕ → RulesFault → Type 0
 IsFaultOf text fault =
     ((most_text_bytes < length text) × (fault ≡ at_line 0 why.TooLong))

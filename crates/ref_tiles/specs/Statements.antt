@@ -14,7 +14,7 @@ use Rattle.ref_tiles.specs.declared.statements.Entry.TheVariants as entry
 use Rattle.ref_tiles.specs.Kinds.{number_of, kind_of}
 use Rattle.ref_tiles.specs.Codes.{premium_of}
 
--- ---- what a rules text speaks of: 47 items
+-- ---- the 47 items of a rules text
 
 -- the items of tiles are the numbers of their kinds, 0 to 26; those of rows follow, the row counted from 0
 abbrev pub row_item : ℕ → ℕ
@@ -50,13 +50,13 @@ premiums_in bytes = if length bytes == 15 && list_all is_code bytes then Some (f
 
 -- ---- statements
 
--- the steps of a reading one after the other, up to the first that fails
+-- the steps of a reading in order, up to the first that fails
 infixl 10 ◌>>=◌
 abbrev pub ◌>>=◌ : {A B E : Type 0} → Result A E → (A → Result B E) → Result B E
 (Ok x) >>= f = f x
 (Err e) >>= f = Err e
 
--- how many tiles of a kind there are, and their points; the points of a blank (26) are 0
+-- the number of tiles of a kind, and their points; the points of a blank (26) are 0
 abbrev pub tile_with : ℕ → ℕ → ℕ → Result Statement RulesWhy
 tile_with kind number worth =
     if kind == 26 && nat_lt 0 worth then Err why.Number else Ok (record { item = kind; entry = entry.Tile number worth })
@@ -99,7 +99,7 @@ abbrev pub by_fields : List (List ℕ) → Result (Option Statement) RulesWhy
 by_fields [] = Ok None
 by_fields (first ∷ fields) = statement_in first fields >>= λ s. Ok (Some s)
 
--- What a line states. One that begins with '#' (35), and one of blanks alone, are read over.
+-- What a line states. One that begins with '#' (35) and one of only blanks are ignored.
 unfoldable pub statement_of : List ℕ → Result (Option Statement) RulesWhy
 statement_of line = if starts_with eqb line (35 ∷ []) then Ok None else by_fields (fields_of line)
 

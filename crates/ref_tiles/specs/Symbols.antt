@@ -5,7 +5,7 @@ use Rattle.ref_tiles.specs.Letters.{letter_from}
 use Rattle.ref_tiles.specs.declared.symbols.Symbol.{Symbol}
 use Rattle.ref_tiles.specs.declared.symbols.Symbol.TheVariants as symbol
 
--- a dot, a capital, or a small letter; no other byte is a symbol
+-- a dot, a capital or a small letter; no other byte is a symbol
 abbrev pub symbol_of : ℕ → Option Symbol
 symbol_of byte =
     if byte == 46 then Some symbol.Dot

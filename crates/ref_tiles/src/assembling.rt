@@ -1,4 +1,4 @@
-//! Rules from the statements of a whole text.
+//! Assembles rules from the statements of a whole text.
 ghost use Rattle.std.specs.Prelude.{◌≡◌, ◌<◌, false, IfSome, IfNone};
 ghost use Rattle.ref_tiles.specs.Limits.{is_tile_set, are_points, is_bonus, is_parameter};
 ghost use Rattle.ref_tiles.specs.Parts.{are_in_limits};
@@ -14,10 +14,10 @@ use crate::statements::{
     BONUS, CHALLENGE_UNIT, EXCHANGE_MIN, Entry, FIRST_ROW, TIME_STEP, ZERO_LIMIT,
 };
 
-/// How many letters have points.
+/// The number of letters that have points.
 const LETTERS: usize = 26;
 
-/// The number as a byte, where it is one.
+/// The number as a byte, if it is one.
 fn byte(number: u32) -> Option<u8>
     ensures byte { IfSome result (λ byte. byte ≡ number) }
     ensures over { IfNone result (255 < number) }
@@ -29,7 +29,7 @@ fn byte(number: u32) -> Option<u8>
     }
 }
 
-/// How many tiles of a kind an entry states.
+/// The number of tiles of a kind that an entry states.
 fn count_in(entry: Option<Entry>) -> u32
     ensures { result ≡ count_in entry }
 {
@@ -70,7 +70,7 @@ fn number_in(entry: Option<Entry>) -> u32
     }
 }
 
-/// The tiles of each kind; none where one number is past all limits.
+/// The tiles of each kind; none if a number is past all limits.
 #[tactic(auto, using(crate::proofs::PartLimits::many_tiles))]
 fn counts(draft: &Draft) -> Option<Counts>
     ensures counts { IfSome result (λ counts. counts ≡ counts_with draft.now) }
@@ -86,7 +86,7 @@ fn counts(draft: &Draft) -> Option<Counts>
     Some(Counts::of(counts))
 }
 
-/// The points of A to Z; none where one number is past all limits.
+/// The points of A to Z; none if a number is past all limits.
 #[tactic(auto, using(crate::proofs::PartLimits::many_points))]
 fn points(draft: &Draft) -> Option<[u8; LETTERS]>
     ensures points { IfSome result (λ points. points ≡ points_with draft.now) }
@@ -113,7 +113,7 @@ fn premiums(draft: &Draft) -> [Premium; SQUARES]
     premiums
 }
 
-/// The bonus; none where it is past all limits.
+/// The bonus; none if it is past all limits.
 fn bonus(draft: &Draft) -> Option<u16>
     ensures bonus { IfSome result (λ n. n ≡ number_in (entry_at draft.now 42)) }
     ensures refused { IfNone result (is_bonus (number_in (entry_at draft.now 42)) ≡ false) }
@@ -125,7 +125,7 @@ fn bonus(draft: &Draft) -> Option<u16>
     Some(number as u16)
 }
 
-/// Another parameter; none where it is past all limits.
+/// Another parameter; none if it is past all limits.
 fn parameter(draft: &Draft, item: usize) -> Option<u8>
     requires { item < 47 }
     ensures number { IfSome result (λ n. n ≡ number_in (entry_at draft.now item)) }
@@ -134,7 +134,7 @@ fn parameter(draft: &Draft, item: usize) -> Option<u8>
     byte(number_in(draft.at(item)))
 }
 
-/// The parts of rules that a draft states; none where a number is past all limits.
+/// The parts of rules that a draft states; none if a number is past all limits.
 #[tactic(auto, using(crate::proofs::PartLimits::refusals))]
 fn parts(draft: &Draft) -> Option<RuleParts>
     ensures parts { IfSome result (λ parts. parts ≡ parts_with draft.now) }

@@ -5,10 +5,10 @@ ghost use Rattle.ref_tiles.specs.Counting.{no_tiles, count_of, with_count, IsCon
 use crate::kinds::Kind;
 use std::marker::Model;
 
-/// How many kinds of tiles there are: 26 letters and the blank.
+/// The number of kinds of tiles: 26 letters and the blank.
 pub const KINDS: usize = 27;
 
-/// How many tiles of each kind there are: a rack, a bag or a whole tile set, up to 255 of a kind.
+/// The number of tiles of each kind: a rack, a bag or a whole tile set, up to 255 of a kind.
 #[derive(Clone, Copy, Debug, PartialEq, Eq)]
 pub struct Counts {
     numbers: [u8; KINDS],
@@ -41,7 +41,7 @@ impl Counts {
         ],
     };
 
-    /// No tile at all.
+    /// No tiles.
     #[tactic(auto, unfolding(crate::specs::Counting::no_tiles))]
     pub const fn new() -> Counts
         ensures { result ≡ no_tiles }
@@ -51,14 +51,14 @@ impl Counts {
         }
     }
 
-    /// So many tiles of each kind, A to Z and then blanks.
+    /// The given number of tiles of each kind, A to Z and then blanks.
     pub fn of(numbers: [u8; KINDS]) -> Counts
         ensures { result ≡ numbers }
     {
         Counts { numbers }
     }
 
-    /// How many tiles of each kind there are, A to Z and then blanks.
+    /// The number of tiles of each kind, A to Z and then blanks.
     pub fn numbers(&self) -> [u8; KINDS]
         ensures numbers { result ≡ self.now }
         ensures kinds { length self.now ≡ 27 }
@@ -77,14 +77,14 @@ impl Counts {
         are_bytes(&self.numbers);
     }
 
-    /// How many tiles of a kind there are.
+    /// The number of tiles of a kind.
     pub fn count(&self, kind: Kind) -> u8
         ensures { result ≡ count_of self.now kind }
     {
         self.numbers[kind.number()]
     }
 
-    /// How many tiles there are of all kinds together.
+    /// The number of tiles of all kinds together.
     pub fn total(&self) -> usize
         ensures total { result ≡ sum self.now }
         ensures kinds { length self.now ≡ 27 }
@@ -96,7 +96,7 @@ impl Counts {
         total
     }
 
-    /// Puts in one tile of a kind.
+    /// Adds one tile of a kind.
     pub fn add(&mut self, kind: Kind)
         requires { count_of self.old kind < 255 }
         ensures { self.new ≡ with_count self.old kind (count_of self.old kind + 1) }
@@ -104,7 +104,7 @@ impl Counts {
         self.numbers[kind.number()] += 1;
     }
 
-    /// Takes out one tile of a kind. With no such tile the answer is none, and the counts stay.
+    /// Takes out one tile of a kind. If there is none, the answer is none and the counts stay as they are.
     pub fn take(&mut self, kind: Kind) -> Option<()>
         ensures there { IsSome result ↔ (0 < count_of self.old kind) }
         ensures taken { OnSome result (self.new ≡ with_count self.old kind (count_of self.old kind - 1)) }
@@ -118,7 +118,7 @@ impl Counts {
         Some(())
     }
 
-    /// Whether each kind is there no more often than in `other`.
+    /// Whether there are no more tiles of each kind than in `other`.
     pub fn fits(&self, other: &Counts) -> bool
         ensures { IsTrue result ↔ IsContainedIn self.now other.now }
     {

@@ -6,7 +6,7 @@ ghost use Rattle.ref_tiles.specs.RulesTexts.{entry_at};
 use crate::statements::{Entry, ITEMS};
 use std::marker::Model;
 
-/// What the lines of a rules text so far state of each item. Contracts see the list of the entries.
+/// What the lines of a rules text so far state of each item. Contracts see the list of entries.
 #[derive(Clone, Copy)]
 pub struct Draft {
     entries: [Option<Entry>; ITEMS],
@@ -45,7 +45,7 @@ impl Draft {
         self.entries[item]
     }
 
-    /// Takes in what is stated of an item.
+    /// Records what is stated of an item.
     pub fn put(&mut self, item: usize, entry: Entry)
         requires { item < 47 }
         ensures { self.new ≡ slice_set self.old item (Some entry) }
@@ -53,7 +53,7 @@ impl Draft {
         self.entries[item] = Some(entry);
     }
 
-    /// Whether something is stated of every item.
+    /// Whether something is stated of each item.
     pub fn is_whole(&self) -> bool
         ensures { result ≡ list_all is_some self.now }
     {

@@ -49,8 +49,7 @@ pub const ENGLISH: Rules = Rules {
     time_step: 5,
 };
 
-/// The English game, [`ENGLISH`]: its tiles, their points, the premium squares and the five numbers are those of
-/// the tables.
+/// The English game, [`ENGLISH`]: its tiles, their points, the premium squares and the five numbers are those of the tables.
 #[tactic(auto, unfolding(crate::specs::English::english_premiums, crate::specs::Limits::most_tiles))]
 pub fn english_rules() -> Rules
     ensures counts { result.counts ≡ english_counts }

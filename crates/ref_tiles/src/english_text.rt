@@ -1,5 +1,5 @@
 //! The English rules as a text.
-/// The English game as a rules text: [`Rules::read`](crate::Rules::read) makes [`ENGLISH`](crate::ENGLISH) of it.
+/// The English game as a rules text: [`Rules::read`](crate::Rules::read) reads it as [`ENGLISH`](crate::ENGLISH).
 #[rattlefmt::skip]
 pub const ENGLISH_TEXT: &[u8] = b"\
 tile A 9 1\n\

@@ -9,7 +9,7 @@ use crate::letters::Letter;
 pub enum Kind {
     /// A tile that bears this letter.
     Letter(Letter),
-    /// A tile with no letter, which stands for any letter when it is played.
+    /// A blank tile, which stands for any letter when it is played.
     Blank,
 }
 
@@ -35,7 +35,7 @@ impl Kind {
         }
     }
 
-    /// The kind with a number, 0 to 25 for A to Z and else a blank.
+    /// The kind with a number: 0 to 25 for A to Z, otherwise a blank.
     pub fn at(number: usize) -> Kind
         requires { number < 27 }
         ensures { result ≡ kind_at number }

@@ -24,7 +24,7 @@ impl Letter {
         }
     }
 
-    /// The letter that a byte writes where `first` writes A; none for any other byte.
+    /// The letter that a byte writes when `first` writes A; none for any other byte.
     pub fn counted_from(first: u8, byte: u8) -> Option<Letter>
         ensures { result ≡ letter_from first byte }
     {

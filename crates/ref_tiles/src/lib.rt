@@ -1,4 +1,4 @@
-//! Tiles, counts of tiles, and the rules that a game is judged by, as values and as a text.
+//! Tiles, counts of tiles, and the rules by which a game is judged, as values and as a text.
 #![tactic(auto)]
 
 mod assembling;

@@ -20,24 +20,24 @@ const MAX_POINTS: u8 = 99;
 /// The greatest bonus of a play of seven tiles.
 pub const MAX_BONUS: u16 = 999;
 
-/// The parts of [`Rules`], within their limits or not.
+/// The parts of [`Rules`], which may be outside their limits.
 #[derive(Clone, Copy, Debug, PartialEq, Eq)]
 pub struct RuleParts {
-    /// How many tiles of each kind the game has.
+    /// The number of tiles of each kind.
     pub counts: Counts,
     /// The points of A to Z.
     pub points: [u8; 26],
     /// The premiums of the squares, row by row from 1A.
     pub premiums: [Premium; SQUARES],
-    /// What a play of seven tiles scores on top.
+    /// The bonus for a play of seven tiles.
     pub bonus: u16,
-    /// How many tiles the bag must have for an exchange.
+    /// The number of tiles that the bag must have for an exchange.
     pub exchange_min: u8,
-    /// After how many successive turns without a play on the board the game may end.
+    /// The number of successive turns without a play on the board after which the game may end.
     pub zero_limit: u8,
-    /// What an unsuccessful challenge gives for each word that it names.
+    /// The points that an unsuccessful challenge gives for each word that it names.
     pub challenge_unit: u8,
-    /// Of what number a time penalty is a multiple.
+    /// The number of which each time penalty is a multiple.
     pub time_step: u8,
 }
 
@@ -65,8 +65,8 @@ fn is_parameter(number: u8) -> bool
 }
 
 impl Rules {
-    /// The rules with these parts: exactly where there are 14 to 200 tiles, each letter has at most 99 points, the
-    /// bonus is at most 999, and the other four numbers are 1 to 99.
+    /// The rules with these parts, given exactly when there are 14 to 200 tiles, each letter has at most 99 points, the bonus is at
+    /// most 999, and the other four numbers are 1 to 99.
     pub fn checked(parts: RuleParts) -> Option<Rules>
         ensures limits { IsSome result ↔ IsTrue (are_in_limits parts) }
         ensures parts { IfSome result (λ rules. parts_of rules ≡ parts) }

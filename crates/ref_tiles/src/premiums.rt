@@ -3,7 +3,7 @@ ghost use Rattle.std.specs.Prelude.{◌≡◌, ◌≤◌};
 ghost use Rattle.ref_tiles.specs.Rulebook.{letter_factor, word_factor};
 ghost use Rattle.ref_tiles.specs.Codes.{premium_of};
 
-/// The premium of a square. It counts for a tile put there on this turn, and never again.
+/// The premium of a square. It counts for a tile put there in this turn, and never again.
 #[derive(Clone, Copy, Debug, PartialEq, Eq, PartialOrd, Ord, Hash)]
 pub enum Premium {
     Plain,
@@ -30,7 +30,7 @@ impl Premium {
         }
     }
 
-    /// By what the points of the tile put there are multiplied.
+    /// The factor for the points of the tile put there.
     pub fn letter_factor(&self) -> u8
         ensures factor { result ≡ letter_factor self.now }
         ensures limit { result ≤ 3 }
@@ -42,7 +42,7 @@ impl Premium {
         }
     }
 
-    /// By what each word through the tile put there is multiplied.
+    /// The factor for each word through the tile put there.
     pub fn word_factor(&self) -> u8
         ensures factor { result ≡ word_factor self.now }
         ensures limit { result ≤ 3 }

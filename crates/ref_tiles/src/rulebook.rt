@@ -6,32 +6,32 @@ use crate::counting::Counts;
 use crate::kinds::Kind;
 use crate::premiums::Premium;
 
-/// How many places a line of the board has: 15 rows of 15 columns.
+/// The number of places of a line of the board: 15 rows of 15 columns.
 pub const SIDE: usize = 15;
 
-/// How many squares the board has.
+/// The number of squares of the board.
 pub const SQUARES: usize = SIDE * SIDE;
 
-/// The rules that tournaments vary: the tile set, its points, the board and five numbers.
+/// The rules that vary between tournaments: the tile set, its points, the board and five numbers.
 ///
 /// Only [`ENGLISH`](crate::ENGLISH) and [`Rules::checked`] make one: the limits are part of the type.
 #[derive(Clone, Copy, Debug, PartialEq, Eq)]
 pub struct Rules {
-    /// How many tiles of each kind the game has: 14 to 200 together.
+    /// The number of tiles of each kind, 14 to 200 together.
     pub counts: Counts,
     /// The points of A to Z, 0 to 99. A blank has none.
     pub points: [u8; 26],
     /// The premiums of the squares, row by row from 1A.
     pub premiums: [Premium; SQUARES],
-    /// What a play of seven tiles scores on top, 0 to 999.
+    /// The bonus for a play of seven tiles, 0 to 999.
     pub bonus: u16,
-    /// How many tiles the bag must have for an exchange, 1 to 99.
+    /// The number of tiles that the bag must have for an exchange, 1 to 99.
     pub exchange_min: u8,
-    /// After how many successive turns without a play on the board the game may end, 1 to 99.
+    /// The number of successive turns without a play on the board after which the game may end, 1 to 99.
     pub zero_limit: u8,
-    /// What an unsuccessful challenge gives for each word that it names, 1 to 99.
+    /// The points that an unsuccessful challenge gives for each word that it names, 1 to 99.
     pub challenge_unit: u8,
-    /// Of what number a time penalty is a multiple, 1 to 99.
+    /// The number of which each time penalty is a multiple, 1 to 99.
     pub time_step: u8,
     pub ghost tiles_in_limits: { IsTrue (is_tile_set counts) },
     pub ghost points_in_limits: { IsTrue (are_points points) },

@@ -1,14 +1,14 @@
 //! The faults of a rules text.
 ghost use Rattle.std.specs.Prelude.{◌≡◌};
 
-/// Why a text gives no rules, in the order in which the faults are looked for.
+/// Why a text does not give rules, in the order in which the faults are checked.
 #[derive(Clone, Copy, Debug, PartialEq, Eq)]
 pub enum RulesWhy {
-    /// The text has more than 65,536 bytes. This is looked for before all else.
+    /// The text has more than 65,536 bytes. This is checked before all else.
     TooLong,
     /// The first field of the line is not `tile`, `row` or the name of a parameter.
     Unknown,
-    /// The line has not as many fields as its first one asks for.
+    /// The line has more or fewer fields than its first one requires.
     Fields,
     /// The tile is not A to Z or `?`; or the row is not 1 to 15 in one or two digits; or its codes are not 15 of `.`,
     /// `d`, `t`, `D` and `T`.
@@ -17,9 +17,9 @@ pub enum RulesWhy {
     Number,
     /// An earlier line is about the same tile, row or parameter.
     Twice,
-    /// No line is about some tile, row or parameter. This is looked for when no line has a fault.
+    /// No line is about some tile, row or parameter. This is checked when no line has a fault.
     Missing,
-    /// The numbers are outside the limits of [`Rules::checked`](crate::Rules::checked). This is looked for last.
+    /// The numbers are outside the limits of [`Rules::checked`](crate::Rules::checked). This is checked last.
     Limits,
 }
 
@@ -46,7 +46,7 @@ impl RulesWhy {
 /// The first fault of a rules text.
 #[derive(Clone, Copy, Debug, PartialEq, Eq)]
 pub struct RulesFault {
-    /// The line of the fault, counted from 1; 0 for `TooLong`, `Missing` and `Limits`, which lie on no line.
+    /// The line of the fault, counted from 1; 0 for `TooLong`, `Missing` and `Limits`, which are not on a line.
     pub line: u32,
     /// What is wrong there.
     pub why: RulesWhy,

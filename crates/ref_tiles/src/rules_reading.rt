@@ -11,17 +11,16 @@ use crate::rules_faults::{RulesFault, RulesWhy};
 use crate::statements::read_line;
 use text_lines::{Lines, without_mark};
 
-/// The most bytes of a rules text.
+/// The maximum number of bytes of a rules text.
 pub const MAX_RULES_BYTES: usize = 65_536;
 
 impl Rules {
-    /// Reads rules from a text, or gives its first fault: the first by line, and on a line the first in the order of
-    /// [`RulesWhy`].
+    /// Reads rules from a text, or gives its first fault: the first by line, and on a line the first in the order of [`RulesWhy`].
     ///
     /// A line is `tile K COUNT POINTS`, `row N CODES` with the premiums of the columns A to O, or a parameter and its
     /// number: `bonus N`, `exchange_min N`, `zero_limit N`, `challenge_unit N`, `time_step N`. Each of the 27 tiles A to Z
-    /// and `?`, of the rows 1 to 15 and of the parameters has one line, in any order. Lines of spaces and tabs alone, and
-    /// those that begin with `#`, are read over.
+    /// and `?`, of the rows 1 to 15 and of the parameters has one line, in any order. Lines of only spaces and tabs, and
+    /// those that begin with `#`, are ignored.
     #[tactic(auto, using(crate::proofs::RulesMeanings::text_meaning, crate::proofs::RulesMeanings::line_meaning, crate::proofs::RulesMeanings::text_fault, crate::proofs::RulesMeanings::whole_text, crate::proofs::RulesMeanings::too_long))]
     pub fn read(bytes: &[u8]) -> Result<Rules, RulesFault>
         ensures meaning { Gives result (meaning_of bytes.now) }

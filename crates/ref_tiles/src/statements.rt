@@ -10,7 +10,7 @@ use crate::rulebook::SIDE;
 use crate::rules_faults::RulesWhy;
 use text_lines::{next_field, numeral};
 
-/// How many digits a number of a rules text has at the most.
+/// The maximum number of digits of a number of a rules text.
 const MAX_DIGITS: usize = 3;
 
 /// The item of the first row.
@@ -19,7 +19,7 @@ pub const FIRST_ROW: usize = KINDS;
 /// The item of the bonus, the first of the parameters.
 pub const BONUS: usize = 42;
 
-/// The item of the fewest tiles in the bag for an exchange.
+/// The item of the minimum number of tiles in the bag for an exchange.
 pub const EXCHANGE_MIN: usize = 43;
 
 /// The item of the number of scoreless turns.
@@ -31,13 +31,13 @@ pub const CHALLENGE_UNIT: usize = 45;
 /// The item of the unit of time penalties.
 pub const TIME_STEP: usize = 46;
 
-/// How many items a rules text states: 27 tiles, 15 rows and 5 parameters.
+/// The number of items that a rules text states: 27 tiles, 15 rows and 5 parameters.
 pub const ITEMS: usize = 47;
 
 /// What a line of a rules text states of its item.
 #[derive(Clone, Copy)]
 pub enum Entry {
-    /// How many tiles of a kind there are, and the points of each.
+    /// The number of tiles of a kind, and the points of each.
     Tile { count: u32, points: u32 },
     /// The premiums of a row, from column A on.
     Row([Premium; SIDE]),
@@ -50,7 +50,7 @@ pub enum Entry {
 pub struct Statement {
     /// What it is about: 0 to 25 for the tiles A to Z, 26 for `?`, then the 15 rows, then the 5 parameters.
     pub item: usize,
-    /// What it says of that.
+    /// What it states about the item.
     pub entry: Entry,
 }
 
@@ -112,7 +112,7 @@ fn premiums(codes: &[u8]) -> Option<[Premium; SIDE]>
     Some(premiums)
 }
 
-/// The only field of a text; none where it has not exactly one.
+/// The only field of a text; none unless it has exactly one.
 fn one_field(text: &[u8]) -> Option<&[u8]>
     ensures none { IfNone result (length (fields_of text.now) ≢ 1) }
     ensures fields { IfSome result (λ field. fields_of text.now ≡ field.now ∷ []) }
@@ -124,7 +124,7 @@ fn one_field(text: &[u8]) -> Option<&[u8]>
     Some(field.bytes)
 }
 
-/// The fields of a text with two; none where it has not exactly two.
+/// The two fields of a text; none unless it has exactly two.
 fn two_fields(text: &[u8]) -> Option<(&[u8], &[u8])>
     ensures none { IfNone result (length (fields_of text.now) ≢ 2) }
     ensures fields { IfSome result (λ pair. fields_of text.now ≡ pair.0.now ∷ pair.1.now ∷ []) }
@@ -134,7 +134,7 @@ fn two_fields(text: &[u8]) -> Option<(&[u8], &[u8])>
     Some((first.bytes, second))
 }
 
-/// The fields of a text with three; none where it has not exactly three.
+/// The three fields of a text; none unless it has exactly three.
 fn three_fields(text: &[u8]) -> Option<(&[u8], &[u8], &[u8])>
     ensures none { IfNone result (length (fields_of text.now) ≢ 3) }
     ensures fields { IfSome result (λ all. fields_of text.now ≡ all.0.now ∷ all.1.now ∷ all.2.now ∷ []) }
@@ -168,7 +168,7 @@ fn tile(name: &[u8], count: &[u8], points: &[u8]) -> Result<Statement, RulesWhy>
     })
 }
 
-/// The statement of a line about a tile, behind its first field.
+/// The statement of a line about a tile, after its first field.
 #[tactic(auto, using(crate::proofs::FieldCounts::tile_of_others), unfolding(crate::specs::Statements::tile_in))]
 fn read_tile(text: &[u8]) -> Result<Statement, RulesWhy>
     ensures statement { result ≡ tile_in (fields_of text.now) }
@@ -180,7 +180,7 @@ fn read_tile(text: &[u8]) -> Result<Statement, RulesWhy>
     tile(name, count, points)
 }
 
-/// The statement of a line about a row, behind its first field.
+/// The statement of a line about a row, after its first field.
 #[tactic(auto, using(crate::proofs::FieldCounts::row_of_others), unfolding(crate::specs::Statements::row_of))]
 fn read_row(text: &[u8]) -> Result<Statement, RulesWhy>
     ensures statement { result ≡ row_of (fields_of text.now) }
@@ -201,7 +201,7 @@ fn read_row(text: &[u8]) -> Result<Statement, RulesWhy>
     })
 }
 
-/// The statement of a line about a parameter, behind its first field.
+/// The statement of a line about a parameter, after its first field.
 #[tactic(auto, using(crate::proofs::FieldCounts::number_of_others), unfolding(crate::specs::Statements::number_in))]
 fn read_number(item: usize, text: &[u8]) -> Result<Statement, RulesWhy>
     requires { item < 47 }
@@ -220,7 +220,7 @@ fn read_number(item: usize, text: &[u8]) -> Result<Statement, RulesWhy>
     })
 }
 
-/// The statement of a line with this first field and this text behind it.
+/// The statement of a line with this first field and this text after it.
 #[tactic(auto, unfolding(crate::specs::Statements::statement_in))]
 fn read_statement(first: &[u8], text: &[u8]) -> Result<Statement, RulesWhy>
     ensures statement { result ≡ statement_in first.now (fields_of text.now) }
@@ -238,7 +238,7 @@ fn read_statement(first: &[u8], text: &[u8]) -> Result<Statement, RulesWhy>
     read_number(item, text)
 }
 
-/// What a line states, or its fault; nothing for a line that is read over.
+/// What a line states, or its fault; nothing for a line that is ignored.
 #[tactic(auto, unfolding(crate::specs::Statements::statement_of))]
 pub fn read_line(line: &[u8]) -> Result<Option<Statement>, RulesWhy>
     ensures statement { result ≡ statement_of line.now }

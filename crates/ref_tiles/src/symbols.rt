@@ -11,7 +11,7 @@ pub enum Symbol {
     Dot,
     /// A letter tile, written as a capital.
     Letter(Letter),
-    /// A blank that stands for a letter, written as that letter small.
+    /// A blank that stands for a letter, written as that letter in lower case.
     Blank(Letter),
 }
 

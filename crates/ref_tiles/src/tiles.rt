@@ -1,4 +1,4 @@
-//! Tiles as they lie, blanks with the letter shown.
+//! Tiles on the board, with the letters that blanks stand for.
 ghost use Rattle.std.specs.Prelude.{◌≡◌, IsTrue};
 ghost use Rattle.ref_tiles.specs.Tiles.{can_show};
 
@@ -10,7 +10,7 @@ use crate::letters::Letter;
 pub struct Tile {
     /// What the tile is: a letter or a blank.
     pub kind: Kind,
-    /// The letter that it shows: the kind's own, or any letter where the kind is a blank.
+    /// The letter that it shows: the kind's own, or any letter if the kind is a blank.
     pub shown: Letter,
     pub ghost proper: { IsTrue (can_show kind shown) },
 }

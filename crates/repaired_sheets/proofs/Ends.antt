@@ -1,4 +1,4 @@
--- Lines with an LF behind each, and with an LF between each two.
+-- Lines with an LF after each, and lines with an LF between each two.
 use Rattle.std.proofs.Common.{◌≡◌, ℕ, ◌-◌, eqb, Bool, true, false, List, [], ◌∷◌, ◌++◌, length, take, drop, if◌then◌else◌, arith, refl, sym, ap, ◌∙◌}
 use Rattle.std.specs.List.{starts_with, ends_with, join_with_byte}
 use Rattle.std.specs.Cmp.Lexicographic.{pointwise}

@@ -1,4 +1,4 @@
--- What stands at a place of a list.
+-- What is at a place of a list.
 use Rattle.std.proofs.Common.{◌≡◌, ◌<◌, ◌≤◌, ℕ, List, length, get_or, filter, slice_get, is_some, nat_lt, Option, Some, None, IfSome, option_copied, option_map, refl, sym, ap, ◌∙◌}
 use Rattle.std.specs.Borrow.{Bor}
 use Rattle.std.proofs.lemmas.Bool.{ltb-true, ltb-false}
@@ -24,7 +24,7 @@ pub past_all : (lines : List (Bor (List ℕ))) (number : ℕ) → length lines �
 past_all lines number past =
     sym (slice_get-map (λ (l : Bor (List ℕ)). l.now) lines number ∙ ap (option_map (λ (l : Bor (List ℕ)). l.now)) (slice_get_past lines number past))
 
--- as many texts as lines
+-- there are as many texts as lines
 pub as_many : (lines : List (Bor (List ℕ))) → length (texts lines) ≡ length lines
 as_many lines = length-map lines (λ (l : Bor (List ℕ)). l.now)
 

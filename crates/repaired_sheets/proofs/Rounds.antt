@@ -20,7 +20,7 @@ three_parts out xs ys zs =
     ∙ append_assoc out (text_of_lines xs) (text_of_lines ys ++ text_of_lines zs)
     ∙ ap (λ l. out ++ (text_of_lines xs ++ l)) (sym (both ys zs)) ∙ ap (λ l. out ++ l) (sym (both xs (ys ++ zs)))
 
--- ---- a line, and those behind it
+-- ---- a line, and those after it
 
 pub one_line_more : (change : Change) (players : Players) (events : List (List ℕ)) (right : List Event) (number : ℕ) (out line next : List ℕ) (lines more : List (List ℕ)) → lines ≡ next ∷ more
     → (out ++ text_of_lines (for_line change players events right line number)) ++ text_of_lines (repaired_lines change players events right (number_behind line number) (next ∷ more))
@@ -35,7 +35,7 @@ pub last_line : (change : Change) (players : Players) (events : List (List ℕ))
     → out ++ text_of_lines (for_line change players events right line number) ≡ out ++ text_of_lines (repaired_lines change players events right number (line ∷ []))
 last_line change players events right number out line = ap (λ l. out ++ text_of_lines l) (sym (append-nil (for_line change players events right line number)))
 
--- ---- how many event lines are left
+-- ---- the number of event lines that are left
 
 left_by : (line : List ℕ) (lines : List (List ℕ)) (number : ℕ) (b : Bool) → is_event_line line ≡ b
     → number_behind line number + length (filter is_event_line lines) ≡ number + length (filter is_event_line (line ∷ lines))

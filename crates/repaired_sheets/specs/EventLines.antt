@@ -17,6 +17,6 @@ raw_lines text = slice_split is_feed text
 abbrev pub lines_of : List ℕ → List (List ℕ)
 lines_of text = raw_lines (without_mark text)
 
--- those of events, one for each
+-- the lines of events
 abbrev pub event_lines : List ℕ → List (List ℕ)
 event_lines text = filter is_event_line (lines_of text)

@@ -8,25 +8,25 @@ use Rattle.record_changes.specs.declared.slips.Change.{Change}
 use Rattle.repaired_sheets.specs.EventLines.{lines_of, event_lines}
 use Rattle.repaired_sheets.specs.Replacing.{in_place, missing_at}
 
--- the line that is missing behind the last of so many event lines
+-- the line that is missing after the last event line
 abbrev pub behind_last : Change → Players → (right : List Event) → (line : List ℕ) → (number many : ℕ) → List (List ℕ)
 behind_last change players right line number many = if number + 1 == many then missing_at change many players right line else []
 
--- the lines in the place of an event line
+-- the lines that replace an event line
 abbrev pub for_event : Change → Players → (lines : List (List ℕ)) → (right : List Event) → (line : List ℕ) → (number : ℕ) → List (List ℕ)
 for_event change players lines right line number =
     missing_at change number players right line ++ in_place change.slip change.place players lines right line number
     ++ behind_last change players right line number (length lines)
 
--- the lines in the place of a line before which so many event lines stand: one that is not of an event stays
+-- the lines that replace a line before which there are `number` event lines: one that is not of an event stays
 abbrev pub for_line : Change → Players → (events : List (List ℕ)) → (right : List Event) → (line : List ℕ) → (number : ℕ) → List (List ℕ)
 for_line change players events right line number = if is_event_line line then for_event change players events right line number else line ∷ []
 
--- how many event lines there are with a line before which so many stand
+-- the number of event lines up to and including this line, given the number before it
 abbrev pub number_behind : (line : List ℕ) → (number : ℕ) → ℕ
 number_behind line number = if is_event_line line then number + 1 else number
 
--- The lines of a sheet with a change: other lines stand in the place of event lines, which are numbered from `number` on, and each other line stays.
+-- The lines of a sheet with a change: event lines, which are numbered from `number` on, are replaced, and each other line stays.
 abbrev pub repaired_lines : Change → Players → (events : List (List ℕ)) → (right : List Event) → (number : ℕ) → (lines : List (List ℕ)) → List (List ℕ)
 repaired_lines change players events right number [] = []
 repaired_lines change players events right number (line ∷ lines) =

@@ -7,7 +7,7 @@ use gcg_numbers::{cut_raw_line, is_event_line};
 use std::alloc::{AllocError, Global};
 use text_lines::without_mark;
 
-/// Adds a line, where it is that of an event.
+/// Adds a line, if it is that of an event.
 fn push_line<'t>(lines: &mut Vec<&'t [u8]>, line: &'t [u8]) -> Result<(), AllocError>
     ensures { OnOk result (texts lines.new.items ≡ texts lines.old.items ++ filter is_event_line (line.now ∷ [])) }
 {
@@ -17,7 +17,7 @@ fn push_line<'t>(lines: &mut Vec<&'t [u8]>, line: &'t [u8]) -> Result<(), AllocE
     Ok(())
 }
 
-/// The event lines of a text, each but for its LF, with the CR that may be before that.
+/// The event lines of a text, each without its LF, but with the CR that may be before that.
 #[tactic(auto, using(crate::proofs::Lines::one_line_more))]
 pub(crate) fn event_lines<'t>(alloc: Global, text: &'t [u8]) -> Result<Vec<&'t [u8]>, AllocError>
     ensures { IfOk result (λ lines. texts lines.items ≡ event_lines text.now) }

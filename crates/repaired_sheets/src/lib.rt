@@ -1,5 +1,5 @@
-//! The text of a sheet with a repair: the lines of its change are others, each line has its right numbers, and nothing else is changed, so that
-//! titles, notes, blanks and ends of lines stay as they were given.
+//! The text of a sheet with a repair: the lines of its change are replaced, each line has its right numbers, and nothing else is
+//! changed, so titles, notes, blanks and line ends stay as they were.
 //!
 //! [`repaired_text`] writes it, and [`can_be_written`] says whether it can be written.
 #![tactic(auto)]

@@ -1,4 +1,4 @@
-//! What stands in the place of the lines of a sheet with a change.
+//! What replaces the lines of a sheet with a change.
 ghost use Rattle.std.specs.Prelude.{◌≡◌, ◌<◌, ◌++◌, length, filter, true, IfOk, OnOk};
 ghost use Rattle.gcg_write.specs.Normal.{text_of_lines};
 ghost use Rattle.gcg_numbers.specs.Numbers.{is_event_line};
@@ -12,7 +12,7 @@ use gcg_read::{Event, Players};
 use record_changes::{Change, Slip};
 use std::alloc::AllocError;
 
-/// What a sheet is written by: its event lines, and the change with the events that it should have.
+/// What a sheet is written from: its event lines, and the change with the events that it should have.
 #[derive(Clone, Copy)]
 pub(crate) struct Repaired<'a, 't> {
     pub(crate) players: &'a Players,
@@ -22,7 +22,7 @@ pub(crate) struct Repaired<'a, 't> {
 }
 
 impl Repaired<'_, '_> {
-    /// Appends the line that stands in the place of the one with this number, with so many lines between two that stand in each other's place.
+    /// Appends the line in the place of the one with this number; `over` lines are between two that are in each other's place.
     fn push_exchanged(
         &self,
         out: &mut Vec<u8>,
@@ -35,7 +35,7 @@ impl Repaired<'_, '_> {
         push_there(out, line, event_at(self.right, number))
     }
 
-    /// Appends a line, where one of them should not be there.
+    /// Appends a line, if one of the lines should not be there.
     fn push_left_out(&self, out: &mut Vec<u8>, line: &[u8], number: usize) -> Result<(), AllocError>
         ensures { OnOk result (out.new.items ≡ out.old.items ++ text_of_lines (left_out self.now.change.now.place self.now.right.now line.now number)) }
     {
@@ -49,7 +49,7 @@ impl Repaired<'_, '_> {
         push_old(out, line, event_at(self.right, number))
     }
 
-    /// Appends a line, where another one is missing before it or behind it.
+    /// Appends a line, if another one is missing before it or after it.
     fn push_beside_missing(
         &self,
         out: &mut Vec<u8>,
@@ -65,7 +65,7 @@ impl Repaired<'_, '_> {
         push_old(out, line, event_at(self.right, number + 1))
     }
 
-    /// Appends a line, where one of them is written anew.
+    /// Appends a line, if one of them is written anew.
     fn push_changed(&self, out: &mut Vec<u8>, line: &[u8], number: usize) -> Result<(), AllocError>
         ensures { OnOk result (out.new.items ≡ out.old.items ++ text_of_lines (changed self.now.change.now.place self.now.players.now self.now.right.now line.now number)) }
     {
@@ -76,7 +76,7 @@ impl Repaired<'_, '_> {
         push_old(out, line, event)
     }
 
-    /// Appends what stands in the place of an event line.
+    /// Appends what replaces an event line.
     fn push_in_place(&self, out: &mut Vec<u8>, line: &[u8], number: usize) -> Result<(), AllocError>
         requires { number < length self.now.lines.now }
         ensures { OnOk result (out.new.items ≡ out.old.items ++ text_of_lines (in_place self.now.change.now.slip self.now.change.now.place self.now.players.now (texts self.now.lines.now) self.now.right.now line.now number)) }
@@ -92,7 +92,7 @@ impl Repaired<'_, '_> {
         }
     }
 
-    /// Appends the line that is missing, where it is missing at this number.
+    /// Appends the missing line, if it is missing at this number.
     fn push_missing(
         &self,
         out: &mut Vec<u8>,
@@ -107,7 +107,7 @@ impl Repaired<'_, '_> {
         Ok(())
     }
 
-    /// Appends the line that is missing behind the last event line.
+    /// Appends the line that is missing after the last event line.
     #[tactic(auto, using(crate::proofs::Places::as_many))]
     fn push_behind(&self, out: &mut Vec<u8>, line: &[u8], number: usize) -> Result<(), AllocError>
         requires { number < length self.now.lines.now }
@@ -119,7 +119,7 @@ impl Repaired<'_, '_> {
         Ok(())
     }
 
-    /// Appends the lines in the place of an event line.
+    /// Appends the lines that replace an event line.
     #[tactic(auto, using(crate::proofs::Rounds::three_parts))]
     fn push_event(&self, out: &mut Vec<u8>, line: &[u8], number: usize) -> Result<(), AllocError>
         requires { number < length self.now.lines.now }
@@ -130,7 +130,7 @@ impl Repaired<'_, '_> {
         self.push_behind(out, line, number)
     }
 
-    /// Appends what stands in the place of a line, before which so many event lines are; gives how many are behind it.
+    /// Appends what replaces a line before which there are `number` event lines; returns how many there are after it.
     fn push_next(&self, out: &mut Vec<u8>, line: &[u8], number: usize) -> Result<usize, AllocError>
         requires { is_event_line line.now ≡ true → number < length self.now.lines.now }
         ensures next { IfOk result (λ next. next ≡ number_behind line.now number) }
@@ -145,7 +145,7 @@ impl Repaired<'_, '_> {
         Ok(number)
     }
 
-    /// Appends the lines of a text with the change, each with an LF behind it.
+    /// Appends the lines of a text with the change, each ended by an LF.
     #[tactic(auto, using(crate::proofs::Rounds::one_line_more, crate::proofs::Rounds::last_line, crate::proofs::Rounds::fewer_left, crate::proofs::Rounds::one_left))]
     pub(crate) fn push_lines(&self, out: &mut Vec<u8>, text: &[u8]) -> Result<(), AllocError>
         requires { length (filter is_event_line (raw_lines text.now)) ≡ length self.now.lines.now }

@@ -1,4 +1,4 @@
-//! Lines of a sheet, each with an LF behind it.
+//! Lines of a sheet, each ended by an LF.
 ghost use Rattle.std.specs.Prelude.{◌≡◌, ◌+◌, ◌==◌, ◌++◌, slice_get, OnOk, Some};
 ghost use Rattle.std.specs.Option.{option_copied};
 ghost use Rattle.gcg_write.specs.Normal.{text_of_lines};
@@ -11,7 +11,7 @@ use gcg_write::line_text;
 use record_changes::Slip;
 use std::alloc::AllocError;
 
-/// Appends the CR of a line, where it ends in one.
+/// Appends the CR of a line, if it ends in one.
 fn push_return(out: &mut Vec<u8>, line: &[u8]) -> Result<(), AllocError>
     ensures { OnOk result (out.new.items ≡ out.old.items ++ return_of line.now) }
 {
@@ -21,7 +21,7 @@ fn push_return(out: &mut Vec<u8>, line: &[u8]) -> Result<(), AllocError>
     Ok(())
 }
 
-/// Appends the line of an event, which ends as the line does beside which it stands; nothing where there is no event.
+/// Appends the line of an event, with the line end of the line next to it; nothing if there is no event.
 pub(crate) fn push_new(
     out: &mut Vec<u8>,
     players: &Players,
@@ -39,7 +39,7 @@ pub(crate) fn push_new(
     Ok(())
 }
 
-/// Appends a line with the numbers of its event, where there is one.
+/// Appends a line with the numbers of its event, if there is one.
 fn push_numbered(out: &mut Vec<u8>, line: &[u8], event: Option<&Event>) -> Result<(), AllocError>
     ensures { OnOk result (out.new.items ≡ out.old.items ++ numbered line.now (option_copied event.entry)) }
 {
@@ -62,7 +62,7 @@ pub(crate) fn push_old(
     Ok(())
 }
 
-/// Appends a line of the sheet that may not be there.
+/// Appends a line of the sheet, if there is one.
 pub(crate) fn push_there(
     out: &mut Vec<u8>,
     line: Option<&[u8]>,
@@ -76,7 +76,7 @@ pub(crate) fn push_there(
     }
 }
 
-/// The right event at a place, where there is one.
+/// The right event at a place, if there is one.
 #[tactic(auto, using(crate::proofs::Places::copied_get))]
 pub(crate) fn event_at(right: &[Event], place: usize) -> Option<&Event>
     ensures { option_copied result ≡ slice_get right.now place }
@@ -84,7 +84,7 @@ pub(crate) fn event_at(right: &[Event], place: usize) -> Option<&Event>
     right.get(place)
 }
 
-/// The event line with a number, where there is one.
+/// The event line with a number, if there is one.
 #[tactic(auto, using(crate::proofs::Places::line_there, crate::proofs::Places::past_all))]
 fn line_at<'t>(lines: &[&'t [u8]], number: usize) -> Option<&'t [u8]>
     ensures { option_copied result ≡ slice_get (texts lines.now) number }
@@ -95,7 +95,7 @@ fn line_at<'t>(lines: &[&'t [u8]], number: usize) -> Option<&'t [u8]>
     }
 }
 
-/// The event line so many lines behind one, where there is one.
+/// The event line `over` lines after one, if there is one.
 #[tactic(auto, using(crate::proofs::Places::past_all))]
 fn line_behind<'t>(lines: &[&'t [u8]], number: usize, over: usize) -> Option<&'t [u8]>
     ensures { option_copied result ≡ slice_get (texts lines.now) (number + over) }
@@ -106,14 +106,14 @@ fn line_behind<'t>(lines: &[&'t [u8]], number: usize, over: usize) -> Option<&'t
     line_at(lines, number + over)
 }
 
-/// Whether a line is so many lines behind that at a place.
+/// Whether a line is `over` lines after the one at a place.
 fn is_second(place: usize, over: usize, number: usize) -> bool
     ensures { result ≡ (number == place + over) }
 {
     number >= over && number - over == place
 }
 
-/// The event line that stands in the place of one, where that at a place and another one behind it stand in each other's place.
+/// The event line in the place of one, if that at a place and another one after it are in each other's place.
 pub(crate) fn other_line<'t>(
     lines: &[&'t [u8]],
     place: usize,

@@ -12,7 +12,7 @@ use record_changes::Change;
 use std::alloc::{AllocError, Global};
 use text_lines::without_mark;
 
-/// Takes the LF off the end of a text, where one is there.
+/// Takes the LF off the end of a text, if there is one.
 fn drop_last_feed(out: &mut Vec<u8>)
     ensures { out.new.items ≡ without_last_feed out.old.items }
 {
@@ -21,7 +21,7 @@ fn drop_last_feed(out: &mut Vec<u8>)
     }
 }
 
-/// Whether a sheet can be written whose players are these: each event of these is by a player who has a nickname.
+/// Whether a sheet with these players can be written: each of the events is by a player who has a nickname.
 #[tactic(auto, using(crate::proofs::Names::named_more, crate::proofs::Names::unnamed, crate::proofs::Names::all_named))]
 pub fn can_be_written(players: &Players, right: &[Event]) -> bool
     ensures { IsTrue result ↔ AreNamed players.now right.now }
@@ -34,11 +34,11 @@ pub fn can_be_written(players: &Players, right: &[Event]) -> bool
     true
 }
 
-/// The text of a sheet with a change, where the events with it have these right numbers.
+/// The text of a sheet with a change, given the right events with it.
 ///
 /// # Errors
 ///
-/// Memory was refused.
+/// Memory ran out.
 pub fn repaired_text(
     alloc: Global,
     text: &[u8],

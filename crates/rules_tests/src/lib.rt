@@ -1,6 +1,6 @@
 //! Tests of rules as a text.
 //!
-//! They stand here, and not in the crate that they test, since a crate with tests of its own is proved twice.
+//! They are here, and not in the crate that they test, since a crate with tests of its own is proved twice.
 #![tactic(auto)]
 
 #[cfg(test)]

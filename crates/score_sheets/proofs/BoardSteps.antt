@@ -1,4 +1,4 @@
--- The boards behind the events, one by one.
+-- The boards after the events, one by one.
 use Rattle.std.proofs.Common.{◌≡◌, ℕ, ◌+◌, ◌<◌, List, [], ◌∷◌, ◌++◌, length, slice_get, Option, Some, None, is_some, true, refl, sym, ap, ◌∙◌, subst, arith}
 use Rattle.ref_tiles.specs.declared.tiles.Tile.{Tile}
 use Rattle.ref_play.specs.declared.faults.PlayFault.{PlayFault}
@@ -9,7 +9,7 @@ use Rattle.score_sheets.specs.Pictures.{is_new, covered, IsPicture}
 use Rattle.score_sheets.specs.Boards.{CanBeLaid, IsBoardBehind, ArePictures, IsShownAt}
 use Rattle.score_sheets.proofs.SheetRows.{one_more, one_longer, none_yet}
 
--- the boards behind the events before a place
+-- the boards after the events before a place
 pub record AreSoFar (events : List Event) (place : ℕ) (pictures : List Picture) : Type 0 where
   pub as_many : length pictures ≡ place
   pub each : (k : ℕ) (p : Picture) → slice_get pictures k ≡ Some p → IsBoardBehind events k p
@@ -17,7 +17,7 @@ pub record AreSoFar (events : List Event) (place : ℕ) (pictures : List Picture
 pub none_so_far : (events : List Event) → AreSoFar events 0 []
 none_so_far events = record { as_many = refl; each = none_yet (IsBoardBehind events) }
 
--- one board more, by the boards before and behind the event
+-- one more board, by the boards before and after the event
 pub one_board : (events : List Event) (place : ℕ) (pictures more : List Picture) (p : Picture) (old laid : List (Option Tile)) → AreSoFar events place pictures → old ≡ board_before events place
     → laid ≡ board_before events (place + 1) → IsPicture laid (is_new old laid) p → more ≡ pictures ++ p ∷ [] → AreSoFar events (place + 1) more
 one_board events place pictures more p old laid are before behind is pushed =
@@ -41,7 +41,7 @@ stopped_at events place pictures why are laid within fault =
       each = are.each;
     }
 
--- behind the last event
+-- after the last event
 pub went_through : (events : List Event) (place : ℕ) (pictures : List Picture) → AreSoFar events place pictures → CanBeLaid events place → place ≡ length events → ArePictures events pictures
 went_through events place pictures are laid last =
     let many = are.as_many in
@@ -54,7 +54,7 @@ went_through events place pictures are laid last =
 
 -- ---- the board at a place
 
--- laying that had no fault ended at the place that was asked for
+-- laying that had no fault ended at the place that was given
 ended_at : (events : List Event) (asked end : ℕ) (why : Option PlayFault) → AreLaid events asked end why → CanBeLaid events asked → end ≡ asked
 ended_at events asked end None laid none = laid.ended
 ended_at events asked end (Some why) laid none =
@@ -64,7 +64,7 @@ ended_at events asked end (Some why) laid none =
 can_be_laid : (events : List Event) (asked end : ℕ) → AreLaid events asked end None → CanBeLaid events asked
 can_be_laid events asked end laid = subst (CanBeLaid events) laid.ended laid.laid
 
--- the board behind the event at a place
+-- the board after the event at a place
 pub shown_behind : (events : List Event) (place end last : ℕ) (why : Option PlayFault) (old laid : List (Option Tile)) (p : Picture) → AreLaid events place end why → AreLaid events (place + 1) last None
     → old ≡ board_before events end → laid ≡ board_before events last → place < length events → IsPicture laid (is_new old laid) p → IsShownAt events place p
 shown_behind events place end last why old laid p before behind was is within shows =

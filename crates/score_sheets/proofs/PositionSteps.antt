@@ -10,7 +10,7 @@ use Rattle.score_sheets.proofs.SheetRows.{one_more, one_longer, none_yet}
 pub no_positions : (rules : Rules) (events : List Event) (pictures : List Picture) → ArePositions rules events pictures 0 []
 no_positions rules events pictures = record { as_many = refl; each = none_yet (IsPositionAt rules events pictures) }
 
--- one board more
+-- one more board
 pub positions_more : (rules : Rules) (events : List Event) (pictures : List Picture) (place : ℕ) (positions more : List Position) (x : Position) (e : Event) (p : Picture)
     → ArePositions rules events pictures place positions → slice_get events place ≡ Some e → slice_get pictures place ≡ Some p → IsPositionOf rules e.kind p x → more ≡ positions ++ x ∷ []
     → ArePositions rules events pictures (place + 1) more

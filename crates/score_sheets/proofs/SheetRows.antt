@@ -34,7 +34,7 @@ below_or_past k zero = inr (omega arith)
 below_or_past zero (suc n) = inl (omega arith)
 below_or_past (suc k) (suc n) = further k n (below_or_past k n)
 
--- What is said of each item of a list by its place, and of one item more.
+-- What is said of each item of a list by its place, and of one more item.
 each_more : {X : Type 0} (says : ℕ → X → Type 0) (xs : List X) (x y : X) (k : ℕ) → ((place : ℕ) (z : X) → slice_get xs place ≡ Some z → says place z) → says (length xs) x
     → slice_get (xs ++ x ∷ []) k ≡ Some y → (k < length xs) ⊎ (length xs ≤ k) → says k y
 each_more says xs x y k each last there (inl below) = each k y (append_within xs x y k there below)
@@ -58,7 +58,7 @@ none_yet says place y there = absurd (no_item place y there)
 pub no_rows : (rules : Rules) (list : List (List ℕ)) (written right : List Event) → AreSheetRows rules list written right 0 []
 no_rows rules list written right = record { as_many = refl; each = none_yet (IsSheetRowAt rules list written right) }
 
--- one row more
+-- one more row
 pub rows_more : (rules : Rules) (list : List (List ℕ)) (written right : List Event) (place : ℕ) (rows more : List SheetRow) (row : SheetRow) → AreSheetRows rules list written right place rows
     → IsSheetRowAt rules list written right place row → more ≡ rows ++ row ∷ [] → AreSheetRows rules list written right (place + 1) more
 rows_more rules list written right place rows more row are at pushed =

@@ -1,4 +1,4 @@
--- What the rows of a walk say of the events at their places, and behind the last row.
+-- What the rows of a walk say of the events at their places, and after the last row.
 use Rattle.std.proofs.Common.{Bor, ◌≡◌, ℕ, zero, suc, ◌+◌, ◌-◌, ◌<◌, ◌≤◌, ◌==◌, Bool, true, false, nat_lt, List, [], ◌∷◌, length, get_or, slice_get, Option, Some, None, is_some, IfSome, refl, sym, ap, ◌∙◌, subst, arith}
 use Rattle.std.specs.Option.{option_copied}
 use Rattle.std.proofs.lemmas.Bool.{ltb-false, ltb-true, eqb-true, eqb-false}
@@ -24,7 +24,7 @@ pub copied_row : (rows : List Row) (place : ℕ) (o : Option (Bor Row)) → is_s
 copied_row rows place None there item = sym (slice_get_past rows place (ltb-false place (length rows) (sym there)))
 copied_row rows place (Some x) there item = sym (slice_get_read rows (length rows) place x.now refl (ltb-true place (length rows) (sym there)) item)
 
--- there is no item behind the last
+-- there is no item after the last
 past_rows : (rows : List Row) (place : ℕ) → slice_get rows place ≡ None → length rows ≤ place
 past_rows [] place none = omega arith
 past_rows (row ∷ rows) zero none = cc
@@ -69,9 +69,9 @@ later_numbers rules list written right walk place e next numbers is stood none s
     subst (HasNumbersAt right place) (sym known)
     (by_stop rules list written right is.end place e walk.stopped next is.ends stood (omega (arith, many, behind)) (ap (λ n. place == n) (sym many) ∙ sym same))
 
--- ---- the game before and behind an event
+-- ---- the game before and after an event
 
--- not each event is allowed before a place behind the last row
+-- not each event is allowed before a place after the last row
 past_end : (rules : Rules) (list : List (List ℕ)) (written right : List Event) (end many : ℕ) (stopped : Option Stop) → EndsAt rules list written right end stopped → end < many
     → many ≤ length written → AreAllowedTo rules list right many → ⊥
 past_end rules list written right end many None ends further within allowed =
@@ -104,7 +104,7 @@ pub before_none : (rules : Rules) (list : List (List ℕ)) (written right : List
 before_none rules list written right walk place is later none within =
     past_last rules list written right walk (place - 1) place is none (omega (arith, later)) (omega (arith, within))
 
--- ---- what is noted behind an event
+-- ---- what is noted after an event
 
 pub noted_row : (rules : Rules) (list : List (List ℕ)) (written right : List Event) (walk : Walk) (place : ℕ) (row : Row) (unlisted : List SpelledWord) → IsWalk rules list written right walk
     → Some row ≡ slice_get walk.rows.items place → letters_in unlisted ≡ unlisted_of list (standing_words (state_of row.behind).latest) → IsNotedAt rules list right place true unlisted

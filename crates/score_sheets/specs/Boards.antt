@@ -10,12 +10,12 @@ use Rattle.score_sheets.specs.Pictures.{is_new, covered, IsPicture}
 abbrev pub CanBeLaid : List Event → (end : ℕ) → Type 0
 CanBeLaid events end = (place : ℕ) → place < end → laying_fault events place ≡ None
 
--- A board is the one behind the event at a place, counted from 0, and exactly its new tiles are marked: the squares that have a tile behind
--- the event and had none before it. It is the board before the next event, so it has a play that this takes back.
+-- A board is the one after the event at a place, counted from 0, and exactly its new tiles are marked: the squares that have a tile after
+-- the event and had none before it. It is the board before the next event, so it has a play that the next event takes back.
 abbrev pub IsBoardBehind : List Event → (place : ℕ) → Picture → Type 0
 IsBoardBehind events place p = IsPicture (board_before events (place + 1)) (is_new (board_before events place) (board_before events (place + 1))) p
 
--- there is a board behind each event, up to the first whose play cannot be laid
+-- there is a board after each event, up to the first whose play cannot be laid
 pub record ArePictures (events : List Event) (pictures : List Picture) : Type 0 where
   pub laid : CanBeLaid events (length pictures)
   pub within : length pictures ≤ length events
@@ -29,7 +29,7 @@ pub record IsBoardBefore (events : List Event) (place : ℕ) (p : Picture) : Typ
   pub laid : AreLaid events place end why
   pub shows : IsPicture (board_before events end) (covered (slice_get events place)) p
 
--- the board at a place: behind its event, where the plays up to it can be laid, and else before it
+-- the board at a place: after its event, if the plays up to it can be laid, and otherwise before it
 pub record IsShownAt (events : List Event) (place : ℕ) (p : Picture) : Type 0 where
   pub behind : place < length events → CanBeLaid events (place + 1) → IsBoardBehind events place p
   pub before : (place < length events → CanBeLaid events (place + 1) → ⊥) → IsBoardBefore events place p

@@ -9,15 +9,15 @@ use Rattle.gcg_read.specs.declared.events.EventKind.{EventKind}
 use Rattle.gcg_read.specs.declared.events.EventKind.TheVariants as kind
 use Rattle.score_sheets.specs.declared.pictures.Picture.{Picture}
 
--- whether a square has a new tile: one on the board behind an event, and none on the board before it
+-- whether a square has a new tile: one on the board after an event, and none on the board before it
 abbrev pub is_new : (before after : List (Option Tile)) → (square : ℕ) → Bool
 is_new before after square = holds after square && not (holds before square)
 
--- whether a text of so many symbols, from a square on, covers a square
+-- whether a text of `many` symbols, from a square on, covers a square
 abbrev pub is_covered : (at : ℕ) → Dir → (many square : ℕ) → Bool
 is_covered at dir many square = (line_of dir square == line_of dir at && nat_le (place_of dir at) (place_of dir square)) && nat_lt (place_of dir square) (place_of dir at + many)
 
--- whether the play of an event covers a square; no square where the event is no play
+-- whether the play of an event covers a square; no square if the event is not a play
 abbrev pub covered_by : EventKind → (square : ℕ) → Bool
 covered_by (kind.Play at dir word) square = is_covered at dir (length word) square
 covered_by kind.Pass square = false

@@ -1,4 +1,4 @@
--- What is said of the boards behind the events: the play of each as it lies there, and the tiles that are not on the board.
+-- What is said of the boards after the events: the play of each as it lies there, and the tiles that are not on the board.
 use Rattle.std.specs.Prelude.{◌≡◌, ℕ, ◌+◌, ◌≤◌, ◌<◌, ◌==◌, Bool, false, List, length, map, count_by, slice_get, slice_index_or, Option, Some, None}
 use Rattle.std.specs.List.{range_with_len}
 use Rattle.ref_tiles.specs.declared.tiles.Tile.{Tile}
@@ -20,20 +20,20 @@ use Rattle.score_sheets.specs.declared.positions.Position.{Position}
 abbrev pub played_tile : Picture → (square : ℕ) → PlayedTile
 played_tile p square = record { cell = tile_at p.board square; is_new = slice_index_or p.marked square false }
 
--- the squares that a text of so many symbols covers, in their order
+-- the squares that a text of `many` symbols covers, in their order
 unfoldable pub played_tiles : Picture → (at : ℕ) → Dir → (many : ℕ) → List PlayedTile
 played_tiles p at dir many = map (λ k. played_tile p (along dir at k)) (range_with_len 0 many)
 
 abbrev pub is_new_tile : PlayedTile → Bool
 is_new_tile tile = tile.is_new
 
--- A play as it lies on the board behind it: the squares of its text, and whether seven of their tiles are new. None of a text that leaves the
--- board.
+-- A play as it lies on the board after it: the squares of its text, and whether it is a bingo, with seven new tiles among them. None if
+-- the text leaves the board.
 abbrev pub IsLaidAt : Picture → (at : ℕ) → Dir → (many : ℕ) → Option LaidPlay → Type 0
 IsLaidAt p at dir many None = 15 < place_of dir at + many
 IsLaidAt p at dir many (Some play) = (play.tiles.items ≡ played_tiles p at dir many) × (play.is_full ≡ (count_by is_new_tile play.tiles.items == 7))
 
--- the same of an event; none where it is no play
+-- the same for an event; none if it is not a play
 abbrev pub IsLaidBy : Picture → EventKind → Option LaidPlay → Type 0
 IsLaidBy p (kind.Play at dir word) play = IsLaidAt p at dir (length word) play
 IsLaidBy p kind.Pass play = play ≡ None
@@ -48,13 +48,13 @@ IsLaidBy p (kind.LastRack tiles) play = play ≡ None
 unfoldable pub kinds_off : Rules → (board : List (Option Tile)) → (kinds : ℕ) → List ℕ
 kinds_off rules board kinds = map (off_board rules board) (range_with_len 0 kinds)
 
--- what is said of the board behind an event
+-- what is said of the board after an event
 pub record IsPositionOf (rules : Rules) (k : EventKind) (p : Picture) (x : Position) : Type 0 where
   pub play : IsLaidBy p k x.play
   pub off : x.off.items ≡ kinds_off rules p.board 27
   pub off_in_all : x.off_in_all ≡ all_off rules p.board 27
 
--- the same of the event at a place, and of the board there
+-- the same for the event at a place, and for the board there
 pub record IsPositionAt (rules : Rules) (events : List Event) (pictures : List Picture) (place : ℕ) (x : Position) : Type 0 where
   pub event : Event
   pub picture : Picture

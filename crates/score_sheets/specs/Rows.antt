@@ -18,11 +18,12 @@ use Rattle.event_notes.specs.Bests.{IsTurnBest}
 use Rattle.event_notes.specs.Unlisted.{letters_in, unlisted_of}
 use Rattle.score_sheets.specs.declared.rows.SheetRow.{SheetRow}
 
--- what a number should be, where it is not that
+-- what a number should be, if it is wrong
 abbrev pub should_be : (written right : ℤ) → Option ℤ
 should_be written right = if int_eq written right then None else Some right
 
--- the numbers of an event that a walk has no row for: those that it is refused with, where the walk stops at it, and else its own
+-- the numbers of an event for which a walk has no row: those with which it is refused, if the walk stops at it, and otherwise its
+-- own
 abbrev pub numbers_behind : Option Stop → (is_next : Bool) → Event → Numbers
 numbers_behind None is_next e = numbers_in e
 numbers_behind (Some stop) true e = stop.numbers
@@ -34,12 +35,13 @@ pub record HasNumbersAt (events : List Event) (place : ℕ) (numbers : Numbers) 
   pub stands : slice_get events place ≡ Some event
   pub own : numbers ≡ numbers_in event
 
--- the game before an event, where the rules allow those before it
+-- the game before an event, if the rules allow those before it
 abbrev pub IsBeforeAt : Rules → (list : List (List ℕ)) → List Event → (place : ℕ) → Option (Bor Machine) → Type 0
 IsBeforeAt rules list events place None = AreAllowedTo rules list events place → ⊥
 IsBeforeAt rules list events place (Some machine) = AreAllowedTo rules list events place × (state_of machine.now ≡ tally_at rules events place)
 
--- what is said of the best play of an event that gave so many points, by the state before it; nothing where the rules do not allow the events before
+-- what is said of the best play of an event that gave `gave` points, by the state before it; nothing if the rules do not allow the events before
+-- it
 abbrev pub IsBestAt : Rules → (list : List (List ℕ)) → List Event → (place : ℕ) → Event → (gave : ℤ) → Option TurnBest → Type 0
 IsBestAt rules list events place e gave None = AreAllowedTo rules list events place → ⊥
 IsBestAt rules list events place e gave (Some best) = AreAllowedTo rules list events place × IsTurnBest rules list (tally_at rules events place) e gave best
@@ -51,8 +53,8 @@ IsNotedAt rules list events place true unlisted =
 IsNotedAt rules list events place false unlisted = (AreAllowedTo rules list events (place + 1) → ⊥) × (unlisted ≡ [])
 
 -- A row is that of the event at a place, counted from 0, of the events as they are written; `right` are the same events with their right numbers.
--- What its numbers should be stands exactly where they are wrong. Its best play is that of the state before the event, by the right numbers of
--- the events before it.
+-- It has what its numbers should be exactly if they are wrong. Its best play is that of the state before the event, by the right numbers of the
+-- events before it.
 pub record IsSheetRowAt (rules : Rules) (list : List (List ℕ)) (written right : List Event) (place : ℕ) (row : SheetRow) : Type 0 where
   pub own : Event
   pub event : Event

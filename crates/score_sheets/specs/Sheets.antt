@@ -12,8 +12,8 @@ use Rattle.score_sheets.specs.Rows.{AreSheetRows}
 use Rattle.score_sheets.specs.Sums.{gains_to, IsStanding}
 
 -- A score sheet of a record, by the same events with their right numbers: its players and its events, the last totals and who is ahead by them, a
--- row for each event in order and what the best plays of each player would have given more, the boards behind the events and what is said of
--- each, and the board at a place.
+-- row for each event in order and how many points more the best plays of each player would have given, the boards after the events and what is
+-- said of each, and the board at a place.
 pub record IsScoreSheet (rules : Rules) (list : List (List ℕ)) (r : Record) (right : List Event) (place : ℕ) (sheet : ScoreSheet) : Type 0 where
   pub players : sheet.players.now ≡ r.players
   pub events : sheet.events.now ≡ r.events

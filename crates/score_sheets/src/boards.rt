@@ -10,7 +10,7 @@ use gcg_read::Event;
 use ref_board::Board;
 use std::alloc::{AllocError, Global};
 
-/// Whether the event behind a place takes the play there back.
+/// Whether the event after a place takes back the play there.
 #[tactic(auto, using(game_turns::proofs::PlaceLaws::copied_get))]
 pub(crate) fn is_taken_back(events: &[Event], place: usize) -> bool
     requires { place < length events.now }
@@ -19,17 +19,17 @@ pub(crate) fn is_taken_back(events: &[Event], place: usize) -> bool
     withdraws(events.get(place + 1))
 }
 
-/// The board of the plays that stand: that before an event where the event is taken back.
+/// The board of the plays that stand: that before an event if the event is taken back.
 fn standing_behind(old: &Board, laid: &Board, taken_back: bool) -> Board
     ensures { result ≡ if taken_back then old.now else laid.now }
 {
     if taken_back { *old } else { *laid }
 }
 
-/// The boards behind the events of a record, one for each event up to the first whose play cannot be laid. A play that is taken back lies on the
-/// board behind it, and comes off behind its withdrawal.
+/// The boards after the events of a record, one for each event up to the first whose play cannot be laid. A play that is taken back lies on the
+/// board after it, and comes off after its withdrawal.
 ///
-/// It fails only where memory runs out.
+/// It fails only if memory runs out.
 pub fn pictures_of(alloc: Global, events: &[Event]) -> Result<Vec<Picture>, AllocError>
     ensures { IfOk result (λ pictures. ArePictures events.now pictures.items) }
 {
@@ -47,8 +47,8 @@ pub fn pictures_of(alloc: Global, events: &[Event]) -> Result<Vec<Picture>, Allo
     Ok(pictures)
 }
 
-/// The board behind the event at a place, with its new tiles marked, where the plays up to it can be laid. Else the board as far as the plays
-/// before the place can be laid, with the squares marked that the play at the place covers.
+/// The board after the event at a place, with its new tiles marked, if the plays up to it can be laid. Otherwise the board as far as the
+/// plays before the place can be laid, with the squares marked that the play at the place covers.
 pub fn shown_at(events: &[Event], place: usize) -> Picture
     requires { place ≤ length events.now }
     ensures { IsShownAt events.now place result }

@@ -1,7 +1,8 @@
 //! The score sheet of a record as a value of plain data, whose contract says what it is.
 //!
 //! [`score_sheet`] gives a [`ScoreSheet`]: a row for each event with what its numbers should be, its best play and its words that are not in the
-//! list, the boards behind the events with their new tiles marked, what is said of each board, and what the best plays would have given more. So what shows a sheet, in whatever form, asks no engine and adds no numbers.
+//! list, the boards after the events with their new tiles marked, what is said of each board, and how many points more the best plays would have
+//! given. So code that shows a sheet, in whatever form, calls no engine and adds no numbers.
 #![tactic(auto)]
 
 mod boards;

@@ -56,7 +56,7 @@ fn covered_by(kind: &EventKind, square: Square) -> bool
     }
 }
 
-/// Whether the play of an event covers a square; none where there is no event, or no play.
+/// Whether the play of an event covers a square; false if there is no event, or it is not a play.
 fn covered(event: Option<&Event>, square: Square) -> bool
     ensures { result ≡ covered (option_copied event.entry) square }
 {
@@ -74,7 +74,7 @@ fn square_of(number: usize) -> Square
     Square::on_line(Dir::Across, number / SIDE, number % SIDE)
 }
 
-/// A board behind another one: its new tiles are marked.
+/// A board after another one: its new tiles are marked.
 pub(crate) fn picture_behind(before: &Board, after: &Board) -> Picture
     ensures { IsPicture after.now (is_new before.now after.now) result }
 {
@@ -88,7 +88,7 @@ pub(crate) fn picture_behind(before: &Board, after: &Board) -> Picture
     }
 }
 
-/// A board on which the squares of a play are marked, where an event is one.
+/// A board on which the squares of a play are marked, if the event is one.
 pub(crate) fn picture_for(board: &Board, event: Option<&Event>) -> Picture
     ensures { IsPicture board.now (covered (option_copied event.entry)) result }
 {

@@ -1,4 +1,4 @@
-//! What is said of the boards behind the events.
+//! What is said of the boards after the events.
 ghost use Rattle.std.specs.Prelude.{◌≡◌, ◌+◌, ◌<◌, ◌≤◌, ◌==◌, IfOk, length, count_by};
 ghost use Rattle.ref_board.specs.Lines.{place_of};
 ghost use Rattle.game_board.specs.Tiles.{is_of, off_board};
@@ -21,19 +21,19 @@ pub struct PlayedTile {
     pub is_new: bool,
 }
 
-/// A play as it lies on the board behind it.
+/// A play as it lies on the board after it.
 #[derive(Drop)]
 pub struct LaidPlay {
     /// The squares of its text, in their order.
     pub tiles: Vec<PlayedTile>,
-    /// Whether it puts down seven tiles.
+    /// Whether it is a bingo: it puts down seven tiles.
     pub is_full: bool,
 }
 
-/// What is said of the board behind an event.
+/// What is said of the board after an event.
 #[derive(Drop)]
 pub struct Position {
-    /// The play of the event; none where it is no play.
+    /// The play of the event; none if it is not a play.
     pub play: Option<LaidPlay>,
     /// How many tiles of each kind are not on the board, A to Z and then blanks.
     pub off: Vec<usize>,
@@ -51,7 +51,7 @@ fn played_tile(picture: &Picture, square: Square) -> PlayedTile
     }
 }
 
-/// The squares that a text of so many symbols covers.
+/// The squares that a text of `many` symbols covers.
 #[tactic(auto, using(ref_play::proofs::Ranges::map_range_more), unfolding(crate::specs::Positions::played_tiles))]
 fn played_tiles(
     alloc: Global,
@@ -77,7 +77,7 @@ fn is_full(tiles: &[PlayedTile]) -> bool
     tiles.iter().filter(|tile| tile.is_new).count() == RACK
 }
 
-/// A play of so many symbols as it lies on a board, where it stays there.
+/// A play of `many` symbols as it lies on a board, if it stays on the board.
 fn laid_at(
     alloc: Global,
     picture: &Picture,
@@ -95,7 +95,7 @@ fn laid_at(
     Ok(Some(LaidPlay { tiles, is_full }))
 }
 
-/// The play of an event as it lies on the board behind it, where it is one.
+/// The play of an event as it lies on the board after it, if it is one.
 fn laid_by(
     alloc: Global,
     picture: &Picture,
@@ -160,7 +160,7 @@ fn kinds_off(alloc: Global, rules: &Rules, board: &Board) -> Result<Vec<usize>, 
     Ok(off)
 }
 
-/// What is said of the board behind an event.
+/// What is said of the board after an event.
 fn position_of(
     alloc: Global,
     rules: &Rules,
@@ -178,9 +178,9 @@ fn position_of(
     })
 }
 
-/// What is said of the boards behind the first events.
+/// What is said of the boards after the first events.
 ///
-/// It fails only where memory runs out.
+/// It fails only if memory runs out.
 pub fn positions_of(
     alloc: Global,
     rules: &Rules,

@@ -19,24 +19,24 @@ use lex_list::WordList;
 use ref_tiles::Rules;
 use std::alloc::{AllocError, Global};
 
-/// What a score sheet says of an event beside its line.
+/// What a score sheet says of an event besides its line.
 #[derive(Drop)]
 pub struct SheetRow {
-    /// What the score should be, where it is not that.
+    /// What the score should be, if it is wrong.
     pub score: Option<Points>,
-    /// What the total should be, where it is not that.
+    /// What the total should be, if it is wrong.
     pub total: Option<Points>,
-    /// What is said of the best play, where the rules allow the events before with their right numbers.
+    /// What is said of the best play, if the rules allow the events before it with their right numbers.
     pub best: Option<TurnBest>,
     /// Whether the rules allow the event and those before it with their right numbers.
     pub allowed: bool,
-    /// The words of a play that stands which are not in the list, where the event is allowed.
+    /// The words of a play that stands which are not in the list, if the event is allowed.
     pub unlisted: Vec<SpelledWord>,
     /// Whether the next event takes it back.
     pub taken_back: bool,
 }
 
-/// What a number should be, where it is not that.
+/// What a number should be, if it is wrong.
 fn should_be(written: Points, right: Points) -> Option<Points>
     ensures { result ≡ should_be written right }
 {
@@ -55,7 +55,8 @@ fn row_there(walk: &Walk, place: usize) -> Option<&Row>
     walk.rows.as_slice().get(place)
 }
 
-/// The numbers of an event that a walk has no row for: those that it is refused with, where the walk stops at it, and else its own.
+/// The numbers of an event for which a walk has no row: those with which it is refused, if the walk stops at it, and otherwise its
+/// own.
 fn numbers_behind(stopped: &Option<Stop>, is_next: bool, event: &Event) -> Numbers
     ensures { result ≡ numbers_behind stopped.now is_next event.now }
 {
@@ -68,7 +69,7 @@ fn numbers_behind(stopped: &Option<Stop>, is_next: bool, event: &Event) -> Numbe
     }
 }
 
-/// The score and the total that the event at a place should have; its own where the rules do not say.
+/// The score and the total that the event at a place should have; its own if the rules do not say.
 fn right_numbers(walk: &Walk, place: usize, event: &Event) -> Numbers
     ensures { (rules : Rules) (list : List (List ℕ)) (written right : List Event) → IsWalk rules list written right walk.now
         → slice_get written place ≡ Some event.now → HasNumbersAt right place result }
@@ -82,7 +83,7 @@ fn right_numbers(walk: &Walk, place: usize, event: &Event) -> Numbers
     }
 }
 
-/// The game before the event at a place, where the rules allow those before it with their right numbers.
+/// The game before the event at a place, if the rules allow those before it with their right numbers.
 fn game_before(walk: &Walk, place: usize) -> Option<&Machine>
     ensures { (rules : Rules) (list : List (List ℕ)) (written right : List Event) → IsWalk rules list written right walk.now
         → place < length written → IsBeforeAt rules list right place result }
@@ -116,7 +117,7 @@ fn best_at(
     }
 }
 
-/// What is noted of an event behind it.
+/// What is noted after an event.
 #[derive(Drop)]
 struct Noted {
     /// Whether it and those before it are allowed.
@@ -125,7 +126,7 @@ struct Noted {
     unlisted: Vec<SpelledWord>,
 }
 
-/// What is noted of the event at a place, behind it.
+/// What is noted after the event at a place.
 fn noted_at(alloc: Global, list: &WordList, walk: &Walk, place: usize) -> Result<Noted, AllocError>
     ensures { IfOk result (λ noted. (rules : Rules) (written right : List Event) → IsWalk rules list.now written right walk.now
         → place < length written → IsNotedAt rules list.now right place noted.allowed noted.unlisted.items) }
@@ -172,7 +173,7 @@ fn row_at(
     })
 }
 
-/// Lays the play of an event on the board that follows, where it is one that stands and can be laid.
+/// Lays the play of an event on the board that follows, if it stands and can be laid.
 fn follow_play(
     rules: &Rules,
     pair: &Checked<'_>,
@@ -196,7 +197,7 @@ fn follow_play(
 
 /// The rows of a score sheet, one for each event in order, by a walk over the events.
 ///
-/// It fails only where memory runs out.
+/// It fails only if memory runs out.
 pub fn rows_of(
     alloc: Global,
     rules: &Rules,

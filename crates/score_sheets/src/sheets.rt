@@ -26,7 +26,7 @@ pub struct ScoreSheet<'a> {
     pub players: &'a Players,
     /// The events, as they are written.
     pub events: &'a [Event],
-    /// The last total that is written for the first player, where there is one.
+    /// The last total that is written for the first player, if there is one.
     pub first_total: Option<Points>,
     /// The same for the other player.
     pub second_total: Option<Points>,
@@ -34,19 +34,19 @@ pub struct ScoreSheet<'a> {
     pub standing: Standing,
     /// What it says of each event, in their order.
     pub rows: Vec<SheetRow>,
-    /// What the best plays of the first player would have given more together; none where that is 2^64 or more.
+    /// How many points more the best plays of the first player would have given in all; none if that is 2^64 or more.
     pub first_gains: Option<u64>,
-    /// The same of the other player.
+    /// The same for the other player.
     pub second_gains: Option<u64>,
-    /// The boards behind the events, up to the first whose play cannot be laid.
+    /// The boards after the events, up to the first whose play cannot be laid.
     pub boards: Vec<Picture>,
     /// What is said of each of these boards.
     pub positions: Vec<Position>,
-    /// The board at the place that was asked for.
+    /// The board at the place that was given.
     pub shown: Picture,
 }
 
-/// What is said of the boards behind the first events.
+/// What is said of the boards after the first events.
 fn positions_in(
     alloc: Global,
     rules: &Rules,
@@ -59,7 +59,7 @@ fn positions_in(
     positions_of(alloc, rules, events, boards.as_slice())
 }
 
-/// What the best plays of a player's events would have given more together. None where that is 2^64 or more.
+/// How many points more the best plays of a player's events would have given in all. None if that is 2^64 or more.
 fn gains_in(player: Seat, events: &[Event], rows: &Vec<SheetRow>) -> Option<u64>
     ensures { IfSome result (λ gains. gains ≡ gains_to player events.now rows.now.items (length events.now)) }
 {
@@ -69,7 +69,7 @@ fn gains_in(player: Seat, events: &[Event], rows: &Vec<SheetRow>) -> Option<u64>
 /// The score sheet of a record, by a walk over its events, which has them with their right numbers as far as they can be corrected; with the
 /// board at a place, counted from 0. At the end of the events it is the last board.
 ///
-/// It fails only where memory runs out.
+/// It fails only if memory runs out.
 pub fn score_sheet<'a>(
     alloc: Global,
     rules: &Rules,

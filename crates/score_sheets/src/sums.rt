@@ -1,4 +1,4 @@
-//! What the best plays of a sheet would have given more, and who is ahead.
+//! How many points more the best plays of a sheet would have given, and who is ahead.
 ghost use Rattle.std.specs.Prelude.{◌≡◌, IfSome, length, slice_get};
 ghost use Rattle.std.specs.Option.{option_copied};
 ghost use Rattle.gcg_read.specs.Numerals.{IsPoints};
@@ -8,7 +8,7 @@ use crate::rows::SheetRow;
 use event_notes::TurnBest;
 use gcg_read::{Event, Points, Seat, same_seat};
 
-/// What the best play would have given more, where it would have.
+/// How many points more the best play would have given, or 0.
 fn gain_in(best: &Option<TurnBest>) -> u64
     ensures { result ≡ gain_in best.now }
 {
@@ -18,7 +18,7 @@ fn gain_in(best: &Option<TurnBest>) -> u64
     }
 }
 
-/// The event at a place, where there is one.
+/// The event at a place, if there is one.
 #[tactic(auto, using(game_turns::proofs::PlaceLaws::copied_get))]
 fn event_at(events: &[Event], place: usize) -> Option<&Event>
     ensures { option_copied result ≡ slice_get events.now place }
@@ -26,7 +26,7 @@ fn event_at(events: &[Event], place: usize) -> Option<&Event>
     events.get(place)
 }
 
-/// The row at a place, where there is one.
+/// The row at a place, if there is one.
 #[tactic(auto, using(crate::proofs::SheetRows::copied_sheet_row))]
 fn row_at(rows: &[SheetRow], place: usize) -> Option<&SheetRow>
     ensures { option_copied result ≡ slice_get rows.now place }
@@ -34,7 +34,7 @@ fn row_at(rows: &[SheetRow], place: usize) -> Option<&SheetRow>
     rows.get(place)
 }
 
-/// What the best play of an event of a player would have given more, where it would have.
+/// How many points more the best play of an event of a player would have given, or 0.
 fn gain_of(player: Seat, event: Option<&Event>, row: Option<&SheetRow>) -> u64
     ensures { result ≡ gain_of player (option_copied event.entry) (option_copied row.entry) }
 {
@@ -44,7 +44,7 @@ fn gain_of(player: Seat, event: Option<&Event>, row: Option<&SheetRow>) -> u64
     }
 }
 
-/// What the best plays of a player's events would have given more together. None where that is 2^64 or more.
+/// How many points more the best plays of a player's events would have given in all. None if that is 2^64 or more.
 #[tactic(auto, using(crate::proofs::SheetRows::gains_none, crate::proofs::SheetRows::gains_more))]
 pub fn gains_of(player: Seat, events: &[Event], rows: &[SheetRow]) -> Option<u64>
     ensures { IfSome result (λ gains. gains ≡ gains_to player events.now rows.now (length events.now)) }
@@ -61,11 +61,11 @@ pub fn gains_of(player: Seat, events: &[Event], rows: &[SheetRow]) -> Option<u64
 pub enum Standing {
     /// They are the same.
     Even,
-    /// This player has more, by so many points.
+    /// This player has more, by this number of points.
     Ahead(Seat, i32),
 }
 
-/// A total, 0 where none is written.
+/// A total, or 0 if none is written.
 fn total_in(total: &Option<Points>) -> i32
     ensures total { result ≡ total_in total.now }
     ensures in_range { IsPoints result }

@@ -7,7 +7,7 @@ use ref_board::{Board, Dir, SIDE, Square};
 use ref_tiles::{Rules, Symbol};
 use std::alloc::AllocError;
 
-/// The squares that a play covers: so many of a line from a first one on.
+/// The squares that a play covers: `len` squares of a line from a first one on.
 #[derive(Clone, Copy)]
 pub struct Stretch {
     /// The first square.
@@ -46,7 +46,7 @@ fn is_marked(marked: &Option<Stretch>, square: Square) -> bool {
     }
 }
 
-/// What stands between two squares of a row: a bracket where the marked squares begin or end.
+/// What comes between two squares of a row: a bracket where the marked squares begin or end.
 fn between(before: bool, here: bool) -> u8 {
     match (before, here) {
         (false, true) => b'[',

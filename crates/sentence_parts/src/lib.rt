@@ -1,4 +1,4 @@
-//! The parts of which sentences for a director are made, and a board with the squares of a play marked.
+//! The parts from which sentences for a director are made, and a board with the squares of a play marked.
 #![tactic(auto)]
 
 mod boards;

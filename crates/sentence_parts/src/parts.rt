@@ -17,7 +17,7 @@ pub enum Part<'a> {
     Points(i32),
     /// How many there are of something.
     Many(usize),
-    /// So many things, by the word for one of them.
+    /// A number of things, with the word for one of them.
     Things(usize, &'a str),
     /// The number of a line.
     Line(u32),
@@ -33,7 +33,7 @@ pub enum Part<'a> {
     Tiles(&'a Counts),
 }
 
-/// Appends the parts of a sentence, one behind the other.
+/// Appends the parts of a sentence, one after the other.
 pub fn say(text: &mut Vec<u8>, parts: &[Part<'_>]) -> Result<(), AllocError> {
     for part in parts {
         push_part(text, part)?;
@@ -68,7 +68,7 @@ fn push_part(text: &mut Vec<u8>, part: &Part<'_>) -> Result<(), AllocError> {
     }
 }
 
-/// Appends how many things there are, with an s behind the word where there is not one.
+/// Appends a number of things, with an s after the word unless there is exactly one.
 fn push_things(text: &mut Vec<u8>, many: usize, one: &str) -> Result<(), AllocError> {
     push_number(text, many)?;
     push_byte(text, b' ')?;

@@ -1,4 +1,4 @@
--- What an object that names a command asks for.
+-- The request of an object that names a command.
 use Rattle.std.proofs.Common.{◌≡◌, ℕ, List, codes, Some, Result, Ok, Err, IfOk, sym, ap, ◌∙◌}
 use Rattle.serde_json.specs.Data.{Data}
 use Rattle.serve_requests.specs.declared.commands.Command.{Command}

@@ -1,4 +1,4 @@
--- Which objects ask for what.
+-- Which objects are which requests.
 use Rattle.std.specs.Prelude.{◌≡◌, ◌||◌, is_some, ◌^◌, ◌-◌, ℕ, Bool, true, false, List, map, codes, Option, Some, unwrap_or}
 use Rattle.std.specs.Borrow.{Bor}
 use Rattle.std.specs.Option.{option_copied}
@@ -26,11 +26,11 @@ name_of command.Page = codes "page"
 abbrev pub IsGame : Data → (text : List ℕ) → Type 0
 IsGame d text = text_said (codes "game") d ≡ Some (Some text)
 
--- a line of a record: what a number of 32 bits has
+-- a line of a record: a number that fits in 32 bits
 abbrev pub line_said : Data → Option (Option ℕ)
 line_said d = number_said 0 (2 ^ 32 - 1) (codes "line") d
 
--- a flag, which is this where it is not said
+-- a flag, which is `otherwise` if it is not given
 abbrev pub IsFlag : (key : List ℕ) → (otherwise : Bool) → Data → Bool → Type 0
 IsFlag key otherwise d flag = (told : Option Bool) × (flag_said key d ≡ Some told) × (flag ≡ unwrap_or told otherwise)
 
@@ -54,7 +54,7 @@ Says command.Tidy d (request.Tidy game) = IsGame d game.now
 Says command.Page d (request.Page game likely) = IsGame d game.now × IsFlag (codes "likely") true d likely
 Says asked d r = ⊥
 
--- An object asks for this: it names a command, and this is what it says for it.
+-- An object is this request: it names a command, and this is what it says for it.
 pub record IsRequestIn (d : Data) (r : Request) : Type 0 where
   pub asked : Command
   pub named : text_said (codes "do") d ≡ Some (Some (name_of asked))

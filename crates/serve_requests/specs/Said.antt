@@ -3,7 +3,7 @@ use Rattle.std.specs.Prelude.{ℕ, ◌&&◌, nat_le, if◌then◌else◌, Bool, 
 use Rattle.serde_json.specs.Data.{Data, null, boolean, number, string, array, object}
 use Rattle.serde_json.specs.Find.{get, as_str, as_bool, as_number, as_u64}
 
--- null is as what is not there
+-- null counts as missing
 abbrev pub unless_null : Option Data → Option Data
 unless_null None = None
 unless_null (Some null) = None
@@ -17,7 +17,7 @@ unless_null (Some (object ms)) = Some (object ms)
 abbrev pub value_at : (key : List ℕ) → Data → Option Data
 value_at key d = unless_null (get key d)
 
--- What may be left out: nothing where it is; else what it is read as, or that it cannot be read so.
+-- What may be left out: nothing if it is; otherwise what it is read as, or that it cannot be read so.
 abbrev pub said : {A : Type 0} → (read : Data → Option A) → Option Data → Option (Option A)
 said read None = Some None
 said read (Some d) = option_map Some (read d)

@@ -57,7 +57,7 @@ impl Command {
         }
     }
 
-    /// Whether a request for it may have what has this key, beside `id` and `do`.
+    /// Whether a request for it may have a member with this key, besides `id` and `do`.
     pub fn has(self, key: &str) -> bool {
         match key {
             "game" => self != Command::Word,

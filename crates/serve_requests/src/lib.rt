@@ -1,6 +1,7 @@
-//! What a line asks a service for: a request as plain data, by the members of a JSON object.
+//! What a line requests from a service: a request as plain data, by the members of a JSON object.
 //!
-//! [`id_in`] is what an object is answered with, and [`request_in`] what it asks for. A [`Refusal`] says why an object asks for nothing.
+//! [`id_in`] gives the id for the answer to an object, and [`request_in`] what the object requests. A [`Refusal`] says why a line is not
+//! a request.
 #![tactic(auto)]
 
 mod commands;

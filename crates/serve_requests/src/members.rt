@@ -1,4 +1,4 @@
-//! The members of an object, by their keys. One that is null is as one that is not there.
+//! The members of an object, by their keys. One that is null counts as missing.
 ghost use Rattle.std.specs.Prelude.{◌≡◌, IfOk, IfSome, Some, true, codes, map, option_map, unwrap_or};
 ghost use Rattle.std.specs.Option.{option_copied};
 ghost use Rattle.serde_json.specs.View.{view};
@@ -10,7 +10,7 @@ use crate::refusals::Refusal;
 use serde_json::Value;
 use std::alloc::Global;
 
-/// The value of a key, where it is there and is not null.
+/// The value of a key, if it is there and is not null.
 #[tactic(auto, using(crate::proofs::Nulls::absent, crate::proofs::Nulls::is_null, crate::proofs::Nulls::is_there))]
 fn value_in<'a>(object: &'a Value, key: &str) -> Option<&'a Value>
     ensures { option_map (λ v. view v.now) result ≡ value_at key.now (view object.now) }
@@ -19,7 +19,7 @@ fn value_in<'a>(object: &'a Value, key: &str) -> Option<&'a Value>
     if value.is_null() { None } else { Some(value) }
 }
 
-/// The id of an object: a text or a number, where there is one.
+/// The id of an object: a text or a number, if there is one.
 pub fn id_in<'a>(object: &'a Value) -> Result<Option<&'a Value>, Refusal<'a>>
     ensures value { IfOk result (λ id. option_map (λ v. view v.now) id ≡ value_at (codes "id") (view object.now)) }
     ensures kind { IfOk result (λ id. IfSome id (λ v. is_id (view v.now) ≡ true)) }
@@ -31,7 +31,7 @@ pub fn id_in<'a>(object: &'a Value) -> Result<Option<&'a Value>, Refusal<'a>>
     }
 }
 
-/// The name of the command that an object asks for.
+/// The name of the command that an object requests.
 pub fn name_in<'a>(object: &'a Value) -> Result<&'a str, Refusal<'a>>
     ensures { IfOk result (λ name. text_said (codes "do") (view object.now) ≡ Some (Some name.now)) }
 {
@@ -47,7 +47,7 @@ pub fn name_in<'a>(object: &'a Value) -> Result<&'a str, Refusal<'a>>
     }
 }
 
-/// That an object has nothing that the command has not.
+/// Checks that an object has only keys that the command has.
 pub fn check_keys<'a>(object: &'a Value, command: Command) -> Result<(), Refusal<'a>> {
     let Some(members) = object.as_object() else {
         return Err(Refusal::NoObject);
@@ -61,7 +61,7 @@ pub fn check_keys<'a>(object: &'a Value, command: Command) -> Result<(), Refusal
     Ok(())
 }
 
-/// A text, where there is one.
+/// A text, if there is one.
 pub fn text_in<'a>(object: &'a Value, key: &'static str) -> Result<Option<&'a str>, Refusal<'a>>
     ensures { IfOk result (λ text. text_said key.now (view object.now) ≡ Some (option_copied text)) }
 {
@@ -74,7 +74,7 @@ pub fn text_in<'a>(object: &'a Value, key: &'static str) -> Result<Option<&'a st
     }
 }
 
-/// True or false; `otherwise` where it is not said.
+/// True or false; `otherwise` if there is no value.
 pub fn flag_in<'a>(
     object: &'a Value,
     key: &'static str,
@@ -91,7 +91,7 @@ pub fn flag_in<'a>(
     }
 }
 
-/// A number between these two, where there is one.
+/// A number between these two, if there is one.
 pub fn number_in<'a>(
     object: &'a Value,
     key: &'static str,
@@ -130,7 +130,7 @@ fn texts_of<'a>(
     Ok(texts)
 }
 
-/// Texts, where there is a list of them.
+/// Texts, if there is a list of them.
 #[tactic(auto, using(crate::proofs::Texts::are_said))]
 pub fn texts_in<'a>(
     alloc: Global,

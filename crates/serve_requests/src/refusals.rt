@@ -1,36 +1,36 @@
-//! Why a line asks for nothing.
+//! Why a line is not a request.
 
 use crate::commands::Command;
 use std::fmt;
 
-/// Why a line asks for nothing. Its text is what the answer says.
+/// Why a line is not a request. Its text is what the answer says.
 #[derive(Clone, Copy, Debug, PartialEq, Eq)]
 pub enum Refusal<'a> {
     /// The line has too many bytes.
     TooLong,
-    /// The line is no JSON, or is JSON that nests too deep or has a number that no float has.
+    /// The line is not JSON, or is JSON that nests too deeply or has a number too large for a float.
     NoJson,
-    /// The line is JSON and no object.
+    /// The line is JSON but not an object.
     NoObject,
     /// The object has no `do`.
     NoCommand,
-    /// The `do` of the object is no text.
+    /// The `do` of the object is not a text.
     NoName,
     /// There is no command of this name.
     NoSuchCommand(&'a str),
     /// The `id` of the object is neither a text nor a number.
     NoId,
-    /// The command has nothing of this name.
+    /// The command has no member of this name.
     NoSuchKey(Command, &'a str),
-    /// The command needs what has this name.
+    /// The command needs the member of this name.
     Missing(Command, &'static str),
-    /// What has this name is no text.
+    /// The member of this name is not a text.
     NoText(&'static str),
-    /// What has this name is neither true nor false.
+    /// The member of this name is neither true nor false.
     NoFlag(&'static str),
-    /// What has this name is no number between these two.
+    /// The member of this name is not a number between these two.
     NoNumber(&'static str, u32, u32),
-    /// What has this name is no list of texts.
+    /// The member of this name is not a list of texts.
     NoTexts(&'static str),
     /// Memory was refused.
     NoMemory,

@@ -1,4 +1,4 @@
-//! What an object asks for.
+//! What an object requests.
 ghost use Rattle.std.specs.Prelude.{◌≡◌, IfOk, Some};
 ghost use Rattle.serde_json.specs.View.{view};
 ghost use Rattle.serve_requests.specs.declared.commands.Command.TheVariants as command;
@@ -10,35 +10,36 @@ use crate::refusals::Refusal;
 use serde_json::Value;
 use std::alloc::Global;
 
-/// How many best plays may be asked for.
+/// The greatest number of best plays that a request may have.
 pub const MOST_PLAYS: u32 = 100;
 
-/// What is asked for. A game is the text of a record.
+/// A request. A game is the text of a record.
 #[derive(Drop)]
 pub enum Request<'a> {
-    /// To judge a game, and to search for a deal where `settle` says so; where `best` does not, no best play is looked for.
+    /// To judge a game, and to search for a deal if `settle` says so; unless `best` says so, no best play is looked for.
     Judge {
         game: &'a str,
         settle: bool,
         best: bool,
     },
-    /// To explain the verdict on a game, or the event on a line where one is named; where `likely` does not say so, no likely repair is looked for.
+    /// To explain the verdict on a game, or the event on a line if one is named; unless `likely` says so, no likely repair is looked for.
     Explain {
         game: &'a str,
         line: Option<u32>,
         likely: bool,
     },
-    /// To audit the sheet of a game, and to write the corrected record where `corrected` says so and it stands.
+    /// To audit the sheet of a game, and to write the corrected record if `corrected` says so and it stands.
     Audit {
         game: &'a str,
         corrected: bool,
     },
-    /// To show the board of a game, before a line where one is named.
+    /// To show the board of a game, before a line if one is named.
     Board {
         game: &'a str,
         line: Option<u32>,
     },
-    /// To find so many best plays on the board of a game, before a line where one is named; by a rack, or by the one that the line shows.
+    /// To find the best `number` plays on the board of a game, before a line if one is named; by a rack, or by the one that the line
+    /// shows.
     Top {
         game: &'a str,
         line: Option<u32>,
@@ -53,7 +54,7 @@ pub enum Request<'a> {
     Tidy {
         game: &'a str,
     },
-    /// To write the page of a game; where `likely` does not say so, without its likely repair.
+    /// To write the page of a game; unless `likely` says so, without its likely repair.
     Page {
         game: &'a str,
         likely: bool,
@@ -166,7 +167,7 @@ fn page_in<'a>(object: &'a Value) -> Result<Request<'a>, Refusal<'a>>
     })
 }
 
-/// What an object that names a command asks for.
+/// The request of an object that names a command.
 fn request_for<'a>(
     alloc: Global,
     object: &'a Value,
@@ -186,7 +187,7 @@ fn request_for<'a>(
     }
 }
 
-/// What an object asks for, or why it asks for nothing.
+/// The request of an object, or why it is not one.
 #[tactic(auto, using(crate::proofs::Named::asks))]
 pub fn request_in<'a>(alloc: Global, object: &'a Value) -> Result<Request<'a>, Refusal<'a>>
     ensures { IfOk result (IsRequestIn (view object.now)) }

@@ -1,8 +1,8 @@
-//! Settles records and shows what was found, for a judge who checks it: `settle_probe WORDS RULES BUDGET RECORD..`. `-` stands
-//! for the rules of the English game, and for the budget that is always given. Of each record it prints its name; then
-//! `dealt`, and of each step both racks and what is thrown; or `cut`, the kinds that are counted, whether the steps before the last of
-//! these have a deal, `dealt` or `unsettled`, and of each of the first steps the places where they are; or `unknown`; or `refused`, where the events are not allowed. Last stands the processor
-//! time in nanoseconds. All of it is printed at the end.
+//! Settles records and shows what was found, for a judge that checks it: `settle_probe WORDS RULES BUDGET RECORD..`. `-` stands for the rules of the
+//! English game, and for the usual budget. For each record it prints its name; then `dealt`, and for each step both racks and what is thrown; or
+//! `cut`, the kinds that are counted, whether the steps before the last of these have a deal, `dealt` or `unsettled`, and for each of the first steps
+//! the places where they are; or `unknown`; or `refused`, if the events are not allowed. The processor time in nanoseconds comes last. All of it is
+//! printed at the end.
 #![tactic(auto)]
 
 mod reports;
@@ -22,7 +22,7 @@ use std::rt::Runtime;
 use std::time::CpuClock;
 use std::{env, fs};
 
-/// The most bytes of an input.
+/// The greatest number of bytes of an input.
 const LIMIT: usize = 64 << 20;
 
 fn main(rt: HostRuntime) -> ExitCode {
@@ -36,7 +36,7 @@ fn main(rt: HostRuntime) -> ExitCode {
     })
 }
 
-/// By what records are settled.
+/// What records are settled by.
 #[derive(Clone, Copy)]
 struct Judge<'a> {
     list: &'a WordList,
@@ -44,7 +44,7 @@ struct Judge<'a> {
     budget: Option<usize>,
 }
 
-/// Settles the records that the arguments name. There is nothing to tell where an input cannot be read.
+/// Settles the records that the arguments name. It prints nothing if an input cannot be read.
 fn tell_all<R: Runtime + AllocGlobal + CpuClock>(rt: &R, report: &mut Report) -> Option<()> {
     let args: Vec<String> = env::args(rt).ok()?.collect(rt.alloc()).ok()?;
     let [_, words, rules, budget, names @ ..] = args.as_slice() else {
@@ -111,7 +111,7 @@ fn tell_record<R: Runtime + AllocGlobal + CpuClock>(
     tell_steps(rt, judge, all.as_slice(), report)
 }
 
-/// Settles steps, and tells the time that it took.
+/// Settles steps, and prints the time that it took.
 fn tell_steps<R: Runtime + AllocGlobal + CpuClock>(
     rt: &R,
     judge: &Judge<'_>,

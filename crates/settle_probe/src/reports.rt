@@ -13,7 +13,7 @@ const LETTERS: [&str; KINDS] = [
     "T", "U", "V", "W", "X", "Y", "Z", "?",
 ];
 
-/// The text that is printed at the end. Where memory is refused it lacks what came then.
+/// The text that is printed at the end. If memory is refused, it lacks what came then.
 #[derive(Drop)]
 pub struct Report {
     text: String,
@@ -92,12 +92,12 @@ impl Report {
         }
     }
 
-    /// Appends a truth value behind a space.
+    /// Appends a truth value after a space.
     fn push_flag(&mut self, flag: bool) {
         self.push(if flag { " true" } else { " false" });
     }
 
-    /// Appends the letters of some tiles behind a point.
+    /// Appends the letters of some tiles after a point.
     fn push_letters(&mut self, tiles: &Counts) {
         let numbers = tiles.numbers();
         self.push(".");
@@ -106,7 +106,7 @@ impl Report {
         }
     }
 
-    /// Appends a letter so many times.
+    /// Appends a letter `times` times.
     fn push_times(&mut self, letter: &str, times: u8) {
         for _ in 0..times {
             self.push(letter);

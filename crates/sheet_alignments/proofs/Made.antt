@@ -1,4 +1,4 @@
--- That each event of a merged record is an event of one of the sheets.
+-- Each event of a merged record is an event of one of the sheets.
 use Rattle.std.proofs.Common.{◌≡◌, ◌⊎◌, inl, inr, ℕ, ◌<◌, List, [], ◌∷◌, ◌++◌, length, get_or, slice_get, Some, Option, None, refl, sym, ap, ◌∙◌, subst, arith, rules}
 use Rattle.std.specs.Prelude.{Bool, true, false, All, Contains}
 use Rattle.std.specs.Option.{option_or}
@@ -40,7 +40,7 @@ one_player First Second is = cc
 one_player Second First is = cc
 one_player Second Second is = refl
 
--- where the rack comes from, where both lines are of one player, and where they are not
+-- where the rack comes from, if both lines are of one player and if they are not
 rack_by : (owner : Seat) (a b e : Event) (is_same : Bool) → same_seat a.player b.player ≡ is_same
     → (rack_of owner a b e ≡ e.rack) ⊎ ((a.player ≡ b.player) × ((rack_of owner a b e ≡ a.rack) ⊎ (rack_of owner a b e ≡ b.rack)))
 rack_by owner a b e true is = rw is (inr (one_player a.player b.player is, side_either (own_side owner e.player) a.rack b.rack))

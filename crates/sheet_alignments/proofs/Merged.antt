@@ -1,4 +1,4 @@
--- A merged record with one pair more, and that of a sheet and itself.
+-- A merged record with one more pair, and that of a sheet and itself.
 use Rattle.std.proofs.Common.{◌≡◌, ◌⊎◌, inl, inr, ℕ, zero, suc, ◌+◌, ◌<◌, ◌≤◌, List, [], ◌∷◌, ◌++◌, map, length, drop, get_or, slice_get, Some, Option, None, refl, sym, ap, ◌∙◌, subst, arith, append_assoc, append-nil}
 use Rattle.std.specs.Prelude.{Bool, true, false, not, ◌&&◌, if◌then◌else◌}
 use Rattle.std.specs.List.{range_with_len}
@@ -26,7 +26,7 @@ next_is i = omega arith
 dropped : {X : Type 0} (xs : List X) (i : ℕ) (d : X) → i < length xs → drop i xs ≡ get_or xs i d ∷ drop (i + 1) xs
 dropped xs i d within = dropped_next xs i d within ∙ ap (λ k. get_or xs i d ∷ drop k xs) (next_is i)
 
--- one pair more is taken
+-- one more pair is taken
 pub pair_more : (owner : Seat) (whose : NumbersOf) (choice number next : ℕ) (first second : List Event) (pairs : List Pair) (i : ℕ) (d : Pair) (events new all : List Event)
     → i < length pairs → next ≡ next_item number (get_or pairs i d) → new ≡ events ++ taken_of owner whose choice number first second (get_or pairs i d)
     → events ++ merged_from owner whose choice number first second (drop i pairs) ≡ all
@@ -52,7 +52,7 @@ unfolding merged_from
 pairs_all owner whose choice number first second pairs i events all past so_far =
     sym (append-nil events) ∙ ap (λ (xs : List Pair). events ++ merged_from owner whose choice number first second xs) (sym (past_all pairs i past)) ∙ so_far
 
--- ---- how many pairs differ
+-- ---- the number of pairs that differ
 
 item_by : (number : ℕ) (p : Pair) (rest : List Pair) (b : Bool) → p.agrees ≡ b → next_item number p + length (items_of rest) ≡ number + length (items_of (p ∷ rest))
 item_by number p rest true is = rw is refl

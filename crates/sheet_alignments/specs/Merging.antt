@@ -1,8 +1,8 @@
--- A record that is made of two sheets.
+-- A record made from two sheets.
 --
--- Where the lines of a pair differ, they are an item, and a choice takes one of them, or leaves a line out that only one sheet has. A choice is a number:
--- the items are numbered from 0 in the order of the game, and the choice takes the second sheet's line of an item where the binary digit of its number is 1. Only the
--- first 12 items are varied.
+-- If the lines of a pair differ, they are an item, and a choice takes one of them, or leaves out a line that only one sheet has. A
+-- choice is a number: the items are numbered from 0 in the order of the game, and the choice takes the second sheet's line of an
+-- item if the binary digit of its number is 1. Only the first 12 items are varied.
 use Rattle.std.specs.Prelude.{ℕ, ◌+◌, ◌/◌, ◌%◌, ◌^◌, ◌==◌, ◌&&◌, nat_lt, min, not, Bool, true, false, List, [], ◌∷◌, ◌++◌, length, filter, slice_get, Option, Some, None, if◌then◌else◌}
 use Rattle.std.specs.Option.{option_or}
 use Rattle.gcg_read.specs.Players.{same_seat}
@@ -21,47 +21,47 @@ use Rattle.sheet_alignments.specs.Agreeing.{has_amount}
 abbrev pub with_rack : Event → Option (List ℕ) → Event
 with_rack e tiles = record e { rack = tiles }
 
--- the line at a place, where there is a place
+-- the line at a place, if there is a place
 abbrev pub line_at : List Event → Option ℕ → Option Event
 line_at events None = None
 line_at events (Some place) = slice_get events place
 
--- Whose sheet the first one is, the second one is the other player's.
+-- The first sheet belongs to `owner`, the second one to the other player.
 abbrev pub own_side : (owner player : Seat) → Side
 own_side owner player = if same_seat owner player then side.First else side.Second
 
--- that of two things which belongs to a side
+-- the one of two things that belongs to a side
 abbrev pub of_side : {X : Type 0} → Side → X → X → X
 of_side side.First a b = a
 of_side side.Second a b = b
 
--- The rack of an event that is taken of two lines: what the player's own sheet says, or where that says nothing, what the other one does; where the lines are of
--- different players, what the line says that is taken.
+-- The rack of an event taken from two lines: what the player's own sheet says, or if that says nothing, what the other one does; if
+-- the lines are of different players, what the line that is taken says.
 abbrev pub rack_of : (owner : Seat) → (a b e : Event) → Option (List ℕ)
 rack_of owner a b e =
     if same_seat a.player b.player then of_side (own_side owner e.player) (option_or a.rack b.rack) (option_or b.rack a.rack) else e.rack
 
--- an event with the total of a line, and with its score, where that is not an amount that no rule gives
+-- an event with the total of a line, and with its score unless that is an amount that no rule gives
 abbrev pub with_numbers_of : Event → (line : Event) → Event
 with_numbers_of e line = record e { score = if has_amount e.kind then e.score else line.score; total = line.total }
 
--- an event that is taken of two lines, with its own numbers or those of a sheet
+-- an event taken from two lines, with its own numbers or those of a sheet
 abbrev pub numbered : NumbersOf → (a b e : Event) → Event
 numbered numbers.Taken a b e = e
 numbered (numbers.Sheet which) a b e = with_numbers_of e (of_side which a b)
 
--- the event that is taken of two lines
+-- the event taken from two lines
 abbrev pub taken : (owner : Seat) → NumbersOf → Side → (a b : Event) → Event
 taken owner whose which a b = with_rack (numbered whose a b (of_side which a b)) (rack_of owner a b (of_side which a b))
 
--- what is taken of a pair: an event of two lines; of a line alone that line, or nothing
+-- what is taken from a pair: an event of two lines; for a line without a partner, that line or nothing
 abbrev pub events_of : (owner : Seat) → NumbersOf → Side → Option Event → Option Event → List Event
 events_of owner whose which (Some a) (Some b) = taken owner whose which a b ∷ []
 events_of owner whose which (Some a) None = of_side which (a ∷ []) []
 events_of owner whose which None (Some b) = of_side which [] (b ∷ [])
 events_of owner whose which None None = []
 
--- which line tells more where both agree: the second, where it alone has the tiles of an exchange
+-- which line says more if both agree: the second, if only it has the tiles of an exchange
 abbrev pub tells_tiles : Option Event → Bool
 tells_tiles None = false
 tells_tiles (Some e) = has_tiles e.kind where
@@ -72,29 +72,29 @@ tells_tiles (Some e) = has_tiles e.kind where
 abbrev pub fuller_side : Option Event → Option Event → Side
 fuller_side a b = if not (tells_tiles a) && tells_tiles b then side.Second else side.First
 
--- the side that a choice takes of the item with a number
+-- the side that a choice takes for the item with a number
 abbrev pub chosen_side : (choice number : ℕ) → Side
 chosen_side choice number = if nat_lt number 12 && choice / 2 ^ number % 2 == 1 then side.Second else side.First
 
 abbrev pub side_of : (choice number : ℕ) → Pair → Option Event → Option Event → Side
 side_of choice number p a b = if p.agrees then fuller_side a b else chosen_side choice number
 
--- the number of the item behind a pair
+-- the number of the item after a pair
 abbrev pub next_item : (number : ℕ) → Pair → ℕ
 next_item number p = if p.agrees then number else number + 1
 
--- what is taken of a pair, if its item has this number
+-- what is taken from a pair, if its item has this number
 abbrev pub taken_of : (owner : Seat) → NumbersOf → (choice number : ℕ) → (first second : List Event) → Pair → List Event
 taken_of owner whose choice number first second p =
     events_of owner whose (side_of choice number p (line_at first p.first) (line_at second p.second)) (line_at first p.first) (line_at second p.second)
 
--- the events of some pairs, if their items are numbered from here
+-- the events of some pairs, with their items numbered from here
 unfoldable pub merged_from : (owner : Seat) → NumbersOf → (choice number : ℕ) → (first second : List Event) → List Pair → List Event
 merged_from owner whose choice number first second [] = []
 merged_from owner whose choice number first second (p ∷ pairs) =
     taken_of owner whose choice number first second p ++ merged_from owner whose choice (next_item number p) first second pairs
 
--- The record that a choice makes of two sheets.
+-- The record that a choice makes from two sheets.
 abbrev pub merged : (owner : Seat) → NumbersOf → (choice : ℕ) → (first second : List Event) → List Pair → List Event
 merged owner whose choice first second pairs = merged_from owner whose choice 0 first second pairs
 
@@ -102,6 +102,6 @@ merged owner whose choice first second pairs = merged_from owner whose choice 0 
 abbrev pub items_of : List Pair → List Pair
 items_of pairs = filter (λ (p : Pair). not p.agrees) pairs
 
--- how many choices there are: two for each of the first 12 items
+-- the number of choices: two for each of the first 12 items
 abbrev pub many_choices : List Pair → ℕ
 many_choices pairs = 2 ^ min 12 (length (items_of pairs))

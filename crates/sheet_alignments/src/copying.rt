@@ -5,14 +5,14 @@ ghost use Rattle.sheet_alignments.specs.Merging.{with_rack};
 use gcg_read::{Event, EventKind, Text};
 use ref_tiles::Counts;
 
-/// The same text.
+/// A copy of the text.
 fn copy_text(text: &Text) -> Text
     ensures { result ≡ text.now }
 {
     Text::new(text.as_slice()).unwrap()
 }
 
-/// The same of what happened.
+/// A copy of the kind of an event.
 fn copy_kind(kind: &EventKind) -> EventKind
     ensures { result ≡ kind.now }
 {
@@ -32,7 +32,7 @@ fn copy_kind(kind: &EventKind) -> EventKind
     }
 }
 
-/// The same event with this rack.
+/// A copy of the event with this rack.
 pub(crate) fn copy_with_rack(event: &Event, rack: &Option<Counts>) -> Event
     ensures { result ≡ with_rack event.now rack.now }
 {

@@ -1,7 +1,7 @@
-//! Two sheets of one game, line beside line, and the records that can be made of both.
+//! Two sheets of one game, line by line, and the records that can be made from both.
 //!
-//! [`align`] puts the events of two sheets beside each other: those of one event of the game in a pair, and a line that the other sheet
-//! lacks alone. [`merge`] makes a record of both: where the lines of a pair say different things, a choice takes one of them.
+//! [`align`] aligns the events of two sheets: those of one event of the game in a pair, and a line that the other sheet lacks
+//! alone. [`merge`] makes a record from both: if the lines of a pair say different things, a choice takes one of them.
 #![tactic(auto)]
 
 mod agreeing;

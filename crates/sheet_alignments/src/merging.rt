@@ -1,4 +1,4 @@
-//! Records that are made of two sheets.
+//! Records made from two sheets.
 ghost use Rattle.std.specs.Prelude.{◌≡◌, ◌++◌, ◌∷◌, [], ◌<◌, ◌≤◌, true, false, List, length, if◌then◌else◌, IfOk, OnOk};
 ghost use Rattle.std.specs.Option.{option_or, option_copied};
 ghost use Rattle.sheet_alignments.specs.Merging.{line_at, own_side, of_side, rack_of, with_numbers_of, numbered, taken, events_of, tells_tiles, fuller_side, chosen_side, side_of, next_item, taken_of, merged, items_of, many_choices};
@@ -10,19 +10,19 @@ use gcg_read::{Event, EventKind, Events, Seat, same_seat};
 use ref_tiles::Counts;
 use std::alloc::{AllocError, Global};
 
-/// How many items are varied at the most.
+/// The maximum number of items that are varied.
 pub const MOST_ITEMS: usize = 12;
 
-/// Whose numbers the events have that are taken of two sheets.
+/// Which numbers the events taken from two sheets have.
 #[derive(Clone, Copy, Debug, PartialEq, Eq)]
 pub enum NumbersOf {
     /// Those of the line that is taken.
     Taken,
-    /// Those of one sheet, where it has a line of the event. An amount that no rule gives is that of the line that is taken.
+    /// Those of one sheet, if it has a line for the event. An amount that no rule gives is that of the line that is taken.
     Sheet(Side),
 }
 
-/// Which sheet is a player's own, where the first one is the owner's.
+/// Which sheet is a player's own, if the first one belongs to `owner`.
 pub fn own_side(owner: Seat, player: Seat) -> Side
     ensures { result ≡ own_side owner player }
 {
@@ -33,7 +33,7 @@ pub fn own_side(owner: Seat, player: Seat) -> Side
     }
 }
 
-/// That of two lines which stands on a sheet.
+/// The one of two lines that is on a sheet.
 fn of_side<'a>(side: Side, first: &'a Event, second: &'a Event) -> &'a Event
     ensures { result.now ≡ of_side side first.now second.now }
 {
@@ -43,7 +43,7 @@ fn of_side<'a>(side: Side, first: &'a Event, second: &'a Event) -> &'a Event
     }
 }
 
-/// The rack that one line states, or else the other.
+/// The rack that one line states, or else that of the other.
 fn rack_or(rack: &Option<Counts>, other: &Option<Counts>) -> Option<Counts>
     ensures { result ≡ option_or rack.now other.now }
 {
@@ -53,7 +53,7 @@ fn rack_or(rack: &Option<Counts>, other: &Option<Counts>) -> Option<Counts>
     }
 }
 
-/// The rack of an event that is taken of two lines.
+/// The rack of an event taken from two lines.
 fn rack_of(owner: Seat, first: &Event, second: &Event, event: &Event) -> Option<Counts>
     ensures { result ≡ rack_of owner first.now second.now event.now }
 {
@@ -66,7 +66,7 @@ fn rack_of(owner: Seat, first: &Event, second: &Event, event: &Event) -> Option<
     }
 }
 
-/// Gives an event the total of a line, and its score, where that is not an amount that no rule gives.
+/// Gives an event the total of a line, and its score unless that is an amount that no rule gives.
 fn renumber(event: &mut Event, line: &Event)
     ensures { event.new ≡ with_numbers_of event.old line.now }
 {
@@ -76,7 +76,7 @@ fn renumber(event: &mut Event, line: &Event)
     event.total = line.total;
 }
 
-/// Gives an event that is taken of two lines the numbers that it should have.
+/// Gives an event taken from two lines the numbers that it should have.
 fn number(event: &mut Event, whose: NumbersOf, first: &Event, second: &Event)
     ensures { event.new ≡ numbered whose first.now second.now event.old }
 {
@@ -86,7 +86,7 @@ fn number(event: &mut Event, whose: NumbersOf, first: &Event, second: &Event)
     }
 }
 
-/// The event that is taken of two lines.
+/// The event taken from two lines.
 fn taken(owner: Seat, whose: NumbersOf, side: Side, first: &Event, second: &Event) -> Event
     ensures { result ≡ taken owner whose side first.now second.now }
 {
@@ -97,7 +97,7 @@ fn taken(owner: Seat, whose: NumbersOf, side: Side, first: &Event, second: &Even
     event
 }
 
-/// The line at a place, where there is a place.
+/// The line at a place, if there is a place.
 pub(crate) fn line_at(events: &[Event], place: Option<usize>) -> Option<&Event>
     ensures { option_copied result ≡ line_at events.now place }
 {
@@ -107,7 +107,7 @@ pub(crate) fn line_at(events: &[Event], place: Option<usize>) -> Option<&Event>
     }
 }
 
-/// Whether a line tells the tiles of an exchange.
+/// Whether a line states the tiles of an exchange.
 fn tells_tiles(line: Option<&Event>) -> bool
     ensures { result ≡ tells_tiles (option_copied line.entry) }
 {
@@ -120,7 +120,7 @@ fn tells_tiles(line: Option<&Event>) -> bool
     }
 }
 
-/// Which line tells more where both agree.
+/// Which line says more if both agree.
 fn fuller_side(first: Option<&Event>, second: Option<&Event>) -> Side
     ensures { result ≡ fuller_side (option_copied first.entry) (option_copied second.entry) }
 {
@@ -131,7 +131,7 @@ fn fuller_side(first: Option<&Event>, second: Option<&Event>) -> Side
     }
 }
 
-/// Which side a choice takes of the item with a number.
+/// Which side a choice takes for the item with a number.
 pub fn chosen_side(choice: usize, number: usize) -> Side
     ensures { result ≡ chosen_side choice number }
 {
@@ -142,7 +142,7 @@ pub fn chosen_side(choice: usize, number: usize) -> Side
     }
 }
 
-/// Which side is taken of a pair.
+/// Which side is taken for a pair.
 fn side_of(
     choice: usize,
     number: usize,
@@ -159,7 +159,7 @@ fn side_of(
     }
 }
 
-/// Adds a line that one sheet has alone, where it is taken.
+/// Appends a line that only one sheet has, if it is taken.
 fn push_alone(events: &mut Events, line: &Event, is_taken: bool) -> Result<(), AllocError>
     ensures { OnOk result (events.new ≡ events.old ++ (if is_taken then (line.now ∷ []) else [])) }
 {
@@ -169,7 +169,7 @@ fn push_alone(events: &mut Events, line: &Event, is_taken: bool) -> Result<(), A
     Ok(())
 }
 
-/// Adds what is taken of two lines, or of one alone.
+/// Appends what is taken from two lines, or from a line without a partner.
 fn push_events(
     events: &mut Events,
     owner: Seat,
@@ -201,7 +201,7 @@ fn is_first(side: Side) -> bool
     }
 }
 
-/// The number of the item behind a pair.
+/// The number of the item after a pair.
 fn next_item(number: usize, pair: &Pair) -> usize
     requires { number < 18446744073709551615 }
     ensures { result ≡ next_item number pair.now }
@@ -209,7 +209,7 @@ fn next_item(number: usize, pair: &Pair) -> usize
     if pair.agrees { number } else { number + 1 }
 }
 
-/// Adds what is taken of a pair, if its item has this number.
+/// Appends what is taken from a pair, if its item has this number.
 fn push_pair(
     events: &mut Events,
     owner: Seat,
@@ -228,9 +228,9 @@ fn push_pair(
     push_events(events, owner, whose, side, line, other)
 }
 
-/// The record that a choice makes of two sheets, where the first one is the owner's.
+/// The record that a choice makes from two sheets, if the first one belongs to `owner`.
 ///
-/// It fails only where memory runs out.
+/// It fails only if memory runs out.
 pub fn merge(
     alloc: Global,
     owner: Seat,
@@ -260,7 +260,7 @@ pub fn merge(
     Ok(events)
 }
 
-/// How many pairs differ.
+/// The number of pairs that differ.
 pub fn many_items(pairs: &[Pair]) -> usize
     ensures { result ≡ length (items_of pairs.now) }
 {
@@ -271,7 +271,7 @@ pub fn many_items(pairs: &[Pair]) -> usize
     many
 }
 
-/// How many choices there are.
+/// The number of choices.
 pub fn many_choices(pairs: &[Pair]) -> usize
     ensures { result ≡ many_choices pairs.now }
 {

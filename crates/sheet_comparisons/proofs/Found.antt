@@ -1,4 +1,4 @@
--- The best of the choices, with one choice more.
+-- The best of the choices, with one more choice.
 use Rattle.std.proofs.Common.{◌≡◌, ◌⊎◌, inl, inr, ℕ, ◌+◌, ◌<◌, ◌≤◌, List, [], ◌∷◌, ◌++◌, Option, Some, None, refl, sym, ap, ◌∙◌, subst, arith, rules}
 use Rattle.std.specs.Prelude.{All, Contains, ⊤}
 use Rattle.std.proofs.lemmas.Bool.{cases_lt}
@@ -28,7 +28,7 @@ none_found law list s f none rivals left =
 one_right : OneCorrection → (rules : Rules) (list : List (List ℕ)) (written a b : List Event) → IsRight rules list written a → IsRight rules list written b → a ≡ b
 one_right one rules list written a b of_a of_b = one rules list written a b of_a.correction of_b.correction
 
--- ---- what held before holds with one choice more
+-- ---- what held before holds with one more choice
 
 later_best : (rules : Rules) (list : List (List ℕ)) (s : Sheets) (end : ℕ) (o : Option Best) → HasBest rules list s end o → HasBest rules list s (end + 1) o
 later_best rules list s end None has = tt

@@ -1,4 +1,4 @@
--- What comes of a choice of the lines of two sheets.
+-- The game that a choice of the lines of two sheets makes, and its cost.
 use Rattle.std.specs.Prelude.{◌≡◌, ℕ, ◌+◌, ◌-◌, ◌*◌, List, length}
 use Rattle.ref_tiles.specs.declared.rulebook.Rules.{Rules}
 use Rattle.gcg_read.specs.declared.events.Event.{Event}

@@ -17,7 +17,7 @@ use Rattle.sheet_comparisons.specs.Trials.{IsTrial}
 abbrev pub flipped : (choice number : ℕ) → ℕ
 flipped choice number = bit_xor choice (2 ^ number)
 
--- what comes of a choice with the other line of one item, for so many items
+-- the results of a choice with the other line of one item, for `many` items
 pub record AreFlipsTo (rules : Rules) (list : List (List ℕ)) (s : Sheets) (choice many : ℕ) (flips : List Trial) : Type 0 where
   pub as_many : length flips ≡ many
   pub each : (number : ℕ) (t : Trial) → slice_get flips number ≡ Some t → IsTrial rules list s (flipped choice number) t
@@ -26,7 +26,7 @@ pub record AreFlipsTo (rules : Rules) (list : List (List ℕ)) (s : Sheets) (cho
 abbrev pub AreFlips : Rules → (list : List (List ℕ)) → Sheets → (choice : ℕ) → List Trial → Type 0
 AreFlips rules list s choice flips = AreFlipsTo rules list s choice (min (length (items_of s.pairs.items)) 12) flips
 
--- the same of the best choice, where there is one
+-- the same for the best choice, if there is one
 abbrev pub FlipsOf : Rules → (list : List (List ℕ)) → Sheets → Option Best → List Trial → Type 0
 FlipsOf rules list s None flips = flips ≡ []
 FlipsOf rules list s (Some b) flips = AreFlips rules list s b.choice flips
@@ -36,7 +36,7 @@ abbrev pub IsStop : Rules → (list : List (List ℕ)) → Sheets → Option Sto
 IsStop rules list s None = ⊤
 IsStop rules list s (Some stop) = Stops rules list (choice_events s Taken stop.choice) stop.stopped
 
--- The best of all choices, what comes of it with the other line of each item, and where a choice stops that is not a game.
+-- The best of all choices, its results with the other line of each item, and where a choice that is not a game stops.
 pub record IsComparison (rules : Rules) (list : List (List ℕ)) (s : Sheets) (c : Comparison) : Type 0 where
   pub found : IsFoundTo rules list s (many_choices s.pairs.items) c.find
   pub flips : FlipsOf rules list s c.find.best c.flips.items

@@ -1,4 +1,4 @@
--- What comes of the numbers of some events.
+-- The result of correcting the numbers of some events.
 use Rattle.std.specs.Prelude.{◌≡◌, ℕ, List}
 use Rattle.ref_tiles.specs.declared.rulebook.Rules.{Rules}
 use Rattle.gcg_read.specs.declared.events.Event.{Event}

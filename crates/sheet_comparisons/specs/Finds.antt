@@ -11,7 +11,7 @@ use Rattle.sheet_comparisons.specs.declared.best.Best.{Best}
 use Rattle.sheet_comparisons.specs.declared.finds.Find.{Find}
 use Rattle.sheet_comparisons.specs.Choices.{choice_events, IsRight, MakesGame, cost_of}
 
--- a choice that makes a game, and what is told of it
+-- a choice that makes a game, and what is kept of it
 pub record IsGameOf (rules : Rules) (list : List (List ℕ)) (s : Sheets) (b : Best) : Type 0 where
   pub makes : MakesGame rules list s b.choice b.right
   pub costs : b.cost ≡ cost_of rules list s b.choice b.right
@@ -52,18 +52,18 @@ abbrev pub IsTold : Option Best → (rivals : List ℕ) → (choice cost : ℕ) 
 IsTold None rivals choice cost = ⊥
 IsTold (Some b) rivals choice cost = (choice ≡ b.choice) ⊎ (b.cost < cost) ⊎ Contains rivals choice
 
--- A choice whose racks no deal was found for, nor a proof that there is none.
+-- A choice for whose racks neither a deal nor a proof that there is none was found.
 pub record IsOpen (rules : Rules) (list : List (List ℕ)) (s : Sheets) (choice : ℕ) : Type 0 where
   pub right : List Event
   pub is : IsRight rules list (choice_events s Taken choice) right
   pub unsettled : IsUnsettled rules list right
 
--- A choice makes no game, or it is left open, or it is told of.
+-- A choice makes no game, or it is left open, or it is among those that are given.
 abbrev pub IsAccounted : Rules → (list : List (List ℕ)) → (right : List Event) → Option Best → (rivals left : List ℕ) → (choice cost : ℕ) → Type 0
 IsAccounted rules list right best rivals left choice cost = (IsGame rules list right → ⊥) ⊎ Contains left choice ⊎ IsTold best rivals choice cost
 
--- The best of the choices before one: of those that make a game one that costs the least, the others that cost as little, and those that are left open, but for some that cost
--- more than the best.
+-- The best of the choices before one: one of those that make a game and cost the least, the others that cost as little, and those that are left open,
+-- except some that cost more than the best.
 pub record IsFoundTo (rules : Rules) (list : List (List ℕ)) (s : Sheets) (end : ℕ) (f : Find) : Type 0 where
   pub best : HasBest rules list s end f.best
   pub rivals : All (IsRivalOf rules list s f.best) f.rivals.items

@@ -17,6 +17,6 @@ IsAheadAlone =
     (rules : Rules) (list : List (List ℕ)) (s : Sheets) (end : ℕ) (f : Find) (b : Best) → IsFoundTo rules list s end f → f.best ≡ Some b → f.rivals.items ≡ [] → f.left.items ≡ []
     → (choice : ℕ) (right : List Event) → choice < end → (choice ≡ b.choice → ⊥) → MakesGame rules list s choice right → b.cost < cost_of rules list s choice right
 
--- Any choice of a sheet and itself has the events of the sheet.
+-- Any choice between a sheet and itself has the events of the sheet.
 abbrev pub HasItsEvents : Type 0
 HasItsEvents = (sheet : Record) (s : Sheets) (choice : ℕ) → AreSheets sheet sheet s → choice_events s Taken choice ≡ sheet.events

@@ -7,7 +7,7 @@ use Rattle.engine.specs.Verdicts.{IsGame, IsUnsettled}
 use Rattle.sheet_comparisons.specs.declared.settling.Outcome.{Outcome}
 use Rattle.sheet_comparisons.specs.declared.settling.Outcome.TheVariants as outcome
 
--- the events are a game, or none, or neither a deal was found nor a proof that there is none
+-- the events are a game, or not, or neither a deal nor a proof that there is none was found
 abbrev pub IsOutcome : Rules → (list : List (List ℕ)) → List Event → Outcome → Type 0
 IsOutcome rules list events (outcome.Game complete) = IsGame rules list events × (complete ≡ is_finished rules events)
 IsOutcome rules list events outcome.NoGame = IsGame rules list events → ⊥

@@ -1,4 +1,4 @@
--- Two sheets of one game, line beside line.
+-- Two sheets of one game, line by line.
 use Rattle.std.specs.Prelude.{◌≡◌, ℕ, ◌+◌, ◌&&◌, nat_lt, Bool, List, filter, length, is_some, if◌then◌else◌}
 use Rattle.gcg_read.specs.Players.{same_seat}
 use Rattle.gcg_read.specs.declared.events.Event.{Event}
@@ -16,11 +16,12 @@ states_rack player e = same_seat e.player player && is_some e.rack
 abbrev pub racks_of : (player : Seat) → List Event → ℕ
 racks_of player events = length (filter (states_rack player) events)
 
--- Whose sheet the first one is: the sheets are those with which more of the stated racks are the own player's. If both ways are as good, the first one is the first player's.
+-- Whose sheet the first one is: the choice with which more of the stated racks are those of the player whose sheet states them. If both choices are
+-- as good, the first sheet is the first player's.
 abbrev pub owner_of : (first second : List Event) → Seat
 owner_of first second = if nat_lt (racks_of First first + racks_of Second second) (racks_of Second first + racks_of First second) then Second else First
 
--- Two sheets, whose they are, and their lines beside each other.
+-- Two sheets, whose they are, and their lines, aligned.
 pub record AreSheets (one other : Record) (s : Sheets) : Type 0 where
   pub is_first : s.first ≡ one
   pub is_second : s.second ≡ other

@@ -1,4 +1,4 @@
--- What comes of one choice.
+-- The result of one choice.
 use Rattle.std.specs.Prelude.{◌≡◌, ℕ, List}
 use Rattle.ref_tiles.specs.declared.rulebook.Rules.{Rules}
 use Rattle.gcg_read.specs.declared.events.Event.{Event}
@@ -17,7 +17,7 @@ pub record MakesNoGame (rules : Rules) (list : List (List ℕ)) (s : Sheets) (ch
   pub is : IsRight rules list (choice_events s Taken choice) right
   pub none : IsGame rules list right → ⊥
 
--- What comes of a choice: an event is refused whatever its numbers are, or no deal yields the racks, or that is not known, or it makes a game.
+-- The result of a choice: an event is refused whatever its numbers are, or no deal yields the racks, or that is not known, or it makes a game.
 abbrev pub IsTrial : Rules → (list : List (List ℕ)) → Sheets → (choice : ℕ) → Trial → Type 0
 IsTrial rules list s choice (trial.Stops stopped) = Stops rules list (choice_events s Taken choice) stopped
 IsTrial rules list s choice trial.NoGame = MakesNoGame rules list s choice

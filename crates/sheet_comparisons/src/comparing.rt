@@ -28,9 +28,9 @@ pub struct Stop {
 pub struct Comparison {
     /// The best of all choices.
     pub find: Find,
-    /// What comes of the best choice with the other line of an item, for each item that is varied; none where no choice is known to make a game.
+    /// The result of the best choice with the other line of an item, for each item that is varied; none if no choice is known to make a game.
     pub flips: Vec<Trial>,
-    /// Where no choice is known to make a game, one that goes furthest, if the rules refuse each.
+    /// If no choice is known to make a game, the furthest stop of the choices that the rules refuse.
     pub furthest: Option<Stop>,
 }
 
@@ -58,7 +58,7 @@ fn find_best(
     Ok(found)
 }
 
-/// What comes of a choice with the other line of each item.
+/// The results of a choice with the other line of each item.
 fn flips_of(
     alloc: Global,
     rules: &Rules,
@@ -76,7 +76,7 @@ fn flips_of(
     Ok(flips)
 }
 
-/// The same of the best choice, where there is one.
+/// The same for the best choice, if there is one.
 fn flips_by(
     alloc: Global,
     rules: &Rules,
@@ -109,7 +109,7 @@ fn stop_of(
     }
 }
 
-/// That of two which goes further, or the first.
+/// The stop of two that is further, or the first.
 fn further(first: Option<Stop>, second: Option<Stop>) -> Option<Stop>
     ensures { (result ≡ first) ⊎ (result ≡ second) }
 {
@@ -126,7 +126,7 @@ fn further(first: Option<Stop>, second: Option<Stop>) -> Option<Stop>
     }
 }
 
-/// One of the choices that go furthest, of those that the rules refuse.
+/// The furthest stop of the choices that the rules refuse.
 fn furthest(
     alloc: Global,
     rules: &Rules,
@@ -143,7 +143,7 @@ fn furthest(
     Ok(found)
 }
 
-/// The same, where no choice is known to make a game.
+/// The same, if no choice is known to make a game.
 fn furthest_by(
     alloc: Global,
     rules: &Rules,
@@ -161,7 +161,7 @@ fn furthest_by(
 
 /// Compares two sheets of one game: tries each choice of their lines.
 ///
-/// It fails only where memory runs out.
+/// It fails only if memory runs out.
 pub fn compare(
     alloc: Global,
     rules: &Rules,

@@ -31,7 +31,7 @@ pub struct Stopped {
     pub refusal: Refusal,
 }
 
-/// What comes of the numbers of some events.
+/// The result of correcting the numbers of some events.
 #[derive(Drop)]
 pub(crate) enum Correction {
     /// The correction stops.
@@ -40,7 +40,7 @@ pub(crate) enum Correction {
     Right(Corrected),
 }
 
-/// One for a play that stands with a word that is not in the list, and else none.
+/// 1 for a play that stands with a word that is not in the list, and otherwise 0.
 fn unlisted_here(row: &Row) -> usize
     ensures number { result ≡ (if not row.now.listed then 1 else 0) }
     ensures few { result ≤ 1 }
@@ -61,7 +61,7 @@ fn unlisted_plays(rows: &[Row]) -> usize
 
 /// Corrects the numbers of some events.
 ///
-/// It fails only where memory runs out.
+/// It fails only if memory runs out.
 pub(crate) fn correct(
     alloc: Global,
     rules: &Rules,

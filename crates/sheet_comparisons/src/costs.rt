@@ -14,7 +14,7 @@ use gcg_read::Event;
 use sheet_alignments::{NumbersOf, Side};
 use std::alloc::{AllocError, Global};
 
-/// One where the score of a line is wrong, and else none.
+/// 1 if the score of a line is wrong, and otherwise 0.
 fn score_wrong(line: &Event, right: &Event) -> usize
     ensures number { result ≡ (if int_eq line.now.score right.now.score then 0 else 1) }
     ensures few { result ≤ 1 }
@@ -26,7 +26,7 @@ fn score_wrong(line: &Event, right: &Event) -> usize
     }
 }
 
-/// One where the total of a line is wrong, by what its player had, and else none.
+/// 1 if the total of a line is wrong, by what its player had, and otherwise 0.
 fn sum_wrong(line: &Event, had: i32) -> usize
     requires { IsPoints had }
     ensures number { result ≡ (if int_eq line.now.total (had +ℤ line.now.score) then 0 else 1) }
@@ -49,9 +49,9 @@ fn lesser(number: usize, other: usize) -> usize
 /// How many numbers of a line are wrong.
 #[derive(Clone, Copy)]
 struct Wrong {
-    /// One where its score is, and else none.
+    /// 1 if its score is, and otherwise 0.
     score: usize,
-    /// One where its total is, and else none.
+    /// 1 if its total is, and otherwise 0.
     sum: usize,
 }
 
@@ -69,7 +69,7 @@ fn wrong_at(written: &[Event], right: &[Event], place: usize) -> Wrong
     Wrong { score, sum }
 }
 
-/// How many numbers of the lines are wrong beside the right ones.
+/// How many numbers of the lines are wrong, compared with the right ones.
 fn many_wrong(written: &[Event], right: &[Event]) -> u128
     ensures many { result ≡ length (wrong_lines written.now right.now) }
     ensures few { result ≤ 36893488147419103230 }
@@ -100,7 +100,8 @@ fn wrong_on(
     Ok(many_wrong(written.as_slice(), right))
 }
 
-/// What it costs that so many numbers are wrong on each sheet, so many words are not in the list, and so many lines are left out.
+/// The cost of `first` and `second` wrong numbers on the two sheets, `unlisted` plays with a word that is not in the list, and
+/// `left_out` lines that are left out.
 fn costs(first: u128, second: u128, unlisted: usize, left_out: usize) -> u128
     requires first { first ≤ 36893488147419103230 }
     requires second { second ≤ 36893488147419103230 }
@@ -111,7 +112,7 @@ fn costs(first: u128, second: u128, unlisted: usize, left_out: usize) -> u128
 
 /// What a choice costs.
 ///
-/// It fails only where memory runs out.
+/// It fails only if memory runs out.
 pub(crate) fn cost_of(
     alloc: Global,
     sheets: &Sheets,

@@ -19,11 +19,11 @@ use std::alloc::{AllocError, Global};
 /// The best of the choices.
 #[derive(Drop)]
 pub struct Find {
-    /// One of those that make a game that costs the least; none where no choice is known to make a game.
+    /// One of those that make a game and cost the least; none if no choice is known to make a game.
     pub best: Option<Best>,
     /// The others that make a game and cost as little.
     pub rivals: Vec<usize>,
-    /// Those of which it is not known whether they make a game, but for some that cost more.
+    /// Those for which it is not known whether they make a game, except some that cost more.
     pub left: Vec<usize>,
 }
 
@@ -32,7 +32,7 @@ impl Find {
     ghost use Rattle.std.specs.Prelude.{List, ℕ};
     ghost use Rattle.ref_tiles.specs.declared.rulebook.Rules.{Rules};
 
-    /// What is found before any choice was tried.
+    /// What is found before any choice is tried.
     #[tactic(auto, using(crate::proofs::Found::none_found))]
     pub(crate) fn new(alloc: Global) -> Find
         ensures { (rules : Rules) (list : List (List ℕ)) (s : Sheets) → IsFoundTo rules list s 0 result }
@@ -135,7 +135,7 @@ impl Find {
 
     /// Tries the next choice.
     ///
-    /// It fails only where memory runs out.
+    /// It fails only if memory runs out.
     pub(crate) fn try_choice(
         &mut self,
         alloc: Global,

@@ -7,7 +7,7 @@ pub fn law_of_bests()
     ensures { IsAheadAlone }
 {}
 
-/// Any choice of a sheet and itself has the events of the sheet.
+/// Any choice between a sheet and itself has the events of the sheet.
 #[tactic(auto, using(crate::proofs::Ahead::own_events))]
 pub fn law_of_own_sheets()
     ensures { HasItsEvents }

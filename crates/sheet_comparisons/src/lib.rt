@@ -1,7 +1,7 @@
 //! Two players' sheets of one game: where they differ, and the record that the rules support.
 //!
-//! [`Sheets`] are two sheets line beside line. [`compare`] tries each choice of their lines, and finds the one of those that are a legal game
-//! once their numbers are corrected with which the least is wrong on both sheets.
+//! [`Sheets`] are two sheets line by line. [`compare`] tries each choice of their lines. Of those that are a legal game once their numbers
+//! are corrected, it finds the one with which the least is wrong on both sheets.
 #![tactic(auto)]
 
 mod best;

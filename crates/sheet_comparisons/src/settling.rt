@@ -13,7 +13,7 @@ use lex_list::WordList;
 use ref_tiles::Rules;
 use std::alloc::{AllocError, Global};
 
-/// What is found of a record of which the rules allow every event.
+/// What is found of a record in which the rules allow every event.
 #[derive(Clone, Copy)]
 pub(crate) enum Outcome {
     /// Some deal yields every rack.
@@ -23,7 +23,7 @@ pub(crate) enum Outcome {
     },
     /// No deal does.
     NoGame,
-    /// Neither a deal was found nor a proof that there is none.
+    /// Neither a deal nor a proof that there is none was found.
     Unsettled,
 }
 
@@ -45,9 +45,9 @@ fn outcome_of(alloc: Global, passed: &Passed<'_>) -> Result<Outcome, AllocError>
     }
 }
 
-/// What is found of a record of which the rules allow every event.
+/// What is found of a record in which the rules allow every event.
 ///
-/// It fails only where memory runs out.
+/// It fails only if memory runs out.
 pub(crate) fn settled(
     alloc: Global,
     rules: &Rules,

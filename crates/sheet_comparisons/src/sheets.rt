@@ -1,4 +1,4 @@
-//! Two sheets of one game, line beside line.
+//! Two sheets of one game, line by line.
 ghost use Rattle.std.specs.Prelude.{◌≡◌, ◌+◌, ◌<◌, ◌≤◌, length, if◌then◌else◌};
 ghost use Rattle.sheet_comparisons.specs.Sheets.{states_rack, racks_of, owner_of};
 
@@ -13,7 +13,7 @@ fn states_rack(player: Seat, event: &Event) -> bool
     same_seat(event.player, player) && event.rack.is_some()
 }
 
-/// How many racks of a player are known behind one line more.
+/// How many racks of a player are known with one more line.
 fn more_racks(many: usize, player: Seat, event: &Event) -> usize
     requires { many < 18446744073709551615 }
     ensures { result ≡ (if states_rack player event.now then many + 1 else many) }
@@ -50,7 +50,7 @@ fn owner_of(first: &[Event], second: &[Event]) -> Seat
     }
 }
 
-/// Two sheets of one game, line beside line.
+/// Two sheets of one game, line by line.
 #[derive(Drop)]
 pub struct Sheets {
     /// The first sheet.
@@ -59,7 +59,7 @@ pub struct Sheets {
     pub second: Record,
     /// Whose sheet the first one is.
     pub owner: Seat,
-    /// The lines of both, beside each other.
+    /// The lines of both, aligned.
     pub pairs: Vec<Pair>,
 }
 
@@ -68,9 +68,9 @@ impl Sheets {
     ghost use Rattle.sheet_comparisons.specs.Sheets.{AreSheets};
     ghost use Rattle.sheet_comparisons.specs.Choices.{choice_events};
 
-    /// Puts two sheets beside each other.
+    /// Aligns two sheets.
     ///
-    /// It fails only where memory runs out.
+    /// It fails only if memory runs out.
     pub fn new(alloc: Global, first: Record, second: Record) -> Result<Sheets, AllocError>
         ensures { IfOk result (AreSheets first second) }
     {

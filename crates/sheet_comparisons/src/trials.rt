@@ -1,4 +1,4 @@
-//! What comes of one choice.
+//! The result of one choice.
 ghost use Rattle.std.specs.Prelude.{◌≡◌, IfOk};
 ghost use Rattle.sheet_alignments.specs.declared.merging.NumbersOf.TheVariants.{Taken};
 ghost use Rattle.sheet_comparisons.specs.Choices.{choice_events};
@@ -16,20 +16,20 @@ use ref_tiles::Rules;
 use sheet_alignments::NumbersOf;
 use std::alloc::{AllocError, Global};
 
-/// What comes of one choice.
+/// The result of one choice.
 #[derive(Drop)]
 pub enum Trial {
     /// An event is refused whatever its numbers are.
     Stops(Stopped),
     /// No deal yields the racks.
     NoGame,
-    /// Neither a deal was found nor a proof that there is none.
+    /// Neither a deal nor a proof that there is none was found.
     Open,
     /// It makes a game.
     Game(Best),
 }
 
-/// What comes of a choice whose events have right numbers.
+/// The result of a choice whose events have right numbers.
 fn right_trial(
     alloc: Global,
     rules: &Rules,
@@ -61,9 +61,9 @@ fn right_trial(
     }
 }
 
-/// What comes of a choice.
+/// The result of a choice.
 ///
-/// It fails only where memory runs out.
+/// It fails only if memory runs out.
 pub(crate) fn what_comes_of(
     alloc: Global,
     rules: &Rules,

@@ -1,4 +1,4 @@
-//! An audit and a board as JSON, made of their values alone.
+//! An audit and a board as JSON, made only from their values.
 #![tactic(auto)]
 
 mod audits;

@@ -12,6 +12,6 @@ pub fields_cut : (line : List ℕ) (i : ℕ) → Some i ≡ position is_tab line
     → slice_split is_tab line ≡ take i line ∷ slice_split is_tab (take (length line - (i + 1)) (drop (i + 1) line))
 fields_cut line i e = rw (rest_is (i + 1) line) (split_at is_tab line i (sym e))
 
--- a field more, and the fields after its tab
+-- one more field, and the fields after its tab
 pub one_field_more : (read next : List (List ℕ)) (field : List ℕ) → (read ++ unescaped field ∷ []) ++ map unescaped next ≡ read ++ map unescaped (field ∷ next)
 one_field_more read next field = append_assoc read (unescaped field ∷ []) (map unescaped next)

@@ -1,4 +1,4 @@
--- Escapes are undone, and no tab and no LF comes out of one.
+-- Undoing escapes; no escape has a tab or an LF.
 use Rattle.std.proofs.Common.{◌≡◌, ℕ, ◌==◌, Bool, true, false, List, [], ◌∷◌, ◌++◌, refl, ap, ◌∙◌, arith}
 use Rattle.std.specs.List.{list_all}
 use Rattle.std.proofs.lemmas.List.Folds.{list_all-append}
@@ -20,7 +20,7 @@ unfolding escaped
 undone [] = refl
 undone (byte ∷ text) = undone_by byte (escaped text) _ _ _ refl refl refl refl ∙ ap (λ l. byte ∷ l) (undone text)
 
--- ---- bytes that an escape does not let through
+-- ---- bytes that no escape has
 
 kept_by : (stays : ℕ → Bool) → stays 92 ≡ true → stays 116 ≡ true → stays 110 ≡ true → (byte : ℕ) (tab lf backslash : Bool) → (byte == 9) ≡ tab → (byte == 10) ≡ lf → (byte == 92) ≡ backslash
     → (tab ≡ false → lf ≡ false → stays byte ≡ true) → list_all stays (escaped_byte byte) ≡ true
@@ -29,7 +29,7 @@ kept_by stays a b c byte false true backslash is_tab is_lf is_backslash plain = 
 kept_by stays a b c byte false false true is_tab is_lf is_backslash plain = rw (is_tab, is_lf, is_backslash, a) refl
 kept_by stays a b c byte false false false is_tab is_lf is_backslash plain = rw (is_tab, is_lf, is_backslash, plain refl refl) refl
 
--- each byte of an escaped text stays, where each byte but a tab and an LF does
+-- each byte of an escaped text satisfies a test that every byte but a tab and an LF satisfies
 pub kept : (stays : ℕ → Bool) → stays 92 ≡ true → stays 116 ≡ true → stays 110 ≡ true → ((byte : ℕ) → (byte == 9) ≡ false → (byte == 10) ≡ false → stays byte ≡ true)
     → (text : List ℕ) → list_all stays (escaped text) ≡ true
 unfolding escaped

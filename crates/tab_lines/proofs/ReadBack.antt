@@ -1,4 +1,4 @@
--- A reader has the fields of a line again.
+-- A reader gets the fields of a line back.
 use Rattle.std.proofs.Common.{◌≡◌, ℕ, ◌==◌, Bool, true, false, not, List, [], ◌∷◌, get_or, map, refl, ap, ◌∙◌}
 use Rattle.std.specs.List.{All, list_all}
 use Rattle.std.proofs.lemmas.List.Folds.{list_all-append}

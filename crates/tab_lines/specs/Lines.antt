@@ -21,13 +21,13 @@ joined (field ∷ next ∷ fields) = escaped field ++ 9 ∷ joined (next ∷ fie
 abbrev pub line_text : List (List ℕ) → List ℕ
 line_text fields = joined fields ++ 10 ∷ []
 
--- ---- what a reader makes of it
+-- ---- what a reader reads
 
--- what stands for a byte behind a backslash: 't' (116) for a tab, 'n' (110) for an LF
+-- what a byte after a backslash stands for: 't' (116) for a tab, 'n' (110) for an LF
 abbrev pub meant : ℕ → ℕ
 meant byte = if byte == 116 then 9 else (if byte == 110 then 10 else byte)
 
--- a text with its escapes undone; `behind` says whether a backslash stands before it
+-- a text with its escapes undone; `behind` says whether a backslash comes before it
 abbrev pub unescaped_behind : (behind : Bool) → List ℕ → List ℕ
 unescaped_behind true [] = 92 ∷ []
 unescaped_behind false [] = []
@@ -44,7 +44,7 @@ is_tab byte = byte == 9
 abbrev pub fields_read : List ℕ → List (List ℕ)
 fields_read text = map unescaped (slice_split is_tab text)
 
--- the fields of what stands after a tab, as they are written
+-- the fields of what follows a tab, as they are written
 abbrev pub fields_behind : Option (Bor (List ℕ)) → List (List ℕ)
 fields_behind None = []
 fields_behind (Some after) = slice_split is_tab after.now

@@ -21,11 +21,11 @@ fn push_byte(line: &mut Vec<u8>, byte: u8) -> Result<(), AllocError>
     Ok(())
 }
 
-/// Appends a field, a tab, an LF and a backslash of it as `\t`, `\n` and `\\`.
+/// Appends a field, with each tab, LF and backslash in it as `\t`, `\n` and `\\`.
 ///
 /// # Errors
 ///
-/// Memory was refused.
+/// Memory ran out.
 #[tactic(auto, unfolding(crate::specs::Lines::escaped))]
 pub fn push_escaped(line: &mut Vec<u8>, text: &[u8]) -> Result<(), AllocError>
     ensures { OnOk result (line.new.items ≡ line.old.items ++ escaped text.now) }
@@ -40,7 +40,7 @@ pub fn push_escaped(line: &mut Vec<u8>, text: &[u8]) -> Result<(), AllocError>
 ///
 /// # Errors
 ///
-/// Memory was refused.
+/// Memory ran out.
 pub fn push_field(line: &mut Vec<u8>, text: &[u8]) -> Result<(), AllocError>
     ensures { OnOk result (line.new.items ≡ line.old.items ++ 9 ∷ escaped text.now) }
 {

@@ -1,6 +1,6 @@
-//! Lines of fields that tabs separate, of which a reader has every field again.
+//! Lines of fields that tabs separate, from which a reader gets every field back.
 //!
-//! A field may be any text: [`push_escaped`] writes it without a tab and without an end of line, so that a line has exactly the fields
+//! A field may be any text: [`push_escaped`] writes it without a tab and without an end of line, so a line has exactly the fields
 //! that were written. [`law_of_lines`] says so, and [`read_fields`] is such a reader.
 #![tactic(auto)]
 

@@ -11,7 +11,7 @@ use std::alloc::{AllocError, Global};
 struct Cut<'a> {
     /// The field.
     field: &'a [u8],
-    /// What stands after its tab, where it has one.
+    /// What follows its tab, if it has one.
     after: Option<&'a [u8]>,
 }
 
@@ -58,7 +58,7 @@ fn meant(byte: u8) -> u8
 ///
 /// # Errors
 ///
-/// Memory was refused.
+/// Memory ran out.
 pub fn push_unescaped(out: &mut Vec<u8>, field: &[u8]) -> Result<(), AllocError>
     ensures { OnOk result (out.new.items ≡ out.old.items ++ unescaped field.now) }
 {
@@ -82,7 +82,7 @@ pub fn push_unescaped(out: &mut Vec<u8>, field: &[u8]) -> Result<(), AllocError>
     Ok(())
 }
 
-/// A field of its own with its escapes undone.
+/// Reads a field into a text of its own, with its escapes undone.
 fn read_field(alloc: Global, field: &[u8]) -> Result<Vec<u8>, AllocError>
     ensures { IfOk result (λ text. text.items ≡ unescaped field.now) }
 {
@@ -95,7 +95,7 @@ fn read_field(alloc: Global, field: &[u8]) -> Result<Vec<u8>, AllocError>
 ///
 /// # Errors
 ///
-/// Memory was refused.
+/// Memory ran out.
 #[tactic(auto, using(crate::proofs::Cuts::one_field_more))]
 pub fn read_fields(alloc: Global, line: &[u8]) -> Result<Vec<Vec<u8>>, AllocError>
     ensures { IfOk result (λ fields. map vec_items fields.items ≡ fields_read line.now) }

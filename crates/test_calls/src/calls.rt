@@ -1,4 +1,4 @@
-//! Calls of the engine, asked of bytes.
+//! Calls of the engine over bytes.
 ghost use Rattle.devices.specs.Devices.{HasRoom};
 
 use crate::feeds::{Feed, NEVER};
@@ -31,18 +31,18 @@ pub enum Call<'a> {
     Convert(Format),
     /// To tidy a record.
     Tidy,
-    /// To show the board before a line, or behind the last event.
+    /// To show the board before a line, or after the last event.
     Board(Option<u32>),
 }
 
-/// What is asked of the best plays before a line.
+/// A question about the best plays before a line.
 #[derive(Clone, Copy, Debug)]
 pub struct Before<'a> {
     /// The rack, or that of the line.
     pub rack: Option<&'a [u8]>,
-    /// How many plays are asked for. More than a hundred are as a hundred.
+    /// How many plays are wanted. More than a hundred count as a hundred.
     pub number: usize,
-    /// The line, or behind the last event.
+    /// The line, or after the last event.
     pub line: Option<u32>,
 }
 
@@ -58,7 +58,7 @@ pub enum GameRules<'a> {
 }
 
 impl<'a> GameRules<'a> {
-    /// The text; empty where the rules are no text.
+    /// The text; empty if the rules are not a text.
     pub fn text(self) -> &'a [u8] {
         match self {
             GameRules::Text(text) => text,
@@ -66,7 +66,7 @@ impl<'a> GameRules<'a> {
         }
     }
 
-    /// The rules, where they are no text.
+    /// The rules, if they are not a text.
     fn known(self) -> Option<Rules> {
         match self {
             GameRules::English => Some(english_rules()),
@@ -76,10 +76,10 @@ impl<'a> GameRules<'a> {
     }
 }
 
-/// What the inputs of a call hold. An input that it has not is empty.
+/// What the inputs of a call hold. An input that the call does not have is empty.
 #[derive(Clone, Copy)]
 pub struct Inputs<'a> {
-    /// The rules that it goes by, if it is about a game.
+    /// The rules that it uses, if it is about a game.
     pub rules: GameRules<'a>,
     /// The word list.
     pub words: &'a [u8],
@@ -97,8 +97,8 @@ pub const NO_INPUTS: Inputs<'static> = Inputs {
     game: b"",
 };
 
-/// How inputs are read: how many bytes a read gives at most, and the numbers of the read of each input (words, lexicon, record,
-/// rules text) that fails.
+/// How inputs are read: the greatest number of bytes that a read gives, and for each input (words, lexicon, record, rules text)
+/// the number of the read that fails.
 #[derive(Clone, Copy, Debug)]
 pub struct Reads {
     /// The bytes of a read.
@@ -108,7 +108,7 @@ pub struct Reads {
 }
 
 impl Reads {
-    /// Reads that work, and give at most so many bytes.
+    /// Reads that work, and give at most `piece` bytes.
     pub fn working(piece: usize) -> Reads {
         Reads {
             piece,
@@ -117,7 +117,7 @@ impl Reads {
     }
 }
 
-/// What came of a call, and its inputs as it leaves them.
+/// The result of a call, and its inputs as it leaves them.
 #[derive(Drop)]
 pub struct Asked<'a> {
     /// The answer.

@@ -7,7 +7,7 @@ use devices::{DeviceFailed, Input};
 /// The number of a read or a write that never comes.
 pub const NEVER: usize = usize::MAX;
 
-/// An input that gives at most so many bytes a read. The read of one number, counted from zero, fails, and no other.
+/// An input that gives at most `piece` bytes a read. Only the read with a certain number, counted from zero, fails.
 #[derive(Drop)]
 pub struct Feed<'a> {
     /// The bytes that are left.

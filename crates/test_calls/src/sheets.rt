@@ -4,7 +4,7 @@ ghost use Rattle.std.specs.Prelude.{◌≡◌, ◌≤◌, None};
 
 use devices::{DeviceFailed, Output};
 
-/// What becomes of the write of one number, counted from zero.
+/// What happens to the write with a certain number, counted from zero.
 #[derive(Clone, Copy, Debug, PartialEq, Eq)]
 pub enum Mishap {
     /// It fails.
@@ -13,7 +13,7 @@ pub enum Mishap {
     TakesNone,
 }
 
-/// An output that takes at most so many bytes a write, and `N` in all. One write meets with a mishap, and no other.
+/// An output that takes at most `piece` bytes a write, and `N` in all. One write has a mishap, and no other.
 #[derive(Drop)]
 pub struct Sheet<const N: usize> {
     bytes: [u8; N],
@@ -23,7 +23,7 @@ pub struct Sheet<const N: usize> {
     mishap: Mishap,
     /// How many writes failed.
     pub failures: u64,
-    /// How many writes that had bytes took none of them.
+    /// How many writes of one or more bytes took none of them.
     pub stalls: u64,
     ghost within: { len ≤ N },
 }
@@ -49,7 +49,7 @@ impl<const N: usize> Sheet<N> {
         &self.bytes[..self.len]
     }
 
-    /// Whether a write met with a mishap.
+    /// Whether a write had a mishap.
     pub fn has_failed(&self) -> bool {
         self.failures > 0 || self.stalls > 0
     }

@@ -13,8 +13,8 @@ pub struct PlayText<'a> {
     pub symbols: &'a [u8],
 }
 
-/// The play of a text: a square with its row first where the play goes across, as in `8E WORD`, and with its column first where it
-/// goes down, as in `E8 WORD`. None where the text has no square.
+/// The play of a text: a square with its row first if the play goes across, as in `8E WORD`, and with its column first if it goes
+/// down, as in `E8 WORD`. None if the text has no square.
 pub fn play_text(text: &str) -> Option<PlayText<'_>> {
     let (place, symbols) = text.split_once(' ')?;
     let (at, dir) = match place.as_bytes() {

@@ -1,7 +1,7 @@
 //! Tiles from a text.
 use ref_tiles::{Counts, Kind};
 
-/// The tiles of a text, where `?` is a blank; none where a byte is no tile, or where there are more than 255 of a kind.
+/// The tiles of a text, where `?` is a blank; none if a byte is not a tile, or if there are more than 255 of a kind.
 pub fn tiles_of(text: &[u8]) -> Option<Counts> {
     let mut counts = Counts::new();
     for byte in text {

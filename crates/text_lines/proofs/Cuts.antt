@@ -45,7 +45,7 @@ position_past p text h =
     let t : ltb (position_or_len p text) (length text) ≡ false = grind (arith, nat_tests) in
     rw t refl
 
--- what a search answers is the first place that passes
+-- the answer of a search is the first place that passes
 pub first_byte : (p : ℕ → Bool) (text : List ℕ) (r : Option ℕ) → IsFirstByte p text r → r ≡ position p text
 first_byte p text None h =
     let whole = position_or_len_is p text (length text) 0 (omega arith) (λ k lt. fails (p (get_or text k 0)) (h k (omega arith) lt)) (λ lt. absurd (omega arith)) in
@@ -54,13 +54,13 @@ first_byte p text (Some i) h =
     let there = position_or_len_is p text i 0 (omega (arith, h.0.high)) (λ k lt. fails (p (get_or text k 0)) (h.0.before k (omega arith) lt)) (λ _. h.1) in
     sym (position_at p text i there h.0.high)
 
--- where nothing passes, the text is one part
+-- if nothing passes, the text is a single part
 pub split_none : (p : ℕ → Bool) (text : List ℕ) → position p text ≡ None → slice_split p text ≡ text ∷ []
 split_none p text e =
     let past = position_none p text e in
     slice_split_none p text (λ k d lt. fails_before_first p text k d (omega arith))
 
--- where something passes, the first part ends there
+-- if something passes, the first part ends there
 pub split_at : (p : ℕ → Bool) (text : List ℕ) (i : ℕ) → position p text ≡ Some i → slice_split p text ≡ take i text ∷ slice_split p (drop (i + 1) text)
 split_at p text i e =
     let there = position_some p text i e in

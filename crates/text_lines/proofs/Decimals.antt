@@ -1,4 +1,4 @@
--- Digits read one after the other.
+-- Digits read one after another.
 use Rattle.std.proofs.Common.{◌≡◌, ℕ, ◌+◌, ◌-◌, ◌*◌, ◌^◌, ◌<◌, add-one, ◌≤◌, Bool, true, false, List, length, get_or, take, arith, refl}
 use Rattle.std.specs.List.{list_all}
 use Rattle.std.specs.Char.{is_ascii_digit, digit_value}
@@ -26,7 +26,7 @@ passes : (b : Bool) → (b ≡ false → ⊥) → b ≡ true
 passes true h = refl
 passes false h = absurd (h refl)
 
--- a byte of digits
+-- a byte of the digits
 pub digit_in : (digits : List ℕ) (i : ℕ) → list_all is_ascii_digit digits ≡ true → i < length digits → IsDecimal (get_or digits i 0)
 digit_in digits i h lt =
     is_decimal (get_or digits i 0) (passes (is_ascii_digit (get_or digits i 0)) (λ e. let f = list_all_at is_ascii_digit digits i 0 lt e in cc))

@@ -88,13 +88,13 @@ pub both_ways : (b : Bool) → not b ≡ true → b ≡ true → ⊥
 both_ways true e f = cc
 both_ways false e f = cc
 
--- a place that is not blank is not the first blank behind it
+-- a place that is not blank is not the first blank after it
 apart : (text : List ℕ) (s i : ℕ) → not_blank (get_or text s 0) ≡ true → is_blank (get_or (drop s text) i 0) ≡ true → i ≡ 0 → ⊥
 apart text s i here blank zero_is =
     let same : get_or (drop s text) i 0 ≡ get_or text s 0 = get_or-drop s text i 0 ∙ ap (λ n. get_or text n 0) (omega arith) in
     both_ways (is_blank (get_or text s 0)) here (rw same at blank)
 
--- a field and those behind it
+-- a field and those after it
 pub field_next : (text : List ℕ) (s i : ℕ) → position not_blank text ≡ Some s → position is_blank (drop s text) ≡ Some i
     → fields_of text ≡ take i (drop s text) ∷ fields_of (drop (i + 1) (drop s text))
 unfolding fields_of

@@ -17,14 +17,14 @@ pub list_all_step : {X : Type 0} (p : X → Bool) (xs : List X) (i : ℕ) (d : X
     → list_all p (take (i + 1) xs) ≡ true
 list_all_step p xs i d lt before here = rw (list_all_more p xs i d lt, before, here) refl
 
--- how far an array of this size is filled with what the elements of a list give: so far each has given something, and the
--- array begins with that
+-- how far an array of this size is filled with what the elements of a list give: each so far has given something, and the array
+-- begins with that
 pub record IsFilled {X Y : Type 0} (h : X → Option Y) (size : ℕ) (xs : List X) (i : ℕ) (ys : List Y) : Type 0 where
   pub front : take i ys ≡ filter_map h (take i xs)
   pub each : list_all (λ x. is_some (h x)) (take i xs) ≡ true
   pub whole : length ys ≡ size
 
--- one more element gives something, and it is put at its place
+-- one more element gives something, which is put in its place
 pub fill_step : {X Y : Type 0} (h : X → Option Y) (size : ℕ) (xs : List X) (i : ℕ) (d : X) (y : Y) (ys : List Y) → i < length xs → i < size → h (get_or xs i d) ≡ Some y
     → IsFilled h size xs i ys → IsFilled h size xs (i + 1) (slice_set ys i y)
 fill_step h size xs i d y ys lt below found so_far =

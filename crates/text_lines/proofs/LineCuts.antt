@@ -25,7 +25,7 @@ lines_cut text line i e cut =
 pub lines_end : (text line : List ℕ) → None ≡ position is_feed text → line ≡ without_return text → lines_in text ≡ line ∷ []
 lines_end text line e cut = rw cut (line_last text (sym e))
 
--- a text has at most one line more than bytes
+-- a text has at most one more line than bytes
 pub few_lines : (text : List ℕ) → length (lines_in text) ≤ length text + 1
 unfolding lines_in
 few_lines text =

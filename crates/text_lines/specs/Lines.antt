@@ -4,7 +4,7 @@ use Rattle.std.specs.List.{slice_split, starts_with, ends_with}
 use Rattle.std.specs.Borrow.{Bor}
 use Rattle.text_lines.specs.declared.lines.Lines.{Lines}
 
--- a byte order mark at the front is passed over
+-- a byte order mark at the front is ignored
 abbrev pub without_mark : List ℕ → List ℕ
 without_mark text = if starts_with eqb text (0xef ∷ 0xbb ∷ 0xbf ∷ []) then drop 3 text else text
 
@@ -16,7 +16,7 @@ without_return line = if ends_with eqb line (13 ∷ []) then take (length line -
 abbrev pub is_feed : ℕ → Bool
 is_feed byte = byte == 10
 
--- the lines of a text behind its mark
+-- the lines of a text after its mark
 unfoldable pub lines_in : List ℕ → List (List ℕ)
 lines_in text = map without_return (slice_split is_feed text)
 
@@ -26,7 +26,7 @@ lines_of text = lines_in (without_mark text)
 
 -- ---- what the reader cuts off
 
--- the lines of what stands behind a line
+-- the lines of what follows a line
 abbrev pub lines_behind : Option (Bor (List ℕ)) → List (List ℕ)
 lines_behind None = []
 lines_behind (Some after) = lines_in after.now

@@ -11,7 +11,7 @@ use bstr::ByteSlice;
 pub struct Cut<'a> {
     /// The line.
     pub line: &'a [u8],
-    /// The text behind its LF, where it has one.
+    /// The text after its LF, if it has one.
     pub after: Option<&'a [u8]>,
 }
 
@@ -61,7 +61,7 @@ pub fn cut_line(text: &[u8]) -> Cut<'_>
     }
 }
 
-/// The lines of a text, one after the other.
+/// The lines of a text, one after another.
 #[derive(Drop)]
 pub struct Lines<'a> {
     left: Option<&'a [u8]>,

@@ -5,7 +5,7 @@ ghost use Rattle.std.specs.Char.{is_ascii_digit};
 ghost use Rattle.std.specs.Str.Parse.{digits_value};
 ghost use Rattle.text_lines.specs.Numerals.{numeral, is_numeral};
 
-/// The number that the bytes write in decimal, where they are 1 to `most` digits; none for any other bytes.
+/// The number that the bytes write in decimal, if they are 1 to `most` digits; none for any other bytes.
 pub fn numeral(most: usize, digits: &[u8]) -> Option<u32>
     requires { most ≤ 6 }
     ensures value { result ≡ numeral most digits.now }

@@ -2,7 +2,7 @@
 
 use std::alloc::Global;
 
-/// The first bytes of what goes by, so many at the most, and how many bytes went by.
+/// The first bytes of what goes by, up to a number, and how many bytes went by.
 #[derive(Drop)]
 pub struct Front {
     bytes: Vec<u8>,
@@ -11,7 +11,7 @@ pub struct Front {
 }
 
 impl Front {
-    /// Nothing went by yet. So many bytes are kept at the most.
+    /// Nothing went by yet. At most `most` bytes are kept.
     pub fn new(alloc: Global, most: usize) -> Front {
         Front {
             bytes: Vec::new(alloc),
@@ -20,7 +20,7 @@ impl Front {
         }
     }
 
-    /// Sees bytes go by. Where there is no memory for them, none are kept from then on.
+    /// Sees bytes go by. If there is no memory for them, none are kept from then on.
     pub fn see(&mut self, bytes: &[u8]) {
         self.passed = self.passed.saturating_add(bytes.len() as u64);
         let room = self.most.saturating_sub(self.bytes.len());
@@ -35,7 +35,7 @@ impl Front {
         self.bytes.as_slice()
     }
 
-    /// All bytes that went by, where there was room for them.
+    /// All bytes that went by, if there was room for them.
     pub fn whole(&self) -> Option<&[u8]> {
         if self.passed == self.bytes.len() as u64 {
             Some(self.bytes.as_slice())

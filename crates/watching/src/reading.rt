@@ -6,7 +6,7 @@ use crate::reasons::Reason;
 use std::alloc::Global;
 use std::io::{Read, Result};
 
-/// A reader that hands out the bytes of another one, and keeps the first of them and why its last failed read failed.
+/// A reader that gives the bytes of another one, and keeps the first of them and why its last failed read failed.
 #[derive(Drop)]
 pub struct WatchedRead<R> {
     inner: R,
@@ -15,7 +15,7 @@ pub struct WatchedRead<R> {
 }
 
 impl<R: Read + Drop> WatchedRead<R> {
-    /// A reader of what `inner` has. So many of its first bytes are kept at the most.
+    /// A reader of what `inner` has. At most `most` of its first bytes are kept.
     pub fn new(alloc: Global, inner: R, most: usize) -> WatchedRead<R>
         ensures { ⟦<WatchedRead<R> as Read>⟧.remaining result ≡ R.remaining inner }
     {
@@ -26,14 +26,14 @@ impl<R: Read + Drop> WatchedRead<R> {
         }
     }
 
-    /// The inner reader, behind what was read of it.
+    /// The inner reader, after what was read from it.
     pub fn inner(&self) -> &R
         ensures { R.remaining result.now ≡ ⟦<WatchedRead<R> as Read>⟧.remaining self.now }
     {
         &self.inner
     }
 
-    /// What was handed out first.
+    /// What was given out first.
     pub fn front(&self) -> &Front {
         &self.front
     }

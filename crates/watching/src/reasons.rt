@@ -3,25 +3,25 @@
 use std::fmt;
 use std::io::{Error, ErrorKind};
 
-/// The number of the system for a device without space.
+/// The system's error number for a device without space.
 const NO_SPACE: i32 = 28;
 
-/// Why the system refused something. Its text is what stands behind the name in a message: nothing where no reason is known.
+/// Why the system refused something. Its text is what follows the name in a message: nothing if no reason is known.
 #[derive(Clone, Copy, Debug, PartialEq, Eq)]
 pub enum Reason {
     /// No reason is known.
     Unknown,
     /// There is no file of the name, or no folder in which it could be.
     NoFile,
-    /// The file, or its folder, may not be used so.
+    /// The file, or its folder, may not be used in this way.
     NotPermitted,
     /// The file is a folder.
     Folder,
-    /// The name leads from link to link, and to no file.
+    /// The name leads from link to link, and never to a file.
     Links,
     /// The device has no space left.
     NoSpace,
-    /// What the system has this number for.
+    /// Another reason, by the number that the system has for it.
     Number(i32),
 }
 
@@ -38,7 +38,7 @@ impl Reason {
         }
     }
 
-    /// Why something failed for which the system gave this number, if it gave one.
+    /// Why something failed, by the number that the system gave, if it gave one.
     fn of_number(number: Option<i32>) -> Reason {
         match number {
             Some(number) => Reason::Number(number),

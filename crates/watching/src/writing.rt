@@ -15,7 +15,7 @@ pub struct WatchedWrite<W> {
 }
 
 impl<W: Write + Drop> WatchedWrite<W> {
-    /// A writer to `inner`. So many of the first bytes are kept at the most.
+    /// A writer to `inner`. At most `most` of the first bytes are kept.
     pub fn new(alloc: Global, inner: W, most: usize) -> WatchedWrite<W>
         ensures { ⟦<WatchedWrite<W> as Write>⟧.contents result ≡ W.contents inner }
     {
@@ -36,7 +36,7 @@ impl<W: Write + Drop> WatchedWrite<W> {
         self.reason
     }
 
-    /// The writer, with what it took.
+    /// The writer, with what was written to it.
     pub fn into_inner(self) -> W
         ensures { W.contents result ≡ ⟦<WatchedWrite<W> as Write>⟧.contents self }
     {

@@ -1,4 +1,5 @@
-//! Names of files: whether two lead to the same file, where a name leads that has no file yet, and one for a new file beside another.
+//! Names of files: whether two lead to the same file, where a name leads that has no file yet, and a name for a new file next to
+//! another.
 
 use std::alloc::{AllocError, Global};
 use std::fs;
@@ -10,8 +11,8 @@ use std::rt::Files;
 /// How many links the system follows from one name.
 const MOST_LINKS: u32 = 40;
 
-/// Whether two names lead to the same file once links are followed. A name that leads to no file is the same as no other, and so is one of
-/// a device or a pipe, of which nothing is lost when it is written.
+/// Whether two names lead to the same file once links are followed. A name that leads to no file is the same as no other, and so is that
+/// of a device or a pipe, since nothing is lost when these are written.
 pub fn is_same_file<R: Files>(rt: &R, one: &str, other: &str) -> bool {
     match (fs::metadata(rt, one), fs::metadata(rt, other)) {
         (Ok(one), Ok(other)) => {
@@ -21,11 +22,11 @@ pub fn is_same_file<R: Files>(rt: &R, one: &str, other: &str) -> bool {
     }
 }
 
-/// The name that a file gets which is made by this name, that leads to none yet: the one to which its links lead.
+/// The name of the file that is created by this name, if it leads to none yet: the one to which its links lead.
 ///
 /// # Errors
 ///
-/// `NotFound` where no file can have the name, and what else keeps a link from being read.
+/// `NotFound` if no file can have the name, and what else prevents a link from being read.
 pub fn end_of_links<R: Files + AllocGlobal>(rt: &R, name: &str) -> io::Result<String> {
     let mut end = String::from_str(rt.alloc(), name)?;
     for _ in 0..MOST_LINKS {
@@ -40,7 +41,7 @@ pub fn end_of_links<R: Files + AllocGlobal>(rt: &R, name: &str) -> io::Result<St
     Ok(end)
 }
 
-/// The name to which the link of this name leads; none where it is no link.
+/// The name to which the link of this name leads; none if it is not a link.
 fn next_link<R: Files + AllocGlobal>(rt: &R, name: &str) -> io::Result<Option<String>> {
     match fs::read_link(rt, name) {
         Ok(next) => {
@@ -52,7 +53,7 @@ fn next_link<R: Files + AllocGlobal>(rt: &R, name: &str) -> io::Result<Option<St
     }
 }
 
-/// The name of a new file in the folder of another one: `.referee-NUMBER.part`, which no listing shows unless it is asked to.
+/// The name of a new file in the folder of another one: `.referee-NUMBER.part`, which listings do not show by default.
 pub fn part_beside(alloc: Global, file: &str, number: u32) -> Result<String, AllocError> {
     let name = format!(in alloc; ".referee-{number}.part")?;
     let path = Path::new(file).with_file_name(alloc, name.as_str())?;

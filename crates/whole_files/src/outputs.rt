@@ -7,19 +7,19 @@ use std::io::{self, ErrorKind, Result, Write};
 use std::os::unix::fs::OpenOptionsExt;
 use std::rt::Files;
 
-/// How many names are tried for a new file beside another one.
+/// How many names are tried for a new file next to another one.
 const MOST_NAMES: u32 = 1000;
 
 /// The permissions of a new file until it has those of the file that it is to replace.
 const HIDDEN: u32 = 0o600;
 
-/// A file that is being written. Where its name leads to a file or to nothing, what is written goes to a new file in the same folder, and
-/// the name leads to it only once it is [kept](OutputFile::keep): so what was there stays as it is until then. A device, a pipe and what
-/// else is no file is written in place.
+/// A file that is being written. If its name leads to a file or to nothing, the bytes are written to a new file in the same folder, and
+/// the name leads to it only once it is [kept](OutputFile::keep): so what was there stays as it is until then. A device, a pipe and
+/// anything else that is not a file is written in place.
 #[derive(Drop)]
 pub struct OutputFile<F> {
     file: F,
-    /// Where the new file is to go; none where the output is written in place.
+    /// Where the new file is to go; none if the output is written in place.
     renaming: Option<Renaming>,
 }
 
@@ -37,7 +37,8 @@ impl<F: Write + OpenFile + Drop> OutputFile<F> {
     ///
     /// # Errors
     ///
-    /// What keeps the output from being written: it is a folder, say, or it must not be written, or no new file can be made in its folder.
+    /// What prevents the output from being written: for example, it is a folder, or it must not be written, or no new file can be made in
+    /// its folder.
     pub fn open<R: Files<File = F> + AllocGlobal>(rt: &R, name: &str) -> Result<OutputFile<F>> {
         match fs::metadata(rt, name) {
             Ok(there) if there.is_file() => {
@@ -56,7 +57,7 @@ impl<F: Write + OpenFile + Drop> OutputFile<F> {
         }
     }
 
-    /// Makes a new file beside the one that it is to replace, with the same permissions where these are given.
+    /// Makes a new file next to the one that it is to replace, with the same permissions if these are given.
     fn beside<R: Files<File = F> + AllocGlobal>(
         rt: &R,
         to: String,
@@ -88,7 +89,7 @@ impl<F: Write + OpenFile + Drop> OutputFile<F> {
     ///
     /// # Errors
     ///
-    /// Where the device did not take all of it, or the name could not be given. What was there before then is as it was.
+    /// If the device did not take all of it, or the name could not be given. Then what was there before is as it was.
     pub fn keep<R: Files<File = F>>(self, rt: &R) -> Result<()> {
         let OutputFile { file, renaming } = self;
         let Some(Renaming { from, to }) = renaming else {
@@ -112,7 +113,7 @@ impl<F: Write + OpenFile + Drop> OutputFile<F> {
     }
 }
 
-/// Opens what is there to be written, and changes nothing of it.
+/// Opens for writing what is there, and changes nothing in it.
 fn in_place<R: Files>(rt: &R, name: &str) -> Result<R::File> {
     OpenOptions::new().write(true).open(rt, name)
 }

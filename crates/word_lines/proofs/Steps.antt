@@ -32,7 +32,7 @@ none_kept : (line : List ℕ) (letters : Bool) (bare : List ℕ) → 16 ≤ leng
 none_kept line true bare long = let t : nat_le (length bare) 15 ≡ false = grind (arith, nat_tests) in grind (arith, nat_tests)
 none_kept line false bare long = refl
 
--- a line of so many bytes is no word
+-- a line with that many bytes is not a word
 too_long : (first : Bool) (line : List ℕ) → most_held ≤ length line → kept_of first line ≡ []
 unfolding kept_of
 too_long first line long =
@@ -92,7 +92,7 @@ begun : (text : List ℕ) → words_from true [] text ≡ word_lines text
 unfolding words_from word_lines
 begun text = ap (join_with_byte 10) (from_lines (slice_split is_feed text))
 
--- ---- what is left to be handed out
+-- ---- what is left to be given out
 
 -- nothing was read yet
 pub left_first : (a : Option (List ℕ)) → left_of [] true [] [] a ≡ option_map word_lines a
@@ -100,14 +100,14 @@ unfolding left_of
 left_first None = refl
 left_first (Some x) = ap Some (begun x)
 
--- some of what is ready is handed out
+-- some of what is ready is given out
 left_given : (front ready : List ℕ) (first : Bool) (held chunk : List ℕ) (a : Option (List ℕ))
     → Consumes (left_of (front ++ ready) first held chunk a) (left_of ready first held chunk a) front
 unfolding left_of
 left_given front ready first held chunk None = tt
 left_given front ready first held chunk (Some x) = append_assoc front ready (words_from first held (chunk ++ x))
 
--- a byte that ends no line is taken from the chunk
+-- a byte that does not end a line is taken from the chunk
 pub left_more : (first : Bool) (held chunk : List ℕ) (byte : ℕ) (a : Option (List ℕ)) → is_feed byte ≡ false
     → Keeps (left_of [] first held (byte ∷ chunk) a) (left_of [] first (held_with held byte) chunk a)
 unfolding left_of
@@ -143,19 +143,19 @@ left_last first held None h = tt
 left_last first held (Some x) h =
     rw h (ap (λ l. kept_of first held ++ l) nothing ∙ append-nil (kept_of first held) ∙ sym (at_end first held))
 
--- nothing is left at the end of a text of which no line is in hand
+-- nothing is left at the end of a text if no line is being read
 left_none : (a : Option (List ℕ)) → IsAtEnd a → IsAtEnd (left_of [] false [] [] a)
 unfolding left_of
 left_none None h = tt
 left_none (Some x) h = rw h nothing
 
--- a line of no bytes is no word
+-- a line of no bytes is not a word
 pub kept_of_none : (first : Bool) → kept_of first [] ≡ []
 unfolding kept_of
 kept_of_none true = refl
 kept_of_none false = refl
 
--- nothing is left at the end of a text where no byte of the line in hand was held back
+-- nothing is left at the end of a text if no byte of the line that is being read was held back
 pub left_empty : (ready held : List ℕ) (first : Bool) (a : Option (List ℕ)) → ready ≡ kept_of first held → (length held == 0) ≡ true → IsAtEnd a
     → IsAtEnd (left_of ready false [] [] a)
 left_empty ready [] first a e none h = rw (e, kept_of_none first) (left_none a h)
@@ -164,7 +164,7 @@ left_empty ready (byte ∷ held) first a e none h = absurd (grind (arith, nat_te
 front_taken : (n : ℕ) (front back : List ℕ) → length front ≡ n → take n (front ++ back) ≡ front
 front_taken n front back e = rw (sym e) (take-append_seam front back)
 
--- so many bytes of what is ready are handed out, behind those that were
+-- n bytes of what is ready are given out, after those that were
 pub left_handed : (text : List ℕ) (given n : ℕ) (buf : List ℕ) (first : Bool) (held chunk : List ℕ) (a : Option (List ℕ)) → n ≤ length (drop given text)
     → Consumes (left_of (drop given text) first held chunk a) (left_of (drop (given + n) text) first held chunk a) (take n (take n (drop given text) ++ drop n buf))
 left_handed text given n buf first held chunk a few =

@@ -4,23 +4,23 @@ use Rattle.std.specs.List.{join_with_byte, slice_split}
 use Rattle.text_lines.specs.Lines.{is_feed}
 use Rattle.word_lines.specs.Lines.{kept_of}
 
--- so many bytes of a line are held back at the most: a longer line is no word, whatever follows
+-- the greatest number of bytes of a line that are held back: a line with that many is not a word, whatever follows
 abbrev pub most_held : ℕ
 most_held = 20
 
--- the bytes that are held back with one more
+-- the bytes that are held back, with one more
 abbrev pub held_with : List ℕ → ℕ → List ℕ
 held_with held byte = if nat_lt (length held) most_held then held ++ byte ∷ [] else held
 
--- what is kept of lines, of the first of which some bytes were held back
+-- what is kept of lines, when some bytes of the first were held back
 abbrev pub kept_by : (first : Bool) → (held : List ℕ) → List (List ℕ) → List (List ℕ)
 kept_by first held [] = []
 kept_by first held (line ∷ lines) = kept_of first (held ++ line) ∷ map (kept_of false) lines
 
--- what is kept of a text, of the first line of which some bytes were held back
+-- what is kept of a text, when some bytes of its first line were held back
 unfoldable pub words_from : (first : Bool) → (held : List ℕ) → (text : List ℕ) → List ℕ
 words_from first held text = join_with_byte 10 (kept_by first held (slice_split is_feed text))
 
--- what is left to be handed out: what is ready, and what is kept of the text behind it, which is a chunk and what a reader has, if that is known
+-- what is left to be given out: what is ready, and what is kept of the text after it, which is a chunk and what a reader has, if that is known
 unfoldable pub left_of : (ready : List ℕ) → (first : Bool) → (held chunk : List ℕ) → Option (List ℕ) → Option (List ℕ)
 left_of ready first held chunk known = option_map (λ rest. ready ++ words_from first held (chunk ++ rest)) known

@@ -1,4 +1,4 @@
-//! The lines of a text that are words of a list: word lists with other lines among the words.
+//! The lines of a text that are words of a list: for word lists with other lines among the words.
 #![tactic(auto)]
 
 mod lines;

@@ -10,7 +10,7 @@ use std::alloc::{AllocError, Global};
 use std::mem;
 use text_lines::without_mark;
 
-/// How many bytes of a line are held back: a line with so many is no word, whatever follows.
+/// How many bytes of a line are held back: a line with that many is not a word, whatever follows.
 const MOST_HELD: usize = 20;
 
 fn has_letters_alone(line: &[u8]) -> bool
@@ -36,7 +36,7 @@ fn without_return(line: &[u8]) -> &[u8]
     }
 }
 
-/// What a word list reads of a line, which may be the first of its text.
+/// What a word list reads from a line, which may be the first of its text.
 fn bare_line(line: &[u8], is_first: bool) -> &[u8]
     ensures { result.now ≡ bare_line is_first line.now }
 {
@@ -47,18 +47,18 @@ fn bare_line(line: &[u8], is_first: bool) -> &[u8]
     }
 }
 
-/// The lines of a text that are no words and not empty.
+/// The lines of a text that are neither words nor empty.
 #[derive(Drop)]
 pub struct Others {
-    /// How many they are.
+    /// How many there are.
     pub count: u64,
     /// The number of the first, counted from 1.
     pub line: u64,
-    /// The first bytes of that one.
+    /// The first bytes of that line.
     pub text: Vec<u8>,
 }
 
-/// The line in hand.
+/// The line that is being read.
 #[derive(Drop)]
 pub struct Line {
     /// Its first bytes.
@@ -67,12 +67,12 @@ pub struct Line {
     pub is_first: bool,
     /// Its number, counted from 1.
     number: u64,
-    /// The lines before it that are no words.
+    /// The lines before it that are not words.
     others: Others,
 }
 
 impl Line {
-    /// The first line of a text, of which nothing was read yet.
+    /// The first line of a text, before anything is read.
     pub fn first(alloc: Global) -> Line
         ensures held { result.held.items ≡ [] }
         ensures first { result.is_first ≡ true }
@@ -89,7 +89,7 @@ impl Line {
         }
     }
 
-    /// The lines before it that are no words.
+    /// The lines before it that are not words.
     pub fn others(&self) -> &Others {
         &self.others
     }
@@ -106,7 +106,7 @@ impl Line {
         Ok(())
     }
 
-    /// Whether the line is a word, which is counted where it is none.
+    /// Whether the line is a word; if it is not one, it is counted.
     fn is_kept(&mut self) -> bool
         ensures kept { result ≡ is_kept self.old.is_first self.old.held.items }
         ensures held { self.new.held ≡ self.old.held }
@@ -120,7 +120,7 @@ impl Line {
         kept
     }
 
-    /// The line behind it.
+    /// Moves to the next line.
     fn advance(&mut self)
         ensures held { self.new.held.items ≡ [] }
         ensures first { self.new.is_first ≡ false }
@@ -130,7 +130,7 @@ impl Line {
         self.number = self.number.saturating_add(1);
     }
 
-    /// Ends the line where the text ends, and puts what is kept of it into a buffer in place of what that has.
+    /// Ends the line at the end of the text, and replaces what a buffer has by what is kept of the line.
     #[tactic(auto, unfolding(crate::specs::Lines::kept_of))]
     pub fn end_text(&mut self, ready: &mut Vec<u8>)
         ensures kept { ready.new.items ≡ kept_of self.old.is_first self.old.held.items }
@@ -145,7 +145,7 @@ impl Line {
         self.advance();
     }
 
-    /// Ends the line with an LF, and puts what is kept of both into a buffer in place of what that has.
+    /// Ends the line with an LF, and replaces what a buffer has by what is kept of both.
     #[tactic(auto, unfolding(crate::specs::Lines::kept_of))]
     pub fn end_line(&mut self, ready: &mut Vec<u8>) -> Result<(), AllocError>
         ensures kept { OnOk result (ready.new.items ≡ kept_of self.old.is_first self.old.held.items ++ 10 ∷ []) }
@@ -166,7 +166,7 @@ impl Line {
     }
 }
 
-/// Leaves an LF alone of a line that has some byte.
+/// Leaves only an LF of a line that is not empty.
 fn blank(line: &mut Vec<u8>)
     requires { 0 < length line.old.items }
     ensures { line.new.items ≡ 10 ∷ [] }
@@ -176,7 +176,7 @@ fn blank(line: &mut Vec<u8>)
 }
 
 impl Others {
-    /// Sees one more line, of this number.
+    /// Takes note of one more line, with this number.
     fn see(&mut self, number: u64, line: &[u8]) {
         if self.count == 0 {
             self.line = number;

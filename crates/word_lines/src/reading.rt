@@ -1,4 +1,4 @@
-//! A reader that hands out the lines of another one that are words.
+//! A reader that gives the lines of another one that are words.
 ghost use Rattle.std.specs.Prelude.{◌≡◌, ◌<◌, ◌≤◌, ◌+◌, ◌∷◌, [], ◌++◌, false, length, take, drop, option_map, IfOk};
 ghost use Rattle.std.specs.Io.KnownBytes.{Consumes, IsAtEnd, Keeps};
 ghost use Rattle.word_lines.specs.Lines.{word_lines};
@@ -8,20 +8,20 @@ use crate::lines::{Line, Others};
 use std::alloc::Global;
 use std::io::{Error, ErrorKind, Read, Result};
 
-/// How many bytes one read asks for at most.
+/// The greatest number of bytes that one read asks for.
 const CHUNK: usize = 8192;
 
-/// A reader whose text has nothing in place of each line that is no word of 2 to 15 letters, as a word list reads it. So lines keep their
+/// A reader whose text has nothing in place of each line that is not a word of 2 to 15 letters, as a word list reads it. So lines keep their
 /// numbers. It counts these lines, and keeps the first that is not empty.
 #[derive(Drop)]
 pub struct WordLines<R> {
     inner: R,
-    /// What was read last, of which so many bytes are taken.
+    /// What was read last; the first `taken` bytes of it are used.
     chunk: Vec<u8>,
     taken: usize,
-    /// The line in hand.
+    /// The line that is being read.
     line: Line,
-    /// What is kept of the line before it, of which so many bytes were handed out.
+    /// What is kept of the line before it; the first `given` bytes of it were given out.
     ready: Vec<u8>,
     given: usize,
 }
@@ -41,17 +41,17 @@ impl<R: Read + Drop> WordLines<R> {
         }
     }
 
-    /// The inner reader, behind what was read of it.
+    /// The inner reader, after what was read from it.
     pub fn inner(&self) -> &R {
         &self.inner
     }
 
-    /// The lines so far that are no words and not empty.
+    /// The lines so far that are neither words nor empty.
     pub fn others(&self) -> &Others {
         self.line.others()
     }
 
-    /// Hands out what is ready, as far as the buffer has room.
+    /// Gives out what is ready, as far as the buffer has room.
     fn give(&mut self, buf: &mut [u8]) -> usize
         ensures room { length buf.new ≡ length buf.old }
         ensures bound { result ≤ length buf.new }
@@ -93,7 +93,7 @@ impl<R: Read + Drop> WordLines<R> {
         Ok(())
     }
 
-    /// Reads the next chunk, where all of the last one is taken, and says whether the text goes on.
+    /// Reads the next chunk if all of the last one is taken, and says whether the text goes on.
     fn read_chunk(&mut self) -> Result<bool>
         requires ready { drop self.old.given self.old.ready.items ≡ [] }
         requires chunk { drop self.old.taken self.old.chunk.items ≡ [] }
@@ -126,7 +126,7 @@ impl<R: Read + Drop> WordLines<R> {
         more
     }
 
-    /// Goes on in the text where nothing is ready, and says whether it does.
+    /// Goes on in the text if nothing is ready, and says whether it does.
     fn step(&mut self) -> Result<bool>
         requires ready { drop self.old.given self.old.ready.items ≡ [] }
         ensures keeps { Keeps (⟦<WordLines<R> as Read>⟧.remaining self.old) (⟦<WordLines<R> as Read>⟧.remaining self.new) }

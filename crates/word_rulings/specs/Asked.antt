@@ -6,7 +6,7 @@ use Rattle.lex_list.specs.Lists.{capitals}
 use Rattle.lex_list.specs.Words.{has_word_length}
 use Rattle.word_rulings.specs.declared.asked.AskedWord.{AskedWord}
 
--- letters alone, of either case, and as many as a word may have
+-- only letters, of either case, and as many as a word may have
 abbrev pub is_word : List ℕ → Bool
 is_word text = list_all is_ascii_alphabetic text && has_word_length text
 
@@ -14,6 +14,6 @@ is_word text = list_all is_ascii_alphabetic text && has_word_length text
 abbrev pub letters_of : AskedWord → List ℕ
 letters_of word = word.letters.items
 
--- the word that a text asks about, in capitals; none where it is no word
+-- the word that a text asks about, in capitals; none if it is not a word
 abbrev pub asked_of : List ℕ → Option (List ℕ)
 asked_of text = if is_word text then Some (capitals text) else None

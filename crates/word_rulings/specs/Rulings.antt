@@ -11,11 +11,11 @@ use Rattle.word_rulings.specs.declared.asked.AskedWord.{AskedWord}
 use Rattle.word_rulings.specs.declared.rulings.Ruling.{Ruling}
 use Rattle.word_rulings.specs.Asked.{letters_of}
 
--- a word is acceptable exactly where it is in the list
+-- a word is acceptable exactly if it is in the list
 abbrev pub is_acceptable : (list : List (List ℕ)) → AskedWord → Bool
 is_acceptable list word = is_listed list (letters_of word)
 
--- the ruling on words: of each whether it is acceptable, and all together are exactly where each is
+-- the ruling on words: for each whether it is acceptable, and all together are acceptable exactly if each is
 pub record IsRuling (list : List (List ℕ)) (words : List AskedWord) (r : Ruling) : Type 0 where
   pub each : r.each.items ≡ map (is_acceptable list) words
   pub together : r.acceptable ≡ list_all (is_acceptable list) words
@@ -28,7 +28,7 @@ IsRuled words list (Err d) texts v report = ⊥
 done_later : IsLater verdict.Done
 done_later = record { rules = λ bad. cc; words = λ bad. cc; lexicon = λ bad. cc }
 
--- no answer is that an input before it is bad
+-- no answer is that an input before this one is bad
 pub ruled_later : (words : List AskedWord) (list : List (List ℕ)) (x : Result Ruling Decision) (texts : List (List ℕ)) (v : Verdict) (report : List ℕ)
     → IsRuled words list x texts v report → IsLater v
 ruled_later words list (Ok r) [] v report is = subst IsLater (sym is.1.verdict_is) done_later

@@ -38,7 +38,7 @@ fn push_capitals(letters: &mut Vec<u8>, text: &[u8]) -> Result<(), AllocError>
 }
 
 impl AskedWord {
-    /// The word of a text, whose letters may be small; none where it is not 2 to 15 letters.
+    /// The word of a text, whose letters may be lower case; none if it is not 2 to 15 letters.
     pub fn of(alloc: Global, text: &[u8]) -> Result<Option<AskedWord>, AllocError>
         ensures { IfOk result (λ asked. option_map letters_of asked ≡ asked_of text.now) }
     {

@@ -95,12 +95,12 @@ impl<S, W> Question<S, W, ()> for Asked<'_, W> {
     ghost later = { λ question rules words x texts v report is. ruled_later question.words.now words x texts v report is };
 }
 
-/// Reads the words of a list and the lexicon of them, in this order until one is bad: whether the words that are asked about are in the list, or
-/// the verdict that names the first fault.
+/// Reads the words of a list and their lexicon, in this order until one is bad: whether the words that are asked about are in the list, or the
+/// verdict that names the first fault.
 ///
 /// # Errors
 ///
-/// `ReadFailed` comes only where an input failed; `NoMemory` where memory was refused.
+/// `ReadFailed` comes only if an input failed; `NoMemory` if memory was refused.
 pub fn rule_on_words<W: Input, L: Input>(
     alloc: Global,
     asked: &[AskedWord],

@@ -126,7 +126,7 @@ fn is_exchange(kind: &EventKind) -> bool {
     matches!(kind, EventKind::Exchange(_) | EventKind::ExchangeUnknown(_))
 }
 
-/// What becomes of the deal of a record. The rule gives one where no bound is exceeded and there is no exchange.
+/// What becomes of the deal of a record. The rule gives one if no bound is exceeded and there is no exchange.
 fn told(rt: &impl Abort, alloc: Global, rules: &Rules, words: &[u8], lines: &[u8]) -> Answer {
     let record = read(alloc, lines).expect(rt, "a record");
     let list = WordList::read(alloc, words).expect(rt, "a word list");
@@ -149,7 +149,7 @@ fn deals(rt: HostRuntime) {
     law_of_tiles();
 }
 
-/// No bound is exceeded in the records that a search settles, and one that the rule gives a deal is dealt by the search too.
+/// No bound is exceeded in the records that a search settles, and if the rule gives a record a deal, the search deals it too.
 #[test]
 fn deals_beside_a_search(rt: HostRuntime) {
     let rules = english_rules();

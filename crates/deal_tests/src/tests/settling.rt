@@ -16,7 +16,7 @@ use std::process::Abort;
 pub enum Answer {
     /// A deal that fits.
     Dealt,
-    /// No racks fit so many first steps, and some fit those before the last of them.
+    /// No racks fit this many first steps, and some fit those before the last of them.
     NoDeal(usize),
     /// Nothing was found within the budget.
     Unknown,
@@ -68,7 +68,7 @@ fn steps_of(alloc: Global, rules: &Rules, lines: &[u8]) -> Option<Vec<Step>> {
     all_steps(alloc, &passed).ok()
 }
 
-/// What settles steps. Deals and cuts are looked at once more.
+/// What settles steps. Deals and cuts are checked once more.
 fn answer_of(
     rt: &impl Abort,
     rules: &Rules,
@@ -101,7 +101,7 @@ fn settles(rt: HostRuntime) {
     }
 }
 
-/// Where the budget is spent, nothing is known, whatever is true.
+/// If the budget is spent, nothing is known, whatever is true.
 #[test]
 fn spends_its_budget(rt: HostRuntime) {
     let rules = english_rules();
@@ -113,7 +113,7 @@ fn spends_its_budget(rt: HostRuntime) {
     }
 }
 
-/// Where memory is refused, that is told, and else what settles the row.
+/// If memory is refused, the answer says so, and otherwise what settles the row.
 #[test]
 fn refused_while_settling(rt: HostRuntime) {
     let rules = english_rules();

@@ -17,7 +17,7 @@ fn tiles(letters: &str) -> Counts {
     tiles
 }
 
-/// A step of the first player's with the whole tile set but two racks of seven in the bag.
+/// A step of the first player's with the whole tile set except two racks of seven in the bag.
 fn step(line: u32, player: Seat, act: Act) -> Step {
     Step {
         line,
@@ -131,7 +131,7 @@ fn bounds_of_games(rt: HostRuntime) {
     );
 }
 
-/// The first player plays AT off AEINRST and draws so many tiles: the rack after it, and whether it fits.
+/// The first player plays AT from AEINRST and draws a number of tiles: the rack after it, and whether it fits.
 #[test]
 fn draws(rt: HostRuntime) {
     let english = english_rules();

@@ -1,9 +1,9 @@
-//! What the example of a caller of the crates answers of texts.
+//! What the example of a caller of the crates answers for texts.
 use lex_list::WordList;
 use library_example::allows;
 use ref_tiles::english_rules;
 
-/// Texts, and what is answered of them by the list of the word AT.
+/// Texts, and the answers for them by the list of the word AT.
 const ROWS: [(&[u8], Option<bool>); 4] = [
     (b">A: AT 8G AT +4 4\n", Some(true)),
     (b">A: AT 8G AT +5 5\n", Some(false)),

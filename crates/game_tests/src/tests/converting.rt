@@ -76,7 +76,7 @@ fn with_word(rt: &impl Abort, alloc: Global, file: &[u8], place: usize, word: [u
     bytes
 }
 
-/// No list is asked for: a file that is that of no list is converted as any other. Here A alone is accepted too.
+/// No list is needed: a file that is that of no list is converted like any other. Here A alone is accepted too.
 #[test]
 fn of_no_list(rt: HostRuntime) {
     let arcs = with_word(&rt, rt.alloc(), &AT, 7, [0x21, 0x01, 0x00, 0x00]);

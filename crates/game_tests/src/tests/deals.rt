@@ -1,11 +1,11 @@
-//! Deals: records that are right line by line, and whether some deal of the tile set yields their racks. That a record without an
-//! exchange is never unsettled is asserted of each record that is judged (`games`).
+//! Deals: records that are right line by line, and whether some deal of the tile set yields their racks. For each record that is
+//! judged, `games` asserts that it is not unsettled without an exchange.
 use super::games::{Row, report_all, report_with, told_by};
 use super::turns::SHORT;
 use engine::{Earlier, GameFault, Verdict};
 use test_calls::{Call, GameRules};
 
-/// No player has shown more tiles than came to the rack, and both together no more of a kind than the game has.
+/// No player has shown more tiles than have come to the rack, and both together no more of a kind than the game has.
 const BOUNDS: [Row; 3] = [
     Row {
         words: "WORD",
@@ -36,7 +36,7 @@ fn deals(rt: HostRuntime) {
     report_all(&rt, rt.alloc(), GameRules::English, &[&BOUNDS, &UNSETTLED]);
 }
 
-/// Records with events behind the line up to which there is no deal, and this line. The Q goes back and cannot be drawn before
+/// Records with events after the line up to which there is no deal, and this line. The Q goes back and cannot be drawn before
 /// its next line; the other player has it too early; and six of seven tiles stayed.
 const UNDEALT: [(&str, u32, &str); 3] = [
     (

@@ -9,8 +9,7 @@ use std::alloc::Global;
 use std::io::{self, ErrorKind, Read, Write};
 use test_calls::{Feed, Mishap, Sheet};
 
-/// A reader and writer of std that is interrupted some times before each call comes about, and then fails if it is
-/// to.
+/// A reader and writer of std that is interrupted a few times before each call succeeds, and then fails if it is to.
 #[derive(Drop)]
 struct Interrupted {
     times: u8,

@@ -20,7 +20,7 @@ impl Read for Slow<'_> {
     }
 }
 
-/// Texts, each with what is handed out of it, by what they show.
+/// Texts, each with what is given out of it, by what they show.
 const ROWS: [(&str, &[(&[u8], &[u8])]); 4] = [
     (
         "no more than a field",
@@ -51,7 +51,7 @@ const ROWS: [(&str, &[(&[u8], &[u8])]); 4] = [
     ("white space at the front", &[(b" AA\n\tAB\n", b"\n\n")]),
 ];
 
-/// Asserts what is handed out of a text of which 1, 2 or 3 bytes come at a time.
+/// Asserts what is given out of a text if 1, 2 or 3 bytes come at a time.
 fn assert_fields(rt: &impl Abort, alloc: Global, text: &[u8], fields: &[u8], what: &str) {
     for most in 1..4 {
         let mut read = Vec::new(alloc);

@@ -38,7 +38,7 @@ impl Row {
     }
 }
 
-/// What a call tells of a record by words and their lexicon: the verdict and what was written.
+/// What a call reports of a record by words and their lexicon: the verdict and what was written.
 pub fn told_by(
     rt: &impl Abort,
     alloc: Global,
@@ -71,15 +71,15 @@ pub fn judged(
     told
 }
 
-/// Judges a record, and gives the verdict and what was written. Read one by one or seven at once, the bytes come to the same, and a
-/// record without an exchange is settled.
+/// Judges a record, and gives the verdict and what was written. Bytes read one by one and seven at once give the same, and a record
+/// without an exchange is settled.
 pub fn judged_by(rt: &impl Abort, alloc: Global, inputs: &Inputs<'_>) -> (Verdict, Vec<u8>) {
     let told = told_of(rt, alloc, Call::Judge, inputs);
     assert_settled(rt, alloc, told.0 == Verdict::Unsettled, inputs.game);
     told
 }
 
-/// Asserts that a record has an exchange, where it stays unsettled.
+/// Asserts that a record has an exchange, if it stays unsettled.
 pub fn assert_settled(rt: &impl Abort, alloc: Global, is_unsettled: bool, game: &[u8]) {
     if is_unsettled {
         let record = read(alloc, game).expect(rt, "a record");
@@ -93,7 +93,7 @@ fn is_exchange(kind: &EventKind) -> bool {
     matches!(kind, EventKind::Exchange(_) | EventKind::ExchangeUnknown(_))
 }
 
-/// The lexicon that is built for a word list; no bytes where the text is none.
+/// The lexicon that is built for a word list; no bytes if the text is not one.
 pub fn lexicon_of(rt: &impl Abort, alloc: Global, words: &[u8]) -> Vec<u8> {
     match WordList::read(alloc, words) {
         Ok(list) => build(alloc, &list).expect(rt, "a lexicon"),
@@ -116,7 +116,8 @@ fn report_rows(rt: &impl Abort, alloc: Global, rules: GameRules<'_>, rows: &[Row
     }
 }
 
-/// Asserts what is written of each record of some tables, by the English rules but for the tiles and the least bag of an exchange.
+/// Asserts what is written of each record of some tables, by the English rules except for the tiles and the least bag of an
+/// exchange.
 pub fn report_with(
     rt: &impl Abort,
     alloc: Global,
@@ -128,7 +129,7 @@ pub fn report_with(
     report_all(rt, alloc, GameRules::Known(&rules), tables);
 }
 
-/// Rules with the English numbers and premiums, and these tiles alone.
+/// Rules with the English numbers and premiums, and only these tiles.
 pub fn rules_with(rt: &impl Abort, tiles: &[u8], exchange_min: u8) -> Rules {
     let mut parts = english_rules().parts();
     parts.counts = tiles_of(tiles).expect(rt, "tiles");

@@ -1,8 +1,8 @@
-//! Inputs that are no word list or no record.
+//! Inputs that are not a word list or not a record.
 use super::games::{Row, report_all};
 use test_calls::GameRules;
 
-/// The first line that is no word is told, and no other input is read.
+/// The first line that is not a word is reported, and no other input is read.
 pub const BAD_LISTS: [Row; 3] = [
     Row {
         words: "AT\nA1",
@@ -21,7 +21,7 @@ pub const BAD_LISTS: [Row; 3] = [
     },
 ];
 
-/// The first faulty line of a record is told.
+/// The first faulty line of a record is reported.
 pub const BAD_RECORDS: [Row; 6] = [
     Row {
         words: "WORD",

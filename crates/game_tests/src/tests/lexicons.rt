@@ -194,7 +194,7 @@ fn games(rt: HostRuntime) {
     }
 }
 
-/// A word list, and what is built of it.
+/// A word list, and what is built from it.
 struct Build {
     words: &'static str,
     verdict: Verdict,

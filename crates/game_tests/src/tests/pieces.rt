@@ -1,4 +1,4 @@
-//! What calls of the engine tell, however few bytes a read of their inputs gives.
+//! What calls of the engine report, however few bytes a read of their inputs gives.
 use devices::FromWrite;
 use engine::Verdict;
 use ref_tiles::ENGLISH_TEXT;
@@ -6,8 +6,8 @@ use std::alloc::Global;
 use std::process::Abort;
 use test_calls::{Call, GameRules, Inputs, Reads, ask};
 
-/// What a call tells of its inputs: the verdict and what was written. Read one by one or seven at once, the bytes come to the same, and
-/// so they do with the English rules as a text.
+/// What a call reports of its inputs: the verdict and what was written. Bytes read one by one and seven at once give the same, and so
+/// do the English rules as a text.
 pub fn told_of(
     rt: &impl Abort,
     alloc: Global,
@@ -34,7 +34,7 @@ fn by_text<'a>(inputs: &Inputs<'a>) -> Inputs<'a> {
     }
 }
 
-/// What a call tells of inputs that give at most so many bytes a read.
+/// What a call reports of inputs that give at most `piece` bytes a read.
 pub fn told_in_pieces(
     rt: &impl Abort,
     alloc: Global,
@@ -47,7 +47,7 @@ pub fn told_in_pieces(
     (asked.answer.expect(rt, "a verdict"), out.into_inner())
 }
 
-/// Asserts that a call came to the same verdict and output.
+/// Asserts that a call gave the same verdict and output.
 fn assert_same(rt: &impl Abort, told: &(Verdict, Vec<u8>), again: &(Verdict, Vec<u8>)) {
     assert_eq!(rt; again.0, told.0);
     assert_eq!(rt; again.1.as_slice(), told.1.as_slice());

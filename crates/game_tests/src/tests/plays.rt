@@ -1,8 +1,8 @@
-//! Plays: where they may lie, what they score, and which of their words are not in the list.
+//! Plays: where they may be laid, what they score, and which of their words are not in the list.
 use super::games::{Row, report_all};
 use test_calls::GameRules;
 
-/// Where a play may lie: on the board, on empty squares, whole, through the centre first, and beside a tile then.
+/// Where a play may be laid: on the board, on empty squares, whole, through the centre first, and then next to a tile.
 pub const PLACES: [Row; 9] = [
     Row {
         words: "WORD",
@@ -119,7 +119,7 @@ const TOTALS: [Row; 2] = [
     },
 ];
 
-/// Words that are not in the list stand where nobody challenges them, and are told.
+/// Phonies, words that are not in the list, stand if nobody challenges them, and are reported.
 const UNLISTED: [Row; 5] = [
     Row {
         words: "",

@@ -1,4 +1,4 @@
-//! Games that are judged, and best plays that are told, by the rules of a text.
+//! Games that are judged, and best plays that are found, by the rules of a text.
 use super::deals::WHOLE_SETS;
 use super::games::{Row, lexicon_of, report_all};
 use super::inputs::{BAD_LISTS, BAD_RECORDS};
@@ -75,7 +75,7 @@ fn bad_inputs(rt: HostRuntime) {
     assert_eq!(rt; report.as_slice(), b"bad lexicon: Magic\n".as_slice());
 }
 
-/// Asserts that a text which ends in four bytes behind its limit and one more is too long, and that none of the four is read.
+/// Asserts that a text that ends in four bytes after its limit and one more is too long, and that none of the four is read.
 fn assert_long(rt: &impl Abort, alloc: Global, text: &[u8], piece: usize) {
     let inputs = Inputs {
         rules: GameRules::Text(text),
@@ -105,7 +105,7 @@ fn assert_long(rt: &impl Abort, alloc: Global, text: &[u8], piece: usize) {
     assert_eq!(rt; left, (2, 10, 1));
 }
 
-/// A text of 65,536 bytes is read. Of a longer one the byte behind them is asked for, and no further one, and no byte of the
+/// A text of 65,536 bytes is read. For a longer one the byte after them is read, and no further one, and no byte of the
 /// other inputs.
 #[test]
 fn long_texts(rt: HostRuntime) {
@@ -120,8 +120,8 @@ fn long_texts(rt: HostRuntime) {
     }
 }
 
-/// Asserts what is told of the best plays on an empty board by a rules text, the list AT and the rack `?A`, however few bytes a read
-/// gives.
+/// Asserts what is reported of the best plays on an empty board by a rules text, the list AT and the rack `?A`, however few bytes a
+/// read gives.
 fn assert_topped(
     rt: &impl Abort,
     alloc: Global,
@@ -141,7 +141,7 @@ fn assert_topped(
     assert_eq!(rt; text.as_slice(), told.as_bytes());
 }
 
-/// The best plays by the English text are those by the English rules; by a text with a fault, that is told.
+/// The best plays by the English text are those by the English rules; if a text has a fault, that is reported.
 #[test]
 fn best_plays(rt: HostRuntime) {
     let file = lexicon_of(&rt, rt.alloc(), b"AT");
@@ -158,7 +158,7 @@ fn best_plays(rt: HostRuntime) {
     );
 }
 
-/// Behind a rack that is none no input is read, the rules text neither: what the inputs hold is still there.
+/// After bytes that are not a rack no input is read, nor is the rules text: what the inputs hold is still there.
 #[test]
 fn bad_racks(rt: HostRuntime) {
     for rack in ["", "A1", "AAAAAAAA"] {

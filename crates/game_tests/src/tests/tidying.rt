@@ -3,7 +3,7 @@ use super::pieces::told_of;
 use engine::Verdict;
 use test_calls::{Call, Inputs, NO_INPUTS};
 
-/// Records, and what is answered and written of them: their normal form, or their first fault.
+/// Records, and what is answered and written for them: their normal form, or their first fault.
 const ROWS: [(&str, Verdict, &str); 7] = [
     (
         "\u{feff}#player1 A  Ann Lee\r\n#note x\n>A:\tDORWAAE  8e WORD 16 16\r\n",

@@ -6,7 +6,7 @@ use std::alloc::Global;
 use std::process::Abort;
 use test_calls::{Before, Call, GameRules};
 
-/// What is asked of a record.
+/// A question about a record.
 #[derive(Clone, Copy)]
 struct Asked {
     game: &'static str,
@@ -31,7 +31,7 @@ const FOUR: &str = "8G AT 4\n8H AT 4\nH7 AT 4\nH8 AT 4\n";
 const TWELVE: &str =
     "8G AT 4\n8H AT 4\nH7 AT 4\nH8 AT 4\n8G At 2\n8G aT 2\n8H At 2\n8H aT 2\nH7 At 2\nH7 aT 2\nH8 At 2\nH8 aT 2\n";
 
-/// What is asked of a game by the word AT.
+/// A question about a game by the word AT.
 fn by_at(
     game: &'static str,
     rack: Option<&'static str>,
@@ -63,7 +63,7 @@ fn topped(rt: &impl Abort, alloc: Global, asked: Asked) -> (Verdict, Vec<u8>) {
     )
 }
 
-/// The rack is the one that is given, or that of the line; there are as many plays as asked for, or as there are.
+/// The rack is the one that is given, or that of the line; there are as many plays as requested, or as there are.
 #[test]
 fn plays_before_a_line(rt: HostRuntime) {
     let rows: [(Asked, &str); 9] = [
@@ -92,7 +92,7 @@ fn plays_before_a_line(rt: HostRuntime) {
     }
 }
 
-/// A line without an event, a rack that is none or not shown, and an event before the line that the rules do not allow.
+/// A line without an event, a rack that is not one or not shown, and an event before the line that the rules do not allow.
 #[test]
 fn bad_questions(rt: HostRuntime) {
     let refused = Verdict::Illegal {

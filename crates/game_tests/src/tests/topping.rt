@@ -8,7 +8,7 @@ use std::alloc::Global;
 use std::process::Abort;
 use test_calls::{Call, GameRules, Inputs, NO_INPUTS, Reads, ask};
 
-/// The greatest score comes first, and of equal ones the first by its notation: ten at most, or `none`.
+/// The greatest score comes first, and plays of equal score by their notations: at most ten, or `none`.
 #[test]
 fn best_plays(rt: HostRuntime) {
     let rows: [(&str, &str, &str, &str); 5] = [
@@ -38,13 +38,13 @@ fn best_plays(rt: HostRuntime) {
     }
 }
 
-/// The fault of a play that scores four points, where five are written.
+/// The fault of a play that scores four points, if five are written.
 const WRONG_SCORE: Verdict = Verdict::Illegal {
     line: 1,
     fault: GameFault::Rule(RuleFault::WrongScore(4)),
 };
 
-/// The words of a list, a record, and what is answered and written of them by the rack AT.
+/// The words of a list, a record, and what is answered and written for them by the rack AT.
 const INPUTS: [(&str, &str, Verdict, &str); 4] = [
     (
         "A",
@@ -72,7 +72,7 @@ const INPUTS: [(&str, &str, Verdict, &str); 4] = [
     ),
 ];
 
-/// Asserts what is answered and written of words, their lexicon, a record and a rack.
+/// Asserts what is answered and written for words, their lexicon, a record and a rack.
 fn expect_topped(
     rt: &impl Abort,
     alloc: Global,
@@ -94,7 +94,7 @@ fn expect_topped(
     assert_eq!(rt; text.as_slice(), told.as_bytes(), "{told}");
 }
 
-/// The first bad input is told, and a record that the rules do not allow.
+/// The first bad input is reported, and a record that the rules do not allow.
 #[test]
 fn bad_inputs(rt: HostRuntime) {
     for (words, game, want, told) in INPUTS {
@@ -109,7 +109,7 @@ fn bad_inputs(rt: HostRuntime) {
     assert_eq!(rt; text.as_slice(), b"bad lexicon: Short\n".as_slice());
 }
 
-/// Asserts that behind a rack that is none no input is read: what the inputs hold is still there.
+/// Asserts that after bytes that are not a rack no input is read: what the inputs hold is still there.
 pub fn assert_bad_rack(rt: &impl Abort, alloc: Global, rules: GameRules<'_>, rack: &str) {
     let inputs = Inputs {
         rules,

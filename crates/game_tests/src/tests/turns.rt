@@ -32,7 +32,7 @@ const MOVERS: [Row; 4] = [
     },
 ];
 
-/// A play with a word that is not in the list may be withdrawn by the line directly behind it.
+/// A play with a word that is not in the list may be withdrawn by the line directly after it.
 const WITHDRAWALS: [Row; 5] = [
     Row {
         words: "WORD",
@@ -126,7 +126,7 @@ const LEAST_BAGS: [Row; 2] = [
     },
 ];
 
-/// An exchange of no more tiles than the bag has, where one tile in it is enough.
+/// An exchange of no more tiles than the bag has, if one tile in it is enough.
 const SMALL_BAGS: [Row; 2] = [
     Row {
         words: "RETAINS",
@@ -145,7 +145,7 @@ fn small_bags(rt: HostRuntime) {
     report_with(&rt, rt.alloc(), SPARE, 1, &[&SMALL_BAGS]);
 }
 
-/// After six turns in a row without a standing play each player may lose the points of the own rack.
+/// After six turns in a row without a standing play each player may lose the points of their own rack.
 const STALE_GAMES: [Row; 4] = [
     Row {
         words: "RETAINS",
@@ -179,7 +179,7 @@ fn turns(rt: HostRuntime) {
     );
 }
 
-/// A player who is out gains twice the points of the other rack, after one idle pass at most.
+/// A player who is out gains twice the points of the other rack, after at most one idle pass.
 pub const OUT: [Row; 4] = [
     Row {
         words: "RETAINS",

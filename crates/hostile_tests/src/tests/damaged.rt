@@ -4,7 +4,7 @@ use engine::Verdict;
 use test_calls::Call;
 use test_samples::AT;
 
-/// Each change of one bit in the file of AT makes it another lexicon than that of AT.
+/// Each change of one bit in the file of AT makes it a lexicon other than that of AT.
 #[test]
 fn single_bits(rt: HostRuntime) {
     for bit in 0..8 * AT.len() {

@@ -9,7 +9,7 @@ use std::alloc::Global;
 use std::process::Abort;
 use test_samples::EMPTY;
 
-/// An input of so many line feeds. It counts them as it gives them.
+/// An input of a number of line feeds. It counts them as it gives them.
 #[derive(Drop)]
 struct Feeds {
     left: usize,
@@ -28,7 +28,7 @@ impl Input for Feeds {
     }
 }
 
-/// Judges a record of line feeds by a list of line feeds, and gives how many of both were asked for.
+/// Judges a record of line feeds by a list of line feeds, and gives how many of both were read.
 fn judged_feeds(
     rt: &impl Abort,
     alloc: Global,
@@ -53,7 +53,7 @@ fn judged_feeds(
     (words.given, game.given)
 }
 
-/// A record of 1 MiB is read. Of a longer one, and of a list of more than 16 MiB, one byte more is asked for, and no further
+/// A record of 1 MiB is read. For a longer one, and for a list of more than 16 MiB, one more byte is read, and no further
 /// one.
 #[test]
 fn longest_inputs(rt: HostRuntime) {
@@ -92,7 +92,7 @@ fn judged(rt: &impl Abort, alloc: Global, game: &[u8]) -> (Verdict, Vec<u8>) {
     (answer.expect(rt, "a verdict"), out.into_inner())
 }
 
-/// A game has 1,000 events at most. Which fault a further line has is not looked for.
+/// A game has at most 1,000 events. The fault of a further line does not matter.
 #[test]
 fn most_events(rt: HostRuntime) {
     let mut text = passes(&rt, rt.alloc(), 1000);

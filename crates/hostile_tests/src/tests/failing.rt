@@ -1,4 +1,4 @@
-//! Devices that fail, or move few bytes at once.
+//! Devices that fail, or move few bytes at a time.
 ghost use Rattle.std.specs.Prelude.{◌<◌};
 
 use super::jobs::{JUDGED, Job, OTHERS, attempt, working};
@@ -21,7 +21,7 @@ fn inputs_of(job: &Job<'_>) -> [bool; 4] {
     }
 }
 
-/// Lets each read of an input fail once, where the other reads work, and tells how many reads there were.
+/// Lets each read of an input fail once, while the other reads work, and returns how many reads there were.
 fn each_read_fails(rt: &impl Abort, alloc: Global, job: &Job<'_>, input: usize) -> usize
     requires { input < 4 }
 {
@@ -56,7 +56,7 @@ fn failing_reads(rt: HostRuntime) {
     }
 }
 
-/// Lets each write meet with a mishap once, where the other writes work, and tells how many writes there were.
+/// Lets each write have a mishap once, while the other writes work, and returns how many writes there were.
 fn each_write_fails(rt: &impl Abort, alloc: Global, job: &Job<'_>, mishap: Mishap) -> usize {
     for write in 0..1000 {
         let mut manner = working(3);

@@ -1,4 +1,4 @@
-//! Worked rows, asked of the calls of the engine.
+//! Worked jobs for the calls of the engine.
 use engine::{Earlier, GameFault, RunFault, Verdict};
 use lex_file::Format;
 use ref_tiles::ENGLISH_TEXT;
@@ -26,7 +26,7 @@ pub const RETAINS: [u8; 176] = file_bytes![
     0xf13, 0x10d4,
 ];
 
-/// Rules by which there are 14 tiles, else those of the English game.
+/// Rules with 14 tiles, otherwise those of the English game.
 #[rattlefmt::skip]
 const SHORT_RULES: &[u8] = b"\
 tile A 2 1\ntile B 0 3\ntile C 0 3\ntile D 1 2\ntile E 2 1\ntile F 0 4\ntile G 0 2\n\
@@ -40,11 +40,11 @@ row 10 .t...t...t...t.\nrow 11 ....D.....D....\nrow 12 d..D...d...D..d\n\
 row 13 ..D...d.d...D..\nrow 14 .D...t...t...D.\nrow 15 T..d...T...d..T\n\
 bonus 50\nexchange_min 7\nzero_limit 6\nchallenge_unit 5\ntime_step 5\n";
 
-/// A call, what its inputs hold, and what is answered and written. An input that it has not is empty.
+/// A call, what its inputs hold, and what is answered and written. An input that the call does not have is empty.
 #[derive(Drop)]
 pub struct Job<'a> {
     pub call: Call<'a>,
-    /// The rules text that a game is judged by; by the English rules where there is none.
+    /// The rules text that a game is judged by; by the English rules if there is none.
     pub rules: Option<&'a [u8]>,
     pub words: &'a [u8],
     pub lexicon: &'a [u8],
@@ -115,7 +115,7 @@ pub const NO_DEAL: Job<'static> = Job {
     ..UNSETTLED
 };
 
-/// Another one, by the text of the English rules: seven other tiles, where six of the old ones stayed.
+/// Another one, by the text of the English rules: seven other tiles, though six of the old ones stayed.
 pub const RULED_NO_DEAL: Job<'static> = Job {
     rules: Some(ENGLISH_TEXT),
     game: b">A: AEINRST -1 +0 0\n>B: - +0 0\n>A: BCDFGHJ - +0 0\n",
@@ -284,8 +284,8 @@ pub const OTHERS: [Job<'static>; 11] = [
     RULED_BOARD,
 ];
 
-/// How the devices of a job behave: how its inputs are read, and the number of the write that meets with a mishap. A write moves as
-/// many bytes at most as a read.
+/// How the devices of a job behave: how its inputs are read, and the number of the write that has a mishap. A write moves at most
+/// as many bytes as a read.
 #[derive(Clone, Copy, Debug)]
 pub struct Manner {
     pub reads: Reads,
@@ -293,7 +293,7 @@ pub struct Manner {
     pub mishap: Mishap,
 }
 
-/// Devices that work, and move at most so many bytes.
+/// Devices that work, and move at most `piece` bytes.
 pub fn working(piece: usize) -> Manner {
     Manner {
         reads: Reads::working(piece),
@@ -302,7 +302,7 @@ pub fn working(piece: usize) -> Manner {
     }
 }
 
-/// What came of a job.
+/// The result of a job.
 #[derive(Drop)]
 pub struct Outcome {
     pub answer: Result<Verdict, RunFault>,

@@ -1,5 +1,5 @@
 //! Memory that is refused: each request in turn, by `oracle/checks/refuse_memory.py`, until a run meets no refusal. Each test is for one
-//! call, and takes little memory besides. Without a refusal the answer is the row's.
+//! call, and takes little memory otherwise. Without a refusal the answer is the row's.
 use super::jobs::{
     BEST_PLAYS, BUILT, CHECKED, CONVERTED, CONVERTED_BACK, Job, NO_DEAL, ONE_PLAY, PLAYS_BEFORE,
     RULED, RULED_BOARD, RULED_NO_DEAL, RULED_PLAYS, RULED_PLAYS_BEFORE, SETTLED, SHOWN, STALE,
@@ -127,7 +127,7 @@ fn run_board_ruled(rt: HostRuntime) {
     assert_spared(&rt, rt.alloc(), &RULED_BOARD);
 }
 
-/// What is written behind a byte is this text, or nothing where memory is refused.
+/// What is written after a byte is this text, or nothing if memory is refused.
 fn assert_behind(rt: &impl Abort, out: &[u8], wrote: Result<(), NoMemory>, text: &[u8]) {
     let (front, behind) = out.split_first().expect(rt, "a byte");
     let expected = if wrote.is_ok() { text } else { b"" };
@@ -204,7 +204,7 @@ fn convert_of_a_word(rt: HostRuntime) {
     }
 }
 
-/// The record and the list of a deal; none where memory is refused.
+/// The record and the list of a deal; none if memory is refused.
 fn dealt(alloc: Global, game: &[u8]) -> Option<(Record, WordList)> {
     let record = read(alloc, game).ok()?;
     let list = WordList::read(alloc, b"AT").ok()?;
@@ -232,7 +232,7 @@ fn bounds_exceeded(rt: HostRuntime) {
     assert!(rt; fault == short || fault == DealFault::NoMemory);
 }
 
-/// Asserts that a deal of three steps is found for a record that exceeds no bound, or memory refused.
+/// Asserts that a deal of three steps is found for a record that exceeds no bound, or memory is refused.
 fn assert_deal(rt: &impl Abort, alloc: Global, record: &Record, list: &WordList) {
     let rules = english_rules();
     let passed = play_through(&rules, record, list).expect(rt, "a record that passed");
@@ -246,7 +246,7 @@ fn assert_deal(rt: &impl Abort, alloc: Global, record: &Record, list: &WordList)
     }
 }
 
-/// An exchange of tiles that are not told.
+/// An exchange of unknown tiles.
 #[test]
 fn complete_with_an_exchange(rt: HostRuntime) {
     let game = b">A: AEI -5 +0 0\n>B: QU - +0 0\n>A: SX - +0 0\n";
@@ -292,7 +292,7 @@ board before line 2
     ROWS_12_TO_15,
 ];
 
-/// What explains a text that is no record.
+/// What explains a text that is not a record.
 const THIRD_PLAYER: [&str; 1] = [
     "\
 bad record line 3: ThirdPlayer
@@ -308,7 +308,7 @@ fn assert_explained(rt: &impl Abort, alloc: Global, game: &[u8], want: &[&str]) 
     }
 }
 
-/// What explains a record by the list WORD; none where memory is refused.
+/// What explains a record by the list WORD; none if memory is refused.
 fn explained(alloc: Global, game: &[u8]) -> Option<Vec<u8>> {
     let rules = english_rules();
     let list = WordList::read(alloc, b"WORD").ok()?;

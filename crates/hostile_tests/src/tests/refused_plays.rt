@@ -44,7 +44,7 @@ fn offer_by<L: PathLex>(
 ) -> Result<(), NoMemory>
     requires { StandsFor (L.language lex.now) list.now }
 {
-    // What reads the length of a list knows what a word list is.
+    // The prover learns from the call of `len` what a word list is.
     let _words = list.len();
     offer(rules, list, lex, board, rack, sink)
 }
@@ -55,8 +55,8 @@ fn is_same(one: &(Play, i32), other: &(Play, i32)) -> bool {
         && one.1 == other.1
 }
 
-/// After a refusal the sink has a front of the plays, and the board is as it was. Of one request alone that is refused, the second
-/// call meets none.
+/// After a refusal the sink has a prefix of the plays, and the board is as it was. If only one request is refused, the second call
+/// meets no refusal.
 #[test]
 fn generate_all(rt: HostRuntime) {
     let Ok(list) = WordList::read(rt.alloc(), b"AT") else {

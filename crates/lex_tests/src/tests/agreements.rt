@@ -1,4 +1,4 @@
-//! Which files are told at once to be that of a list, and which need the walk beside the paths in order.
+//! Which files are seen at once to be that of a list, and which need the walk along the paths in order.
 use super::samples::{AT_AND_MORE, AT_ATE, AT_ATE_APART, LISTS};
 use lex_agree::agree;
 use lex_build::{build, convert};
@@ -9,7 +9,7 @@ use std::alloc::Global;
 use std::process::Abort;
 use test_samples::{AT, AT_BY_NODES, AT_IT, EMPTY};
 
-/// Word lists and files, whether it is told at once that the file is that of the list, and whether it is.
+/// Word lists and files, whether it is seen at once that the file is that of the list, and whether it is.
 const ROWS: [(&[u8], &[u8], bool, bool); 10] = [
     (b"", &EMPTY, true, true),
     (b"AT", &AT, true, true),
@@ -18,15 +18,15 @@ const ROWS: [(&[u8], &[u8], bool, bool); 10] = [
     (b"AT\nATE", &AT_ATE, true, true),
     // The same strings, with two nodes of the letter E.
     (b"AT\nATE", &AT_ATE_APART, false, true),
-    // A word too few, and one too many.
+    // One word too few, and one too many.
     (b"AT\nATE", &AT, false, false),
     (b"AT", &AT_ATE, false, false),
     (b"AT\nIT", &EMPTY, false, false),
-    // The paths of AT, and one string more.
+    // The paths of AT, and one more string.
     (b"AT", &AT_AND_MORE, false, false),
 ];
 
-/// Whether it is told at once that a file is that of a list, and whether it is; none where there is no list or no file.
+/// Whether it is seen at once that a file is that of a list, and whether it is; none if there is no list or no file.
 fn answers(alloc: Global, words: &[u8], bytes: &[u8]) -> Option<(bool, bool)> {
     let list = WordList::read(alloc, words).ok()?;
     let file = LexFile::open(bytes).ok()?;
@@ -36,7 +36,7 @@ fn answers(alloc: Global, words: &[u8], bytes: &[u8]) -> Option<(bool, bool)> {
     ))
 }
 
-/// The same of the file that is built of a list, in a format.
+/// The same for the file that is built from a list, in a format.
 fn built(alloc: Global, words: &[u8], format: Format) -> Option<(bool, bool)> {
     let list = WordList::read(alloc, words).ok()?;
     let bytes = build(alloc, &list).ok()?;
@@ -53,7 +53,7 @@ fn worked_rows(rt: HostRuntime) {
     }
 }
 
-/// Files are told at once in both formats.
+/// Files are seen at once in both formats.
 #[test]
 fn built_files_are_told_at_once(rt: HostRuntime) {
     for words in &LISTS {

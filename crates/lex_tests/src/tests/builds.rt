@@ -1,4 +1,4 @@
-//! The files that are built of lists.
+//! The files that are built from lists.
 use super::samples::{AT_ATE, LISTS};
 use lex_build::{BuildFault, build};
 use lex_check::{Mismatch, check};
@@ -95,8 +95,8 @@ fn next(state: u32) -> u32 {
     state.wrapping_mul(1_664_525).wrapping_add(1_013_904_223)
 }
 
-/// 5,000 lines with a word each: four letters that spell the number of the word, and 0 to 11 of the letters A to E behind
-/// them.
+/// 5,000 lines with a word each: four letters that spell the number of the word, followed by 0 to 11 of the letters A to
+/// E.
 fn many_words(rt: &impl Abort, alloc: Global) -> Vec<u8> {
     let mut text = Vec::new(alloc);
     let mut state = 1;

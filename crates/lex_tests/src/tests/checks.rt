@@ -38,7 +38,7 @@ const ROWS: [(&[u8], &[u8], Answer); 11] = [
     (b"", &AT, Extra(b"A")),
 ];
 
-/// The check of a file's bytes; none where a text or a file is refused before it.
+/// The check of a file's bytes; none if a text or a file is refused before it.
 fn outcome(alloc: Global, words: &[u8], file: &[u8]) -> Option<Result<(), Mismatch>> {
     let list = WordList::read(alloc, words).ok()?;
     let lexicon = LexFile::open(file).ok()?;
@@ -67,7 +67,7 @@ fn answers(rt: HostRuntime) {
     }
 }
 
-/// The file of the least path of a word of 15 letters A, and of this path with one more A behind it: 17 labels.
+/// The file of the least path of a word of 15 letters A, and of this path with one more A after it: 17 labels.
 #[test]
 fn an_extra_of_seventeen_labels(rt: HostRuntime) {
     let mut words = [0; 21];
@@ -112,13 +112,13 @@ fn sorted_paths_are_walked(rt: HostRuntime) {
     law_of_lexicons();
 }
 
-/// The sorted paths of the words of a text; none where it is refused.
+/// The sorted paths of the words of a text; none if it is refused.
 fn paths_of(alloc: Global, words: &[u8]) -> Option<SortedPaths> {
     let list = WordList::read(alloc, words).ok()?;
     SortedPaths::new(alloc, &list).ok()
 }
 
-/// The words of a text, some labels, a label from which on the next one is looked for behind them, and the first one.
+/// The words of a text, some labels, a label from which on the next one after them is looked for, and the first one.
 const AHEAD: [(&[u8], &[u8], u8, Option<u8>); 13] = [
     (b"", &[], 0, None),
     (b"AT\nIT", &[], 0, Some(1)),
@@ -135,7 +135,7 @@ const AHEAD: [(&[u8], &[u8], u8, Option<u8>); 13] = [
     (b"AT\nATE", &[20, 1], 1, None),
 ];
 
-/// The first label from one on with which a tail of the node behind some labels begins.
+/// The first label from one on with which a tail of the node after some labels begins.
 fn label_behind(paths: &SortedPaths, behind: &[u8], from: u8) -> Option<u8> {
     let mut node = paths.root();
     for label in behind {

@@ -69,7 +69,7 @@ fn same_format(rt: HostRuntime) {
     }
 }
 
-/// A root that is not the last node is still the root: the nodes behind it stay, though no walk reaches them.
+/// A root that is not the last node is still the root: the nodes after it stay, though no walk reaches them.
 #[test]
 fn root_within(rt: HostRuntime) {
     let mut by_arcs = AT;
@@ -86,7 +86,7 @@ fn root_within(rt: HostRuntime) {
     );
 }
 
-/// Each request for memory that is refused is answered as such: `rt try --test --fail-alloc N` refuses the N-th.
+/// Each request for memory that is refused gives that answer: `rt try --test --fail-alloc N` refuses the N-th.
 #[test]
 fn refused_memory(rt: HostRuntime) {
     let there = compare(rt.alloc(), &AT_IT, Format::Gad2, &AT_IT_BY_NODES);

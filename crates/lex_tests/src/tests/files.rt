@@ -1,4 +1,4 @@
-//! Files of the first format: what walks find in them, and fronts of files.
+//! Files of the first format: what walks find in them, and prefixes of files.
 ghost use Rattle.std.specs.Prelude.{◌≡◌};
 
 use lex_file::FileFault::{DeadArc, Length, Short};
@@ -6,7 +6,7 @@ use lex_file::{Branch, LexFile, Node, PathLex, Step, law_of_language, law_of_nod
 use std::process::Abort;
 use test_samples::{AT, AT_BY_NODES, AT_IT, EMPTY};
 
-/// Each front of a file is refused, by its length.
+/// Each prefix of a file is refused, by its length.
 fn assert_cut(rt: &impl Abort, file: &[u8]) {
     for length in 0..file.len() {
         let fault = if length < 16 { Short } else { Length };

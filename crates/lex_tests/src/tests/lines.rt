@@ -1,4 +1,4 @@
-//! How texts fall into lines and fields.
+//! How texts are split into lines and fields.
 use std::process::Abort;
 use text_lines::{Lines, cut_line, find_blank, find_filled, next_field, without_mark};
 

@@ -118,7 +118,7 @@ fn names(rt: HostRuntime) {
     law_of_paths();
 }
 
-/// Lines of four letters each, all different, in no order of bytes.
+/// Lines of four letters each, all different, in no particular order.
 fn distinct_lines(rt: &impl Abort, alloc: Global, lines: u32) -> Vec<u8> {
     let mut text = Vec::new(alloc);
     for line in 0..lines {
@@ -132,7 +132,7 @@ fn distinct_lines(rt: &impl Abort, alloc: Global, lines: u32) -> Vec<u8> {
     text
 }
 
-/// Asserts that a text has as many words as a list may have, and that with more text behind it a line has one word too many.
+/// Asserts that a text has as many words as a list may have, and that with more text after it a line has one word too many.
 fn assert_limit(rt: &impl Abort, alloc: Global, text: &mut Vec<u8>, more: &[u8], line: u32) {
     let list = list_of(rt, alloc, text);
     assert_eq!(rt; list.len(), MAX_WORDS);

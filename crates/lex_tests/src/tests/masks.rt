@@ -6,7 +6,7 @@ use std::alloc::Global;
 use std::process::Abort;
 use test_samples::{AT, AT_BY_NODES};
 
-/// What the check of a file with the list of AT gives; none where the file is refused before it.
+/// What the check of a file with the list of AT gives; none if the file is refused before it.
 fn outcome(alloc: Global, file: &[u8]) -> Option<Result<(), Mismatch>> {
     let list = WordList::read(alloc, b"AT").ok()?;
     let lexicon = LexFile::open(file).ok()?;
@@ -23,7 +23,7 @@ fn one_bit_changed(rt: HostRuntime) {
     }
 }
 
-/// The numbers of the stored nodes, in the file's order, and 0 where there are less.
+/// The numbers of the stored nodes, in the file's order, and 0 if there are fewer.
 fn places(file: &LexFile<'_>) -> [u32; 6] {
     let mut numbers = [0; 6];
     let mut node = file.first();

@@ -11,10 +11,10 @@ pub const AT_ATE_APART: [u8; 60] = file_bytes![
     GAD1, 11, 9, 2, 0x65, 0x65, 0xf4, 0x1c0, 0x61, 0x2d4, 0x140, 0x3e1, 0x201, 0x305, 0x454,
 ];
 
-/// The file of the word AT with the string B, which is no path.
+/// The file of the word AT with the string B, which is not a path.
 pub const AT_AND_MORE: [u8; 40] = file_bytes![GAD1, 6, 4, 1, 0x74, 0xc0, 0x61, 0x101, 0x22, 0x1d4];
 
-/// Word lists whose files are built, and then checked against them or told at once.
+/// Word lists whose files are built, and then checked against them or seen at once.
 pub const LISTS: [&[u8]; 8] = [
     b"",
     b"AT",

@@ -65,7 +65,7 @@ pub fn text_of<'a>(rt: &impl Abort, text: &'a str) -> PlayText<'a> {
     }
 }
 
-/// The square so many squares behind another one.
+/// The square `steps` steps after another one.
 pub fn along(rt: &impl Abort, start: Square, dir: Dir, steps: usize) -> Square {
     match dir {
         Dir::Across => at(rt, start.row(), start.column().saturating_add(steps)),
@@ -78,7 +78,7 @@ pub fn at(rt: &impl Abort, row: usize, column: usize) -> Square {
     Square::new(row, column).expect(rt, "a square")
 }
 
-/// The tile that a byte stands for: a letter, or a blank where it is small.
+/// The tile that a byte stands for: a letter, or a blank if it is small.
 fn tile_of(rt: &impl Abort, byte: u8) -> Tile {
     match Letter::counted_from(b'A', byte) {
         Some(letter) => Tile::of_letter(letter),

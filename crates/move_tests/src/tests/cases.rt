@@ -1,7 +1,8 @@
-//! The boards and racks of which the generator's plays are compared with those of a plain search.
+//! The boards and racks for which the generator's plays are compared with those of a plain search.
 use super::boards::{Laid, WORD_AT};
 
-/// The words of a list, the tiles on a board, a rack, and how many plays there are, by a search of its own (`oracle/judge/best.py`).
+/// The words of a list, the tiles on a board, a rack, and how many plays there are, by an independent search
+/// (`oracle/judge/best.py`).
 pub type Case<'a> = (&'a [u8], &'a [Laid], &'a [u8], usize);
 
 const WORD: [Laid; 1] = ["8E WORD"];
@@ -52,7 +53,7 @@ const EIGHT: [Laid; 9] = [
     "A2 A",
 ];
 
-/// The boards behind the last play of games that were worked by hand, and those of the tables of cross-sets.
+/// The boards after the last play of games that were worked by hand, and those of the tables of cross-sets.
 pub const PLAYED: [Case<'static>; 14] = [
     (b"WORD", &["H8 WORD"], b"DORWAAE", 4),
     (b"QAT", &["8F QAT"], b"AQT", 3),
@@ -110,7 +111,7 @@ const FULL: [Laid; 15] = [
 /// Words that no list has, apart from one another.
 const APART: [Laid; 5] = ["1D Q", "O4 Z", "10A zz", "13M QT", "15D Z"];
 
-/// Boards on which no game could stand, and a rack of eight tiles, of which a play takes seven at the most.
+/// Boards on which no game could stand, and a rack of eight tiles, of which a play takes at most seven.
 pub const NO_GAME: [Case<'static>; 11] = [
     (b"AT\nTA", &["1A a", "15O T"], b"AT", 8),
     (
@@ -178,7 +179,7 @@ pub const GAME: [Laid; 41] = [
 pub const LIST: &[u8] =
     b"AE\nAH\nAI\nAN\nAT\nAX\nBE\nDE\nEN\nER\nET\nEX\nHAT\nHE\nIN\nIS\nJA\nKA\nMA\nNA\nNE\nNO\nOE\nOR\nOX\nQUA\nRE\nSI\nSO\nTA\nUN\nUT\nWARN\nWE\nYA\nCORNU";
 
-/// How many of these tiles lie, a rack, and how many plays there are.
+/// How many of these tiles are on the board, a rack, and how many plays there are.
 pub const POSITIONS: [(usize, &[u8], usize); 9] = [
     (0, b"ADEGORZ", 24),
     (1, b"CELNOOT", 14),

@@ -11,8 +11,8 @@ use ref_tiles::{Letter, Rules, Tile, english_rules};
 use std::alloc::Global;
 use std::process::Abort;
 
-/// The letters that may be put on a square, and the points beside it, for a play of a direction: the words of the list, the
-/// tiles on the board, the row and the column of the square and the direction, the letters and the points.
+/// The cross-set of a square, and the points beside it, for a play of a direction: the words of the list, the tiles on the
+/// board, the row and the column of the square and the direction, the letters and the points.
 type Row = (
     &'static [u8],
     &'static [Laid],
@@ -38,7 +38,7 @@ const ROWS: [Row; 9] = [
     (FEW, &["8G ABA"], (7, 9, Down), b"S", 5),
     // a blank on the board counts no points
     (FEW, &["8G aBA"], (7, 9, Down), b"S", 4),
-    // the R of WORD and the A of AT stand over 10G
+    // the R of WORD and the A of AT are above 10G
     (b"AT\nRA\nRAT\nWORD\n", &WORD_AT, (9, 6, Across), b"T", 2),
 ];
 
@@ -138,7 +138,7 @@ fn assert_values(rt: &impl Abort, alloc: Global, made: Made<'_>) {
     }
 }
 
-/// The lists and boards of which all values are compared, the values over the file and over the paths of the list.
+/// The lists and boards whose values are all compared, the values over the file and over the paths of the list.
 const WHOLE: [(&[u8], &[Laid]); 4] = [
     (FEW, &[]),
     (FEW, &TWO),
@@ -146,7 +146,7 @@ const WHOLE: [(&[u8], &[Laid]); 4] = [
     (b"AT\nEAT\nOE\nRA\nWORD\n", &WORD_AT),
 ];
 
-/// Asserts all values that are made afresh over a lexicon.
+/// Asserts all values that are computed anew over a lexicon.
 fn assert_afresh<L: PathLex>(
     rt: &impl Abort,
     alloc: Global,

@@ -1,4 +1,4 @@
-//! The plays that the generator gives to each sink: the rows, and beside those of a plain search.
+//! The plays that the generator gives to each sink: the rows, and compared with those of a plain search.
 ghost use Rattle.std.specs.Prelude.{◌≡◌, ℕ, List};
 ghost use Rattle.lex_list.specs.RotatedPaths.{StandsFor};
 ghost use Rattle.gen_moves.specs.Laws.{AreLong};
@@ -38,8 +38,8 @@ fn told(rt: &impl Abort, alloc: Global, board: &Board, items: &[(Play, i32)]) ->
     told
 }
 
-/// All plays by a list of words and a lexicon that stands for it. The board has to be left as it was, and the last play to be that
-/// of a sink that has no other.
+/// All plays by a list of words and a lexicon that stands for it. The board must not be changed, and the last play must be that of
+/// a sink that has no other.
 fn plays_of<L: PathLex>(
     rt: &impl Abort,
     alloc: Global,
@@ -77,7 +77,7 @@ fn plays_by<L: PathLex>(
 ) -> Vec<Told>
     requires { StandsFor (L.language lex.now) list.now }
 {
-    // What reads the length of a list knows what a word list is.
+    // The prover learns from the call of `len` what a word list is.
     let _words = list.len();
     plays_of(rt, alloc, list, lex, position)
 }
@@ -94,7 +94,7 @@ fn by_file(rt: &impl Abort, alloc: Global, pair: &Checked<'_>, position: &Positi
     plays_by(rt, alloc, pair.list(), pair.file(), position)
 }
 
-/// All plays over the root and the steps of the file of a pair alone.
+/// All plays by the root and the steps of the file of a pair only.
 #[tactic(auto, using(game_notes::proofs::FirstPlays::file_stands))]
 fn by_steps(rt: &impl Abort, alloc: Global, pair: &Checked<'_>, position: &Position) -> Vec<Told> {
     let steps = StepsAlone { of: pair.file() };
@@ -107,7 +107,7 @@ type Written = (&'static str, i32);
 /// The first plays of AT without a blank, on an empty board.
 const AT_FIRST: [Written; 4] = [("8G AT", 4), ("8H AT", 4), ("H7 AT", 4), ("H8 AT", 4)];
 
-/// The same with a blank for either letter.
+/// The same with a blank for each letter.
 const AT_BY_BLANK: [Written; 8] = [
     ("8G At", 2),
     ("8G aT", 2),
@@ -150,7 +150,7 @@ fn is_written(rt: &impl Abort, told: &Told, play: &Written) -> bool {
         && told.1 == play.1
 }
 
-/// Asserts that what is given are the plays of both parts, each once, and no other.
+/// Asserts that the given plays are those of both parts, each once, and no others.
 fn assert_written(rt: &impl Abort, given: &[Told], plays: [&[Written]; 2]) {
     assert_eq!(rt; given.len(), count_of(plays));
     for play in plays[0].iter().chain(plays[1]) {
@@ -187,12 +187,12 @@ fn assert_same(rt: &impl Abort, given: &[Told], plain: &[Told]) {
     }
 }
 
-/// Whether a play scores more than another, or as much and is written before it.
+/// Whether a play scores more than another, or has the same score and is written before it.
 fn ranks_before(play: &Told, other: &Told) -> bool {
     play.1 > other.1 || (play.1 == other.1 && play.0 < other.0)
 }
 
-/// Asserts that what is given are the best so many plays, best first.
+/// Asserts that the given plays are the best `most`, best first.
 fn assert_first(rt: &impl Abort, given: &[Told], plain: &[Told], most: usize) {
     assert_eq!(rt; given.len(), plain.len().min(most));
     for (place, play) in given.iter().enumerate() {
@@ -222,7 +222,7 @@ fn assert_best(
     assert_first(rt, best.as_slice(), plain, 1);
 }
 
-/// Asserts that the plays by the file are those of a plain search, and so many, and gives them.
+/// Asserts that the plays by the file are those of a plain search, in the given number, and gives them.
 fn assert_case(rt: &impl Abort, alloc: Global, case: Case<'_>) -> Vec<Told> {
     let (words, tiles, held, plays) = case;
     let list = list_of(rt, alloc, words);

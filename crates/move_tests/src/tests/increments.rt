@@ -1,5 +1,5 @@
-//! Cross-sets that are kept up by puts and lifts: boards whose tiles, or whose plays, are put and lifted in several orders, all
-//! values beside those that are made afresh.
+//! Cross-sets that are updated after puts and lifts: boards whose tiles, or whose plays, are put and lifted in several orders,
+//! all values compared with those that are computed anew.
 use super::boards::{Laid, at, list_of, text_of};
 use gcg_read::Text;
 use gen_cross::Cross;
@@ -15,7 +15,7 @@ fn tile_of(rt: &impl Abort, byte: u8) -> Tile {
     Tile::of_letter(Letter::counted_from(b'A', byte).expect(rt, "a letter"))
 }
 
-/// Puts a tile on a square, or lifts the one that lies there, and brings the cross-sets up.
+/// Puts a tile on a square, or lifts the one that is there, and updates the cross-sets.
 fn turn(
     rt: &impl Abort,
     rules: &Rules,
@@ -64,7 +64,7 @@ const TILES: [(usize, usize, u8); 7] = [
     (8, 5, b'E'),
 ];
 
-/// Orders of these tiles: each that lies on the board is lifted, each other one put. The first is that of a game in which AT
+/// Orders of these tiles: each that is on the board is lifted, each other one put. The first is that of a game in which AT
 /// was withdrawn and played again.
 const ORDERS: [&[usize]; 4] = [
     &[0, 1, 2, 3, 4, 5, 4, 5, 4, 5, 6],
@@ -110,14 +110,14 @@ const GAMES: [&[usize]; 4] = [
     &[1, 2, 3, 0, 7, 6],
 ];
 
-/// The play that lies so, by the letters of all its squares.
+/// The play on these squares, by the letters of all of them.
 fn play_of(rt: &impl Abort, board: &Board, laid: Laid) -> Play {
     let PlayText { at, dir, symbols } = text_of(rt, laid);
     let text = Text::of_bytes(symbols).expect(rt, "a text");
     from_text(board, at, dir, text.as_slice()).expect(rt, "a play")
 }
 
-/// Puts the tiles of a play where none lie, or lifts those that lie there, and brings the cross-sets up once.
+/// Puts the tiles of a play if none are there, or lifts those that are, and updates the cross-sets once.
 fn turn_play(
     rules: &Rules,
     board: &mut Board,

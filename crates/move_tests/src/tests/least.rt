@@ -1,4 +1,4 @@
-//! A lexicon and a sink that give what their traits ask for, and no more.
+//! A lexicon and a sink that give what their traits require, and no more.
 ghost use Rattle.std.specs.Prelude.{List, ℕ};
 
 use arrayvec::ArrayVec;
@@ -6,7 +6,7 @@ use gen_moves::{NoMemory, Sink};
 use lex_file::{PathLex, Step};
 use ref_play::Play;
 
-/// A lexicon by the root and the steps of another one alone.
+/// A lexicon that has only the root and the steps of another one.
 #[derive(Drop)]
 pub struct StepsAlone<'a, L> {
     pub of: &'a L,
@@ -52,7 +52,7 @@ impl Last {
         }
     }
 
-    /// The last play with its score, where there is one.
+    /// The last play with its score, if there is one.
     pub fn items(&self) -> &[(Play, i32)] {
         &self.kept
     }

@@ -10,7 +10,7 @@ use std::process::Abort;
 /// A play as it is written, and its score.
 pub type Told = (Notation, i32);
 
-/// The symbol of a new tile that is taken from a rack; none where the rack does not have it.
+/// The symbol of a new tile that is taken from a rack; none if the rack does not have it.
 fn taken(rack: &mut Counts, letter: Letter, is_blank: bool) -> Option<Symbol> {
     if is_blank {
         rack.take(Kind::Blank)?;
@@ -21,8 +21,8 @@ fn taken(rack: &mut Counts, letter: Letter, is_blank: bool) -> Option<Symbol> {
     }
 }
 
-/// The text of a word from a square on; none where the position does not allow it. The new tiles are blanks where
-/// the digits of a binary number are 1, the last digit first.
+/// The text of a word from a square on; none if the position does not allow it. The new tiles are blanks where the
+/// digits of a binary number are 1, the last digit first.
 fn text_of(
     alloc: Global,
     position: &Position,
@@ -54,7 +54,7 @@ fn text_of(
     Some(text)
 }
 
-/// Keeps a play as it is written, with its score, where it is legal, its words are all listed, and it is not kept yet.
+/// Keeps a play as it is written, with its score, if it is legal, its words are all listed, and it is not kept yet.
 fn keep(rt: &impl Abort, list: &WordList, position: &Position, play: &Play, kept: &mut Vec<Told>) {
     let Position { rules, board, .. } = position;
     if judge(board, play).is_err() {
@@ -76,7 +76,7 @@ fn keep(rt: &impl Abort, list: &WordList, position: &Position, play: &Play, kept
 pub fn searched(rt: &impl Abort, alloc: Global, list: &WordList, position: &Position) -> Vec<Told> {
     let mut kept = Vec::new(alloc);
     let held = position.rack.count(Kind::Blank);
-    // A play has seven new tiles at the most.
+    // A play has at most seven new tiles.
     let choices = if held == 0 { 1 } else { 128 };
     for number in 0..list.len() {
         for cell in 0..SIDE * SIDE * 2 * choices {

@@ -13,7 +13,7 @@ use std::alloc::Global;
 use std::process::Abort;
 
 /// The best play that a rack allows: the words of the list, the plays before it, the rack, where `?` is a blank, and the
-/// play as it is written, with its score in the English game; none where there is no play.
+/// play as it is written, with its score in the English game; none if there is no play.
 type Row = (
     &'static [u8],
     &'static [Text],
@@ -21,7 +21,7 @@ type Row = (
     Option<(Text, i32)>,
 );
 
-/// The words that stand behind 8E WORD and 9G AT, but not AT.
+/// The words that 8E WORD and 9G AT make, except AT.
 const NO_AT: &[u8] = b"DT\nRA\nWORD";
 
 const ROWS: [Row; 10] = [

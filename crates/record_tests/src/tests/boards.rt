@@ -15,7 +15,7 @@ fn board_with(rt: &impl Abort, places: &[(usize, usize)]) -> Board {
     board
 }
 
-/// Asserts that a square has this number, lies where it should, and has its line and its place of both directions.
+/// Asserts that a square has this number, is where it should be, and has its line and its place in both directions.
 fn assert_square(rt: &impl Abort, square: Square, place: (usize, usize), number: usize) {
     let (row, column) = place;
     assert_eq!(rt;

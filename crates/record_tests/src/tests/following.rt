@@ -18,7 +18,7 @@ use ref_tiles::{Rules, english_rules};
 use std::alloc::Global;
 use std::process::Abort;
 
-/// Asserts that the board is the one after plays, and that all values are those of cross-sets made afresh.
+/// Asserts that the board is the one after plays, and that all values are those of cross-sets computed anew.
 fn assert_board(
     rt: &impl Abort,
     alloc: Global,
@@ -95,14 +95,14 @@ fn assert_best(rt: &impl Abort, rules: &Rules, pair: &Checked<'_>, follow: &Foll
     }
 }
 
-/// Asserts that there are so many best plays, and that this play with its score is the first of them.
+/// Asserts that there are `many` best plays, and that this play with its score is the first of them.
 fn assert_first(rt: &impl Abort, tops: &[(Play, i32)], many: usize, play: &Play, points: i32) {
     let first = tops.first().expect(rt, "a best play");
     assert_eq!(rt; (tops.len(), first.1), (many, points));
     assert!(rt; first.0.tiles.as_slice() == play.tiles.as_slice());
 }
 
-/// Words, and the best plays of a rack by them before 8E WORD and behind 9G AT.
+/// Words, and the best plays of a rack by them before 8E WORD and after 9G AT.
 const GAMES: [(&[u8], Option<Best>, Option<Best>); 2] = [
     (b"WORD\nAT\nRA", Some((b"DORWAAE", WORD, 16, 10)), None),
     // The one play that an E allows beside both.

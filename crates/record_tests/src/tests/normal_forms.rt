@@ -47,14 +47,14 @@ const ROWS: [Row; 8] = [
     },
 ];
 
-/// What is written of a record behind these bytes.
+/// What is written of a record after these bytes.
 fn written(rt: &impl Abort, alloc: Global, record: &Record, front: &[u8]) -> Vec<u8> {
     let mut out = Vec::from_slice(alloc, front).expect(rt, "memory");
     write(record, &mut out).expect(rt, "memory");
     out
 }
 
-/// The normal form of the record of a text, behind these bytes.
+/// The normal form of the record of a text, after these bytes.
 fn normal(rt: &impl Abort, alloc: Global, text: &[u8], front: &[u8]) -> Vec<u8> {
     let record = read(alloc, text).expect(rt, "a record");
     written(rt, alloc, &record, front)
@@ -138,7 +138,7 @@ fn own_records(rt: HostRuntime) {
     law_of_round_trip();
 }
 
-/// What is written of a record behind a byte is the normal form, or nothing where a growth is refused.
+/// What is written of a record after a byte is the normal form, or nothing if a growth is refused.
 fn assert_growth(rt: &impl Abort, alloc: Global, record: &Record, normal: &[u8]) {
     let Ok(mut out) = Vec::from_slice(alloc, b"x") else {
         return;

@@ -37,11 +37,11 @@ fn written_plays(rt: HostRuntime) {
     }
 }
 
-/// First plays of a game, each before those behind it: across before down, then row by row, then capitals before small
+/// First plays of a game, each before those after it: across before down, then row by row, then capitals before small
 /// letters.
 const ORDERED: [Text; 5] = ["8G AT", "8G At", "8H AT", "H7 AT", "H8 AT"];
 
-/// Whether the first play comes before the second, where both are legal.
+/// Whether the first play comes before the second, if both are legal.
 fn comes_first(
     rt: &impl Abort,
     alloc: Global,

@@ -79,7 +79,7 @@ fn named(rt: &impl Abort, alloc: Global, board: &Board, text: Text) -> Result<Pl
     from_text(board, at, dir, &word)
 }
 
-/// The play that a text names, where it is legal.
+/// The play that a text names, if it is legal.
 pub fn judged(rt: &impl Abort, alloc: Global, board: &Board, text: Text) -> Result<Play, PlayFault>
     ensures { IfOk result (λ play. IsLegal board.now play.tiles.items) }
 {

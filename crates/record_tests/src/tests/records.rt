@@ -261,7 +261,7 @@ enum Code {
     LastRack(&'static [u8]),
 }
 
-/// A record, and its last event: the line, the tiles of the rack (empty where there is none), what happened, and the score and the
+/// A record, and its last event: the line, the tiles of the rack (empty if there is none), what happened, and the score and the
 /// total.
 type CodeRow = (&'static [u8], u32, &'static [u8], Code, (i32, i32));
 
@@ -356,10 +356,10 @@ fn codes(rt: HostRuntime) {
     }
 }
 
-/// What a player is called of whom no line says a name.
+/// The name of a player whom no line names.
 const NOBODY: &str = "";
 
-/// Records, and what the first player is called, and then the second: the nickname, and the full name behind it.
+/// Records, and the names of the first player and then of the second: the nickname, and the full name after it.
 const NAMES: [(&[u8], &str, &str); 13] = [
     (
         b"\xef\xbb\xbf#player1 A  Ann Lee\r\n#note x\n>A:\tDORWAAE  8e WORD 16 16\r\n",
@@ -425,7 +425,7 @@ fn events_in(alloc: Global, text: &[u8]) -> Result<usize, ReadFault> {
     Ok(record.events.len())
 }
 
-/// The rack of the first of two events alone is known.
+/// Only the rack of the first of two events is known.
 fn assert_racks(rt: &impl Abort, events: &[Event]) {
     match events {
         [one, two] => {

@@ -155,7 +155,7 @@ fn symbols(rt: HostRuntime) {
     law_of_symbols();
 }
 
-/// So many blanks.
+/// `total` blanks.
 fn blanks(rt: &impl Abort, total: usize) -> Counts {
     let mut counts = Counts::new();
     for _ in 0..total {

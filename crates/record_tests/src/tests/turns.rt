@@ -24,11 +24,11 @@ enum Game {
     Short,
     /// The same with three more A, and exchanges from a bag of one tile on.
     Spare,
-    /// The English game with a zero run of 4 turns, 10 points a challenged word, and time penalties by 10.
+    /// The English game with a zero run of 4 turns, 10 points a challenged word, and time penalties in steps of 10.
     Varied,
 }
 
-/// What a row is answered.
+/// The answer for a row.
 #[derive(Clone, Copy, Debug, PartialEq, Eq)]
 enum Answer {
     /// Every line is allowed; the game is complete, or not.
@@ -40,8 +40,8 @@ enum Answer {
 /// Lines of a record.
 type Lines = &'static [&'static [u8]];
 
-/// The rules and the list that records are judged by, the lines with which all of them begin, and the lines of each behind these, with
-/// what that record is answered.
+/// The rules and the list that records are judged by, the lines with which all of them begin, and the lines of each after these, with
+/// the answer for that record.
 type Table = (Game, &'static [u8], Lines, &'static [(Lines, Answer)]);
 
 const WORD: &[u8] = b">A: DORWAAE 8E WORD +16 16";
@@ -313,7 +313,7 @@ fn rules_of(rt: &impl Abort, game: Game) -> Rules {
     Rules::checked(parts).expect(rt, "rules")
 }
 
-/// The record of these lines, one part behind the other.
+/// The record of these lines, one part after the other.
 fn record_of(rt: &impl Abort, alloc: Global, front: &[&[u8]], behind: &[&[u8]]) -> Record {
     let mut text = Vec::new(alloc);
     for line in front.iter().chain(behind) {
@@ -327,7 +327,7 @@ fn list_of(rt: &impl Abort, alloc: Global, words: &[u8]) -> WordList {
     WordList::read(alloc, words).expect(rt, "a word list")
 }
 
-/// What is answered of a record. What passed lends the rules, a record of as many events as there are lines, and the list.
+/// The answer for a record. What passed lends the rules, a record of as many events as there are lines, and the list.
 fn answer_of(
     rt: &impl Abort,
     rules: &Rules,
@@ -389,7 +389,7 @@ fn event<'a>(rt: &impl Abort, record: &'a Record, place: usize) -> &'a Event {
     record.events.as_slice().get(place).expect(rt, "an event")
 }
 
-/// What is told of a machine and one player.
+/// What is said of a machine and one player.
 #[derive(Clone, Copy, Debug, PartialEq, Eq)]
 struct Told {
     bag: usize,
@@ -437,7 +437,7 @@ const STANDING: Told = Told {
 
 const TAKEN_BACK: Told = Told { tiles: 4, ..START };
 
-/// Asserts what a step answers, and what is told of the machine and the first player behind it.
+/// Asserts what a step answers, and what is said of the machine and the first player after it.
 fn assert_step(
     rt: &impl Abort,
     machine: &mut Machine,
@@ -451,10 +451,10 @@ fn assert_step(
     assert_eq!(rt; look_at(machine, Seat::First), told);
 }
 
-/// What is answered of a withdrawal that has nothing to withdraw, and of what comes before one.
+/// The answer for a withdrawal that has nothing to withdraw, and for what comes before one.
 const REFUSED: Result<Turn, RuleFault> = Err(RuleFault::NothingToWithdraw);
 
-/// What is answered of an event that is taken: whether it is a turn, the rack before it, and whether it stands.
+/// The answer for an event that is taken: whether it is a turn, the rack before it, and whether it stands.
 fn taken(counted: bool, rack_size: usize, stands: bool) -> Result<Turn, RuleFault> {
     Ok(Turn {
         counted,

@@ -6,7 +6,7 @@ use ref_tiles::{
 use std::alloc::Global;
 use std::process::Abort;
 
-/// Faults, and the texts that have each of them first, with its line.
+/// Faults, and the texts whose first fault each is, with its line.
 const FAULTS: [(RulesWhy, &[(&[u8], u32)]); 6] = [
     (
         RulesWhy::Unknown,
@@ -65,12 +65,12 @@ const FAULTS: [(RulesWhy, &[(&[u8], u32)]); 6] = [
     ),
 ];
 
-/// What is answered of a text with this fault.
+/// The answer for a text with this fault.
 fn fault(line: u32, why: RulesWhy) -> Option<RulesFault> {
     Some(RulesFault { line, why })
 }
 
-/// Asserts that texts have a fault first, each on its line.
+/// Asserts that a fault is the first of texts, each on its line.
 fn assert_faults(rt: &impl Abort, why: RulesWhy, rows: &[(&[u8], u32)]) {
     for (text, line) in rows {
         let expected = fault(*line, why);
@@ -90,7 +90,7 @@ fn changed(rt: &impl Abort, alloc: Global, from: &[u8], to: &[u8]) -> Vec<u8> {
     ENGLISH_TEXT.replace(alloc, from, to).expect(rt, "memory")
 }
 
-/// Changes of the English text that leave its meaning.
+/// Changes of the English text that do not change its meaning.
 const SAME: [(&[u8], &[u8]); 6] = [
     (b"tile A 9 1\n", b"\xef\xbb\xbftile A 9 1\n"),
     (b"\n", b" \t\r\n"),
@@ -159,7 +159,7 @@ tile F 4 4\ntile G 6 2\ntile H 4 4\ntile I 18 1\ntile J 2 8\ntile K 2 5\ntile L 
 tile M 4 3\ntile N 12 1\ntile O 16 1\ntile P 4 3\ntile Q 2 10\ntile R 12 1\ntile S 8 1\n\
 tile T 12 1\ntile U 8 1\ntile V 4 4\ntile W 4 4\ntile X 2 8\ntile Y 4 4\ntile Z 2 10\ntile ? 4 0\n";
 
-/// The lines of the English text behind those of its tiles.
+/// The lines of the English text after those of its tiles.
 fn other_lines(rt: &impl Abort) -> &'static [u8] {
     let tiles = ENGLISH_TEXT.find(b"row 1 ").expect(rt, "rows");
     &ENGLISH_TEXT[tiles..]

@@ -1,4 +1,4 @@
--- What stands in the front of the buffer is what is kept of the bytes so far.
+-- The front of the buffer is what is kept of the bytes so far.
 use Rattle.std.proofs.Common.{◌≡◌, ◌≤◌, length, take}
 use Rattle.first_fields.specs.Places.{IsKept}
 use Rattle.first_fields.proofs.places.keep_fields.Given as goal

@@ -4,7 +4,7 @@ use Rattle.lex_list.specs.RotatedPaths.{StandsFor}
 use Rattle.gen_cross.specs.Values.{no_value, IsValue}
 use Rattle.gen_cross.proofs.renewals.renew_stretch.Given as goal
 
--- a value is right where it was, or where its square is passed
+-- a value is right if it was, or if its square is passed
 abbrev pub invariant-loop-place : goal.invariant-loop-place
 invariant-loop-place g l =
     (words : List (List ℕ)) (s : ℕ) → StandsFor (g.L.PathLex.language l.lex) words → s < 225

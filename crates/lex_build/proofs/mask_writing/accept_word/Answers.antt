@@ -4,7 +4,7 @@ use Rattle.lex_build.proofs.MaskBits.{label_low, accept_more, accept_passed}
 use Rattle.lex_build.proofs.mask_writing.accept_word.Goals.{then-arc, else-arc}
 use Rattle.lex_build.proofs.mask_writing.accept_word.Goals as goal
 
--- what stands behind the end of a slice of arcs
+-- what follows the end of a slice of arcs
 abbrev no_arc : Arc
 no_arc = record { label = 0; accepts = false; target = 0 }
 

@@ -7,7 +7,7 @@ use Rattle.lex_file.specs.Arcs.{is_sought}
 use Rattle.lex_file.specs.Nodes.{node_at, run_of}
 use Rattle.lex_file.proofs.reading.find_arc.Given as goal
 
--- who passes over all that is not sought finds from here on what the node has
+-- skipping all arcs that are not sought finds from here on what the node has
 abbrev pub invariant-loop-place : goal.invariant-loop-place
 invariant-loop-place l =
     (wanted : Arc → Bool) → ((arc : Arc) → is_sought l.sought arc ≡ false → wanted arc ≡ false)

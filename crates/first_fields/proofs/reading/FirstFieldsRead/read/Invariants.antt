@@ -1,4 +1,4 @@
--- Of the chunks so far nothing was kept.
+-- Nothing was kept of the chunks so far.
 use Rattle.std.proofs.Common.{◌≡◌, ◌≤◌, length, option_map}
 use Rattle.std.specs.Io.KnownBytes.{Keeps}
 use Rattle.first_fields.specs.Places.{fields_from}

@@ -10,7 +10,7 @@ use Rattle.gen_moves.specs.Starts.{IsGood, given_from}
 use Rattle.gen_moves.proofs.Starting.{left_out, starts_more, front_of_starts}
 use Rattle.gen_moves.proofs.generating.Finder.from_starts.Goals as goal
 
--- a start that is passed over
+-- a start that is skipped
 pub loop-number-preserved-then-passes : goal.loop-number-preserved-then-passes
 loop-number-preserved-then-passes g c =
     let rules_in = c.args.self.now.rules.now in

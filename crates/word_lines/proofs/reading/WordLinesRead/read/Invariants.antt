@@ -1,4 +1,4 @@
--- Nothing was handed out so far.
+-- Nothing was given out so far.
 use Rattle.std.proofs.Common.{◌≡◌, length, drop}
 use Rattle.std.specs.Io.KnownBytes.{Keeps}
 use Rattle.word_lines.specs.Reading.{left_of}
