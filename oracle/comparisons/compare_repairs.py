@@ -19,7 +19,7 @@ from deals import events_of
 from game_pages import board_read, pictured
 from lexicons import build
 from pairs import pairs
-from repair_rows import LINES, NONE, ROWS, TWO, puts
+from repair_rows import LINES, NONE, PHONIES, ROWS, TWO, puts
 from repair_figures import SLIPS, STYLES, TURNS, some_sheet, with_two_slips
 from repair_texts import likely_repair, likely_text, pairs_text, repair_text
 from repairs import NOTHING, WRONG_NUMBER, Front, repairs
@@ -71,6 +71,9 @@ def rows(differences):
         found = known_pairs(differences, rules, set(words.split()), events_of(record))
         if found is not None:
             pair_texts(differences, record, "worked", found, events_of(record), nicks_in(record))
+    for rules, words, record in PHONIES:
+        status, answer = told_by(differences, rules, set(words.split()), record)
+        differences.expect(answer["repairs"] and not answer["pairs"] and status == 1, record, f"told {status} {list(pairs_told(answer))}")
     for rules, words, record, wanted in LINES:
         status, answer = told_by(differences, rules, set(words.split()), record)
         many = 1 + len(answer["repairs"][0]["others"])
@@ -278,7 +281,7 @@ def main():
             small(differences)
 
     differences, cases = compared(Differences, compare)
-    differences.end(2 * cases + len(ROWS) + len(NONE) + len(TWO) + len(LINES), "records")
+    differences.end(2 * cases + len(ROWS) + len(NONE) + len(TWO) + len(PHONIES) + len(LINES), "records")
 
 
 if __name__ == "__main__":

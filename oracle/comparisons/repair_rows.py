@@ -61,6 +61,13 @@ TWO = [
     (ENGLISH, WORDS, TWICE_AT + ">A: E 9E E.. +5 21\n", 3, ("", EAT)),
     (ENGLISH, WORDS, WORD + ">A: AT 9H AT +9 25\n", 4, (">B: - +0 0\n", ">A: AADEORW 8F WORD +16 16\n")),
     (ENGLISH, WORDS, ">A: AADEORW E8 WORD +16 16\n" + AT + AT + EAT, 3, (WORD, "")),
+    (ENGLISH, "AT RA DT", TWICE_AT + EAT, 6, ("", ">A: -- -5 16\n")),
+]
+
+# Records with one slip and with more unlisted words than come from slips: no pair is looked for.
+PHONIES = [
+    (ENGLISH, "WORD AT", TWICE_AT + EAT),
+    (ENGLISH, "", TWICE_AT + EAT),
 ]
 
 # Repairs that are on one line: the rules, the words, the record, how many repairs the first line has.
@@ -107,7 +114,10 @@ def rows():
     for rules, words, record, *wanted in TWO:
         told = first_pair(rules, words, record)
         assert told == tuple(wanted), f"{record}told {told} for {wanted}"
-    print(f"{len(ROWS)} records with a repair, {len(NONE)} without, {len(TWO)} with two slips, {len(LINES)} with lines", flush=True)
+    for rules, words, record in PHONIES:
+        assert first(rules, words, record) and first_pair(rules, words, record) is None, record
+    many = f"{len(ROWS)} records with a repair, {len(NONE)} without, {len(TWO)} with two slips, {len(PHONIES)} with phonies, {len(LINES)} with lines"
+    print(many, flush=True)
 
 
 def bounds(cases):

@@ -12,6 +12,7 @@ from repairs import UNLISTED_WORD, WRONG_NUMBER, AnyHands, Change, Front, Repair
 from rules import ENGLISH
 
 HEADS = 3
+WORDS_OF_SLIPS = 3  # if more words are not in the list, they are phonies, or of another list
 
 
 @dataclass
@@ -89,14 +90,19 @@ def is_of_sheet(head, then):
     return changed[place].score == right[place].score and changed[place].total == had + changed[place].score
 
 
+def is_likely(single):
+    """Whether a single repair costs no more than a wrong number, or leaves no number wrong and more unlisted words than come from slips."""
+    return single.cost <= WRONG_NUMBER or not single.wrong and single.unlisted > WORDS_OF_SLIPS
+
+
 @remembered
 def pairs(events, listed, rules=ENGLISH):
-    """The pairs that repair a record, each resulting record once, those that cost least first. They are looked for if no single repair costs so little
-    as a wrong number, and each costs less than any. Also whether of each second change it is known whether a deal fits."""
+    """The pairs that repair a record, each resulting record once, those that cost least first. They are looked for if the first single repair is not
+    likely, and each costs less than any. Also whether of each second change it is known whether a deal fits."""
     singles = [it for it in repairs(events, listed, rules) if it.dealt]
     least = min((it.cost for it in singles), default=inf)
     found, known = [], True
-    for head in heads(events, listed, rules) if least > WRONG_NUMBER else []:
+    for head in [] if singles and is_likely(singles[0]) else heads(events, listed, rules):
         seconds = [it for it in repairs_below(Front(rules, head.made, listed), inf) if head.change.weight + it.cost < least]
         known = known and all(it.dealt for it in seconds)
         found += [Pair(head, it) for it in seconds if it.dealt and is_of_sheet(head, it)]

@@ -24,6 +24,10 @@ const MOST_HEADS: usize = 3;
 /// What a wrong number costs. A repair that costs no more is likely enough: then no pairs are looked for.
 const NUMBER: usize = 5;
 
+/// How many words that are not in the list may come from slips. If more of them stay with a repair and all numbers agree with it, no pairs are looked for:
+/// so many words are phonies, or the game was played with another list.
+const MOST_WORDS: usize = 3;
+
 /// Fewer numbers and words than these have to stay wrong with both changes, as each costs at least 3; `None` if no single repair is known.
 fn below_of(singles: &[Repair], weight: usize) -> Option<usize> {
     let least = least_cost(singles)?;
@@ -31,13 +35,21 @@ fn below_of(singles: &[Repair], weight: usize) -> Option<usize> {
     Some(left.saturating_add(1))
 }
 
-/// Whether pairs are looked for: only if the rules refuse an event whatever its numbers are, and no single repair is likely.
+/// Whether a repair is likely: it costs no more than a wrong number, or it leaves no number wrong and more unlisted words than come from slips.
+fn is_likely(repair: &Repair) -> bool {
+    if repair.remains.cost(&repair.listed.change.slip) <= NUMBER as u128 {
+        return true;
+    }
+    repair.remains.wrong.is_empty() && repair.remains.unlisted.len() > MOST_WORDS
+}
+
+/// Whether pairs are looked for: only if the rules refuse an event whatever its numbers are, and the first single repair is not likely.
 fn is_open(walk: &Walk, singles: &[Repair]) -> bool {
     if walk.stopped.is_none() {
         return false;
     }
-    match least_cost(singles) {
-        Some(least) => least > NUMBER,
+    match singles.first() {
+        Some(first) => !is_likely(first),
         None => true,
     }
 }

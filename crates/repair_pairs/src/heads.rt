@@ -11,10 +11,14 @@ use game_sheets::{had_before, mend};
 use game_turns::{Machine, withdraws};
 use gcg_read::{Event, Events};
 use lex_list::WordList;
-use record_changes::{Change, apply, weight_of};
+use record_changes::{Change, apply, copy_slip, weight_of, wrong_events};
 use record_repairs::sheet_with;
 use ref_tiles::Rules;
 use std::alloc::{AllocError, Global};
+
+/// How many events after a change are taken before the game is compared with that of the record. A play that is taken back leaves its tiles in view for
+/// one more event.
+const NEAR: usize = 3;
 
 /// A change with which the fault moves on, by its position in the list of all changes.
 #[derive(Clone, Copy)]
@@ -48,21 +52,56 @@ fn end_of(walk: &Walk, events: &[Event], changed: &[Event], change: &Change) -> 
     if there > refused { there } else { refused }
 }
 
-/// Gives the events from one place to another their right numbers, and returns whether the rules allow them then.
-fn goes_to(
+/// The game after the events from one place to another, which get their right numbers; `None` if one of them is refused.
+fn game_after(
     game: &Machine,
-    changed: &mut Events,
+    events: &mut Events,
     start: usize,
     end: usize,
     list: &WordList,
-) -> bool {
+) -> Option<Machine> {
     let mut machine = game.copy();
     for place in start..end {
-        if mend(&mut machine, changed, place, list).is_err() {
-            return false;
+        if mend(&mut machine, events, place, list).is_err() {
+            return None;
         }
     }
-    true
+    Some(machine)
+}
+
+/// Whether the fault does not move on with a change, as far as the events near it show: one of them is refused with it, or the game after them is as it
+/// was without it, so that the first refused event is refused again.
+///
+/// It fails only if memory runs out.
+fn fault_stays(
+    alloc: Global,
+    list: &WordList,
+    walk: &Walk,
+    events: &[Event],
+    change: &Change,
+) -> Result<bool, AllocError> {
+    let least = change.place.saturating_add(wrong_events(&change.slip));
+    let end = least.saturating_add(NEAR).min(walk.rows.len());
+    if end < least {
+        return Ok(false);
+    }
+    let start = change.place.saturating_sub(1);
+    let Some(there) = events.get(start..end.saturating_add(1)) else {
+        return Ok(false);
+    };
+    let (Some(game), Some(other)) = (walk.before(start), walk.before(end)) else {
+        return Ok(false);
+    };
+    let here = Change {
+        place: change.place - start,
+        slip: copy_slip(&change.slip),
+    };
+    let mut near = apply(alloc, &here, there)?;
+    let last = near.len().saturating_sub(1);
+    match game_after(game, &mut near, 0, last, list) {
+        Some(machine) => Ok(machine.is_like(other)),
+        None => Ok(true),
+    }
 }
 
 /// How many numbers of a line are wrong, given what the player had before it.
@@ -122,13 +161,16 @@ fn head_cost(
     events: &[Event],
     change: &Change,
 ) -> Result<Option<u128>, AllocError> {
+    if fault_stays(alloc, list, walk, events, change)? {
+        return Ok(None);
+    }
     let mut changed = apply(alloc, change, events)?;
     let end = end_of(walk, events, changed.as_slice(), change);
     let start = start_of(events, changed.as_slice(), change.place);
     let Some(game) = walk.before(start) else {
         return Ok(None);
     };
-    if !goes_to(game, &mut changed, start, end, list) {
+    if game_after(game, &mut changed, start, end, list).is_none() {
         return Ok(None);
     }
     let mut sheet = sheet_with(alloc, change, events, changed.as_slice())?;
