@@ -1,3 +1,4 @@
 pub mod Named
 pub mod Nulls
 pub mod Texts
+pub mod NoTexts

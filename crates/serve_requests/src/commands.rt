@@ -1,6 +1,7 @@
 //! The commands that a request may name, and what each of them has.
-ghost use Rattle.std.specs.Prelude.{◌≡◌, IfSome};
+ghost use Rattle.std.specs.Prelude.{◌≡◌, true, false, IfNone, IfSome};
 ghost use Rattle.serve_requests.specs.Asked.{name_of};
+ghost use Rattle.serve_requests.specs.Reasons.{IsKeyOf, IsNoName};
 
 /// A command.
 #[derive(Clone, Copy, Debug, PartialEq, Eq)]
@@ -26,7 +27,8 @@ pub enum Command {
 impl Command {
     /// The command of this name.
     pub fn of_name(name: &str) -> Option<Command>
-        ensures { IfSome result (λ command. name_of command ≡ name.now) }
+        ensures named { IfSome result (λ command. name_of command ≡ name.now) }
+        ensures none { IfNone result (IsNoName name.now) }
     {
         match name {
             "judge" => Some(Command::Judge),
@@ -58,7 +60,10 @@ impl Command {
     }
 
     /// Whether a request for it may have a member with this key, besides `id` and `do`.
-    pub fn has(self, key: &str) -> bool {
+    pub fn has(self, key: &str) -> bool
+        ensures key { result ≡ true → IsKeyOf self key.now }
+        ensures none { result ≡ false → IsKeyOf self key.now → ⊥ }
+    {
         match key {
             "game" => self != Command::Word,
             "settle" | "best" => self == Command::Judge,

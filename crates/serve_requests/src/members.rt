@@ -1,9 +1,11 @@
 //! The members of an object, by their keys. One that is null counts as missing.
-ghost use Rattle.std.specs.Prelude.{◌≡◌, IfOk, IfSome, Some, true, codes, map, option_map, unwrap_or};
+ghost use Rattle.std.specs.Prelude.{◌≡◌, ◌⊎◌, IfOk, IfErr, IfSome, Some, true, codes, map, option_map, unwrap_or};
 ghost use Rattle.std.specs.Option.{option_copied};
 ghost use Rattle.serde_json.specs.View.{view};
 ghost use Rattle.serve_requests.specs.Said.{value_at, text_said, number_said};
 ghost use Rattle.serve_requests.specs.Asked.{IsFlag, is_id, text_data, texts_data};
+ghost use Rattle.serve_requests.specs.Reasons.{AreNoTexts, IsReason};
+ghost use Rattle.serve_requests.specs.declared.refusals.Refusal.TheVariants as refusal;
 
 use crate::commands::Command;
 use crate::refusals::Refusal;
@@ -23,6 +25,7 @@ fn value_in<'a>(object: &'a Value, key: &str) -> Option<&'a Value>
 pub fn id_in<'a>(object: &'a Value) -> Result<Option<&'a Value>, Refusal<'a>>
     ensures value { IfOk result (λ id. option_map (λ v. view v.now) id ≡ value_at (codes "id") (view object.now)) }
     ensures kind { IfOk result (λ id. IfSome id (λ v. is_id (view v.now) ≡ true)) }
+    ensures reason { IfErr result (IsReason (view object.now)) }
 {
     match value_in(object, "id") {
         None => Ok(None),
@@ -33,7 +36,8 @@ pub fn id_in<'a>(object: &'a Value) -> Result<Option<&'a Value>, Refusal<'a>>
 
 /// The name of the command that an object requests.
 pub fn name_in<'a>(object: &'a Value) -> Result<&'a str, Refusal<'a>>
-    ensures { IfOk result (λ name. text_said (codes "do") (view object.now) ≡ Some (Some name.now)) }
+    ensures name { IfOk result (λ name. text_said (codes "do") (view object.now) ≡ Some (Some name.now)) }
+    ensures reason { IfErr result (IsReason (view object.now)) }
 {
     if !object.is_object() {
         return Err(Refusal::NoObject);
@@ -48,7 +52,9 @@ pub fn name_in<'a>(object: &'a Value) -> Result<&'a str, Refusal<'a>>
 }
 
 /// Checks that an object has only keys that the command has.
-pub fn check_keys<'a>(object: &'a Value, command: Command) -> Result<(), Refusal<'a>> {
+pub fn check_keys<'a>(object: &'a Value, command: Command) -> Result<(), Refusal<'a>>
+    ensures { IfErr result (IsReason (view object.now)) }
+{
     let Some(members) = object.as_object() else {
         return Err(Refusal::NoObject);
     };
@@ -63,7 +69,8 @@ pub fn check_keys<'a>(object: &'a Value, command: Command) -> Result<(), Refusal
 
 /// A text, if there is one.
 pub fn text_in<'a>(object: &'a Value, key: &'static str) -> Result<Option<&'a str>, Refusal<'a>>
-    ensures { IfOk result (λ text. text_said key.now (view object.now) ≡ Some (option_copied text)) }
+    ensures text { IfOk result (λ text. text_said key.now (view object.now) ≡ Some (option_copied text)) }
+    ensures reason { IfErr result (IsReason (view object.now)) }
 {
     match value_in(object, key) {
         None => Ok(None),
@@ -80,7 +87,8 @@ pub fn flag_in<'a>(
     key: &'static str,
     otherwise: bool,
 ) -> Result<bool, Refusal<'a>>
-    ensures { IfOk result (IsFlag key.now otherwise (view object.now)) }
+    ensures flag { IfOk result (IsFlag key.now otherwise (view object.now)) }
+    ensures reason { IfErr result (IsReason (view object.now)) }
 {
     match value_in(object, key) {
         None => Ok(otherwise),
@@ -98,7 +106,8 @@ pub fn number_in<'a>(
     least: u32,
     most: u32,
 ) -> Result<Option<u32>, Refusal<'a>>
-    ensures { IfOk result (λ number. number_said least most key.now (view object.now) ≡ Some number) }
+    ensures number { IfOk result (λ number. number_said least most key.now (view object.now) ≡ Some number) }
+    ensures reason { IfErr result (IsReason (view object.now)) }
 {
     let Some(value) = value_in(object, key) else {
         return Ok(None);
@@ -116,7 +125,8 @@ fn texts_of<'a>(
     values: &'a [Value],
     key: &'static str,
 ) -> Result<Vec<&'a str>, Refusal<'a>>
-    ensures { IfOk result (λ texts. map view values.now ≡ map text_data texts.items) }
+    ensures texts { IfOk result (λ texts. map view values.now ≡ map text_data texts.items) }
+    ensures reason { IfErr result (λ why. (why ≡ refusal.NoMemory) ⊎ ((why ≡ refusal.NoTexts key.entry) × AreNoTexts (map view values.now))) }
 {
     let mut texts = Vec::new(alloc);
     for value in values {
@@ -131,13 +141,14 @@ fn texts_of<'a>(
 }
 
 /// Texts, if there is a list of them.
-#[tactic(auto, using(crate::proofs::Texts::are_said))]
+#[tactic(auto, using(crate::proofs::Texts::are_said, crate::proofs::NoTexts::no_texts))]
 pub fn texts_in<'a>(
     alloc: Global,
     object: &'a Value,
     key: &'static str,
 ) -> Result<Option<Vec<&'a str>>, Refusal<'a>>
-    ensures { IfOk result (λ texts. value_at key.now (view object.now) ≡ option_map (λ t. texts_data t.items) texts) }
+    ensures texts { IfOk result (λ texts. value_at key.now (view object.now) ≡ option_map (λ t. texts_data t.items) texts) }
+    ensures reason { IfErr result (IsReason (view object.now)) }
 {
     let Some(value) = value_in(object, key) else {
         return Ok(None);
@@ -145,6 +156,8 @@ pub fn texts_in<'a>(
     let Some(values) = value.as_array() else {
         return Err(Refusal::NoTexts(key));
     };
-    let texts = texts_of(alloc, values.as_slice(), key)?;
-    Ok(Some(texts))
+    match texts_of(alloc, values.as_slice(), key) {
+        Ok(texts) => Ok(Some(texts)),
+        Err(why) => Err(why),
+    }
 }
