@@ -1,13 +1,23 @@
 -- The request of an object that names a command.
-use Rattle.std.proofs.Common.{◌≡◌, ℕ, List, codes, Some, Result, Ok, Err, IfOk, sym, ap, ◌∙◌}
+use Rattle.std.proofs.Common.{◌≡◌, inr, ℕ, List, codes, Some, Result, Ok, Err, IfOk, IfErr, sym, ap, ◌∙◌, subst}
 use Rattle.serde_json.specs.Data.{Data}
 use Rattle.serve_requests.specs.declared.commands.Command.{Command}
 use Rattle.serve_requests.specs.declared.refusals.Refusal.{Refusal}
 use Rattle.serve_requests.specs.declared.requests.Request.{Request}
 use Rattle.serve_requests.specs.Said.{text_said}
-use Rattle.serve_requests.specs.Asked.{name_of, Says, IsRequestIn}
+use Rattle.serve_requests.specs.Asked.{name_of, HasOnlyKeysOf, IsRequestFor, IsRequestIn}
+use Rattle.serve_requests.specs.Reasons.{IsBadFor, IsReason}
 
 pub asks : (d : Data) (name : List ℕ) (asked : Command) (result : Result Request Refusal) → text_said (codes "do") d ≡ Some (Some name) → name_of asked ≡ name
-    → IfOk result (Says asked d) → IfOk result (IsRequestIn d)
-asks d name asked (Ok r) said is says = record { asked = asked; named = said ∙ ap (λ n. Some (Some n)) (sym is); says = says }
-asks d name asked (Err why) said is says = tt
+    → HasOnlyKeysOf asked d → IfOk result (IsRequestFor asked d) → IfOk result (IsRequestIn d)
+asks d name asked (Ok r) said is keys says = record {
+  named = said ∙ ap (λ n. Some (Some n)) (sym is ∙ ap name_of (sym says.0));
+  keys = subst (λ c. HasOnlyKeysOf c d) (sym says.0) keys;
+  says = says.1;
+}
+asks d name asked (Err why) said is keys says = tt
+
+pub is_refused : (d : Data) (name : List ℕ) (asked : Command) (result : Result Request Refusal) → text_said (codes "do") d ≡ Some (Some name) → name_of asked ≡ name
+    → IfErr result (IsBadFor asked d) → IfErr result (IsReason d)
+is_refused d name asked (Ok r) said is bad = tt
+is_refused d name asked (Err why) said is bad = inr (inr (asked, said ∙ ap (λ n. Some (Some n)) (sym is), inr bad))

@@ -1,5 +1,5 @@
 -- Lists that are not of texts.
-use Rattle.std.proofs.Common.{◌≡◌, ◌⊎◌, inl, inr, ℕ, List, [], ◌∷◌, map, slice_get, Option, Some, None, option_map, option_and_then, refl, sym, ap, ◌∙◌, subst}
+use Rattle.std.proofs.Common.{◌≡◌, ◌⊎◌, inl, inr, ℕ, List, [], ◌∷◌, map, slice_get, Option, Some, None, option_map, option_and_then, refl, sym, ap, ◌∙◌}
 use Rattle.std.proofs.lemmas.Option.{slice_get-map}
 use Rattle.std.specs.Borrow.{Bor}
 use Rattle.serde_json.specs.Data.{Data, Items, no_items, item}
@@ -9,7 +9,7 @@ use Rattle.serve_requests.specs.declared.refusals.Refusal.{Refusal}
 use Rattle.serve_requests.specs.declared.refusals.Refusal.TheVariants as refusal
 use Rattle.serve_requests.specs.Said.{value_at}
 use Rattle.serve_requests.specs.Asked.{text_data}
-use Rattle.serve_requests.specs.Reasons.{AreNoTexts, IsReason}
+use Rattle.serve_requests.specs.Reasons.{AreNoTexts, IsNoList}
 
 some_is_not_none : {A : Type 0} (x : A) → Some x ≡ None → ⊥
 some_is_not_none x is = cc
@@ -40,8 +40,8 @@ same_items : (l k : List Data) → Some (items_of l) ≡ Some (items_of k) → l
 same_items l k same = sym (back l) ∙ ap items_in same ∙ back k
 
 -- what keeps the items of a value from being texts keeps the value of that key from being a list of texts
-pub no_texts : (key : Bor (List ℕ)) (told d : Data) (items : List Data) (why : Refusal) → Some d ≡ value_at key.now told → Some (items_of items) ≡ as_array d
-    → (why ≡ refusal.NoMemory) ⊎ ((why ≡ refusal.NoTexts key) × AreNoTexts items) → IsReason told why
-no_texts key told d items why found same (inl is) = subst (IsReason told) (sym is) tt
-no_texts key told d items why found same (inr (is, none)) =
-    subst (IsReason told) (sym is) (λ texts said. none texts (same_items items (map text_data texts) (same ∙ ap (option_and_then as_array) (found ∙ said))))
+pub no_texts : (name : Bor (List ℕ)) (key : List ℕ) (told d : Data) (items : List Data) (why : Refusal) → name.now ≡ key → Some d ≡ value_at key told → Some (items_of items) ≡ as_array d
+    → (why ≡ refusal.NoMemory) ⊎ ((why ≡ refusal.NoTexts name) × AreNoTexts items) → (why ≡ refusal.NoMemory) ⊎ IsNoList key told why
+no_texts name key told d items why named found same (inl is) = inl is
+no_texts name key told d items why named found same (inr (is, none)) =
+    inr (name, is, named, (λ texts said. none texts (same_items items (map text_data texts) (same ∙ ap (option_and_then as_array) (found ∙ said)))))

@@ -1,8 +1,8 @@
 -- Which objects are which requests.
-use Rattle.std.specs.Prelude.{◌≡◌, ◌||◌, is_some, ◌^◌, ◌-◌, ℕ, Bool, true, false, List, map, codes, Option, Some, unwrap_or}
+use Rattle.std.specs.Prelude.{◌≡◌, ◌⊎◌, ◌||◌, is_some, ◌^◌, ◌-◌, ℕ, Bool, true, false, List, [], ◌∷◌, map, codes, Option, Some, None, unwrap_or}
 use Rattle.std.specs.Borrow.{Bor}
 use Rattle.std.specs.Option.{option_copied}
-use Rattle.serde_json.specs.Data.{Data, string, array}
+use Rattle.serde_json.specs.Data.{Data, null, boolean, number, string, array, object, Members, no_members, member}
 use Rattle.serde_json.specs.Find.{as_str, as_number}
 use Rattle.serde_json.specs.View.{items_of}
 use Rattle.serve_requests.specs.declared.commands.Command.{Command}
@@ -41,24 +41,75 @@ text_data text = string text.now
 abbrev pub texts_data : List (Bor (List ℕ)) → Data
 texts_data texts = array (items_of (map text_data texts))
 
--- What an object says for a command, by the values of its keys.
-abbrev pub Says : Command → Data → Request → Type 0
-Says command.Judge d (request.Judge game settle best) = IsGame d game.now × IsFlag (codes "settle") false d settle × IsFlag (codes "best") true d best
-Says command.Explain d (request.Explain game line likely) = IsGame d game.now × (line_said d ≡ Some line) × IsFlag (codes "likely") true d likely
-Says command.Audit d (request.Audit game corrected) = IsGame d game.now × IsFlag (codes "corrected") false d corrected
-Says command.Board d (request.Board game line) = IsGame d game.now × (line_said d ≡ Some line)
-Says command.Top d (request.Top game line rack plays) =
-    IsGame d game.now × (line_said d ≡ Some line) × (text_said (codes "rack") d ≡ Some (option_copied rack)) × (number_said 1 100 (codes "number") d ≡ Some plays)
-Says command.Word d (request.Word words) = value_at (codes "words") d ≡ Some (texts_data words.items)
-Says command.Tidy d (request.Tidy game) = IsGame d game.now
-Says command.Page d (request.Page game likely) = IsGame d game.now × IsFlag (codes "likely") true d likely
-Says asked d r = ⊥
+-- the command that a request is for
+abbrev pub command_of : Request → Command
+command_of (request.Judge game settle best) = command.Judge
+command_of (request.Explain game line likely) = command.Explain
+command_of (request.Audit game corrected) = command.Audit
+command_of (request.Board game line) = command.Board
+command_of (request.Top game line rack plays) = command.Top
+command_of (request.Word words) = command.Word
+command_of (request.Tidy game) = command.Tidy
+command_of (request.Page game likely) = command.Page
 
--- An object is this request: it names a command, and this is what it says for it.
+-- the keys that a request for a command may have besides `id` and `do`
+abbrev pub keys_of : Command → List (List ℕ)
+keys_of command.Judge = codes "game" ∷ codes "settle" ∷ codes "best" ∷ []
+keys_of command.Explain = codes "game" ∷ codes "line" ∷ codes "likely" ∷ []
+keys_of command.Audit = codes "game" ∷ codes "corrected" ∷ []
+keys_of command.Board = codes "game" ∷ codes "line" ∷ []
+keys_of command.Top = codes "game" ∷ codes "line" ∷ codes "rack" ∷ codes "number" ∷ []
+keys_of command.Word = codes "words" ∷ []
+keys_of command.Tidy = codes "game" ∷ []
+keys_of command.Page = codes "game" ∷ codes "likely" ∷ []
+
+abbrev pub IsAmong : (keys : List (List ℕ)) → (key : List ℕ) → Type 0
+IsAmong [] key = ⊥
+IsAmong (one ∷ more) key = (one ≡ key) ⊎ IsAmong more key
+
+-- the keys that it may have
+abbrev pub MayHave : Command → (key : List ℕ) → Type 0
+MayHave asked key = IsAmong (codes "id" ∷ codes "do" ∷ keys_of asked) key
+
+-- the keys that an object has
+abbrev pub members_keys : Members → List (List ℕ)
+members_keys no_members = []
+members_keys (member key d ms) = key ∷ members_keys ms
+
+abbrev pub keys_in : Data → List (List ℕ)
+keys_in null = []
+keys_in (boolean b) = []
+keys_in (number n) = []
+keys_in (string s) = []
+keys_in (array ds) = []
+keys_in (object ms) = members_keys ms
+
+-- Each key of the object is one that the command may have.
+abbrev pub HasOnlyKeysOf : Command → Data → Type 0
+HasOnlyKeysOf asked d = (key : List ℕ) → IsAmong (keys_in d) key → MayHave asked key
+
+-- What an object says for a request, by the values of its keys.
+abbrev pub Says : Data → Request → Type 0
+Says d (request.Judge game settle best) = IsGame d game.now × IsFlag (codes "settle") false d settle × IsFlag (codes "best") true d best
+Says d (request.Explain game line likely) = IsGame d game.now × (line_said d ≡ Some line) × IsFlag (codes "likely") true d likely
+Says d (request.Audit game corrected) = IsGame d game.now × IsFlag (codes "corrected") false d corrected
+Says d (request.Board game line) = IsGame d game.now × (line_said d ≡ Some line)
+Says d (request.Top game line rack plays) =
+    IsGame d game.now × (line_said d ≡ Some line) × (text_said (codes "rack") d ≡ Some (option_copied rack)) × (number_said 1 100 (codes "number") d ≡ Some plays)
+    × ((line ≡ None) → (rack ≡ None) → ⊥)
+Says d (request.Word words) = (value_at (codes "words") d ≡ Some (texts_data words.items)) × ((words.items ≡ []) → ⊥)
+Says d (request.Tidy game) = IsGame d game.now
+Says d (request.Page game likely) = IsGame d game.now × IsFlag (codes "likely") true d likely
+
+-- for this command, it says this
+abbrev pub IsRequestFor : Command → Data → Request → Type 0
+IsRequestFor asked d r = (command_of r ≡ asked) × Says d r
+
+-- An object is this request: it names its command, it has no key that the command has not, and this is what it says.
 pub record IsRequestIn (d : Data) (r : Request) : Type 0 where
-  pub asked : Command
-  pub named : text_said (codes "do") d ≡ Some (Some (name_of asked))
-  pub says : Says asked d r
+  pub named : text_said (codes "do") d ≡ Some (Some (name_of (command_of r)))
+  pub keys : HasOnlyKeysOf (command_of r) d
+  pub says : Says d r
 
 -- The id that an object has, if any: a text or a number.
 abbrev pub is_id : Data → Bool

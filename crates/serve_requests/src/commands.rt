@@ -1,7 +1,7 @@
 //! The commands that a request may name, and what each of them has.
 ghost use Rattle.std.specs.Prelude.{◌≡◌, true, false, IfNone, IfSome};
-ghost use Rattle.serve_requests.specs.Asked.{name_of};
-ghost use Rattle.serve_requests.specs.Reasons.{IsKeyOf, IsNoName};
+ghost use Rattle.serve_requests.specs.Asked.{name_of, MayHave};
+ghost use Rattle.serve_requests.specs.Reasons.{IsNoName};
 
 /// A command.
 #[derive(Clone, Copy, Debug, PartialEq, Eq)]
@@ -59,12 +59,13 @@ impl Command {
         }
     }
 
-    /// Whether a request for it may have a member with this key, besides `id` and `do`.
-    pub fn has(self, key: &str) -> bool
-        ensures key { result ≡ true → IsKeyOf self key.now }
-        ensures none { result ≡ false → IsKeyOf self key.now → ⊥ }
+    /// Whether a request for it may have a member with this key.
+    pub fn may_have(self, key: &str) -> bool
+        ensures key { result ≡ true → MayHave self key.now }
+        ensures none { result ≡ false → MayHave self key.now → ⊥ }
     {
         match key {
+            "id" | "do" => true,
             "game" => self != Command::Word,
             "settle" | "best" => self == Command::Judge,
             "corrected" => self == Command::Audit,

@@ -1,10 +1,10 @@
 //! The members of an object, by their keys. One that is null counts as missing.
-ghost use Rattle.std.specs.Prelude.{◌≡◌, ◌⊎◌, IfOk, IfErr, IfSome, Some, true, codes, map, option_map, unwrap_or};
+ghost use Rattle.std.specs.Prelude.{◌≡◌, ◌⊎◌, IfOk, IfErr, IfNone, IfSome, None, Some, true, codes, map, option_map};
 ghost use Rattle.std.specs.Option.{option_copied};
 ghost use Rattle.serde_json.specs.View.{view};
 ghost use Rattle.serve_requests.specs.Said.{value_at, text_said, number_said};
-ghost use Rattle.serve_requests.specs.Asked.{IsFlag, is_id, text_data, texts_data};
-ghost use Rattle.serve_requests.specs.Reasons.{AreNoTexts, IsReason};
+ghost use Rattle.serve_requests.specs.Asked.{IsFlag, HasOnlyKeysOf, IsAmong, MayHave, is_id, keys_in, text_data, texts_data};
+ghost use Rattle.serve_requests.specs.Reasons.{AreNoTexts, IsNoFlag, IsNoList, IsNoNumber, IsNoText, IsReasonOfId, NamesNone};
 ghost use Rattle.serve_requests.specs.declared.refusals.Refusal.TheVariants as refusal;
 
 use crate::commands::Command;
@@ -25,7 +25,7 @@ fn value_in<'a>(object: &'a Value, key: &str) -> Option<&'a Value>
 pub fn id_in<'a>(object: &'a Value) -> Result<Option<&'a Value>, Refusal<'a>>
     ensures value { IfOk result (λ id. option_map (λ v. view v.now) id ≡ value_at (codes "id") (view object.now)) }
     ensures kind { IfOk result (λ id. IfSome id (λ v. is_id (view v.now) ≡ true)) }
-    ensures reason { IfErr result (IsReason (view object.now)) }
+    ensures reason { IfErr result (IsReasonOfId (view object.now)) }
 {
     match value_in(object, "id") {
         None => Ok(None),
@@ -37,7 +37,7 @@ pub fn id_in<'a>(object: &'a Value) -> Result<Option<&'a Value>, Refusal<'a>>
 /// The name of the command that an object requests.
 pub fn name_in<'a>(object: &'a Value) -> Result<&'a str, Refusal<'a>>
     ensures name { IfOk result (λ name. text_said (codes "do") (view object.now) ≡ Some (Some name.now)) }
-    ensures reason { IfErr result (IsReason (view object.now)) }
+    ensures reason { IfErr result (NamesNone (view object.now)) }
 {
     if !object.is_object() {
         return Err(Refusal::NoObject);
@@ -51,26 +51,25 @@ pub fn name_in<'a>(object: &'a Value) -> Result<&'a str, Refusal<'a>>
     }
 }
 
-/// Checks that an object has only keys that the command has.
-pub fn check_keys<'a>(object: &'a Value, command: Command) -> Result<(), Refusal<'a>>
-    ensures { IfErr result (IsReason (view object.now)) }
+/// A key of an object that a request for this command may not have, if there is one.
+#[tactic(auto, using(crate::proofs::Keys::no_keys))]
+pub fn other_key<'a>(object: &'a Value, command: Command) -> Option<&'a str>
+    ensures none { IfNone result (HasOnlyKeysOf command (view object.now)) }
+    ensures some { IfSome result (λ key. IsAmong (keys_in (view object.now)) key.now × (MayHave command key.now → ⊥)) }
 {
-    let Some(members) = object.as_object() else {
-        return Err(Refusal::NoObject);
-    };
-    for key in members.keys() {
+    for key in object.as_object()?.keys() {
         let key = key.as_str();
-        if key != "id" && key != "do" && !command.has(key) {
-            return Err(Refusal::NoSuchKey(command, key));
+        if !command.may_have(key) {
+            return Some(key);
         }
     }
-    Ok(())
+    None
 }
 
 /// A text, if there is one.
 pub fn text_in<'a>(object: &'a Value, key: &'static str) -> Result<Option<&'a str>, Refusal<'a>>
     ensures text { IfOk result (λ text. text_said key.now (view object.now) ≡ Some (option_copied text)) }
-    ensures reason { IfErr result (IsReason (view object.now)) }
+    ensures reason { IfErr result (IsNoText key.now (view object.now)) }
 {
     match value_in(object, key) {
         None => Ok(None),
@@ -88,7 +87,7 @@ pub fn flag_in<'a>(
     otherwise: bool,
 ) -> Result<bool, Refusal<'a>>
     ensures flag { IfOk result (IsFlag key.now otherwise (view object.now)) }
-    ensures reason { IfErr result (IsReason (view object.now)) }
+    ensures reason { IfErr result (IsNoFlag key.now (view object.now)) }
 {
     match value_in(object, key) {
         None => Ok(otherwise),
@@ -107,7 +106,7 @@ pub fn number_in<'a>(
     most: u32,
 ) -> Result<Option<u32>, Refusal<'a>>
     ensures number { IfOk result (λ number. number_said least most key.now (view object.now) ≡ Some number) }
-    ensures reason { IfErr result (IsReason (view object.now)) }
+    ensures reason { IfErr result (IsNoNumber least most key.now (view object.now)) }
 {
     let Some(value) = value_in(object, key) else {
         return Ok(None);
@@ -141,14 +140,14 @@ fn texts_of<'a>(
 }
 
 /// Texts, if there is a list of them.
-#[tactic(auto, using(crate::proofs::Texts::are_said, crate::proofs::NoTexts::no_texts))]
+#[tactic(auto, using(crate::proofs::Texts::are_said))]
 pub fn texts_in<'a>(
     alloc: Global,
     object: &'a Value,
     key: &'static str,
 ) -> Result<Option<Vec<&'a str>>, Refusal<'a>>
     ensures texts { IfOk result (λ texts. value_at key.now (view object.now) ≡ option_map (λ t. texts_data t.items) texts) }
-    ensures reason { IfErr result (IsReason (view object.now)) }
+    ensures reason { IfErr result (λ why. (why ≡ refusal.NoMemory) ⊎ IsNoList key.now (view object.now) why) }
 {
     let Some(value) = value_in(object, key) else {
         return Ok(None);

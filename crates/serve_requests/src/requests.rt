@@ -2,11 +2,11 @@
 ghost use Rattle.std.specs.Prelude.{◌≡◌, IfOk, IfErr, Some};
 ghost use Rattle.serde_json.specs.View.{view};
 ghost use Rattle.serve_requests.specs.declared.commands.Command.TheVariants as command;
-ghost use Rattle.serve_requests.specs.Asked.{line_said, IsGame, IsRequestIn, Says};
-ghost use Rattle.serve_requests.specs.Reasons.{IsReason};
+ghost use Rattle.serve_requests.specs.Asked.{line_said, IsGame, IsRequestFor, IsRequestIn};
+ghost use Rattle.serve_requests.specs.Reasons.{IsBadFor, IsBadGame, IsBadLine, IsReason, IsRefusedForMemoryAlone};
 
 use crate::commands::Command;
-use crate::members::{check_keys, flag_in, name_in, number_in, text_in, texts_in};
+use crate::members::{flag_in, name_in, number_in, other_key, text_in, texts_in};
 use crate::refusals::Refusal;
 use serde_json::Value;
 use std::alloc::Global;
@@ -65,7 +65,7 @@ pub enum Request<'a> {
 /// The text of the record.
 fn game_in<'a>(object: &'a Value, command: Command) -> Result<&'a str, Refusal<'a>>
     ensures game { IfOk result (λ game. IsGame (view object.now) game.now) }
-    ensures reason { IfErr result (IsReason (view object.now)) }
+    ensures reason { IfErr result (IsBadGame command (view object.now)) }
 {
     match text_in(object, "game")? {
         Some(game) => Ok(game),
@@ -76,15 +76,15 @@ fn game_in<'a>(object: &'a Value, command: Command) -> Result<&'a str, Refusal<'
 /// The line that is named.
 fn line_in<'a>(object: &'a Value) -> Result<Option<u32>, Refusal<'a>>
     ensures line { IfOk result (λ line. line_said (view object.now) ≡ Some line) }
-    ensures reason { IfErr result (IsReason (view object.now)) }
+    ensures reason { IfErr result (IsBadLine (view object.now)) }
 {
     number_in(object, "line", 0, u32::MAX)
 }
 
 /// A request to judge a game.
 fn judge_in<'a>(object: &'a Value) -> Result<Request<'a>, Refusal<'a>>
-    ensures says { IfOk result (Says command.Judge (view object.now)) }
-    ensures reason { IfErr result (IsReason (view object.now)) }
+    ensures says { IfOk result (IsRequestFor command.Judge (view object.now)) }
+    ensures reason { IfErr result (IsBadFor command.Judge (view object.now)) }
 {
     Ok(Request::Judge {
         game: game_in(object, Command::Judge)?,
@@ -95,8 +95,8 @@ fn judge_in<'a>(object: &'a Value) -> Result<Request<'a>, Refusal<'a>>
 
 /// A request to explain a game.
 fn explain_in<'a>(object: &'a Value) -> Result<Request<'a>, Refusal<'a>>
-    ensures says { IfOk result (Says command.Explain (view object.now)) }
-    ensures reason { IfErr result (IsReason (view object.now)) }
+    ensures says { IfOk result (IsRequestFor command.Explain (view object.now)) }
+    ensures reason { IfErr result (IsBadFor command.Explain (view object.now)) }
 {
     Ok(Request::Explain {
         game: game_in(object, Command::Explain)?,
@@ -107,8 +107,8 @@ fn explain_in<'a>(object: &'a Value) -> Result<Request<'a>, Refusal<'a>>
 
 /// A request to audit a sheet.
 fn audit_in<'a>(object: &'a Value) -> Result<Request<'a>, Refusal<'a>>
-    ensures says { IfOk result (Says command.Audit (view object.now)) }
-    ensures reason { IfErr result (IsReason (view object.now)) }
+    ensures says { IfOk result (IsRequestFor command.Audit (view object.now)) }
+    ensures reason { IfErr result (IsBadFor command.Audit (view object.now)) }
 {
     Ok(Request::Audit {
         game: game_in(object, Command::Audit)?,
@@ -118,8 +118,8 @@ fn audit_in<'a>(object: &'a Value) -> Result<Request<'a>, Refusal<'a>>
 
 /// A request for a board.
 fn board_in<'a>(object: &'a Value) -> Result<Request<'a>, Refusal<'a>>
-    ensures says { IfOk result (Says command.Board (view object.now)) }
-    ensures reason { IfErr result (IsReason (view object.now)) }
+    ensures says { IfOk result (IsRequestFor command.Board (view object.now)) }
+    ensures reason { IfErr result (IsBadFor command.Board (view object.now)) }
 {
     Ok(Request::Board {
         game: game_in(object, Command::Board)?,
@@ -129,8 +129,8 @@ fn board_in<'a>(object: &'a Value) -> Result<Request<'a>, Refusal<'a>>
 
 /// A request for best plays. Without a rack it names the line that shows one.
 fn top_in<'a>(object: &'a Value) -> Result<Request<'a>, Refusal<'a>>
-    ensures says { IfOk result (Says command.Top (view object.now)) }
-    ensures reason { IfErr result (IsReason (view object.now)) }
+    ensures says { IfOk result (IsRequestFor command.Top (view object.now)) }
+    ensures reason { IfErr result (IsBadFor command.Top (view object.now)) }
 {
     let game = game_in(object, Command::Top)?;
     let line = line_in(object)?;
@@ -149,8 +149,8 @@ fn top_in<'a>(object: &'a Value) -> Result<Request<'a>, Refusal<'a>>
 
 /// A request about words.
 fn word_in<'a>(alloc: Global, object: &'a Value) -> Result<Request<'a>, Refusal<'a>>
-    ensures says { IfOk result (Says command.Word (view object.now)) }
-    ensures reason { IfErr result (IsReason (view object.now)) }
+    ensures says { IfOk result (IsRequestFor command.Word (view object.now)) }
+    ensures reason { IfErr result (IsBadFor command.Word (view object.now)) }
 {
     match texts_in(alloc, object, "words")? {
         Some(words) if !words.is_empty() => Ok(Request::Word { words }),
@@ -160,8 +160,8 @@ fn word_in<'a>(alloc: Global, object: &'a Value) -> Result<Request<'a>, Refusal<
 
 /// A request for the normal form of a record.
 fn tidy_in<'a>(object: &'a Value) -> Result<Request<'a>, Refusal<'a>>
-    ensures says { IfOk result (Says command.Tidy (view object.now)) }
-    ensures reason { IfErr result (IsReason (view object.now)) }
+    ensures says { IfOk result (IsRequestFor command.Tidy (view object.now)) }
+    ensures reason { IfErr result (IsBadFor command.Tidy (view object.now)) }
 {
     let game = game_in(object, Command::Tidy)?;
     Ok(Request::Tidy { game })
@@ -169,8 +169,8 @@ fn tidy_in<'a>(object: &'a Value) -> Result<Request<'a>, Refusal<'a>>
 
 /// A request for the page of a game.
 fn page_in<'a>(object: &'a Value) -> Result<Request<'a>, Refusal<'a>>
-    ensures says { IfOk result (Says command.Page (view object.now)) }
-    ensures reason { IfErr result (IsReason (view object.now)) }
+    ensures says { IfOk result (IsRequestFor command.Page (view object.now)) }
+    ensures reason { IfErr result (IsBadFor command.Page (view object.now)) }
 {
     Ok(Request::Page {
         game: game_in(object, Command::Page)?,
@@ -184,8 +184,8 @@ fn request_for<'a>(
     object: &'a Value,
     command: Command,
 ) -> Result<Request<'a>, Refusal<'a>>
-    ensures says { IfOk result (Says command (view object.now)) }
-    ensures reason { IfErr result (IsReason (view object.now)) }
+    ensures says { IfOk result (IsRequestFor command (view object.now)) }
+    ensures reason { IfErr result (IsBadFor command (view object.now)) }
 {
     match command {
         Command::Judge => judge_in(object),
@@ -204,15 +204,18 @@ fn request_for<'a>(
 /// # Errors
 ///
 /// The refusal is true of the object, or memory was refused. If more than one would be true, it is the first that is found.
-#[tactic(auto, using(crate::proofs::Named::asks))]
+#[tactic(auto, using(crate::proofs::Named::asks, crate::proofs::Refused::only_memory))]
 pub fn request_in<'a>(alloc: Global, object: &'a Value) -> Result<Request<'a>, Refusal<'a>>
     ensures request { IfOk result (IsRequestIn (view object.now)) }
     ensures reason { IfErr result (IsReason (view object.now)) }
+    ensures memory { IfErr result (IsRefusedForMemoryAlone (view object.now)) }
 {
     let name = name_in(object)?;
     let Some(command) = Command::of_name(name) else {
         return Err(Refusal::NoSuchCommand(name));
     };
-    check_keys(object, command)?;
+    if let Some(key) = other_key(object, command) {
+        return Err(Refusal::NoSuchKey(command, key));
+    }
     request_for(alloc, object, command)
 }
