@@ -7,11 +7,11 @@ ghost use Rattle.game_answers.specs.Boards.{IsBoardOf};
 ghost use Rattle.game_answers.specs.Games.{IsJudgedGameOf};
 ghost use Rattle.known_bests.specs.Known.{AreKnown};
 ghost use Rattle.serve_answers.specs.PlainGames.{IsPlainGameOf};
-ghost use Rattle.serve_answers.specs.Given.{read_of};
+ghost use Rattle.serve_answers.specs.Given.{FailsForMemoryAlone, read_of};
 
 use crate::plain_games::judge_plainly;
+use crate::records::GivenRecord;
 use audit_lines::{AuditAnswer, answer_audit};
-use devices::FromRead;
 use engine::{Case, Decision, Judging, RunFault, open_case};
 use game_answers::{JudgedGame, ShownBoard, judge_game_with, shown_board};
 use known_bests::KnownBests;
@@ -32,8 +32,9 @@ pub fn judged(
     requires { AreKnown rules.now (list_in pair.now) known.old }
     ensures known { AreKnown rules.now (list_in pair.now) known.new }
     ensures judged { IfOk result (IsJudgedGameOf question rules.now (list_in pair.now) (read_of game.now)) }
+    ensures memory { FailsForMemoryAlone result }
 {
-    let mut input = FromRead::new(game.as_bytes());
+    let mut input = GivenRecord::new(game);
     judge_game_with(alloc, rules, pair, &mut input, question, known)
 }
 
@@ -46,9 +47,10 @@ pub fn judged_plainly(
     game: &str,
     question: Judging,
 ) -> Result<Result<JudgedGame, Decision>, RunFault>
-    ensures { IfOk result (IsPlainGameOf question rules.now (list_in pair.now) (read_of game.now)) }
+    ensures found { IfOk result (IsPlainGameOf question rules.now (list_in pair.now) (read_of game.now)) }
+    ensures memory { FailsForMemoryAlone result }
 {
-    let mut input = FromRead::new(game.as_bytes());
+    let mut input = GivenRecord::new(game);
     judge_plainly(alloc, rules, pair, &mut input, question)
 }
 
@@ -60,9 +62,10 @@ pub fn audited(
     pair: &Checked<'_>,
     game: &str,
 ) -> Result<Result<AuditAnswer, Decision>, RunFault>
-    ensures { IfOk result (IsAuditAnswerOf rules.now (list_in pair.now) (read_of game.now)) }
+    ensures found { IfOk result (IsAuditAnswerOf rules.now (list_in pair.now) (read_of game.now)) }
+    ensures memory { FailsForMemoryAlone result }
 {
-    let mut input = FromRead::new(game.as_bytes());
+    let mut input = GivenRecord::new(game);
     answer_audit(alloc, rules, pair, &mut input)
 }
 
@@ -74,9 +77,10 @@ pub fn case_in(
     pair: &Checked<'_>,
     game: &str,
 ) -> Result<Case, RunFault>
-    ensures { IfOk result (IsCaseOf rules.now (list_in pair.now) (read_of game.now)) }
+    ensures found { IfOk result (IsCaseOf rules.now (list_in pair.now) (read_of game.now)) }
+    ensures memory { FailsForMemoryAlone result }
 {
-    let mut input = FromRead::new(game.as_bytes());
+    let mut input = GivenRecord::new(game);
     open_case(alloc, rules, pair, &mut input)
 }
 
@@ -88,8 +92,9 @@ pub fn board_in(
     game: &str,
     line: Option<u32>,
 ) -> Result<Result<Option<ShownBoard>, Decision>, RunFault>
-    ensures { IfOk result (IsBoardOf rules.now line (read_of game.now)) }
+    ensures found { IfOk result (IsBoardOf rules.now line (read_of game.now)) }
+    ensures memory { FailsForMemoryAlone result }
 {
-    let mut input = FromRead::new(game.as_bytes());
+    let mut input = GivenRecord::new(game);
     shown_board(alloc, rules, &mut input, line)
 }

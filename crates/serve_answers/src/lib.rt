@@ -7,6 +7,7 @@
 mod games;
 mod plain_games;
 mod plays;
+mod records;
 mod replies;
 mod tidying;
 mod told_cases;

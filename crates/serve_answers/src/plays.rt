@@ -7,11 +7,11 @@ ghost use Rattle.call_stages.specs.Reports.{bad_rack_line};
 ghost use Rattle.call_stages.specs.Telling.{IsTold};
 ghost use Rattle.engine.specs.TopBefore.{given_rack};
 ghost use Rattle.game_answers.specs.Tops.{AreTopPlaysOf};
-ghost use Rattle.serve_answers.specs.Given.{read_of};
+ghost use Rattle.serve_answers.specs.Given.{FailsForMemoryAlone, read_of};
 ghost use Rattle.serve_answers.specs.Plays.{number_asked, ArePlaysBy};
 
+use crate::records::GivenRecord;
 use call_stages::InputFault;
-use devices::FromRead;
 use engine::{Decision, MOST_PLAYS, RunFault, TurnPlays};
 use game_answers::{FoundPlays, top_plays};
 use gcg_read::read_rack;
@@ -68,9 +68,10 @@ fn plays_by(
     game: &str,
     question: &TurnPlays,
 ) -> Result<Result<FoundPlays, Decision>, RunFault>
-    ensures { IfOk result (AreTopPlaysOf question.now.number question.now.before rules.now (list_in pair.now) question.now.rack (read_of game.now)) }
+    ensures found { IfOk result (AreTopPlaysOf question.now.number question.now.before rules.now (list_in pair.now) question.now.rack (read_of game.now)) }
+    ensures memory { FailsForMemoryAlone result }
 {
-    let mut input = FromRead::new(game.as_bytes());
+    let mut input = GivenRecord::new(game);
     top_plays(alloc, rules, pair, &mut input, question)
 }
 
@@ -85,7 +86,8 @@ pub fn plays_in(
     rack: Option<&str>,
     number: Option<u32>,
 ) -> Result<Result<FoundPlays, Decision>, RunFault>
-    ensures { IfOk result (ArePlaysBy (number_asked number) line rules.now (list_in pair.now) (given_rack (option_copied rack.entry)) (read_of game.now)) }
+    ensures found { IfOk result (ArePlaysBy (number_asked number) line rules.now (list_in pair.now) (given_rack (option_copied rack.entry)) (read_of game.now)) }
+    ensures memory { FailsForMemoryAlone result }
 {
     match turn_plays(rack, number_asked(number), line) {
         Some(question) => plays_by(alloc, rules, pair, game, &question),

@@ -2,7 +2,7 @@
 ghost use Rattle.std.specs.Prelude.{◌≡◌, IfOk};
 ghost use Rattle.lex_check.specs.Pairs.{list_in};
 ghost use Rattle.known_bests.specs.Known.{AreKnown};
-ghost use Rattle.serve_answers.specs.Given.{judging_by, read_of};
+ghost use Rattle.serve_answers.specs.Given.{FailsForMemoryAlone, judging_by, read_of};
 ghost use Rattle.serve_answers.specs.Replies.{IsJudgedWith, IsReplyTo};
 
 use crate::games::{audited, board_in, judged, judged_plainly};
@@ -64,6 +64,7 @@ fn judged_by(
     requires { AreKnown rules.now (list_in pair.now) known.old }
     ensures known { AreKnown rules.now (list_in pair.now) known.new }
     ensures judged { IfOk result (IsJudgedWith best question rules.now (list_in pair.now) (read_of game.now)) }
+    ensures memory { FailsForMemoryAlone result }
 {
     if best {
         judged(alloc, rules, pair, game, question, known)
@@ -88,6 +89,7 @@ pub fn reply_to(
     requires { AreKnown rules.now (list_in pair.now) known.old }
     ensures known { AreKnown rules.now (list_in pair.now) known.new }
     ensures reply { IfOk result (IsReplyTo rules.now (list_in pair.now) request.now) }
+    ensures memory { FailsForMemoryAlone result }
 {
     match request {
         Request::Judge { game, settle, best } => {

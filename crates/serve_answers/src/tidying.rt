@@ -1,11 +1,11 @@
 //! The normal form of a record that is given as a text.
 ghost use Rattle.std.specs.Prelude.{◌≡◌, IfOk};
 ghost use Rattle.gcg_write.specs.Normal.{normal_of};
-ghost use Rattle.serve_answers.specs.Given.{read_of};
+ghost use Rattle.serve_answers.specs.Given.{FailsForMemoryAlone, read_of};
 ghost use Rattle.serve_answers.specs.Tidied.{IsTidiedOf};
 
+use crate::records::GivenRecord;
 use call_stages::{Decision, RunFault, Verdict, read_text, record_from};
-use devices::FromRead;
 use gcg_read::{MAX_BYTES, Record};
 use gcg_write::write;
 use std::alloc::{AllocError, Global};
@@ -39,16 +39,18 @@ fn tidied_from(alloc: Global, text: &[u8]) -> Result<Decision, AllocError>
 /// The bytes that are read of a record.
 #[tactic(auto, using(crate::proofs::Reading::text_read))]
 fn bytes_read(alloc: Global, game: &str) -> Result<Vec<u8>, RunFault>
-    ensures { IfOk result (λ text. text.items ≡ read_of game.now) }
+    ensures text { IfOk result (λ text. text.items ≡ read_of game.now) }
+    ensures memory { FailsForMemoryAlone result }
 {
-    let mut input = FromRead::new(game.as_bytes());
+    let mut input = GivenRecord::new(game);
     read_text(alloc, &mut input, MAX_BYTES)
 }
 
 /// The normal form of a record, or the verdict that it is not one: what `tidy` writes.
 #[tactic(auto, using(crate::proofs::TidyLaws::of_read))]
 pub fn tidied(alloc: Global, game: &str) -> Result<Decision, RunFault>
-    ensures { IfOk result (IsTidiedOf (read_of game.now)) }
+    ensures tidied { IfOk result (IsTidiedOf (read_of game.now)) }
+    ensures memory { FailsForMemoryAlone result }
 {
     let text = bytes_read(alloc, game)?;
     Ok(tidied_from(alloc, &text)?)

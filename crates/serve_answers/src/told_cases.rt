@@ -1,7 +1,7 @@
 //! The case of a record with its likely repair.
 ghost use Rattle.std.specs.Prelude.{◌≡◌, IfOk};
 ghost use Rattle.lex_check.specs.Pairs.{list_in};
-ghost use Rattle.serve_answers.specs.Given.{read_of};
+ghost use Rattle.serve_answers.specs.Given.{FailsForMemoryAlone, read_of};
 ghost use Rattle.serve_answers.specs.Replies.{IsLikelyAsked, IsToldCaseOf};
 
 use crate::games::case_in;
@@ -49,7 +49,8 @@ pub fn told_case(
     game: &str,
     asked: bool,
 ) -> Result<ToldCase, RunFault>
-    ensures { IfOk result (IsToldCaseOf asked rules.now (list_in pair.now) (read_of game.now)) }
+    ensures told { IfOk result (IsToldCaseOf asked rules.now (list_in pair.now) (read_of game.now)) }
+    ensures memory { FailsForMemoryAlone result }
 {
     let case = case_in(alloc, rules, pair, game)?;
     Ok(told_of(alloc, rules, pair, case, asked)?)

@@ -6,4 +6,4 @@ use Rattle.serve_answers.proofs.replies.reply_to.Goals as goal
 
 pub returns-in_ok-audited-in-Audit-clause-reply : goal.returns-in_ok-audited-in-Audit-clause-reply
 returns-in_ok-audited-in-Audit-clause-reply c =
-    subst (λ r. IsReplyTo c.args.rules.now (list_in c.args.pair.now) r (reply.Audited c.in_ok-audited-in-Audit.field-0)) (sym c.in-Audit.is) c.in_ok-audited-in-Audit.ensures
+    subst (λ r. IsReplyTo c.args.rules.now (list_in c.args.pair.now) r (reply.Audited c.in_ok-audited-in-Audit.field-0)) (sym c.in-Audit.is) c.in_ok-audited-in-Audit.ensures.found
