@@ -12,7 +12,7 @@ use game_commands::{board, build, check, convert, judge, tidy, top, word};
 use json_commands::{AnswerTask, answer_in_json, board_in_json, check_in_json, top_in_json};
 use ref_tiles::ENGLISH_TEXT;
 use serve_commands::serve;
-use sheet_commands::{SheetTask, answer_sheet};
+use sheet_commands::{CaseTask, SheetTask, answer_sheet};
 use std::alloc::AllocError;
 use std::rt::Runtime;
 use std::{env, io};
@@ -94,7 +94,11 @@ fn answer<R: Runtime + AllocGlobal>(rt: &R, request: Request<'_>, watched: bool)
             line,
             json: true,
         } => answer_in_json(rt, files, AnswerTask::Explain(line)),
-        Request::Explain { files, line, .. } => answer_sheet(rt, files, SheetTask::Explain(line)),
+        Request::Explain { files, line, .. } => answer_sheet(
+            rt,
+            files,
+            SheetTask::Case(CaseTask::Explain(line)),
+        ),
         Request::Repair {
             files,
             number,
@@ -106,13 +110,25 @@ fn answer<R: Runtime + AllocGlobal>(rt: &R, request: Request<'_>, watched: bool)
             number,
             out,
             ..
-        } => answer_sheet(rt, files, SheetTask::Repair(number as usize, out)),
+        } => answer_sheet(
+            rt,
+            files,
+            SheetTask::Case(CaseTask::Repair(number as usize, out)),
+        ),
         Request::Compare { files, second, out } => {
-            answer_sheet(rt, files, SheetTask::Compare(second, out))
+            answer_sheet(rt, files, SheetTask::Case(CaseTask::Compare(second, out)))
         }
-        Request::Page { files, out } => answer_sheet(rt, files, SheetTask::Page(out)),
+        Request::Page { files, out } => answer_sheet(
+            rt,
+            files,
+            SheetTask::Case(CaseTask::Page(out)),
+        ),
         Request::Annotate { files, number, out } => {
-            answer_sheet(rt, files, SheetTask::Annotate(number as usize, out))
+            answer_sheet(
+                rt,
+                files,
+                SheetTask::Case(CaseTask::Annotate(number as usize, out)),
+            )
         }
         Request::Build { words, out } => ended(build(rt, words, out)),
         Request::Check { json: true, pair } => check_in_json(rt, pair),

@@ -10,5 +10,7 @@ mod made_texts;
 mod paging;
 mod repairing;
 mod sheets;
+mod tasks;
 
-pub use sheets::{SheetTask, answer_sheet};
+pub use sheets::answer_sheet;
+pub use tasks::{CaseTask, SheetTask};

@@ -5,6 +5,7 @@ ghost use Rattle.lex_check.specs.Pairs.{list_in};
 ghost use Rattle.call_stages.specs.Runs.{Gives, outcomes};
 ghost use Rattle.call_stages.specs.Sources.{game_source};
 ghost use Rattle.command_files.specs.Telling.{IsCaseTold};
+ghost use Rattle.repair_answers.specs.Answers.{HasItsWalk};
 ghost use Rattle.sheet_commands.specs.Telling.{IsAuditTold};
 
 use crate::annotating::write_annotated;
@@ -13,6 +14,7 @@ use crate::comparing::tell_comparison;
 use crate::explaining::tell_case;
 use crate::paging::write_page;
 use crate::repairing::tell_repairs;
+use crate::tasks::{CaseTask, SheetTask};
 use annotations::SheetToAnnotate;
 use command_files::{
     Digests, GivenFiles, RulesFile, SheetFile, Told, UsedOutput, Words, advise_bad_record,
@@ -30,34 +32,6 @@ use std::io::Read;
 use std::rt::Runtime;
 use watching::Front;
 
-/// A request for a sheet.
-#[derive(Clone, Copy)]
-pub enum SheetTask<'a> {
-    /// To audit it, and to write the corrected record to a file if one is named.
-    Audit(Option<&'a str>),
-    /// To explain its verdict, or one of its lines.
-    Explain(Option<u32>),
-    /// To write its page to a file.
-    Page(&'a str),
-    /// To write it with notes, each with at most the given number of best plays, to a file.
-    Annotate(usize, &'a str),
-    /// To list the repairs of its record, in at most the given number of lines, and to write the repaired sheet to a file if one is named.
-    Repair(usize, Option<&'a str>),
-    /// To compare it with the sheet of this name, and to write the merged record to a file if one is named.
-    Compare(&'a str, Option<&'a str>),
-}
-
-impl<'a> SheetTask<'a> {
-    /// The output that is written in addition to the report, if there is one.
-    fn out(self) -> Option<&'a str> {
-        match self {
-            SheetTask::Audit(out) | SheetTask::Repair(_, out) | SheetTask::Compare(_, out) => out,
-            SheetTask::Explain(_) => None,
-            SheetTask::Page(out) | SheetTask::Annotate(_, out) => Some(out),
-        }
-    }
-}
-
 /// Audits a sheet, and reports the audit.
 fn audit<'a, R: Runtime + AllocGlobal, F: Read + Drop, S: Read + Drop>(
     rt: &R,
@@ -72,23 +46,6 @@ fn audit<'a, R: Runtime + AllocGlobal, F: Read + Drop, S: Read + Drop>(
     match audit_sheet(rt.alloc(), given.rules, given.pair, game) {
         Ok(Ok(audit)) => Ok(Ok(tell_audit(rt, &audit, out))),
         Ok(Err(decision)) => Ok(Err(decision)),
-        Err(fault) => Err(fault),
-    }
-}
-
-/// Explains a sheet, or one of its lines.
-fn explain<'a, R: Runtime + AllocGlobal, F: Read + Drop, S: Read + Drop>(
-    rt: &R,
-    given: &GivenFiles<'_, F, S>,
-    game: &mut SheetFile<S>,
-    line: Option<u32>,
-) -> Result<Told<'a>, RunFault>
-    requires { HasRoom (⟦<SheetFile<S> as Input>⟧.device game.old) }
-    ensures { Gives outcomes (game_source (⟦<SheetFile<S> as Input>⟧.device game.old) (⟦<SheetFile<S> as Input>⟧.device game.new) ∷ [])
-        (IsCaseTold given.now.rules.now (list_in given.now.pair.now)) result }
-{
-    match open_case(rt.alloc(), given.rules, given.pair, game) {
-        Ok(mut case) => Ok(Ok(tell_case(rt, given.rules, given.pair, &mut case, line))),
         Err(fault) => Err(fault),
     }
 }
@@ -130,81 +87,59 @@ fn tell_page<'a, R: Runtime + AllocGlobal, F: Read + Drop, S: Read + Drop>(
     write_page(rt, &contents, out)
 }
 
-/// Writes the page of a sheet.
-fn page<'a, R: Runtime + AllocGlobal, F: Read + Drop, S: Read + Drop>(
+/// Writes the sheet of a case with notes, each with at most `number` best plays.
+fn tell_annotated<'a, R: Runtime + AllocGlobal, F: Read + Drop, S: Read + Drop>(
     rt: &R,
     given: &GivenFiles<'_, F, S>,
-    game: &mut SheetFile<S>,
-    out: &'a str,
-) -> Result<Told<'a>, RunFault>
-    requires { HasRoom (⟦<SheetFile<S> as Input>⟧.device game.old) }
-    ensures { Gives outcomes (game_source (⟦<SheetFile<S> as Input>⟧.device game.old) (⟦<SheetFile<S> as Input>⟧.device game.new) ∷ [])
-        (IsCaseTold given.now.rules.now (list_in given.now.pair.now)) result }
-{
-    match open_case(rt.alloc(), given.rules, given.pair, game) {
-        Ok(mut case) => Ok(Ok(tell_page(rt, given, &mut case, out))),
-        Err(fault) => Err(fault),
-    }
-}
-
-/// Writes a sheet with notes, each with at most `number` best plays.
-fn annotate<'a, R: Runtime + AllocGlobal, F: Read + Drop, S: Read + Drop>(
-    rt: &R,
-    given: &GivenFiles<'_, F, S>,
-    game: &mut SheetFile<S>,
+    case: &Case,
     number: usize,
     out: &'a str,
-) -> Result<Told<'a>, RunFault>
-    requires { HasRoom (⟦<SheetFile<S> as Input>⟧.device game.old) }
-    ensures { Gives outcomes (game_source (⟦<SheetFile<S> as Input>⟧.device game.old) (⟦<SheetFile<S> as Input>⟧.device game.new) ∷ [])
-        (IsCaseTold given.now.rules.now (list_in given.now.pair.now)) result }
+) -> Result<Exit, Trouble<'a>> {
+    let sheet = SheetToAnnotate {
+        rules: given.rules,
+        pair: given.pair,
+        case,
+        number,
+    };
+    write_annotated(rt, &sheet, out)
+}
+
+/// Tells of a case what is asked of it.
+fn tell_of_case<'a, R: Runtime + AllocGlobal, F: Read + Drop, S: Read + Drop>(
+    rt: &R,
+    given: &GivenFiles<'_, F, S>,
+    case: Case,
+    task: CaseTask<'a>,
+) -> Result<Exit, Trouble<'a>>
+    requires { HasItsWalk given.now.rules.now (list_in given.now.pair.now) case }
 {
-    match open_case(rt.alloc(), given.rules, given.pair, game) {
-        Ok(case) => {
-            let sheet = SheetToAnnotate {
-                rules: given.rules,
-                pair: given.pair,
-                case: &case,
-                number,
-            };
-            Ok(Ok(write_annotated(rt, &sheet, out)))
+    let mut case = case;
+    match task {
+        CaseTask::Explain(line) => tell_case(rt, given.rules, given.pair, &mut case, line),
+        CaseTask::Page(out) => tell_page(rt, given, &mut case, out),
+        CaseTask::Annotate(number, out) => tell_annotated(rt, given, &case, number, out),
+        CaseTask::Repair(number, out) => {
+            tell_repairs(rt, given.rules, given.pair, &mut case, number, out)
         }
-        Err(fault) => Err(fault),
+        CaseTask::Compare(second, out) => {
+            tell_comparison(rt, given.rules, given.pair, case, second, out)
+        }
     }
 }
 
-/// Reports what repairs the record of a sheet, in at most `number` lines.
-fn repair<'a, R: Runtime + AllocGlobal, F: Read + Drop, S: Read + Drop>(
+/// Opens the case of a sheet, and tells what is asked of it.
+fn answer_case<'a, R: Runtime + AllocGlobal, F: Read + Drop, S: Read + Drop>(
     rt: &R,
     given: &GivenFiles<'_, F, S>,
     game: &mut SheetFile<S>,
-    number: usize,
-    out: Option<&'a str>,
+    task: CaseTask<'a>,
 ) -> Result<Told<'a>, RunFault>
     requires { HasRoom (⟦<SheetFile<S> as Input>⟧.device game.old) }
     ensures { Gives outcomes (game_source (⟦<SheetFile<S> as Input>⟧.device game.old) (⟦<SheetFile<S> as Input>⟧.device game.new) ∷ [])
         (IsCaseTold given.now.rules.now (list_in given.now.pair.now)) result }
 {
     match open_case(rt.alloc(), given.rules, given.pair, game) {
-        Ok(mut case) => Ok(Ok(tell_repairs(rt, given.rules, given.pair, &mut case, number, out))),
-        Err(fault) => Err(fault),
-    }
-}
-
-/// Compares a sheet with a second one.
-fn compare<'a, R: Runtime + AllocGlobal, F: Read + Drop, S: Read + Drop>(
-    rt: &R,
-    given: &GivenFiles<'_, F, S>,
-    game: &mut SheetFile<S>,
-    second: &'a str,
-    out: Option<&'a str>,
-) -> Result<Told<'a>, RunFault>
-    requires { HasRoom (⟦<SheetFile<S> as Input>⟧.device game.old) }
-    ensures { Gives outcomes (game_source (⟦<SheetFile<S> as Input>⟧.device game.old) (⟦<SheetFile<S> as Input>⟧.device game.new) ∷ [])
-        (IsCaseTold given.now.rules.now (list_in given.now.pair.now)) result }
-{
-    match open_case(rt.alloc(), given.rules, given.pair, game) {
-        Ok(case) => Ok(Ok(tell_comparison(rt, given.rules, given.pair, case, second, out))),
+        Ok(case) => Ok(Ok(tell_of_case(rt, given, case, task))),
         Err(fault) => Err(fault),
     }
 }
@@ -239,11 +174,7 @@ impl<'a, R: Runtime + AllocGlobal, F: Read + Drop, S: Read + Drop> Question<
     ) -> Result<Told<'a>, RunFault> {
         match self.task {
             SheetTask::Audit(out) => audit(self.rt, given, game, out),
-            SheetTask::Explain(line) => explain(self.rt, given, game, line),
-            SheetTask::Page(out) => page(self.rt, given, game, out),
-            SheetTask::Annotate(number, out) => annotate(self.rt, given, game, number, out),
-            SheetTask::Repair(number, out) => repair(self.rt, given, game, number, out),
-            SheetTask::Compare(second, out) => compare(self.rt, given, game, second, out),
+            SheetTask::Case(task) => answer_case(self.rt, given, game, task),
         }
     }
 
@@ -262,7 +193,7 @@ pub fn answer_sheet<'a, R: Runtime + AllocGlobal>(
         rt,
         files.rules,
         files.pair,
-        matches!(task, SheetTask::Page(_)),
+        matches!(task, SheetTask::Case(CaseTask::Page(_))),
     )?;
     let mut game = open_sheet(rt, files.game)?;
     let question = SheetQuestion { rt, task };
@@ -303,7 +234,7 @@ pub fn answer_sheet<'a, R: Runtime + AllocGlobal>(
 fn advise<R: Runtime + AllocGlobal>(rt: &R, name: &str, task: SheetTask<'_>, game: &Front) {
     if is_record(rt.alloc(), game) {
         advise_no_game(rt, name, game);
-    } else if !matches!(task, SheetTask::Explain(_)) {
+    } else if !matches!(task, SheetTask::Case(CaseTask::Explain(_))) {
         advise_bad_record(rt, name, game);
     }
 }

@@ -4,13 +4,16 @@ use Rattle.call_stages.specs.Runs.{outcomes}
 use Rattle.call_stages.proofs.Giving.{gives_failed, gives_last}
 use Rattle.engine.specs.Explaining.{IsCaseOf}
 use Rattle.command_files.specs.Telling.{IsCaseTold}
-use Rattle.sheet_commands.proofs.sheets.explain.Goals as goal
+use Rattle.sheet_commands.proofs.sheets.answer_case.Goals as goal
+
+pub tell_of_case-requires : goal.tell_of_case-requires
+tell_of_case-requires g c = (c.in-Ok.ensures.taken.text, c.in-Ok.ensures.taken.means)
 
 pub returns-in-Ok : goal.returns-in-Ok
 returns-in-Ok g c =
     let rules = c.args.given.now.rules.now in
     let list = list_in c.args.given.now.pair.now in
-    gives_last outcomes _ (IsCaseOf rules list) (IsCaseTold rules list) c.in-Ok.case (Ok c.tell_case.result) c.in-Ok.ensures
+    gives_last outcomes _ (IsCaseOf rules list) (IsCaseTold rules list) c.in-Ok.case (Ok c.tell_of_case.result) c.in-Ok.ensures
     (λ text means. (c.in-Ok.case, means, record { verdict_is = refl; told = refl }))
 
 pub returns-in-Err : goal.returns-in-Err
