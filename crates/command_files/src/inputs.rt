@@ -5,10 +5,11 @@ ghost use Rattle.devices.specs.Devices.{HasRoom};
 use crate::files::{
     InputFile, STANDARD_ERROR, STANDARD_OUTPUT, open, used, used_rules, used_words, watched,
 };
-use crate::sources::{Seen, Source, Words, digest_of, digested, open_words, seen_words, shown};
+use crate::sources::{Seen, Source, Words, open_words, seen_words, shown};
 use crate::telling::give_hint;
 use command_line::{PairFiles, STANDARD_OUTPUT_NAME, WordsFile};
 use devices::{FromRead, FromWrite, Input, write_whole};
+use digesting::Digesting;
 use engine::{Decision, Given, RulesInput, RulesSource};
 use exit_statuses::{Exit, Trouble};
 use hints::Known;
@@ -98,7 +99,7 @@ pub fn open_rules<'a, R: Runtime + AllocGlobal>(
     let Some(name) = name else {
         return Ok(RulesInput { rules, text: None });
     };
-    let text = digested(open(rt, name)?, digests);
+    let text = Digesting::new(open(rt, name)?, digests);
     let text = FromRead::new(WatchedRead::new(rt.alloc(), text, RULES_FRONT));
     Ok(RulesInput {
         rules,
@@ -151,9 +152,9 @@ pub fn digests_of<F: Read + Drop, S: Read + Drop>(
 ) -> Result<Digests, AllocError> {
     let rules = match &given.rules_source.text {
         None => None,
-        Some(text) => digest_of(text.inner().inner())?,
+        Some(text) => text.inner().inner().digest()?,
     };
-    let list = digest_of(seen_words(given.words).inner())?;
+    let list = seen_words(given.words).inner().digest()?;
     Ok(Digests {
         list: list.unwrap_or([0; 32]),
         rules,

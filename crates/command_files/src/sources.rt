@@ -9,7 +9,7 @@ use digesting::Digesting;
 use either::Either;
 use exit_statuses::Trouble;
 use first_fields::FirstFields;
-use std::alloc::{AllocError, Global};
+use std::alloc::Global;
 use std::io::{self, Read};
 use std::rt::{Files, Runtime};
 use watching::WatchedRead;
@@ -29,31 +29,11 @@ pub fn open_source<'a, R: Runtime>(rt: &R, name: &'a str) -> Result<Source<R>, T
     Ok(Either::Left(open(rt, name)?))
 }
 
-/// A reader, which may digest its bytes.
-pub type Digested<F> = Either<F, Digesting<F>>;
-
-/// A reader that digests its bytes, or as it is.
-pub fn digested<F: Read + Drop>(reader: F, digests: bool) -> Digested<F> {
-    if digests {
-        Either::Right(Digesting::new(reader))
-    } else {
-        Either::Left(reader)
-    }
-}
-
-/// The SHA-256 of the bytes that a reader gave out, if it digests them.
-pub fn digest_of<F: Read + Drop>(reader: &Digested<F>) -> Result<Option<[u8; 32]>, AllocError> {
-    match reader {
-        Either::Left(_) => Ok(None),
-        Either::Right(reader) => Ok(Some(reader.digest()?)),
-    }
-}
-
 /// A reader that may digest its bytes, and is watched.
-pub type Seen<F> = WatchedRead<Digested<F>>;
+pub type Seen<F> = WatchedRead<Digesting<F>>;
 
 /// The lines of a word list, or their first fields.
-pub type ListLines<S> = Either<Seen<S>, FirstFields<Seen<S>>>;
+pub type ListLines<S> = FirstFields<Seen<S>>;
 
 /// A word list, or the lines of it that are words.
 pub type Words<S> = Either<ListLines<S>, WordLines<ListLines<S>>>;
@@ -64,12 +44,12 @@ pub fn open_words<'a, R: Runtime + AllocGlobal>(
     words: WordsFile<'a>,
     digests: bool,
 ) -> Result<Words<Source<R>>, Trouble<'a>> {
-    let source = digested(open_source(rt, words.name)?, digests);
+    let source = Digesting::new(open_source(rt, words.name)?, digests);
     let source = WatchedRead::new(rt.alloc(), source, WORDS_FRONT);
     let lines = if words.first_field {
-        Either::Right(FirstFields::new(source))
+        FirstFields::new(source)
     } else {
-        Either::Left(source)
+        FirstFields::whole_lines(source)
     };
     if words.skip_others {
         Ok(Either::Right(WordLines::new(rt.alloc(), lines)))
@@ -100,13 +80,9 @@ pub fn open_sheet<'a, R: Runtime + AllocGlobal>(
 
 /// The watched bytes of a word list.
 pub fn seen_words<S: Read + Drop>(words: &FromRead<Words<S>>) -> &Seen<S> {
-    let lines = match words.inner() {
-        Either::Left(lines) => lines,
-        Either::Right(words) => words.inner(),
-    };
-    match lines {
-        Either::Left(lines) => lines,
-        Either::Right(fields) => fields.inner(),
+    match words.inner() {
+        Either::Left(lines) => lines.inner(),
+        Either::Right(words) => words.inner().inner(),
     }
 }
 

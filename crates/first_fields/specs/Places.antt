@@ -1,5 +1,5 @@
 -- What is kept of a text that is read byte by byte.
-use Rattle.std.specs.Prelude.{◌≡◌, ℕ, Bool, true, false, ◌==◌, ◌||◌, List, [], ◌∷◌, ◌++◌, map, if◌then◌else◌}
+use Rattle.std.specs.Prelude.{◌≡◌, ℕ, Bool, true, false, ◌==◌, ◌||◌, List, [], ◌∷◌, ◌++◌, map, Option, Some, None, option_map, if◌then◌else◌}
 use Rattle.std.specs.List.{join_with_byte, slice_split, take_while}
 use Rattle.text_lines.specs.Fields.{is_blank}
 use Rattle.text_lines.specs.Lines.{is_feed}
@@ -21,6 +21,11 @@ rests_of place (line ∷ lines) = rest_of place line ∷ map first_field lines
 -- what is kept of a text that is read from a place in its first line on
 unfoldable pub fields_from : Place → List ℕ → List ℕ
 fields_from place text = join_with_byte 10 (rests_of place (slice_split is_feed text))
+
+-- what is left of a text to be given out, from a place in its first line on; without a place, it is given as it is
+abbrev pub left_by : Option Place → Option (List ℕ) → Option (List ℕ)
+left_by None left = left
+left_by (Some place) left = option_map (fields_from place) left
 
 -- the place after a byte that does not end a line
 unfoldable pub place_within : Place → ℕ → Place

@@ -1,8 +1,9 @@
 //! A reader that gives the first fields of the lines of another one.
 ghost use Rattle.std.specs.Prelude.{◌≡◌, ◌<◌, ◌≤◌, length, take, option_map, IfOk, OnErr};
-ghost use Rattle.std.specs.Io.KnownBytes.{Consumes, IsAtEnd, Keeps};
+ghost use Rattle.std.specs.Io.{ReadsAtMost};
+ghost use Rattle.std.specs.Io.KnownBytes.{Consumes, IsAtEnd, Keeps, ReadConsumes};
 ghost use Rattle.first_fields.specs.Fields.{first_fields};
-ghost use Rattle.first_fields.specs.Places.{fields_from};
+ghost use Rattle.first_fields.specs.Places.{fields_from, left_by};
 
 use crate::places::{Place, keep_fields};
 use std::io::{Error, ErrorKind, Read, Result};
@@ -11,11 +12,12 @@ use std::io::{Error, ErrorKind, Read, Result};
 const CHUNK: usize = 8192;
 
 /// A reader whose text has the first field of each line in place of the line: what is before its first space or tab. A line that
-/// begins with `#` becomes an empty one, so that lines keep their numbers.
+/// begins with `#` becomes an empty one, so that lines keep their numbers. On request it gives the lines as they are.
 #[derive(Drop)]
 pub struct FirstFields<R> {
     inner: R,
-    place: Place,
+    /// Where it is in a line; nowhere if it gives whole lines.
+    place: Option<Place>,
 }
 
 /// The result of reading a chunk.
@@ -34,60 +36,85 @@ impl<R: Read + Drop> FirstFields<R> {
     {
         FirstFields {
             inner,
-            place: Place::Beginning,
+            place: Some(Place::Beginning),
         }
+    }
+
+    /// The lines of what the reader has, as they are.
+    pub fn whole_lines(inner: R) -> FirstFields<R>
+        ensures { ⟦<FirstFields<R> as Read>⟧.remaining result ≡ R.remaining inner }
+    {
+        FirstFields { inner, place: None }
     }
 
     /// The inner reader, after what was read from it.
     pub fn inner(&self) -> &R
-        ensures { option_map (fields_from self.now.place) (R.remaining result.now) ≡ ⟦<FirstFields<R> as Read>⟧.remaining self.now }
+        ensures { left_by self.now.place (R.remaining result.now) ≡ ⟦<FirstFields<R> as Read>⟧.remaining self.now }
     {
         &self.inner
     }
 
     /// The inner reader, after what was read from it.
     pub fn into_inner(self) -> R
-        ensures { option_map (fields_from self.place) (R.remaining result) ≡ ⟦<FirstFields<R> as Read>⟧.remaining self }
+        ensures { left_by self.place (R.remaining result) ≡ ⟦<FirstFields<R> as Read>⟧.remaining self }
     {
         let FirstFields { inner, .. } = self;
         inner
     }
+}
 
-    /// Reads a chunk once, and puts what is kept of it into the buffer.
-    fn read_chunk(&mut self, chunk: &mut [u8], buf: &mut [u8]) -> Result<Chunk>
-        requires { length chunk.old ≤ length buf.old }
-        ensures room { length buf.new ≡ length buf.old }
-        ensures same { length chunk.new ≡ length chunk.old }
-        ensures bound { IfOk result (λ c. c.kept ≤ length buf.new) }
-        ensures bytes { IfOk result (λ c. Consumes (option_map (fields_from self.old.place) (R.remaining self.old.inner))
-            (option_map (fields_from self.new.place) (R.remaining self.new.inner)) (take c.kept buf.new)) }
-        ensures end { IfOk result (λ c. c.read ≡ 0 → 0 < length chunk.new
-            → IsAtEnd (option_map (fields_from self.new.place) (R.remaining self.new.inner))) }
-        ensures err { OnErr result (Keeps (option_map (fields_from self.old.place) (R.remaining self.old.inner))
-            (option_map (fields_from self.new.place) (R.remaining self.new.inner))) }
-    {
-        let read = self.inner.read(chunk)?;
-        let kept = keep_fields(self.place, &chunk[..read], buf);
-        self.place = kept.place;
-        Ok(Chunk {
-            read,
-            kept: kept.len,
-        })
+/// Reads a chunk once, from a place in a line on, and puts what is kept of it into the buffer.
+fn read_chunk<R: Read + Drop>(
+    inner: &mut R,
+    place: &mut Place,
+    chunk: &mut [u8],
+    buf: &mut [u8],
+) -> Result<Chunk>
+    requires { length chunk.old ≤ length buf.old }
+    ensures room { length buf.new ≡ length buf.old }
+    ensures same { length chunk.new ≡ length chunk.old }
+    ensures bound { IfOk result (λ c. c.kept ≤ length buf.new) }
+    ensures bytes { IfOk result (λ c. Consumes (option_map (fields_from place.old) (R.remaining inner.old))
+        (option_map (fields_from place.new) (R.remaining inner.new)) (take c.kept buf.new)) }
+    ensures end { IfOk result (λ c. c.read ≡ 0 → 0 < length chunk.new
+        → IsAtEnd (option_map (fields_from place.new) (R.remaining inner.new))) }
+    ensures err { OnErr result (Keeps (option_map (fields_from place.old) (R.remaining inner.old))
+        (option_map (fields_from place.new) (R.remaining inner.new))) }
+{
+    let read = inner.read(chunk)?;
+    let kept = keep_fields(*place, &chunk[..read], buf);
+    *place = kept.place;
+    Ok(Chunk {
+        read,
+        kept: kept.len,
+    })
+}
+
+/// Reads chunks, from a place in a line on, until something is kept of one, and puts that into the buffer.
+fn read_fields<R: Read + Drop>(inner: &mut R, place: &mut Place, buf: &mut [u8]) -> Result<usize>
+    ensures room { length buf.new ≡ length buf.old }
+    ensures bound { ReadsAtMost result buf.new }
+    ensures bytes { ReadConsumes (option_map (fields_from place.old) (R.remaining inner.old))
+        (option_map (fields_from place.new) (R.remaining inner.new)) result buf.new }
+{
+    let mut chunk = [0u8; CHUNK];
+    let most = buf.len().min(CHUNK);
+    for _ in 0..u64::MAX {
+        let Chunk { read, kept } = read_chunk(inner, place, &mut chunk[..most], buf)?;
+        if read == 0 || kept > 0 {
+            return Ok(kept);
+        }
     }
+    Err(Error::from(ErrorKind::Other))
 }
 
 impl<R: Read + Drop> Read for FirstFields<R> {
-    ghost remaining = { λ s. option_map (fields_from s.place) (R.remaining s.inner) };
+    ghost remaining = { λ s. left_by s.place (R.remaining s.inner) };
 
     fn read(&mut self, buf: &mut [u8]) -> Result<usize> {
-        let mut chunk = [0u8; CHUNK];
-        let most = buf.len().min(CHUNK);
-        for _ in 0..u64::MAX {
-            let Chunk { read, kept } = self.read_chunk(&mut chunk[..most], buf)?;
-            if read == 0 || kept > 0 {
-                return Ok(kept);
-            }
+        match &mut self.place {
+            None => self.inner.read(buf),
+            Some(place) => read_fields(&mut self.inner, place, buf),
         }
-        Err(Error::from(ErrorKind::Other))
     }
 }

@@ -1,6 +1,5 @@
-use Rattle.std.proofs.Common.{◌≡◌, ◌∷◌, ◌++◌, [], ℕ, List, take, get_or, subst, sym, arith, ◌∙◌, ap}
+use Rattle.std.proofs.Common.{arith, ◌∙◌}
 use Rattle.std.proofs.lemmas.List.{take_more}
-use Rattle.first_fields.specs.Places.{IsKept, place_after, kept_of}
 use Rattle.first_fields.proofs.Steps.{kept_more}
 use Rattle.first_fields.proofs.places.keep_fields.Goals as goal
 
