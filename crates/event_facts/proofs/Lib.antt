@@ -2,7 +2,6 @@ pub mod Telling
 pub mod Plays
 pub mod Numbers
 pub mod Places
-pub mod WordLaws
 pub mod RackLaws
 pub mod WholeLaws
 pub mod ReadLaws

@@ -3,7 +3,5 @@ pub mod Elsewhere
 pub mod Readings
 pub mod Orders
 pub mod Facts
-pub mod Words
-pub mod Boards
 pub mod Racks
 pub mod Wholes

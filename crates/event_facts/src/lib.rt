@@ -1,8 +1,6 @@
-//! Facts about an event that explain what the rules say about it: each is a value with its numbers, squares, tiles, players and
-//! lines; the words of its play with what each square adds; and the board before it with the squares of the play marked.
+//! Facts about an event that explain what the rules say about it. Each is a value with its numbers, squares, tiles, players and lines.
 #![tactic(auto)]
 
-mod boards;
 mod challenges;
 mod clashes;
 mod dealt;
@@ -18,9 +16,7 @@ mod tiles;
 mod totals;
 mod turns;
 mod wholes;
-mod words;
 
-pub use boards::{ShownSquare, shown_board};
 pub use dealt::dealt_to;
 pub use facts::{
     ClashLine, ExchangeLine, Fact, KindLine, Leaving, RackLine, Spelled, UnlistedPlay,
@@ -30,4 +26,3 @@ pub use readings::tell_rack_slip;
 pub use rule_faults::tell_rule_fault;
 pub use scenes::Scene;
 pub use wholes::push_notes;
-pub use words::{PlayedSquare, PlayedWord, PlayedWords, ScoredPlay, scored_play};

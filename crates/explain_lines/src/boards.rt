@@ -1,9 +1,9 @@
 //! The board before a line, with the squares of a play in brackets.
 
 use crate::words::push_play;
-use event_facts::ShownSquare;
 use explanations::Shown;
 use sentence_parts::{Part, say, say_of_line};
+use shown_plays::ShownSquare;
 use std::alloc::AllocError;
 
 /// How many squares a row has.

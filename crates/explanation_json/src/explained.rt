@@ -5,13 +5,13 @@ use crate::facts::{FactObject, fact_object};
 use crate::squares::square_name;
 use answer_json::{FaultObject, push_object, push_verdict, text_of, verdict_fields};
 use call_stages::Verdict;
-use event_facts::{PlayedSquare, PlayedWord, ScoredPlay, ShownSquare};
 use explanations::{Explanation, Picture, Shown};
 use game_board::tile_mark;
 use ref_board::{Dir, SIDE, Square};
 use ref_tiles::Premium;
 use repair_json::RepairObject;
 use serde::Serialize;
+use shown_plays::{PlayedSquare, PlayedWord, ScoredPlay, ShownSquare};
 use std::alloc::{AllocError, Global};
 
 /// A square of a word.

@@ -13,12 +13,12 @@ use Rattle.game_board.specs.Laying.{board_before, laying_fault}
 use Rattle.ref_play.specs.declared.faults.PlayFault.{PlayFault}
 use Rattle.event_facts.specs.declared.facts.Fact.{Fact}
 use Rattle.event_facts.specs.declared.facts.Fact.TheVariants as fact
-use Rattle.event_facts.specs.declared.words.ScoredPlay.{ScoredPlay}
+use Rattle.shown_plays.specs.declared.words.ScoredPlay.{ScoredPlay}
 use Rattle.event_facts.specs.Moments.{Moment, IsMomentAt}
 use Rattle.event_facts.specs.Facts.{IsTrue}
 use Rattle.event_facts.specs.Racks.{IsRackTrue}
-use Rattle.event_facts.specs.Words.{IsScoredText}
-use Rattle.event_facts.specs.Boards.{shown_squares}
+use Rattle.shown_plays.specs.Words.{IsScoredText}
+use Rattle.shown_plays.specs.Boards.{shown_squares}
 use Rattle.explanations.specs.declared.explaining.Explanation.{Explanation}
 use Rattle.explanations.specs.declared.explaining.Picture.{Picture}
 use Rattle.explanations.specs.declared.explaining.Picture.TheVariants as picture

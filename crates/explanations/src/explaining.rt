@@ -5,12 +5,13 @@ ghost use Rattle.explanations.specs.Explaining.{IsPlayShown, IsShown, IsPicture,
 
 use crate::sheets::{Sheet, facts_at};
 use call_stages::GameFault;
-use event_facts::{Fact, ScoredPlay, ShownSquare, scored_play, shown_board};
+use event_facts::Fact;
 use game_board::lay_plays;
 use gcg_read::{Event, EventKind, Players, Record};
 use lex_list::WordList;
 use ref_board::Board;
 use ref_tiles::Rules;
+use shown_plays::{ScoredPlay, ShownSquare, scored_play, shown_board};
 use std::alloc::{AllocError, Global};
 
 /// The board before an event, and the words of its play.

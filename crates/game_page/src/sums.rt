@@ -1,8 +1,8 @@
 //! The sum of a play: what each of its words scores.
 
-use event_facts::{PlayedSquare, PlayedWord, ScoredPlay};
 use game_board::tile_mark;
 use page_pieces::{PageText, Piece};
+use shown_plays::{PlayedSquare, PlayedWord, ScoredPlay};
 use std::alloc::AllocError;
 
 /// Appends the factor of a number, if that is not 1.

@@ -1,6 +1,6 @@
 use Rattle.std.proofs.Common.{◌≡◌, map, take, length}
-use Rattle.event_facts.specs.Words.{played_square}
-use Rattle.event_facts.proofs.words.played_squares.Given as goal
+use Rattle.shown_plays.specs.Words.{played_square}
+use Rattle.shown_plays.proofs.words.played_squares.Given as goal
 
 abbrev pub invariant-loop-square : goal.invariant-loop-square
 invariant-loop-square l =

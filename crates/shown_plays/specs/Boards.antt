@@ -8,7 +8,7 @@ use Rattle.ref_board.specs.Lines.{line_of, place_of}
 use Rattle.gcg_read.specs.declared.events.EventKind.{EventKind}
 use Rattle.gcg_read.specs.declared.events.EventKind.TheVariants as kind
 use Rattle.game_board.specs.Marks.{square_mark}
-use Rattle.event_facts.specs.declared.boards.ShownSquare.{ShownSquare}
+use Rattle.shown_plays.specs.declared.boards.ShownSquare.{ShownSquare}
 
 -- whether a text of `many` symbols covers a square: one on its line, from its first square on
 abbrev pub covers : (at : ℕ) → Dir → (many square : ℕ) → Bool

@@ -3,9 +3,9 @@ use Rattle.std.proofs.Common.{rules, w32, to_z-of_z, ◌∙◌, ap, map, List}
 use Rattle.ref_play.specs.Words.{items_of}
 use Rattle.game_facts.specs.declared.words.ScoredWord.{ScoredWord}
 use Rattle.game_facts.specs.Words.{sum_in}
-use Rattle.event_facts.specs.Words.{full_bonus}
-use Rattle.event_facts.proofs.WordLaws.{as_many, play_adds_up}
-use Rattle.event_facts.proofs.words.scored.Goals as goal
+use Rattle.shown_plays.specs.Words.{full_bonus}
+use Rattle.shown_plays.proofs.WordLaws.{as_many, play_adds_up}
+use Rattle.shown_plays.proofs.words.scored.Goals as goal
 
 pub played_words-requires-clause-each : goal.played_words-requires-clause-each
 played_words-requires-clause-each c =

@@ -1,6 +1,6 @@
 //! The board before a line, square by square, with those of a play marked.
 ghost use Rattle.std.specs.Prelude.{◌≡◌, IfOk};
-ghost use Rattle.event_facts.specs.Boards.{covers, is_marked, shown_square, shown_squares};
+ghost use Rattle.shown_plays.specs.Boards.{covers, is_marked, shown_square, shown_squares};
 
 use game_board::square_mark;
 use gcg_read::EventKind;

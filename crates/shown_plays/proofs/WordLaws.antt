@@ -20,10 +20,10 @@ use Rattle.game_facts.specs.declared.words.WordSquare.{WordSquare}
 use Rattle.game_facts.specs.declared.words.ScoredWord.{ScoredWord}
 use Rattle.game_facts.specs.Words.{WordSum, squares_on, word_sum, word_sums, worth, sum_in}
 use Rattle.game_facts.specs.Laws.{SumsAddUp}
-use Rattle.event_facts.specs.declared.words.PlayedSquare.{PlayedSquare}
-use Rattle.event_facts.specs.declared.words.PlayedWord.{PlayedWord}
-use Rattle.event_facts.specs.declared.words.ScoredPlay.{ScoredPlay}
-use Rattle.event_facts.specs.Words.{WordValue, played_square, word_in, added, played_word, word_by, words_by, full_bonus, whole_score, IsScoredPlay}
+use Rattle.shown_plays.specs.declared.words.PlayedSquare.{PlayedSquare}
+use Rattle.shown_plays.specs.declared.words.PlayedWord.{PlayedWord}
+use Rattle.shown_plays.specs.declared.words.ScoredPlay.{ScoredPlay}
+use Rattle.shown_plays.specs.Words.{WordValue, played_square, word_in, added, played_word, word_by, words_by, full_bonus, whole_score, IsScoredPlay}
 
 -- ---- one more word
 

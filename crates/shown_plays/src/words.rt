@@ -3,7 +3,7 @@ ghost use Rattle.std.specs.Prelude.{◌≡◌, ◌≤◌, length, map, sum_by};
 ghost use Rattle.ref_play.specs.Legality.{IsLegal};
 ghost use Rattle.ref_play.specs.Words.{items_of};
 ghost use Rattle.game_facts.specs.Words.{worth, sum_in};
-ghost use Rattle.event_facts.specs.Words.{played_square, word_in, word_by, words_by, full_bonus, IsScoredPlay, IsScoredText};
+ghost use Rattle.shown_plays.specs.Words.{played_square, word_in, word_by, words_by, full_bonus, IsScoredPlay, IsScoredText};
 
 use arrayvec::ArrayVec;
 use game_facts::{ScoredWord, WordSquare, law_of_sums, scored_words};

@@ -1,8 +1,8 @@
 use Rattle.std.proofs.Common.{◌≡◌, map, take, length}
 use Rattle.ref_play.specs.Words.{items_of}
 use Rattle.game_facts.specs.Words.{sum_in}
-use Rattle.event_facts.specs.Words.{word_in, words_by}
-use Rattle.event_facts.proofs.words.played_words.Given as goal
+use Rattle.shown_plays.specs.Words.{word_in, words_by}
+use Rattle.shown_plays.proofs.words.played_words.Given as goal
 
 abbrev pub invariant-loop-k : goal.invariant-loop-k
 invariant-loop-k l =

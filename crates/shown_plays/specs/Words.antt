@@ -17,9 +17,9 @@ use Rattle.lex_list.specs.Words.{is_listed}
 use Rattle.game_turns.specs.Checks.{play_fault}
 use Rattle.game_facts.specs.declared.words.WordSquare.{WordSquare}
 use Rattle.game_facts.specs.Words.{WordSum, squares_on, worth}
-use Rattle.event_facts.specs.declared.words.PlayedSquare.{PlayedSquare}
-use Rattle.event_facts.specs.declared.words.PlayedWord.{PlayedWord}
-use Rattle.event_facts.specs.declared.words.ScoredPlay.{ScoredPlay}
+use Rattle.shown_plays.specs.declared.words.PlayedSquare.{PlayedSquare}
+use Rattle.shown_plays.specs.declared.words.PlayedWord.{PlayedWord}
+use Rattle.shown_plays.specs.declared.words.ScoredPlay.{ScoredPlay}
 
 -- a square of a word, and what it adds: its points, times the letter premium that counts
 abbrev pub played_square : WordSquare → PlayedSquare

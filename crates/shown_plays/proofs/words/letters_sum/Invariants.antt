@@ -1,6 +1,6 @@
 use Rattle.std.proofs.Common.{◌≡◌, ◌*◌, ◌≤◌, sum_by, take}
 use Rattle.game_facts.specs.Words.{worth}
-use Rattle.event_facts.proofs.words.letters_sum.Given as goal
+use Rattle.shown_plays.proofs.words.letters_sum.Given as goal
 
 abbrev pub invariant-loop-square : goal.invariant-loop-square
 invariant-loop-square l =

@@ -2,9 +2,9 @@ use Rattle.std.proofs.Common.{◌<◌, ◌++◌, [], ◌∷◌, map, take, lengt
 use Rattle.std.proofs.lemmas.Option.{slice_get_read}
 use Rattle.ref_play.specs.Words.{items_of}
 use Rattle.game_facts.specs.Words.{sum_in}
-use Rattle.event_facts.specs.Words.{word_in, words_by}
-use Rattle.event_facts.proofs.WordLaws.{words_more, one_told}
-use Rattle.event_facts.proofs.words.played_words.Goals as goal
+use Rattle.shown_plays.specs.Words.{word_in, words_by}
+use Rattle.shown_plays.proofs.WordLaws.{words_more, one_told}
+use Rattle.shown_plays.proofs.words.played_words.Goals as goal
 
 pub loop-k-preserved : goal.loop-k-preserved
 loop-k-preserved c =

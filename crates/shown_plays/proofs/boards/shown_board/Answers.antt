@@ -1,8 +1,8 @@
 use Rattle.std.proofs.Common.{◌≡◌, ◌+◌, ◌*◌, ◌/◌, ◌%◌, ◌++◌, [], ◌∷◌, map, ap, sym, ◌∙◌, arith}
 use Rattle.std.specs.List.{range_with_len}
 use Rattle.ref_play.proofs.Ranges.{map_range_more}
-use Rattle.event_facts.specs.Boards.{shown_square, shown_squares}
-use Rattle.event_facts.proofs.boards.shown_board.Goals as goal
+use Rattle.shown_plays.specs.Boards.{shown_square, shown_squares}
+use Rattle.shown_plays.proofs.boards.shown_board.Goals as goal
 
 pub loop-number-preserved : goal.loop-number-preserved
 loop-number-preserved c =
