@@ -5,7 +5,7 @@ use archive_commands::{archive, index};
 use clap::Error;
 use clap::error::ErrorKind;
 use command_files::{STANDARD_OUTPUT, write};
-use command_line::{PROGRAM_NAME, Request, mistake, parse_arguments};
+use command_line::{GameFiles, PROGRAM_NAME, Request, mistake, parse_arguments};
 use engine::{Judging, Verdict};
 use exit_statuses::{Exit, Trouble};
 use game_commands::{board, build, check, convert, judge, tidy, top, word};
@@ -67,90 +67,107 @@ fn give_up<R: Runtime>(rt: &R, trouble: Trouble<'_>) -> Exit {
 /// Carries out the request, unless an output that it names is one of its inputs, which would be lost.
 fn answer<R: Runtime + AllocGlobal>(rt: &R, request: Request<'_>, watched: bool) -> Exit {
     if let Some(input) = lost_input(rt, &request) {
-        return match format!(in rt.alloc();
-            "OUT is the same file as {input}, which would be lost"
-        ) {
-            Ok(text) => refuse(rt, &mistake(rt.alloc(), text.as_str())),
-            Err(_) => give_up(rt, Trouble::NoMemory),
-        };
+        return refuse_loss(rt, input);
     }
-    let outcome = match request {
-        Request::Archive(games) => archive(rt, &games, watched),
-        Request::Index { lines, out } => index(rt, lines, out),
+    let outcome = match answer_in_objects(rt, &request) {
+        Some(outcome) => outcome,
+        None => answer_in_text(rt, request, watched),
+    };
+    match outcome {
+        Ok(exit) => exit,
+        Err(trouble) => give_up(rt, trouble),
+    }
+}
+
+/// Says that an output is the same file as an input.
+fn refuse_loss<R: Runtime + AllocGlobal>(rt: &R, input: &str) -> Exit {
+    match format!(in rt.alloc(); "OUT is the same file as {input}, which would be lost") {
+        Ok(text) => refuse(rt, &mistake(rt.alloc(), text.as_str())),
+        Err(_) => give_up(rt, Trouble::NoMemory),
+    }
+}
+
+/// Carries out a request for a JSON object; none if it is not one.
+fn answer_in_objects<'a, R: Runtime + AllocGlobal>(
+    rt: &R,
+    request: &Request<'a>,
+) -> Option<Result<Exit, Trouble<'a>>> {
+    Some(match *request {
         Request::Judge {
             settle,
             json: true,
             files,
-        } => answer_in_json(rt, files, AnswerTask::Judge(judging(settle))),
-        Request::Judge { settle, files, .. } => ended(judge(rt, settle, files)),
+        } => { answer_in_json(rt, files, AnswerTask::Judge(judging(settle))) }
         Request::Audit {
             files,
             json: true,
             ..
         } => answer_in_json(rt, files, AnswerTask::Audit),
-        Request::Audit { files, out, .. } => answer_sheet(rt, files, SheetTask::Audit(out)),
         Request::Explain {
             files,
             line,
             json: true,
-        } => answer_in_json(rt, files, AnswerTask::Explain(line)),
-        Request::Explain { files, line, .. } => answer_sheet(
-            rt,
-            files,
-            SheetTask::Case(CaseTask::Explain(line)),
-        ),
+        } => { answer_in_json(rt, files, AnswerTask::Explain(line)) }
         Request::Repair {
             files,
             number,
             json: true,
             ..
-        } => answer_in_json(rt, files, AnswerTask::Repair(number as usize)),
-        Request::Repair {
-            files,
-            number,
-            out,
-            ..
-        } => answer_sheet(
-            rt,
-            files,
-            SheetTask::Case(CaseTask::Repair(number as usize, out)),
-        ),
-        Request::Compare { files, second, out } => {
-            answer_sheet(rt, files, SheetTask::Case(CaseTask::Compare(second, out)))
-        }
-        Request::Page { files, out } => answer_sheet(
-            rt,
-            files,
-            SheetTask::Case(CaseTask::Page(out)),
-        ),
-        Request::Annotate { files, number, out } => {
-            answer_sheet(
-                rt,
-                files,
-                SheetTask::Case(CaseTask::Annotate(number as usize, out)),
-            )
-        }
-        Request::Build { words, out } => ended(build(rt, words, out)),
+        } => { answer_in_json(rt, files, AnswerTask::Repair(number as usize)) }
         Request::Check { json: true, pair } => check_in_json(rt, pair),
-        Request::Check { pair, .. } => ended(check(rt, pair)),
-        Request::Convert {
-            format,
-            lexicon,
-            out,
-        } => ended(convert(rt, format, lexicon, out)),
         Request::Top {
             files,
             plays,
             json: true,
         } => top_in_json(rt, files, plays),
-        Request::Top { files, plays, .. } => ended(top(rt, files, plays)),
-        Request::Tidy { game } => ended(tidy(rt, game)),
         Request::Board {
             rules,
             before,
             game,
             json: true,
         } => board_in_json(rt, rules, before, game),
+        _ => return None,
+    })
+}
+
+/// Carries out a request for something else than a JSON object.
+fn answer_in_text<'a, R: Runtime + AllocGlobal>(
+    rt: &R,
+    request: Request<'a>,
+    watched: bool,
+) -> Result<Exit, Trouble<'a>> {
+    match request {
+        Request::Archive(games) => archive(rt, &games, watched),
+        Request::Index { lines, out } => index(rt, lines, out),
+        Request::Judge { settle, files, .. } => ended(judge(rt, settle, files)),
+        Request::Audit { files, out, .. } => answer_sheet(rt, files, SheetTask::Audit(out)),
+        Request::Explain { files, line, .. } => answer_about_case(
+            rt,
+            files,
+            CaseTask::Explain(line),
+        ),
+        Request::Repair {
+            files,
+            number,
+            out,
+            ..
+        } => { answer_about_case(rt, files, CaseTask::Repair(number as usize, out)) }
+        Request::Compare { files, second, out } => {
+            answer_about_case(rt, files, CaseTask::Compare(second, out))
+        }
+        Request::Page { files, out } => answer_about_case(rt, files, CaseTask::Page(out)),
+        Request::Annotate { files, number, out } => {
+            answer_about_case(rt, files, CaseTask::Annotate(number as usize, out))
+        }
+        Request::Build { words, out } => ended(build(rt, words, out)),
+        Request::Check { pair, .. } => ended(check(rt, pair)),
+        Request::Convert {
+            format,
+            lexicon,
+            out,
+        } => ended(convert(rt, format, lexicon, out)),
+        Request::Top { files, plays, .. } => ended(top(rt, files, plays)),
+        Request::Tidy { game } => ended(tidy(rt, game)),
         Request::Board {
             rules,
             before,
@@ -160,11 +177,16 @@ fn answer<R: Runtime + AllocGlobal>(rt: &R, request: Request<'_>, watched: bool)
         Request::Serve { rules, pair } => serve(rt, rules, pair),
         Request::Word { pair, each, words } => word(rt, pair, &words, each),
         Request::Rules => print_rules(rt),
-    };
-    match outcome {
-        Ok(exit) => exit,
-        Err(trouble) => give_up(rt, trouble),
     }
+}
+
+/// Carries out a request about a sheet that is not its audit.
+fn answer_about_case<'a, R: Runtime + AllocGlobal>(
+    rt: &R,
+    files: GameFiles<'a>,
+    task: CaseTask<'a>,
+) -> Result<Exit, Trouble<'a>> {
+    answer_sheet(rt, files, SheetTask::Case(task))
 }
 
 /// How a game is judged, with a search or without.
