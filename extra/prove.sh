@@ -18,33 +18,11 @@ if ! command -v rt > /dev/null; then
     exit 2
 fi
 
-# The crates of this repository, each with the libraries that it uses, and those of them that are to be proved.
-declare -A uses=() wanted=()
-while IFS=: read -r name libraries; do
-    [[ $name =~ ^[a-z_]+$ ]] && uses[$name]=$libraries
-done < crates.txt
-want() {
-    local library
-    [[ -v uses[$1] && ! -v wanted[$1] ]] || return 0
-    wanted[$1]=1
-    for library in ${uses[$1]}; do
-        want "$library"
-    done
-}
+. extra/crates.sh
 want "$top"
-
 room=$(mktemp -d) || exit 2
 trap 'rm -rf "$room"' EXIT
-mkdir -p "$room/copy/crates"
-cp HANDLES "$room/copy"
-for name in "${!wanted[@]}"; do
-    echo "$name:${uses[$name]}" >> "$room/copy/crates.txt"
-    mkdir "$room/copy/crates/$name"
-    for part in src specs proofs args status stdin stdout data; do
-        [ ! -e "crates/$name/$part" ] || cp -r "crates/$name/$part" "$room/copy/crates/$name"
-    done
-done
-git init -q "$room/copy"
+copy_wanted "$room/copy"
 
 echo "${#wanted[@]} crates are to be proved, $processors at a time"
 # Shows which crates are proved, and keeps all that was said.
