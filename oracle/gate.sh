@@ -34,6 +34,7 @@ part() {
     fi
 }
 
+part edits crates
 if [ -x "$program" ]; then
     for script in program manual pages sentences releases; do
         part "$script" "$program"
