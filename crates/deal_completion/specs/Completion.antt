@@ -6,7 +6,6 @@ use Rattle.ref_tiles.specs.Counting.{no_tiles}
 use Rattle.ref_tiles.specs.declared.rulebook.Rules.{Rules}
 use Rattle.gcg_read.specs.Players.{other_seat}
 use Rattle.gcg_read.specs.declared.events.Seat.{Seat}
-use Rattle.gcg_read.specs.declared.events.Seat.TheVariants.{First}
 use Rattle.deal_steps.specs.Piles.{kinds, joined, without, greater}
 use Rattle.deal_steps.specs.Steps.{used_by, needed, left_in, ends_epoch, opener}
 use Rattle.deal_steps.specs.Fitting.{rack_of, with_rack}

@@ -5,7 +5,7 @@ ghost use Rattle.deal_completion.specs.Completion.{lacking, want_list};
 
 use deal_steps::{Act, Motion, Step, greater, used_by, without};
 use gcg_read::{Seat, same_seat};
-use ref_tiles::{Counts, KINDS};
+use ref_tiles::Counts;
 use std::alloc::{AllocError, Global};
 
 /// What a player's rack must have at a step, if it is a moment of that player.

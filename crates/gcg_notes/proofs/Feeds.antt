@@ -1,5 +1,5 @@
 -- A note brings no LF into a line, the first line stays, and all other lines are those that were given.
-use Rattle.std.proofs.Common.{◌≡◌, ℕ, Bool, true, false, eqb, List, [], ◌∷◌, ◌++◌, ◌⊎◌, inl, inr, if◌then◌else◌, refl, sym, ap, subst}
+use Rattle.std.proofs.Common.{◌≡◌, ℕ, Bool, true, false, eqb, List, [], ◌∷◌, ◌++◌, inl, inr, if◌then◌else◌, refl}
 use Rattle.std.specs.List.{ends_with}
 use Rattle.text_lines.specs.Lines.{is_feed}
 use Rattle.gcg_write.proofs.Each.{Each, each_append}

@@ -1,5 +1,5 @@
 -- The record of lines with notes.
-use Rattle.std.proofs.Common.{◌≡◌, ℕ, ◌+◌, ◌<◌, Bool, true, false, List, [], ◌∷◌, ◌++◌, length, map, Ok, if◌then◌else◌, arith, refl, sym, ap, subst, ◌∙◌}
+use Rattle.std.proofs.Common.{◌≡◌, ℕ, ◌+◌, ◌<◌, Bool, true, false, List, [], ◌∷◌, ◌++◌, length, map, Ok, arith, refl, sym, ap, subst, ◌∙◌}
 use Rattle.std.proofs.lemmas.List.{length-append}
 use Rattle.text_lines.specs.Lines.{without_return}
 use Rattle.gcg_read.specs.declared.events.Event.{Event}
@@ -13,7 +13,7 @@ use Rattle.gcg_numbers.proofs.Walks.{so_far, passed}
 use Rattle.gcg_notes.specs.Laws.{AreMoved}
 use Rattle.gcg_notes.specs.Notes.{note_line, noted, with_notes}
 use Rattle.gcg_notes.proofs.Events.{at_line}
-use Rattle.gcg_notes.proofs.Walks.{moved_length, moved_more, Moved, moved_event, note_skipped}
+use Rattle.gcg_notes.proofs.Walks.{moved_length, moved_more, moved_event, note_skipped}
 
 -- the lines give the same record as this one, except for the numbers of lines
 pub record Reads (lines : List (List ℕ)) (before : Players) (other : List Event) (m : ℕ) (r : Record) : Type 0 where

@@ -1,17 +1,15 @@
 -- A sheet with notes: its mark, its lines, and the record that it gives.
-use Rattle.std.proofs.Common.{◌≡◌, ℕ, ◌<◌, ◌≤◌, Bool, true, false, eqb, List, [], ◌∷◌, ◌++◌, length, drop, map, Ok, if◌then◌else◌, arith, refl, sym, ap, subst, ◌∙◌}
-use Rattle.std.specs.List.{slice_split, starts_with, join_with_byte}
+use Rattle.std.proofs.Common.{◌≡◌, ℕ, ◌<◌, Bool, true, false, List, [], ◌∷◌, ◌++◌, length, drop, map, Ok, if◌then◌else◌, arith, refl, sym, ap, subst, ◌∙◌}
+use Rattle.std.specs.List.{slice_split, join_with_byte}
 use Rattle.std.proofs.lemmas.List.Splits.{length-slice_split, join_with_byte-slice_split}
 use Rattle.text_lines.specs.Lines.{without_mark, without_return, is_feed, lines_of}
-use Rattle.gcg_read.specs.declared.records.Record.{Record}
 use Rattle.gcg_read.specs.Players.{no_players}
-use Rattle.gcg_read.specs.Records.{most_bytes, no_record, record_from, record_of}
-use Rattle.gcg_write.proofs.Each.{Each}
+use Rattle.gcg_read.specs.Records.{no_record, record_from}
 use Rattle.gcg_numbers.specs.Numbers.{mark_of}
-use Rattle.gcg_numbers.proofs.Feeds.{HasNoFeed, split_no_feed}
+use Rattle.gcg_numbers.proofs.Feeds.{split_no_feed}
 use Rattle.gcg_numbers.proofs.Marks.{mark, begins, stays}
 use Rattle.gcg_numbers.proofs.Texts.{again, read_lines, short_lines, as_split}
-use Rattle.gcg_notes.specs.Laws.{IsMoved, IsReadWithNotes, IsNoted, IsOnlyNoted, AreNoted}
+use Rattle.gcg_notes.specs.Laws.{IsReadWithNotes, IsOnlyNoted, AreNoted}
 use Rattle.gcg_notes.specs.Notes.{raw_lines, with_notes, text_with_notes}
 use Rattle.gcg_notes.proofs.Feeds.{first_stays, notes_no_feed, only_notes}
 use Rattle.gcg_notes.proofs.Lines.{walked}

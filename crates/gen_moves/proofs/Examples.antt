@@ -1,5 +1,5 @@
 -- Squares that are closed to a rack, computed. A is letter 0 and S is letter 18; a rack counts the tiles of each letter, and blanks last.
-use Rattle.std.proofs.Common.{◌≡◌, ℕ, ◌==◌, Bool, true, false, List, [], ◌∷◌, ◌++◌, replicate, refl, sym, ◌∙◌, arith}
+use Rattle.std.proofs.Common.{true, false, [], ◌∷◌, ◌++◌, replicate, refl, sym, arith}
 use Rattle.std.proofs.lemmas.Bool.{agree_below_at, false≢true}
 use Rattle.gen_line.specs.declared.cells.Cell.TheVariants.{Old, Free}
 use Rattle.gen_line.specs.declared.cells.Open.{Open}

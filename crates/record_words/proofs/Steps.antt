@@ -1,7 +1,7 @@
 -- Lines gone through one after the other.
-use Rattle.std.proofs.Common.{append-nil, subst, ◌≡◌, ℕ, ◌+◌, ◌≤◌, arith, List, [], ◌∷◌, ◌++◌, length, map, Option, Some, None, sym, ap, ◌∙◌, refl}
+use Rattle.std.proofs.Common.{append-nil, subst, ◌≡◌, ℕ, ◌+◌, ◌≤◌, arith, List, [], ◌∷◌, ◌++◌, length, Some, None, sym, ap, ◌∙◌, refl}
 use Rattle.std.proofs.lemmas.List.{append_assoc}
-use Rattle.record_words.specs.Pragmas.{said, or_else, first_said}
+use Rattle.record_words.specs.Pragmas.{said, first_said}
 use Rattle.record_words.specs.Notes.{NoteText, note_on, behind, notes_from}
 
 -- ---- what the first line says

@@ -1,5 +1,5 @@
 -- Each event of a merged record is an event of one of the sheets.
-use Rattle.std.proofs.Common.{◌≡◌, ◌⊎◌, inl, inr, ℕ, ◌<◌, List, [], ◌∷◌, ◌++◌, length, get_or, slice_get, Some, Option, None, refl, sym, ap, ◌∙◌, subst, arith, rules}
+use Rattle.std.proofs.Common.{◌≡◌, ◌⊎◌, inl, inr, ℕ, List, [], ◌∷◌, slice_get, Some, Option, None, refl, sym, subst, arith, rules}
 use Rattle.std.specs.Prelude.{Bool, true, false, All, Contains}
 use Rattle.std.specs.Option.{option_or}
 use Rattle.std.proofs.lemmas.Option.{slice_get_within, get_or_from_slice_get}
@@ -12,7 +12,7 @@ use Rattle.sheet_alignments.specs.declared.pairs.Pair.{Pair}
 use Rattle.sheet_alignments.specs.declared.pairs.Side.{Side}
 use Rattle.sheet_alignments.specs.declared.pairs.Side.TheVariants as side
 use Rattle.sheet_alignments.specs.declared.merging.NumbersOf.TheVariants as numbers
-use Rattle.sheet_alignments.specs.Laws.{IsRackIn, IsLineOf, IsOfSheets}
+use Rattle.sheet_alignments.specs.Laws.{IsLineOf, IsOfSheets}
 use Rattle.sheet_alignments.specs.Merging.{of_side, own_side, rack_of, taken, events_of, side_of, line_at, next_item, taken_of, merged_from, merged, with_rack}
 
 there_at : (events : List Event) (k : ℕ) (e : Event) → slice_get events k ≡ Some e → Contains events e

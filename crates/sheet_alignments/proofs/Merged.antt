@@ -1,5 +1,5 @@
 -- A merged record with one more pair, and that of a sheet and itself.
-use Rattle.std.proofs.Common.{◌≡◌, ◌⊎◌, inl, inr, ℕ, zero, suc, ◌+◌, ◌<◌, ◌≤◌, List, [], ◌∷◌, ◌++◌, map, length, drop, get_or, slice_get, Some, Option, None, refl, sym, ap, ◌∙◌, subst, arith, append_assoc, append-nil}
+use Rattle.std.proofs.Common.{◌≡◌, ℕ, zero, suc, ◌+◌, ◌<◌, ◌≤◌, List, [], ◌∷◌, ◌++◌, map, length, drop, get_or, slice_get, Some, Option, None, refl, sym, ap, ◌∙◌, subst, arith, append_assoc, append-nil}
 use Rattle.std.specs.Prelude.{Bool, true, false, not, ◌&&◌, if◌then◌else◌}
 use Rattle.std.specs.List.{range_with_len}
 use Rattle.std.specs.Option.{option_or}
@@ -13,7 +13,7 @@ use Rattle.sheet_alignments.specs.declared.pairs.Side.TheVariants as side
 use Rattle.sheet_alignments.specs.declared.merging.NumbersOf.{NumbersOf}
 use Rattle.sheet_alignments.specs.declared.merging.NumbersOf.TheVariants as numbers
 use Rattle.sheet_alignments.specs.Alignments.{own_pair, own_pairs}
-use Rattle.sheet_alignments.specs.Merging.{of_side, own_side, rack_of, taken, events_of, fuller_side, tells_tiles, side_of, line_at, next_item, taken_of, merged_from, merged, items_of, with_rack}
+use Rattle.sheet_alignments.specs.Merging.{of_side, own_side, rack_of, taken, events_of, fuller_side, tells_tiles, next_item, taken_of, merged_from, merged, items_of, with_rack}
 
 dropped_next : {X : Type 0} (xs : List X) (i : ℕ) (d : X) → i < length xs → drop i xs ≡ get_or xs i d ∷ drop (suc i) xs
 dropped_next [] i d within = absurd (omega (arith, within))

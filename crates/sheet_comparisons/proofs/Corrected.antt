@@ -1,8 +1,8 @@
 -- What a walk that corrects says of the correction of a record.
-use Rattle.std.proofs.Common.{◌≡◌, ℕ, List, Option, Some, None, subst, sym, ◌∙◌, length}
+use Rattle.std.proofs.Common.{◌≡◌, ℕ, List, Some, None, subst, sym, ◌∙◌, length}
 use Rattle.ref_tiles.specs.declared.rulebook.Rules.{Rules}
 use Rattle.gcg_read.specs.declared.events.Event.{Event}
-use Rattle.game_sheets.specs.Corrections.{HavePoints, IsCorrection, StopsAt}
+use Rattle.game_sheets.specs.Corrections.{HavePoints}
 use Rattle.game_rows.specs.declared.refusals.Stop.{Stop}
 use Rattle.game_rows.specs.declared.walking.Walk.{Walk}
 use Rattle.game_rows.specs.Refusals.{EndsAt, StopsThere}

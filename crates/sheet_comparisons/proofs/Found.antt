@@ -1,8 +1,8 @@
 -- The best of the choices, with one more choice.
 use Rattle.std.proofs.Common.{◌≡◌, ◌⊎◌, inl, inr, ℕ, ◌+◌, ◌<◌, ◌≤◌, List, [], ◌∷◌, ◌++◌, Option, Some, None, refl, sym, ap, ◌∙◌, subst, arith, rules}
-use Rattle.std.specs.Prelude.{All, Contains, ⊤}
+use Rattle.std.specs.Prelude.{All, Contains}
 use Rattle.std.proofs.lemmas.Bool.{cases_lt}
-use Rattle.std.proofs.lemmas.List.Elements.{All-append, All-weaker, All-contains, Contains-append_left, Contains-append_right}
+use Rattle.std.proofs.lemmas.List.Elements.{All-append, All-contains, Contains-append_left, Contains-append_right}
 use Rattle.ref_tiles.specs.declared.rulebook.Rules.{Rules}
 use Rattle.gcg_read.specs.declared.events.Event.{Event}
 use Rattle.game_sheets.specs.Laws.{OneCorrection}
@@ -11,8 +11,8 @@ use Rattle.sheet_alignments.specs.declared.merging.NumbersOf.TheVariants.{Taken}
 use Rattle.sheet_comparisons.specs.declared.sheets.Sheets.{Sheets}
 use Rattle.sheet_comparisons.specs.declared.best.Best.{Best}
 use Rattle.sheet_comparisons.specs.declared.finds.Find.{Find}
-use Rattle.sheet_comparisons.specs.Choices.{choice_events, IsRight, MakesGame, cost_of}
-use Rattle.sheet_comparisons.specs.Finds.{IsGameOf, IsBest, HasBest, IsRival, IsRivalOf, IsBehind, IsAsGood, IsTold, IsOpen, IsAccounted, IsFoundTo}
+use Rattle.sheet_comparisons.specs.Choices.{choice_events, IsRight, cost_of}
+use Rattle.sheet_comparisons.specs.Finds.{IsGameOf, HasBest, IsRivalOf, IsBehind, IsAsGood, IsTold, IsOpen, IsAccounted, IsFoundTo}
 
 pub none_found : (rules : Rules) (list : List (List ℕ)) (s : Sheets) (f : Find) → f.best ≡ None → f.rivals.items ≡ [] → f.left.items ≡ [] → IsFoundTo rules list s 0 f
 none_found law list s f none rivals left =

@@ -1,5 +1,5 @@
 -- What the racks of a record say of the game.
-use Rattle.std.proofs.Common.{◌≡◌, ℕ, ◌+◌, List, Some, None, sym, ◌∙◌}
+use Rattle.std.proofs.Common.{◌≡◌, ℕ, ◌+◌, Some, sym, ◌∙◌}
 use Rattle.first_faults.proofs.CheckLaws.{some_fault}
 use Rattle.game_turns.specs.declared.passed.Passed.{Passed}
 use Rattle.game_turns.specs.Passing.{rules_in, record_in, list_in}

@@ -1,5 +1,5 @@
 -- How many numbers are wrong.
-use Rattle.std.proofs.Common.{◌≡◌, ℕ, ℤ, zero, suc, ◌+◌, ◌*◌, ◌<◌, ◌≤◌, Bool, true, false, List, [], ◌∷◌, ◌++◌, length, get_or, slice_get, Option, Some, None, refl, sym, ap, ◌∙◌, subst, arith, if◌then◌else◌}
+use Rattle.std.proofs.Common.{◌≡◌, ℕ, ℤ, zero, suc, ◌+◌, ◌<◌, Bool, true, false, List, [], ◌∷◌, ◌++◌, length, get_or, slice_get, Option, Some, refl, sym, ap, ◌∙◌, arith, if◌then◌else◌}
 use Rattle.std.specs.Prelude.{◌+ℤ◌}
 use Rattle.std.specs.Ordering.{int_eq}
 use Rattle.std.specs.List.{flat_map, range_with_len}
@@ -7,7 +7,7 @@ use Rattle.std.proofs.lemmas.List.{append_assoc, append-nil, length-append}
 use Rattle.std.proofs.lemmas.Option.{slice_get_read}
 use Rattle.gcg_read.specs.declared.events.Event.{Event}
 use Rattle.game_sheets.specs.declared.wrong_numbers.WrongNumber.{WrongNumber}
-use Rattle.game_sheets.specs.WrongNumbers.{had_before, wrong_score, wrong_sum, wrong_of, wrong_at, wrong_lines}
+use Rattle.game_sheets.specs.WrongNumbers.{had_before, wrong_score, wrong_sum, wrong_of, wrong_at}
 
 one_or_none : {X : Type 0} (b : Bool) (x : X) → length (if b then [] else (x ∷ [])) ≡ (if b then 0 else 1)
 one_or_none true x = refl

@@ -1,6 +1,5 @@
 use Rattle.std.proofs.Common.{length, refl, ap, ◌∙◌, arith}
 use Rattle.gcg_read.specs.declared.records.Record.{Record}
-use Rattle.game_turns.specs.Passing.{record_in}
 use Rattle.game_deal.proofs.FitWalks.{sizes_differ, not_at, not_behind, one_more, all_fit}
 use Rattle.game_deal.proofs.fitting.fits.Goals as goal
 

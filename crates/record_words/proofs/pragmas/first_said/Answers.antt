@@ -1,4 +1,4 @@
-use Rattle.std.proofs.Common.{rules, ◌≡◌, ◌∙◌, List, sym, Some}
+use Rattle.std.proofs.Common.{rules, ◌≡◌, ◌∙◌, sym, Some}
 use Rattle.text_lines.specs.Lines.{lines_left}
 use Rattle.record_words.specs.Pragmas.{said}
 use Rattle.record_words.proofs.Steps.{said_here}

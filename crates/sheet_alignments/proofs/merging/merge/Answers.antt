@@ -1,4 +1,4 @@
-use Rattle.std.proofs.Common.{◌≡◌, ◌+◌, ◌≤◌, length, get_or, None, false, arith}
+use Rattle.std.proofs.Common.{get_or, None, false, arith}
 use Rattle.sheet_alignments.specs.declared.pairs.Pair.{Pair}
 use Rattle.sheet_alignments.proofs.Merged.{pair_more, pairs_all, item_few}
 use Rattle.sheet_alignments.proofs.merging.merge.Goals as goal

@@ -1,4 +1,4 @@
-use Rattle.std.proofs.Common.{◌≡◌, ◌+◌, ◌≤◌, ◌∙◌, ap, length, min, arith}
+use Rattle.std.proofs.Common.{◌≡◌, ◌+◌, ◌∙◌, ap, length, min, arith}
 use Rattle.game_sheets.specs.WrongNumbers.{wrong_lines}
 use Rattle.sheet_comparisons.proofs.Wrong.{wrong_to, wrong_more}
 use Rattle.sheet_comparisons.proofs.costs.many_wrong.Goals as goal

@@ -1,4 +1,4 @@
-use Rattle.std.proofs.Common.{◌≡◌, ◌+◌, ◌≤◌, length, arith}
+use Rattle.std.proofs.Common.{arith}
 use Rattle.sheet_comparisons.proofs.Racks.{rack_more, rack_few, racks_all}
 use Rattle.sheet_comparisons.proofs.sheets.racks_of.Goals as goal
 
