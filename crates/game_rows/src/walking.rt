@@ -32,7 +32,7 @@ pub struct Walk {
 }
 
 impl Walk {
-    ghost use Rattle.std.specs.Prelude.{List, ℕ, IfSome};
+    ghost use Rattle.std.specs.Prelude.{◌<◌, ◌≤◌, List, ℕ, IfNone, IfSome};
     ghost use Rattle.ref_tiles.specs.declared.rulebook.Rules.{Rules};
     ghost use Rattle.gcg_read.specs.declared.events.Event.{Event};
     ghost use Rattle.game_turns.specs.Tallies.{tally_at};
@@ -41,8 +41,10 @@ impl Walk {
 
     /// The game before the event at a place, counted from 0, or after the last row; none after that.
     pub fn before(&self, place: usize) -> Option<&Machine>
-        ensures { (rules : Rules) (list : List (List ℕ)) (written right : List Event) → IsWalk rules list written right self.now
+        ensures game { (rules : Rules) (list : List (List ℕ)) (written right : List Event) → IsWalk rules list written right self.now
             → IfSome result (λ machine. state_of machine.now ≡ tally_at rules right place) }
+        ensures there { IfSome result (λ machine. place ≤ length self.now.rows.items) }
+        ensures none { IfNone result (length self.now.rows.items < place) }
     {
         if place == 0 {
             return Some(&self.start);

@@ -6,8 +6,8 @@ use Rattle.game_rows.specs.declared.rows.Row.{Row}
 use Rattle.game_rows.proofs.Steps.{behind_row}
 use Rattle.game_rows.proofs.walking.Walk.before.Goals as goal
 
-pub returns-in-Some : goal.returns-in-Some
-returns-in-Some c =
+pub returns-in-Some-clause-game : goal.returns-in-Some-clause-game
+returns-in-Some-clause-game c =
     λ rules list written right is.
     let rows = c.as_slice.result.now in
     let place = c.args.place in
