@@ -1,5 +1,5 @@
 //! The commands that the program knows: what help says of each, and its arguments. A command is added by its row here, and by its case
-//! and its row in `requests.rt`.
+//! and its row in `tasks.rt` if it is about the game of a record, or in `requests.rt`.
 
 use crate::arguments::{Argument, Form};
 use clap::Command;

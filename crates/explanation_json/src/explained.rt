@@ -9,7 +9,6 @@ use explanations::{Explanation, Picture, Shown};
 use game_board::tile_mark;
 use ref_board::{Dir, SIDE, Square};
 use ref_tiles::Premium;
-use repair_json::RepairObject;
 use serde::Serialize;
 use shown_plays::{PlayedSquare, PlayedWord, ScoredPlay, ShownSquare};
 use std::alloc::{AllocError, Global};
@@ -52,9 +51,9 @@ struct BoardObject {
     marked: Vec<String>,
 }
 
-/// An explanation.
+/// An explanation, with an object of the likely repair.
 #[derive(Drop, Serialize)]
-struct ExplanationObject {
+struct ExplanationObject<L> {
     verdict: &'static str,
     line: Option<u32>,
     fault: Option<FaultObject>,
@@ -65,7 +64,7 @@ struct ExplanationObject {
     play: Option<PlayObject>,
     board: Option<BoardObject>,
     unknown_since: Option<u32>,
-    likely: Option<RepairObject>,
+    likely: Option<L>,
 }
 
 /// That a record has no event.
@@ -247,13 +246,13 @@ fn line_text(alloc: Global, written: Option<&[u8]>) -> Result<Option<String>, Al
 
 /// Appends an explanation: the verdict on the record, the line that is explained as it is in the file, the facts, the words of its play,
 /// the board before it, and the likely repair of the record.
-fn push_told(
+fn push_told<L: Serialize + Drop>(
     alloc: Global,
     text: &mut Vec<u8>,
     verdict: &Verdict,
     written: Option<&[u8]>,
     told: &Explanation<'_>,
-    likely: Option<RepairObject>,
+    likely: Option<L>,
 ) -> Result<(), AllocError> {
     let fields = verdict_fields(alloc, verdict)?;
     let picture = picture_objects(alloc, &told.picture)?;
@@ -273,15 +272,15 @@ fn push_told(
     push_object(alloc, text, &object)
 }
 
-/// Appends what explains a record or one of its lines, by the verdict on the record and the line as it is in the file, with the likely repair
-/// of the record, if there is one; or that no event is on the line or after it.
-pub fn push_explained(
+/// Appends what explains a record or one of its lines, by the verdict on the record and the line as it is in the file, with the object of the
+/// likely repair of the record, if there is one; or that no event is on the line or after it.
+pub fn push_explained<L: Serialize + Drop>(
     alloc: Global,
     text: &mut Vec<u8>,
     verdict: &Verdict,
     written: Option<&[u8]>,
     told: Option<&Explanation<'_>>,
-    likely: Option<RepairObject>,
+    likely: Option<L>,
 ) -> Result<(), AllocError> {
     match told {
         None => push_verdict(alloc, text, &Verdict::BadLine),

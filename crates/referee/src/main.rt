@@ -4,7 +4,6 @@
 #![tactic(auto)]
 
 mod running;
-mod same_files;
 
 use crate::running::run_program;
 use std::io::IsTerminal;

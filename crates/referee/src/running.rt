@@ -1,18 +1,20 @@
 //! What the program does: it parses the command line as a request, carries it out, and says what kept it from finishing.
 
-use crate::same_files::lost_input;
 use archive_commands::{archive, index};
 use clap::Error;
 use clap::error::ErrorKind;
 use command_files::{STANDARD_OUTPUT, write};
-use command_line::{GameFiles, PROGRAM_NAME, Request, mistake, parse_arguments};
+use command_line::{
+    CaseTask, GameFiles, GameRequest, PROGRAM_NAME, Request, SheetTask, mistake, parse_arguments,
+};
 use engine::{Judging, Verdict};
 use exit_statuses::{Exit, Trouble};
 use game_commands::{board, build, check, convert, judge, tidy, top, word};
 use json_commands::{AnswerTask, answer_in_json, board_in_json, check_in_json, top_in_json};
+use lost_inputs::lost_input;
 use ref_tiles::ENGLISH_TEXT;
 use serve_commands::serve;
-use sheet_commands::{CaseTask, SheetTask, answer_sheet};
+use sheet_commands::answer_sheet;
 use std::alloc::AllocError;
 use std::rt::Runtime;
 use std::{env, io};
@@ -69,11 +71,7 @@ fn answer<R: Runtime + AllocGlobal>(rt: &R, request: Request<'_>, watched: bool)
     if let Some(input) = lost_input(rt, &request) {
         return refuse_loss(rt, input);
     }
-    let outcome = match answer_in_objects(rt, &request) {
-        Some(outcome) => outcome,
-        None => answer_in_text(rt, request, watched),
-    };
-    match outcome {
+    match carry_out(rt, request, watched) {
         Ok(exit) => exit,
         Err(trouble) => give_up(rt, trouble),
     }
@@ -87,106 +85,82 @@ fn refuse_loss<R: Runtime + AllocGlobal>(rt: &R, input: &str) -> Exit {
     }
 }
 
-/// Carries out a request for a JSON object; none if it is not one.
-fn answer_in_objects<'a, R: Runtime + AllocGlobal>(
+/// Carries out a request.
+fn carry_out<'a, R: Runtime + AllocGlobal>(
     rt: &R,
-    request: &Request<'a>,
-) -> Option<Result<Exit, Trouble<'a>>> {
-    Some(match *request {
-        Request::Judge {
-            settle,
-            json: true,
+    request: Request<'a>,
+    watched: bool,
+) -> Result<Exit, Trouble<'a>> {
+    match request {
+        Request::Game {
             files,
-        } => { answer_in_json(rt, files, AnswerTask::Judge(judging(settle))) }
-        Request::Audit {
+            request,
+            json: false,
+        } => answer_about_game(rt, files, request),
+        Request::Game {
             files,
+            request,
             json: true,
-            ..
-        } => answer_in_json(rt, files, AnswerTask::Audit),
-        Request::Explain {
-            files,
-            line,
-            json: true,
-        } => { answer_in_json(rt, files, AnswerTask::Explain(line)) }
-        Request::Repair {
-            files,
-            number,
-            json: true,
-            ..
-        } => { answer_in_json(rt, files, AnswerTask::Repair(number as usize)) }
-        Request::Check { json: true, pair } => check_in_json(rt, pair),
-        Request::Top {
-            files,
-            plays,
-            json: true,
-        } => top_in_json(rt, files, plays),
+        } => answer_in_object(rt, files, request),
+        Request::Archive(games) => archive(rt, &games, watched),
+        Request::Index { lines, out } => index(rt, lines, out),
+        Request::Build { words, out } => ended(build(rt, words, out)),
+        Request::Check { pair, json: false } => ended(check(rt, pair)),
+        Request::Check { pair, json: true } => check_in_json(rt, pair),
+        Request::Convert {
+            format,
+            lexicon,
+            out,
+        } => ended(convert(rt, format, lexicon, out)),
+        Request::Tidy { game } => ended(tidy(rt, game)),
+        Request::Board {
+            rules,
+            before,
+            game,
+            json: false,
+        } => ended(board(rt, rules, before, game)),
         Request::Board {
             rules,
             before,
             game,
             json: true,
         } => board_in_json(rt, rules, before, game),
-        _ => return None,
-    })
-}
-
-/// Carries out a request for something else than a JSON object.
-fn answer_in_text<'a, R: Runtime + AllocGlobal>(
-    rt: &R,
-    request: Request<'a>,
-    watched: bool,
-) -> Result<Exit, Trouble<'a>> {
-    match request {
-        Request::Archive(games) => archive(rt, &games, watched),
-        Request::Index { lines, out } => index(rt, lines, out),
-        Request::Judge { settle, files, .. } => ended(judge(rt, settle, files)),
-        Request::Audit { files, out, .. } => answer_sheet(rt, files, SheetTask::Audit(out)),
-        Request::Explain { files, line, .. } => answer_about_case(
-            rt,
-            files,
-            CaseTask::Explain(line),
-        ),
-        Request::Repair {
-            files,
-            number,
-            out,
-            ..
-        } => { answer_about_case(rt, files, CaseTask::Repair(number as usize, out)) }
-        Request::Compare { files, second, out } => {
-            answer_about_case(rt, files, CaseTask::Compare(second, out))
-        }
-        Request::Page { files, out } => answer_about_case(rt, files, CaseTask::Page(out)),
-        Request::Annotate { files, number, out } => {
-            answer_about_case(rt, files, CaseTask::Annotate(number as usize, out))
-        }
-        Request::Build { words, out } => ended(build(rt, words, out)),
-        Request::Check { pair, .. } => ended(check(rt, pair)),
-        Request::Convert {
-            format,
-            lexicon,
-            out,
-        } => ended(convert(rt, format, lexicon, out)),
-        Request::Top { files, plays, .. } => ended(top(rt, files, plays)),
-        Request::Tidy { game } => ended(tidy(rt, game)),
-        Request::Board {
-            rules,
-            before,
-            game,
-            ..
-        } => ended(board(rt, rules, before, game)),
         Request::Serve { rules, pair } => serve(rt, rules, pair),
         Request::Word { pair, each, words } => word(rt, pair, &words, each),
         Request::Rules => print_rules(rt),
     }
 }
 
-/// Carries out a request about a sheet that is not its audit.
-fn answer_about_case<'a, R: Runtime + AllocGlobal>(
+/// Carries out a request about the game of a record.
+fn answer_about_game<'a, R: Runtime + AllocGlobal>(
     rt: &R,
     files: GameFiles<'a>,
-    task: CaseTask<'a>,
+    request: GameRequest<'a>,
 ) -> Result<Exit, Trouble<'a>> {
-    answer_sheet(rt, files, SheetTask::Case(task))
+    match request {
+        GameRequest::Judge { settle } => ended(judge(rt, settle, files)),
+        GameRequest::Top(plays) => ended(top(rt, files, plays)),
+        GameRequest::Sheet(task) => answer_sheet(rt, files, task),
+    }
+}
+
+/// Carries out a request for a JSON object about the game of a record. What has no object is answered as it is without this request.
+fn answer_in_object<'a, R: Runtime + AllocGlobal>(
+    rt: &R,
+    files: GameFiles<'a>,
+    request: GameRequest<'a>,
+) -> Result<Exit, Trouble<'a>> {
+    let task = match request {
+        GameRequest::Judge { settle } => AnswerTask::Judge(judging(settle)),
+        GameRequest::Top(plays) => return top_in_json(rt, files, plays),
+        GameRequest::Sheet(SheetTask::Audit(_)) => AnswerTask::Audit,
+        GameRequest::Sheet(SheetTask::Case(CaseTask::Explain(line))) => AnswerTask::Explain(line),
+        GameRequest::Sheet(SheetTask::Case(CaseTask::Repair(number, _))) => {
+            AnswerTask::Repair(number)
+        }
+        GameRequest::Sheet(task) => return answer_sheet(rt, files, task),
+    };
+    answer_in_json(rt, files, task)
 }
 
 /// How a game is judged, with a search or without.

@@ -4,8 +4,8 @@ use Rattle.ref_tiles.specs.declared.rulebook.Rules.{Rules}
 use Rattle.call_stages.specs.declared.decisions.Decision.{Decision}
 use Rattle.call_stages.specs.declared.verdicts.Verdict.{Verdict}
 use Rattle.call_stages.specs.Telling.{IsLater}
-use Rattle.sheet_commands.specs.declared.tasks.SheetTask.{SheetTask}
-use Rattle.sheet_commands.specs.declared.tasks.SheetTask.TheVariants as task
+use Rattle.command_line.specs.declared.tasks.SheetTask.{SheetTask}
+use Rattle.command_line.specs.declared.tasks.SheetTask.TheVariants as task
 use Rattle.command_files.specs.Later.{case_later}
 use Rattle.command_files.specs.Telling.{IsCaseTold}
 use Rattle.sheet_commands.specs.Later.{audit_later}

@@ -10,7 +10,5 @@ mod made_texts;
 mod paging;
 mod repairing;
 mod sheets;
-mod tasks;
 
 pub use sheets::answer_sheet;
-pub use tasks::{CaseTask, SheetTask};

@@ -14,14 +14,13 @@ use crate::comparing::tell_comparison;
 use crate::explaining::tell_case;
 use crate::paging::write_page;
 use crate::repairing::tell_repairs;
-use crate::tasks::{CaseTask, SheetTask};
 use annotations::SheetToAnnotate;
 use command_files::{
     Digests, GivenFiles, RulesFile, SheetFile, Told, UsedOutput, Words, advise_bad_record,
     advise_no_game, digests_of, given_up, is_record, open_inputs, open_sheet, refuse, tell_others,
     used_source,
 };
-use command_line::{GameFiles, PROGRAM};
+use command_line::{CaseTask, GameFiles, PROGRAM, SheetTask};
 use devices::{FromRead, Input};
 use engine::{Case, Question, RunFault, Verdict, ask, audit_sheet, open_case};
 use exit_statuses::{Exit, Trouble};

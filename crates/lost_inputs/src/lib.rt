@@ -1,6 +1,9 @@
-//! Outputs that are inputs of the same command.
+//! Inputs that a command would lose, since its output is the same file.
+#![tactic(auto)]
 
-use command_line::{GameFiles, Request, STANDARD_INPUT, STANDARD_OUTPUT_NAME};
+use command_line::{
+    CaseTask, GameFiles, GameRequest, Request, STANDARD_INPUT, STANDARD_OUTPUT_NAME, SheetTask,
+};
 use std::rt::Runtime;
 use whole_files::is_same_file;
 
@@ -10,46 +13,33 @@ const STANDARD_INPUT_FILE: &str = "/dev/stdin";
 /// What help calls the first input of a command that is the same file as its output, if there is one.
 pub fn lost_input<R: Runtime>(rt: &R, request: &Request<'_>) -> Option<&'static str> {
     match request {
+        Request::Game { files, request, .. } => lost_of_game(rt, files, *request),
         Request::Build { words, out } => first_lost(rt, out, &[("WORDS", source(words.name))]),
         Request::Convert { lexicon, out, .. } => first_lost(rt, out, &[("LEXICON", *lexicon)]),
         Request::Index { lines, out } => first_lost(rt, out, &[("LINES", source(lines))]),
-        Request::Page { files, out } | Request::Annotate { files, out, .. } => {
-            lost_of_game(rt, out, "GAME", files)
-        }
-        Request::Audit {
-            files,
-            out: Some(out),
-            ..
-        }
-        | Request::Repair {
-            files,
-            out: Some(out),
-            ..
-        } => lost_of_game(rt, out, "GAME", files),
-        Request::Compare {
-            files,
-            second,
-            out: Some(out),
-        } => {
-            let lost = lost_of_game(rt, out, "SHEET1", files);
-            lost.or(first_lost(rt, out, &[("SHEET2", source(second))]))
-        }
         _ => None,
     }
 }
 
-/// The first file of a game that is the same as an output. Help calls the record of the game `record`.
+/// What help calls the first file of a game that is the same as an output.
 fn lost_of_game<R: Runtime>(
     rt: &R,
-    out: &str,
-    record: &'static str,
     files: &GameFiles<'_>,
+    request: GameRequest<'_>,
 ) -> Option<&'static str> {
+    let Some(out) = request.out() else {
+        return None;
+    };
+    let (first, second) = match request {
+        GameRequest::Sheet(SheetTask::Case(CaseTask::Compare(second, _))) => ("SHEET1", second),
+        _ => ("GAME", ""),
+    };
     let inputs = [
         ("the FILE of --rules", files.rules.unwrap_or("")),
         ("WORDS", source(files.pair.words.name)),
         ("LEXICON", files.pair.lexicon),
-        (record, source(files.game)),
+        (first, source(files.game)),
+        ("SHEET2", source(second)),
     ];
     first_lost(rt, out, &inputs)
 }
