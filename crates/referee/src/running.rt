@@ -144,7 +144,7 @@ fn answer_about_game<'a, R: Runtime + AllocGlobal>(
     }
 }
 
-/// Carries out a request for a JSON object about the game of a record. What has no object is answered as it is without this request.
+/// Carries out a request for a JSON object about the game of a record. A command that has no object answers in text.
 fn answer_in_object<'a, R: Runtime + AllocGlobal>(
     rt: &R,
     files: GameFiles<'a>,
