@@ -2,8 +2,9 @@
 # Packs a release: extra/release.sh FOLDER [PROGRAM]
 #
 # Writes FOLDER/referee-VERSION.tar.gz, with the program, its manual page, the completions for bash, zsh and fish, README and what it links to, and
-# SHA256SUMS, which has the sums of all of them; and beside it the sum of the archive. Without PROGRAM the program is proved and built first,
-# by extra/prove.sh, which takes no time where nothing has changed since. PROGRAM is a program that was proved already, as the gate leaves it in crates/referee/out/referee.
+# SHA256SUMS, which has the sums of all of them; and beside it the sum of the archive. Without PROGRAM the program is first proved and built by
+# extra/prove.sh, and extra/edits.sh tries the edits that the gate leaves out; neither takes long if nothing has changed since it last ran.
+# PROGRAM is a program that was proved already, as the gate leaves it in crates/referee/out/referee.
 set -eu
 if [ $# != 1 ] && [ $# != 2 ]; then
     echo "usage: extra/release.sh FOLDER [PROGRAM]" >&2
@@ -16,6 +17,7 @@ if [ $# = 2 ]; then
     program=$(realpath "$2")
 else
     "$root/extra/prove.sh" >&2
+    "$root/extra/edits.sh" >&2
     program=$root/crates/referee/out/referee
 fi
 version=$("$program" -V | cut -d ' ' -f 2)
