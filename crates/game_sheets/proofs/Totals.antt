@@ -1,6 +1,7 @@
 -- The last total of a player, event by event.
-use Rattle.std.proofs.Common.{◌≡◌, ℕ, ℤ, ◌+◌, ◌<◌, List, [], ◌∷◌, ◌++◌, length, take, get_or, Option, Some, None, refl, sym, ap, ◌∙◌}
+use Rattle.std.proofs.Common.{◌≡◌, ℕ, ℤ, ◌+◌, ◌<◌, true, false, if◌then◌else◌, List, [], ◌∷◌, ◌++◌, length, take, get_or, Option, Some, None, refl, sym, ap, ◌∙◌}
 use Rattle.std.proofs.lemmas.List.{take_more}
+use Rattle.gcg_read.specs.Players.{same_seat}
 use Rattle.gcg_read.specs.declared.events.Event.{Event}
 use Rattle.gcg_read.specs.declared.events.Seat.{Seat}
 use Rattle.game_sheets.specs.LastTotals.{later, last_total}
@@ -25,3 +26,13 @@ pub total_more : (player : Seat) (events : List Event) (place : ℕ) (e : Event)
 total_more player events place e total within there so_far =
     let more : take (place + 1) events ≡ take place events ++ e ∷ [] = take_more events place e within ∙ ap (λ x. take place events ++ x ∷ []) (sym there) in
     ap (later (last_total player (e ∷ []))) so_far ∙ sym (total_behind player (take place events) e) ∙ sym (ap (last_total player) more)
+
+-- the last event is the player's
+pub last_own : (player : Seat) (events earlier : List Event) (e : Event) → events ≡ earlier ++ e ∷ [] → same_seat e.player player ≡ true → Some e.total ≡ last_total player events
+last_own player events earlier e split own =
+    ap (λ b. later (if b then Some e.total else None) (last_total player earlier)) (sym own) ∙ sym (total_behind player earlier e) ∙ ap (last_total player) (sym split)
+
+-- the last event is the other player's
+pub last_other : (player : Seat) (events earlier : List Event) (e : Event) → events ≡ earlier ++ e ∷ [] → same_seat e.player player ≡ false → last_total player earlier ≡ last_total player events
+last_other player events earlier e split other =
+    ap (λ b. later (if b then Some e.total else None) (last_total player earlier)) (sym other) ∙ sym (total_behind player earlier e) ∙ ap (last_total player) (sym split)
