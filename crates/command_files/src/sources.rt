@@ -35,8 +35,8 @@ pub type Seen<F> = WatchedRead<Digesting<F>>;
 /// The lines of a word list, or their first fields.
 pub type ListLines<S> = FirstFields<Seen<S>>;
 
-/// A word list, or the lines of it that are words.
-pub type Words<S> = Either<ListLines<S>, WordLines<ListLines<S>>>;
+/// The lines of a word list, or those of them that are words.
+pub type Words<S> = WordLines<ListLines<S>>;
 
 /// Opens a word list to be read, whose bytes are digested on request.
 pub fn open_words<'a, R: Runtime + AllocGlobal>(
@@ -52,9 +52,9 @@ pub fn open_words<'a, R: Runtime + AllocGlobal>(
         FirstFields::whole_lines(source)
     };
     if words.skip_others {
-        Ok(Either::Right(WordLines::new(rt.alloc(), lines)))
+        Ok(WordLines::new(rt.alloc(), lines))
     } else {
-        Ok(Either::Left(lines))
+        Ok(WordLines::all_lines(lines))
     }
 }
 
@@ -80,10 +80,7 @@ pub fn open_sheet<'a, R: Runtime + AllocGlobal>(
 
 /// The watched bytes of a word list.
 pub fn seen_words<S: Read + Drop>(words: &FromRead<Words<S>>) -> &Seen<S> {
-    match words.inner() {
-        Either::Left(lines) => lines.inner(),
-        Either::Right(words) => words.inner().inner(),
-    }
+    words.inner().inner().inner()
 }
 
 /// Says which lines of a word list were passed over, if any were.
@@ -92,10 +89,9 @@ pub fn tell_others<R: Runtime + AllocGlobal, S: Read + Drop>(
     name: &str,
     words: &FromRead<Words<S>>,
 ) {
-    let Either::Right(words) = words.inner() else {
+    let Some(Others { count, line, text }) = words.inner().others() else {
         return;
     };
-    let Others { count, line, text } = words.others();
     if *count == 0 {
         return;
     }

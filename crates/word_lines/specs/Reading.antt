@@ -1,8 +1,9 @@
 -- What is kept of a text that is read byte by byte.
-use Rattle.std.specs.Prelude.{ℕ, nat_lt, Bool, false, Option, option_map, List, [], ◌∷◌, ◌++◌, length, map, if◌then◌else◌}
+use Rattle.std.specs.Prelude.{ℕ, nat_lt, Bool, false, Option, None, Some, option_map, List, [], ◌∷◌, ◌++◌, length, map, drop, if◌then◌else◌}
 use Rattle.std.specs.List.{join_with_byte, slice_split}
 use Rattle.text_lines.specs.Lines.{is_feed}
 use Rattle.word_lines.specs.Lines.{kept_of}
+use Rattle.word_lines.specs.declared.sieves.Sieve.{Sieve}
 
 -- the greatest number of bytes of a line that are held back: a line with that many is not a word, whatever follows
 abbrev pub most_held : ℕ
@@ -24,3 +25,12 @@ words_from first held text = join_with_byte 10 (kept_by first held (slice_split 
 -- what is left to be given out: what is ready, and what is kept of the text after it, which is a chunk and what a reader has, if that is known
 unfoldable pub left_of : (ready : List ℕ) → (first : Bool) → (held chunk : List ℕ) → Option (List ℕ) → Option (List ℕ)
 left_of ready first held chunk known = option_map (λ rest. ready ++ words_from first held (chunk ++ rest)) known
+
+-- the same for a sieve, and what its reader has
+abbrev pub left_in : Sieve → Option (List ℕ) → Option (List ℕ)
+left_in s left = left_of (drop s.given s.ready.items) s.line.is_first s.line.held.items (drop s.taken s.chunk.items) left
+
+-- what is left of a reader to be given out, through a sieve; without a sieve, it is given as it is
+abbrev pub left_by : Option Sieve → Option (List ℕ) → Option (List ℕ)
+left_by None left = left
+left_by (Some s) left = left_in s left

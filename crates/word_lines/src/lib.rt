@@ -3,6 +3,7 @@
 
 mod lines;
 mod reading;
+mod sieves;
 
 pub use lines::Others;
 pub use reading::WordLines;

@@ -1,6 +1,7 @@
+use Rattle.std.proofs.Common.{rules}
 use Rattle.std.proofs.KnownBytes.{Keeps-trans}
 use Rattle.word_lines.proofs.Steps.{left_read, left_kept}
-use Rattle.word_lines.proofs.reading.WordLines.read_chunk.Goals as goal
+use Rattle.word_lines.proofs.sieves.Sieve.read_chunk.Goals as goal
 
 pub returns-in_err-read-clause-keeps : goal.returns-in_err-read-clause-keeps
 returns-in_err-read-clause-keeps g c =
@@ -16,4 +17,4 @@ returns-clause-keeps g c =
     Keeps-trans _ _ _
     (rw (c.requires.ready, c.requires.chunk, c.in_ok-extend_from_slice.ensures.items, c.in_ok-reserve.ensures.items, c.clear.ensures.items)
     (left_read _ _ _ _ _ c.in_ok-read.ensures.bytes.0))
-    c.end_text.ensures.keeps
+    (c.end_text.ensures.keeps _ (search rules))

@@ -1,11 +1,11 @@
 use Rattle.std.proofs.Common.{◌≤◌, length, drop, sym, ap, ◌∙◌, arith}
 use Rattle.word_lines.proofs.Steps.{left_handed}
-use Rattle.word_lines.proofs.reading.WordLines.give.Goals as goal
+use Rattle.word_lines.proofs.sieves.Sieve.give.Goals as goal
 
 pub returns-clause-bytes : goal.returns-clause-bytes
-returns-clause-bytes g c =
+returns-clause-bytes c = λ left.
     let s = c.args.self.now in
     let rest = c.rest_of-ready.ensures ∙ ap (drop s.given) c.deref.ensures.value in
     let few : c.min-most.result ≤ length (drop s.given s.ready.items) = rw (sym rest) (omega (arith, c.min-most.ensures)) in
     rw (c.copy_from_slice.ensures.after, rest)
-    (left_handed s.ready.items s.given c.min-most.result c.args.buf.now s.line.is_first s.line.held.items (drop s.taken s.chunk.items) (g.R.Read.remaining s.inner) few)
+    (left_handed s.ready.items s.given c.min-most.result c.args.buf.now s.line.is_first s.line.held.items (drop s.taken s.chunk.items) left few)
