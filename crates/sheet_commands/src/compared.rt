@@ -1,5 +1,6 @@
 //! What `compare` finds of two sheets: what it says, how the program ends, and the merged record.
 
+use crate::encodings::in_utf8;
 use comparison_lines::{push_choice, push_comparison};
 use exit_statuses::Exit;
 use gcg_read::{Events, Players, Record};
@@ -67,13 +68,7 @@ fn text_of(
     if kept {
         push_choice(&mut told, &answer.comparison, &answer.repaired)?;
     }
-    match encoding {
-        Encoding::Utf8 => Ok(told),
-        Encoding::Latin1 => {
-            let text = Encoding::Latin1.text_of(alloc, told.as_slice())?;
-            Ok(text.into_bytes())
-        }
-    }
+    in_utf8(alloc, told, encoding)
 }
 
 /// Whether two sheets agree in everything, and every number of both is right.

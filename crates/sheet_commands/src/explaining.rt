@@ -1,5 +1,6 @@
 //! `explain`: what is wrong with a record, or how one of its lines is judged, in plain words.
 
+use crate::encodings::in_utf8;
 use command_files::{NO_GAME, has_no_event, write};
 use engine::{Case, Entry};
 use exit_statuses::{Exit, Trouble, exit_of_case};
@@ -59,11 +60,5 @@ fn text_of(
     if let (None, Ok(entry)) = (line, &mut case.read) {
         push_likely_in(alloc, &mut told, rules, pair, entry)?;
     }
-    match Encoding::of(case.text.as_slice()) {
-        Encoding::Utf8 => Ok(told),
-        Encoding::Latin1 => {
-            let text = Encoding::Latin1.text_of(alloc, told.as_slice())?;
-            Ok(text.into_bytes())
-        }
-    }
+    in_utf8(alloc, told, Encoding::of(case.text.as_slice()))
 }

@@ -5,6 +5,7 @@ mod annotating;
 mod auditing;
 mod compared;
 mod comparing;
+mod encodings;
 mod explaining;
 mod made_texts;
 mod paging;

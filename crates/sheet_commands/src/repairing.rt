@@ -2,6 +2,7 @@
 ghost use Rattle.lex_check.specs.Pairs.{list_in};
 ghost use Rattle.repair_answers.specs.Answers.{HasItsWalk};
 
+use crate::encodings::in_utf8;
 use command_files::{NO_GAME, has_no_event, write_beside, write_out};
 use engine::Case;
 use exit_statuses::{Exit, Trouble, exit_of_case};
@@ -56,13 +57,7 @@ fn text_of(
     if kept {
         push_choice(&mut told, case, answer)?;
     }
-    match Encoding::of(case.text.as_slice()) {
-        Encoding::Utf8 => Ok(told),
-        Encoding::Latin1 => {
-            let text = Encoding::Latin1.text_of(alloc, told.as_slice())?;
-            Ok(text.into_bytes())
-        }
-    }
+    in_utf8(alloc, told, Encoding::of(case.text.as_slice()))
 }
 
 /// The text of the sheet of a case with a repair; `None` if it cannot be written.

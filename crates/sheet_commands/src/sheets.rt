@@ -188,12 +188,8 @@ pub fn answer_sheet<'a, R: Runtime + AllocGlobal>(
     files: GameFiles<'a>,
     task: SheetTask<'a>,
 ) -> Result<Exit, Trouble<'a>> {
-    let mut inputs = open_inputs(
-        rt,
-        files.rules,
-        files.pair,
-        matches!(task, SheetTask::Case(CaseTask::Page(_))),
-    )?;
+    let digests = matches!(task, SheetTask::Case(CaseTask::Page(_)));
+    let mut inputs = open_inputs(rt, files.rules, files.pair, digests)?;
     let mut game = open_sheet(rt, files.game)?;
     let question = SheetQuestion { rt, task };
     let answer = ask(
@@ -208,9 +204,7 @@ pub fn answer_sheet<'a, R: Runtime + AllocGlobal>(
     match answer {
         Ok(Ok(told)) => {
             let exit = told?;
-            if exit == Exit::BadInput {
-                advise(rt, files.game, task, game.inner().front());
-            }
+            advise(rt, files.game, task, exit, game.inner().front());
             Ok(exit)
         }
         Ok(Err(decision)) => {
@@ -229,8 +223,17 @@ pub fn answer_sheet<'a, R: Runtime + AllocGlobal>(
     }
 }
 
-/// Says, in addition to the report on a sheet, why its file is not a game. `explain` itself says what is wrong with a bad record.
-fn advise<R: Runtime + AllocGlobal>(rt: &R, name: &str, task: SheetTask<'_>, game: &Front) {
+/// If a sheet is not a game, says why, in addition to the report on it. `explain` itself says what is wrong with a bad record.
+fn advise<R: Runtime + AllocGlobal>(
+    rt: &R,
+    name: &str,
+    task: SheetTask<'_>,
+    exit: Exit,
+    game: &Front,
+) {
+    if exit != Exit::BadInput {
+        return;
+    }
     if is_record(rt.alloc(), game) {
         advise_no_game(rt, name, game);
     } else if !matches!(task, SheetTask::Case(CaseTask::Explain(_))) {
