@@ -1,4 +1,5 @@
 //! The likely repair of a game of an archive, as its line has it.
+ghost use Rattle.std.specs.Prelude.{◌≡◌, OnOk};
 
 use archive_lines::LikelyFields;
 use engine::Entry;
@@ -18,7 +19,9 @@ pub fn likely_if(
     pair: &Checked<'_>,
     repairs: bool,
     entry: &mut Entry,
-) -> Result<Option<Repair>, AllocError> {
+) -> Result<Option<Repair>, AllocError>
+    ensures { OnOk result (entry.new ≡ entry.old) }
+{
     if repairs {
         likely_in(alloc, rules, pair, entry)
     } else {

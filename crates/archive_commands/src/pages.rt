@@ -1,4 +1,7 @@
 //! The pages of an archive: one for each game, and their index.
+ghost use Rattle.std.specs.Prelude.{◌≡◌, OnOk};
+ghost use Rattle.lex_check.specs.Pairs.{list_in};
+ghost use Rattle.engine.specs.Explaining.{IsWalkFor};
 
 use crate::archiving::{fields_of, unread_by};
 use crate::likely::likely_if;
@@ -90,7 +93,9 @@ impl<'a> Pages<'a> {
         name: &str,
         case: &Case,
         likely: Option<&Repair>,
-    ) -> Result<PageField, AllocError> {
+    ) -> Result<PageField, AllocError>
+        requires { IsWalkFor rules.now (list_in pair.now) case.now.read case.now.walk }
+    {
         if !has_page(case) {
             return Ok(PageField::Missing);
         }
@@ -149,7 +154,9 @@ fn likely_by(
     pair: &Checked<'_>,
     repairs: bool,
     case: &mut Case,
-) -> Result<Option<Repair>, AllocError> {
+) -> Result<Option<Repair>, AllocError>
+    ensures { OnOk result (case.new ≡ case.old) }
+{
     match &mut case.read {
         Ok(entry) => likely_if(alloc, rules, pair, repairs, entry),
         Err(_) => Ok(None),

@@ -1,14 +1,15 @@
 //! What explains a record, or its event on a line.
 ghost use Rattle.std.specs.Prelude.{◌≡◌, ◌<◌, ◌∷◌, [], None, IfOk, OnOk, length};
+ghost use Rattle.game_rows.specs.Walks.{IsWalkOf};
 ghost use Rattle.explanations.specs.Explaining.{ExplainsEvent};
 ghost use Rattle.case_explanations.specs.Explaining.{GoOnWithNotes, AreWholeFacts, IsExplanation};
 
 use case_openings::place_of_fault;
 use engine::{Entry, Finding, GameFault};
 use event_facts::{Fact, push_notes};
-use explanations::{Explanation, explain_event};
+use explanations::{Explanation, explain_event, passed_by};
 use game_board::place_of_line;
-use game_turns::play_through;
+use game_rows::Walk;
 use gcg_read::Record;
 use lex_list::WordList;
 use ref_tiles::Rules;
@@ -32,12 +33,14 @@ fn push_all_notes(
     rules: &Rules,
     list: &WordList,
     record: &Record,
+    walk: &Walk,
 ) -> Result<(), AllocError>
+    requires { IsWalkOf rules.now list.now record.now.events walk.now }
     ensures { OnOk result (GoOnWithNotes rules.now list.now record.now.events facts.old.items facts.new.items) }
 {
-    match play_through(rules, record, list) {
-        Ok(passed) => push_notes(alloc, facts, &passed),
-        Err(_) => Ok(()),
+    match passed_by(rules, list, record, walk) {
+        Some(passed) => push_notes(alloc, facts, &passed),
+        None => Ok(()),
     }
 }
 
@@ -47,12 +50,14 @@ fn noted(
     rules: &Rules,
     list: &WordList,
     record: &Record,
+    walk: &Walk,
     fact: Fact,
 ) -> Result<Vec<Fact>, AllocError>
+    requires { IsWalkOf rules.now list.now record.now.events walk.now }
     ensures { IfOk result (λ facts. GoOnWithNotes rules.now list.now record.now.events (fact ∷ []) facts.items) }
 {
     let mut facts = one_fact(alloc, fact)?;
-    push_all_notes(alloc, &mut facts, rules, list, record)?;
+    push_all_notes(alloc, &mut facts, rules, list, record, walk)?;
     Ok(facts)
 }
 
@@ -63,14 +68,16 @@ fn whole_facts(
     rules: &Rules,
     list: &WordList,
     record: &Record,
+    walk: &Walk,
     finding: &Finding,
 ) -> Result<Vec<Fact>, AllocError>
+    requires { IsWalkOf rules.now list.now record.now.events walk.now }
     ensures { IfOk result (λ facts. AreWholeFacts rules.now list.now record.now.events finding.now facts.items) }
 {
     match finding {
         Finding::NoGame => one_fact(alloc, Fact::NoEvent),
-        Finding::Legal { .. } => noted(alloc, rules, list, record, Fact::Legal),
-        Finding::Unsettled => noted(alloc, rules, list, record, Fact::Unsettled),
+        Finding::Legal { .. } => noted(alloc, rules, list, record, walk, Fact::Legal),
+        Finding::Unsettled => noted(alloc, rules, list, record, walk, Fact::Unsettled),
         Finding::Illegal { .. } => Ok(Vec::new(alloc)),
     }
 }
@@ -89,13 +96,15 @@ fn whole<'a>(
     rules: &Rules,
     list: &WordList,
     entry: &'a Entry,
+    walk: &Walk,
 ) -> Result<Explanation<'a>, AllocError>
+    requires { IsWalkOf rules.now list.now entry.now.record.events walk.now }
     ensures players { IfOk result (λ x. x.players.now ≡ entry.now.record.players) }
     ensures line { IfOk result (λ x. x.line ≡ None) }
     ensures facts { IfOk result (λ x. AreWholeFacts rules.now list.now entry.now.record.events entry.now.finding x.facts.items) }
     ensures picture { IfOk result (λ x. x.picture ≡ None) }
 {
-    let facts = whole_facts(alloc, rules, list, &entry.record, &entry.finding)?;
+    let facts = whole_facts(alloc, rules, list, &entry.record, walk, &entry.finding)?;
     Ok(Explanation {
         players: &entry.record.players,
         line: None,
@@ -110,18 +119,20 @@ fn explained<'a>(
     rules: &Rules,
     list: &WordList,
     entry: &'a Entry,
+    walk: &Walk,
     place: usize,
 ) -> Result<Explanation<'a>, AllocError>
-    requires { place < length entry.now.record.events }
+    requires walk { IsWalkOf rules.now list.now entry.now.record.events walk.now }
+    requires within { place < length entry.now.record.events }
     ensures players { IfOk result (λ x. x.players.now ≡ entry.now.record.players) }
     ensures explains { IfOk result (ExplainsEvent rules.now list.now entry.now.record.events place) }
 {
     let line = entry.record.events.as_slice()[place].line;
     let fault = fault_on(&entry.finding, line);
-    explain_event(alloc, rules, list, &entry.record, place, fault)
+    explain_event(alloc, rules, list, &entry.record, walk, place, fault)
 }
 
-/// What explains the verdict on a record, or its event on a line or after it; none if there is no event.
+/// What explains the verdict on a record, or its event on a line or after it, by the walk over the record; none if there is no event.
 ///
 /// It fails only if memory runs out.
 #[tactic(auto, using(crate::proofs::Places::fault_within, crate::proofs::Places::explains_whole, crate::proofs::Places::explains_at, crate::proofs::Places::asked_none, crate::proofs::Places::asked_some))]
@@ -130,19 +141,21 @@ pub fn explain<'a>(
     rules: &Rules,
     list: &WordList,
     entry: &'a Entry,
+    walk: &Walk,
     line: Option<u32>,
 ) -> Result<Option<Explanation<'a>>, AllocError>
+    requires { IsWalkOf rules.now list.now entry.now.record.events walk.now }
     ensures { IfOk result (IsExplanation rules.now list.now entry.now line) }
 {
     let events = entry.record.events.as_slice();
     let Some(line) = line else {
         return match place_of_fault(events, &entry.finding) {
-            None => Ok(Some(whole(alloc, rules, list, entry)?)),
-            Some(place) => Ok(Some(explained(alloc, rules, list, entry, place)?)),
+            None => Ok(Some(whole(alloc, rules, list, entry, walk)?)),
+            Some(place) => Ok(Some(explained(alloc, rules, list, entry, walk, place)?)),
         };
     };
     match place_of_line(events, line) {
         None => Ok(None),
-        Some(place) => Ok(Some(explained(alloc, rules, list, entry, place)?)),
+        Some(place) => Ok(Some(explained(alloc, rules, list, entry, walk, place)?)),
     }
 }

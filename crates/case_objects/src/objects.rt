@@ -1,4 +1,6 @@
 //! The object of what explains a case.
+ghost use Rattle.game_rows.specs.Walks.{IsWalkOf};
+ghost use Rattle.engine.specs.Explaining.{IsWalkFor};
 
 use answer_json::push_bad_record;
 use case_explanations::explain;
@@ -6,6 +8,7 @@ use engine::{Case, Entry, Finding, case_verdict};
 use explanation_json::{push_explained, push_no_game};
 use explanations::Explanation;
 use game_facts::line_of;
+use game_rows::Walk;
 use gcg_read::Record;
 use lex_list::WordList;
 use record_repairs::Repair;
@@ -34,13 +37,16 @@ fn push_entry(
     list: &WordList,
     case: &Case,
     entry: &Entry,
+    walk: &Walk,
     likely: Option<&Repair>,
     line: Option<u32>,
-) -> Result<(), AllocError> {
+) -> Result<(), AllocError>
+    requires { IsWalkOf rules.now list.now entry.now.record.events walk.now }
+{
     if entry.finding == Finding::NoGame {
         return push_no_game(alloc, text);
     }
-    let told = explain(alloc, rules, list, entry, line)?;
+    let told = explain(alloc, rules, list, entry, walk, line)?;
     let written = written_of(case.text.as_slice(), &told);
     let likely = likely_object(alloc, &entry.record, likely)?;
     push_explained(
@@ -77,11 +83,16 @@ pub fn case_text(
     case: &Case,
     likely: Option<&Repair>,
     line: Option<u32>,
-) -> Result<Vec<u8>, AllocError> {
+) -> Result<Vec<u8>, AllocError>
+    requires { IsWalkFor rules.now list.now case.now.read case.now.walk }
+{
     let mut text = Vec::new(alloc);
-    match &case.read {
-        Ok(entry) => push_entry(alloc, &mut text, rules, list, case, entry, likely, line)?,
-        Err(fault) => push_bad_record(alloc, &mut text, *fault)?,
+    match (&case.read, &case.walk) {
+        (Ok(entry), Some(walk)) => push_entry(
+            alloc, &mut text, rules, list, case, entry, walk, likely, line,
+        )?,
+        (Ok(_), None) => {}
+        (Err(fault), _) => push_bad_record(alloc, &mut text, *fault)?,
     }
     Ok(text)
 }

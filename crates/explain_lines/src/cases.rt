@@ -1,6 +1,7 @@
 //! What explains a case.
 ghost use Rattle.std.specs.Prelude.{◌≡◌, ◌++◌, OnOk};
 ghost use Rattle.case_openings.specs.Openings.{opening, GoesOn};
+ghost use Rattle.engine.specs.Explaining.{IsWalkFor};
 
 use crate::boards::push_shown;
 use crate::facts::push_facts;
@@ -28,6 +29,7 @@ pub fn push_explanation(
     case: &Case,
     line: Option<u32>,
 ) -> Result<(), AllocError>
+    requires { IsWalkFor rules.now list.now case.now.read case.now.walk }
     ensures { OnOk result (GoesOn (opening case.now.text.items case.now.read line) text.old.items text.new.items) }
 {
     let sentences = sentences_of(alloc, rules, list, case, line)?;
@@ -49,15 +51,18 @@ fn sentences_of(
     list: &WordList,
     case: &Case,
     line: Option<u32>,
-) -> Result<Vec<u8>, AllocError> {
+) -> Result<Vec<u8>, AllocError>
+    requires { IsWalkFor rules.now list.now case.now.read case.now.walk }
+{
     let mut text = Vec::new(alloc);
-    match &case.read {
-        Ok(entry) => {
-            if let Some(told) = explain(alloc, rules, list, entry, line)? {
+    match (&case.read, &case.walk) {
+        (Ok(entry), Some(walk)) => {
+            if let Some(told) = explain(alloc, rules, list, entry, walk, line)? {
                 push_told(&mut text, &told)?;
             }
         }
-        Err(fault) => push_unread(alloc, &mut text, case.text.as_slice(), *fault)?,
+        (Ok(_), None) => {}
+        (Err(fault), _) => push_unread(alloc, &mut text, case.text.as_slice(), *fault)?,
     }
     Ok(text)
 }
@@ -106,12 +111,15 @@ pub fn push_reason(
     rules: &Rules,
     list: &WordList,
     case: &Case,
-) -> Result<(), AllocError> {
-    match &case.read {
-        Ok(entry) => match explain(alloc, rules, list, entry, None)? {
+) -> Result<(), AllocError>
+    requires { IsWalkFor rules.now list.now case.now.read case.now.walk }
+{
+    match (&case.read, &case.walk) {
+        (Ok(entry), Some(walk)) => match explain(alloc, rules, list, entry, walk, None)? {
             None => Ok(()),
             Some(told) => push_facts(text, &told),
         },
-        Err(fault) => push_unread(alloc, text, case.text.as_slice(), *fault),
+        (Ok(_), None) => Ok(()),
+        (Err(fault), _) => push_unread(alloc, text, case.text.as_slice(), *fault),
     }
 }

@@ -1,2 +1,4 @@
+pub mod FirstRefused
+pub mod Passed
 pub mod Refusing
 pub mod Showing

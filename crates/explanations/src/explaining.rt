@@ -1,12 +1,14 @@
 //! What explains a record, or one of its lines.
 ghost use Rattle.std.specs.Prelude.{◌≡◌, ◌<◌, Some, IfOk, length, slice_get};
 ghost use Rattle.game_turns.specs.Tallies.{is_play};
+ghost use Rattle.game_rows.specs.Walks.{IsWalkOf};
 ghost use Rattle.explanations.specs.Explaining.{IsPlayShown, IsShown, IsPicture, ExplainsEvent};
 
 use crate::sheets::{Sheet, facts_at};
 use call_stages::GameFault;
 use event_facts::Fact;
 use game_board::lay_plays;
+use game_rows::Walk;
 use gcg_read::{Event, EventKind, Players, Record};
 use lex_list::WordList;
 use ref_board::Board;
@@ -111,7 +113,7 @@ fn picture_at(
     Ok(Picture::Shown(shown))
 }
 
-/// What explains the event at a place of a record, counted from 0. If the rules allow the event, `fault` says what is wrong with the racks up
+/// What explains the event at a place of a record, counted from 0, by the walk over the record. If the rules allow the event, `fault` says what is wrong with the racks up
 /// to it, if that is known.
 ///
 /// It fails only if memory runs out.
@@ -121,10 +123,12 @@ pub fn explain_event<'a>(
     rules: &Rules,
     list: &WordList,
     record: &'a Record,
+    walk: &Walk,
     place: usize,
     fault: Option<&GameFault>,
 ) -> Result<Explanation<'a>, AllocError>
-    requires { place < length record.now.events }
+    requires walk { IsWalkOf rules.now list.now record.now.events walk.now }
+    requires within { place < length record.now.events }
     ensures players { IfOk result (λ x. x.players.now ≡ record.now.players) }
     ensures explains { IfOk result (ExplainsEvent rules.now list.now record.now.events place) }
 {
@@ -132,6 +136,7 @@ pub fn explain_event<'a>(
         rules,
         list,
         record,
+        walk,
         fault,
     };
     let events = record.events.as_slice();

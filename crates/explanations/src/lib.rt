@@ -5,6 +5,9 @@
 #![tactic(auto)]
 
 mod explaining;
+mod judging;
+mod passing;
 mod sheets;
 
 pub use explaining::{Explanation, Picture, Shown, explain_event};
+pub use passing::passed_by;

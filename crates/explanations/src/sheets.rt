@@ -4,15 +4,20 @@ ghost use Rattle.game_turns.specs.Machines.{state_of};
 ghost use Rattle.game_turns.specs.Tallies.{tally_at};
 ghost use Rattle.game_turns.specs.Places.{AreAllowedTo, IsRefusedBefore, fault_at};
 ghost use Rattle.event_facts.specs.Racks.{IsRackTrue};
-ghost use Rattle.game_deal.specs.Recorded.{steps_of};
+ghost use Rattle.game_turns.specs.declared.faults.RuleFault.{RuleFault};
+ghost use Rattle.game_rows.specs.Walks.{IsWalkOf};
 ghost use Rattle.explanations.specs.Explaining.{IsTrueAt};
 
+use crate::judging::{Judged, judged_at};
+use crate::passing::passed_by;
 use call_stages::{Earlier, GameFault};
+use deal_steps::Step;
 use event_facts::{
     Fact, Scene, dealt_to, no_deal, rack_too_big, tell_rack_slip, tell_rule_fault, tiles_short,
 };
 use game_deal::all_steps;
-use game_turns::{Machine, RuleFault, play_events, play_through};
+use game_rows::Walk;
+use game_turns::{Machine, RuleFault};
 use gcg_read::{Event, Record};
 use lex_list::WordList;
 use ref_tiles::Rules;
@@ -28,40 +33,39 @@ pub(crate) struct Sheet<'a> {
     pub list: &'a WordList,
     /// The record.
     pub record: &'a Record,
+    /// The walk over it.
+    pub walk: &'a Walk,
     /// What is wrong up to the event, if that is not the event itself.
     pub fault: Option<&'a GameFault>,
 }
 
-/// What is wrong with the racks up to the event at a place.
+/// What is wrong with the racks of these steps up to the event at a place.
 fn rack_fact(
     alloc: Global,
-    sheet: &Sheet<'_>,
+    rules: &Rules,
+    steps: &[Step],
     place: usize,
     fault: &GameFault,
 ) -> Result<Option<Fact>, AllocError>
-    ensures { IfOk result (λ fact. IfSome fact (IsRackTrue sheet.now.rules.now (steps_of sheet.now.rules.now sheet.now.record.now.events) place)) }
+    ensures { IfOk result (λ fact. IfSome fact (IsRackTrue rules.now steps.now place)) }
 {
-    let Ok(passed) = play_through(sheet.rules, sheet.record, sheet.list) else {
-        return Ok(None);
-    };
-    let all = all_steps(alloc, &passed)?;
-    let steps = all.as_slice();
     match fault {
         GameFault::Rule(_) => Ok(None),
-        GameFault::RackTooBig => rack_too_big(alloc, sheet.rules, steps, place),
-        GameFault::TilesShort(kind) => tiles_short(alloc, sheet.rules, steps, place, *kind),
-        GameFault::NoDeal { .. } => no_deal(alloc, sheet.rules, steps, place),
+        GameFault::RackTooBig => rack_too_big(alloc, rules, steps, place),
+        GameFault::TilesShort(kind) => tiles_short(alloc, rules, steps, place, *kind),
+        GameFault::NoDeal { .. } => no_deal(alloc, rules, steps, place),
     }
 }
 
 /// The line up to which a deal gives the racks, if no deal gives them up to the event at a place and some deal does before it.
 fn dealt_fact(
     alloc: Global,
-    sheet: &Sheet<'_>,
+    rules: &Rules,
+    steps: &[Step],
     place: usize,
     fault: &GameFault,
 ) -> Result<Option<Fact>, AllocError>
-    ensures { IfOk result (λ fact. IfSome fact (IsRackTrue sheet.now.rules.now (steps_of sheet.now.rules.now sheet.now.record.now.events) place)) }
+    ensures { IfOk result (λ fact. IfSome fact (IsRackTrue rules.now steps.now place)) }
 {
     if !matches!(
         fault,
@@ -71,11 +75,7 @@ fn dealt_fact(
     ) {
         return Ok(None);
     }
-    let Ok(passed) = play_through(sheet.rules, sheet.record, sheet.list) else {
-        return Ok(None);
-    };
-    let all = all_steps(alloc, &passed)?;
-    dealt_to(alloc, sheet.rules, all.as_slice(), place)
+    dealt_to(alloc, rules, steps, place)
 }
 
 /// The list of a fact that is true of an event.
@@ -183,6 +183,28 @@ fn rack_slips(
     Ok(facts)
 }
 
+/// Adds what is wrong with the racks up to the event at a place, if the rules allow each event.
+fn push_rack_facts(
+    alloc: Global,
+    facts: &mut Vec<Fact>,
+    sheet: &Sheet<'_>,
+    place: usize,
+    fault: &GameFault,
+) -> Result<(), AllocError>
+    requires walk { IsWalkOf sheet.now.rules.now sheet.now.list.now sheet.now.record.now.events sheet.now.walk.now }
+    requires told { All (IsTrueAt sheet.now.rules.now sheet.now.list.now sheet.now.record.now.events place) facts.old.items }
+    ensures { OnOk result (All (IsTrueAt sheet.now.rules.now sheet.now.list.now sheet.now.record.now.events place) facts.new.items) }
+{
+    let Some(passed) = passed_by(sheet.rules, sheet.list, sheet.record, sheet.walk) else {
+        return Ok(());
+    };
+    let steps = all_steps(alloc, &passed)?;
+    let fact = rack_fact(alloc, sheet.rules, steps.as_slice(), place, fault)?;
+    push_some(facts, sheet, place, fact)?;
+    let dealt = dealt_fact(alloc, sheet.rules, steps.as_slice(), place, fault)?;
+    push_some(facts, sheet, place, dealt)
+}
+
 /// What is said of an event that the rules allow: that they do, or what is wrong with the racks.
 fn allowed_facts(
     alloc: Global,
@@ -191,6 +213,7 @@ fn allowed_facts(
     event: &Event,
     place: usize,
 ) -> Result<Vec<Fact>, AllocError>
+    requires walk { IsWalkOf sheet.now.rules.now sheet.now.list.now sheet.now.record.now.events sheet.now.walk.now }
     requires within { place < length sheet.now.record.now.events }
     requires stands { slice_get sheet.now.record.now.events place ≡ Some event.now }
     requires state { state_of machine.now ≡ tally_at sheet.now.rules.now sheet.now.record.now.events place }
@@ -200,11 +223,8 @@ fn allowed_facts(
     let Some(fault) = sheet.fault else {
         return listed(alloc, sheet, place, Some(Fact::Allowed));
     };
-    let fact = rack_fact(alloc, sheet, place, fault)?;
     let mut facts = rack_slips(alloc, sheet, machine, event, place)?;
-    push_some(&mut facts, sheet, place, fact)?;
-    let dealt = dealt_fact(alloc, sheet, place, fault)?;
-    push_some(&mut facts, sheet, place, dealt)?;
+    push_rack_facts(alloc, &mut facts, sheet, place, fault)?;
     Ok(facts)
 }
 
@@ -239,39 +259,35 @@ fn refused_facts(
     Ok(facts)
 }
 
-/// That an event was not judged, since the rules refuse an earlier one.
+/// That an event was not judged, since the rules refuse an earlier one, on the line `refused`.
 fn unjudged_facts(
     alloc: Global,
     sheet: &Sheet<'_>,
     place: usize,
-    refused: &(u32, RuleFault),
+    refused: u32,
 ) -> Result<Vec<Fact>, AllocError>
-    requires { IsRefusedBefore sheet.now.rules.now sheet.now.list.now sheet.now.record.now.events place refused.now.0 refused.now.1 }
+    requires { (why : RuleFault) × IsRefusedBefore sheet.now.rules.now sheet.now.list.now sheet.now.record.now.events place refused why }
     ensures { IfOk result (λ facts. All (IsTrueAt sheet.now.rules.now sheet.now.list.now sheet.now.record.now.events place) facts.items) }
 {
-    let fact = Fact::NotJudged { refused: refused.0 };
-    listed(alloc, sheet, place, Some(fact))
+    listed(alloc, sheet, place, Some(Fact::NotJudged { refused }))
 }
 
 /// What is said of the event at a place.
-#[tactic(auto, using(crate::proofs::Refusing::refused_there))]
 pub(crate) fn facts_at(
     alloc: Global,
     sheet: &Sheet<'_>,
     event: &Event,
     place: usize,
 ) -> Result<Vec<Fact>, AllocError>
+    requires walk { IsWalkOf sheet.now.rules.now sheet.now.list.now sheet.now.record.now.events sheet.now.walk.now }
     requires within { place < length sheet.now.record.now.events }
     requires stands { slice_get sheet.now.record.now.events place ≡ Some event.now }
     ensures { IfOk result (λ facts. All (IsTrueAt sheet.now.rules.now sheet.now.list.now sheet.now.record.now.events place) facts.items) }
 {
-    let events = sheet.record.events.as_slice();
-    let machine = match play_events(sheet.rules, events, sheet.list, place) {
-        Ok(machine) => machine,
-        Err(refused) => return unjudged_facts(alloc, sheet, place, &refused),
-    };
-    match play_events(sheet.rules, events, sheet.list, place + 1) {
-        Ok(_) => allowed_facts(alloc, sheet, &machine, event, place),
-        Err((_, why)) => refused_facts(alloc, sheet, &machine, event, place, &why),
+    match judged_at(sheet.walk, place) {
+        Some(Judged::Allowed(game)) => allowed_facts(alloc, sheet, game, event, place),
+        Some(Judged::Refused(game, why)) => refused_facts(alloc, sheet, game, event, place, &why),
+        Some(Judged::Behind(refused)) => unjudged_facts(alloc, sheet, place, refused),
+        None => Ok(Vec::new(alloc)),
     }
 }

@@ -2,8 +2,8 @@
 ghost use Rattle.std.specs.{Prelude.{◌≡◌, ◌<◌, ◌≤◌, ℕ, List, length, IfOk, IfSome}, Option.{option_copied}};
 ghost use Rattle.gcg_read.specs.declared.events.Event.{Event};
 ghost use Rattle.lex_check.specs.Pairs.{list_in};
-ghost use Rattle.game_rows.specs.Walks.{IsWalk};
-ghost use Rattle.engine.specs.Explaining.{IsCaseOf};
+ghost use Rattle.game_rows.specs.Walks.{IsWalk, IsWalkOf};
+ghost use Rattle.engine.specs.Explaining.{IsCaseOf, IsWalkFor};
 ghost use Rattle.game_page.specs.Pages.{faulty_place, place_in_view, ShowsEntry, IsShownOf};
 
 use crate::banners::push_banner;
@@ -110,6 +110,8 @@ fn shown_by<'a>(
     entry: &'a Entry,
     walk: &Walk,
 ) -> Result<Shown<'a>, AllocError>
+    requires case { IsWalkFor contents.now.rules.now (list_in contents.now.pair.now) contents.now.case.now.read contents.now.case.now.walk }
+    requires walk { IsWalkOf contents.now.rules.now (list_in contents.now.pair.now) entry.now.record.events walk.now }
     ensures { IfOk result (λ shown. (right : List Event)
         → IsWalk contents.now.rules.now (list_in contents.now.pair.now) entry.now.record.events right walk.now
         → ShowsEntry contents.now.rules.now (list_in contents.now.pair.now) contents.now.case.now.text.items contents.now.case.now.read (option_copied contents.now.likely) entry.now shown) }
@@ -129,7 +131,7 @@ fn shown_by<'a>(
         faulty,
         verdict: case_line(alloc, case)?,
         reason,
-        explanation: explain(alloc, rules, pair.list(), entry, None)?,
+        explanation: explain(alloc, rules, pair.list(), entry, walk, None)?,
         likely: likely_of(alloc, &entry.record, contents.likely)?,
         up: contents.up,
         maker: contents.maker,
@@ -140,6 +142,7 @@ fn shown_by<'a>(
 ///
 /// It fails only if memory runs out.
 pub fn shown_of<'a>(alloc: Global, contents: &Contents<'a>) -> Result<Option<Shown<'a>>, AllocError>
+    requires { IsWalkFor contents.now.rules.now (list_in contents.now.pair.now) contents.now.case.now.read contents.now.case.now.walk }
     ensures { IfOk result (λ shown. (text : List ℕ)
         → IsCaseOf contents.now.rules.now (list_in contents.now.pair.now) text contents.now.case.now
         → IsShownOf contents.now.rules.now (list_in contents.now.pair.now) text contents.now.case.now.read (option_copied contents.now.likely) shown) }
@@ -175,7 +178,9 @@ pub fn push_page(
     alloc: Global,
     page: &mut PageText,
     contents: &Contents<'_>,
-) -> Result<(), AllocError> {
+) -> Result<(), AllocError>
+    requires { IsWalkFor contents.now.rules.now (list_in contents.now.pair.now) contents.now.case.now.read contents.now.case.now.walk }
+{
     match shown_of(alloc, contents)? {
         None => Ok(()),
         Some(shown) => push_contents(page, &shown),

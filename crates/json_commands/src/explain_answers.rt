@@ -5,6 +5,7 @@ ghost use Rattle.lex_check.specs.Pairs.{list_in};
 ghost use Rattle.call_stages.specs.Runs.{Gives, outcomes};
 ghost use Rattle.call_stages.specs.Sources.{game_source};
 ghost use Rattle.command_files.specs.Telling.{IsCaseTold};
+ghost use Rattle.engine.specs.Explaining.{IsWalkFor};
 
 use case_objects::case_text;
 use command_files::{GivenFiles, SheetFile, Told, write};
@@ -25,7 +26,9 @@ fn object_of(
     pair: &Checked<'_>,
     case: &mut Case,
     line: Option<u32>,
-) -> Result<Vec<u8>, AllocError> {
+) -> Result<Vec<u8>, AllocError>
+    requires { IsWalkFor rules.now (list_in pair.now) case.old.read case.old.walk }
+{
     let likely = match line {
         Some(_) => None,
         None => likely_in_case(alloc, rules, pair, case)?,
@@ -40,7 +43,9 @@ fn tell_explained<R: Runtime + AllocGlobal>(
     pair: &Checked<'_>,
     case: &mut Case,
     line: Option<u32>,
-) -> Result<Exit, Trouble<'static>> {
+) -> Result<Exit, Trouble<'static>>
+    requires { IsWalkFor rules.now (list_in pair.now) case.old.read case.old.walk }
+{
     let Ok(text) = object_of(rt.alloc(), rules, pair, case, line) else {
         return Err(Trouble::NoMemory);
     };

@@ -1,6 +1,8 @@
 //! The answer to a request: the exit status of the command of its name, and what that command prints of the same bytes.
 ghost use Rattle.lex_check.specs.Pairs.{list_in};
+ghost use Rattle.engine.specs.Explaining.{IsWalkFor};
 ghost use Rattle.known_bests.specs.Known.{AreKnown};
+ghost use Rattle.serve_answers.specs.Replies.{IsReplyTo};
 
 use crate::words::{push_no_word, push_ruled};
 use answer_json::push_refusal;
@@ -98,7 +100,9 @@ fn tell_explained(
     judges: &Judges<'_>,
     told: &ToldCase,
     line: Option<u32>,
-) -> Result<Response, AllocError> {
+) -> Result<Response, AllocError>
+    requires { IsWalkFor judges.now.rules.now (list_in judges.now.pair.now) told.now.case.read told.now.case.walk }
+{
     let list = judges.pair.list();
     let text = case_text(
         alloc,
@@ -203,7 +207,9 @@ fn tell_tidied(alloc: Global, decision: Decision) -> Result<Response, AllocError
 }
 
 /// The page of a case; if there is none, what `explain` says of the case.
-fn tell_page(alloc: Global, judges: &Judges<'_>, told: &ToldCase) -> Result<Response, AllocError> {
+fn tell_page(alloc: Global, judges: &Judges<'_>, told: &ToldCase) -> Result<Response, AllocError>
+    requires { IsWalkFor judges.now.rules.now (list_in judges.now.pair.now) told.now.case.read told.now.case.walk }
+{
     if !has_page(&told.case) {
         return tell_explained(alloc, judges, told, None);
     }
@@ -238,12 +244,15 @@ fn asks_corrected(request: &Request<'_>) -> bool {
 }
 
 /// The answer that gives the reply to a request.
+#[tactic(auto, using(crate::proofs::Walking::explained, crate::proofs::Walking::paged))]
 fn tell_reply(
     alloc: Global,
     judges: &Judges<'_>,
     request: &Request<'_>,
     reply: Reply,
-) -> Result<Response, AllocError> {
+) -> Result<Response, AllocError>
+    requires { IsReplyTo judges.now.rules.now (list_in judges.now.pair.now) request.now reply }
+{
     match reply {
         Reply::Judged(found) => tell_judged(alloc, &found),
         Reply::Explained(told) => tell_explained(alloc, judges, &told, line_of(request)),

@@ -1,4 +1,6 @@
 //! `annotate`: a sheet with notes.
+ghost use Rattle.lex_check.specs.Pairs.{list_in};
+ghost use Rattle.engine.specs.Explaining.{IsWalkFor};
 
 use crate::made_texts::write_made;
 use annotations::{SheetToAnnotate, annotated_text};
@@ -10,7 +12,9 @@ pub fn write_annotated<'a, R: Runtime + AllocGlobal>(
     rt: &R,
     sheet: &SheetToAnnotate<'_>,
     out: &'a str,
-) -> Result<Exit, Trouble<'a>> {
+) -> Result<Exit, Trouble<'a>>
+    requires { IsWalkFor sheet.now.rules.now (list_in sheet.now.pair.now) sheet.now.case.now.read sheet.now.case.now.walk }
+{
     let Ok(text) = annotated_text(rt.alloc(), sheet) else {
         return Err(Trouble::NoMemory);
     };

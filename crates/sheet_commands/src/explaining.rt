@@ -1,4 +1,6 @@
 //! `explain`: what is wrong with a record, or how one of its lines is judged, in plain words.
+ghost use Rattle.lex_check.specs.Pairs.{list_in};
+ghost use Rattle.engine.specs.Explaining.{IsWalkFor};
 
 use crate::encodings::in_utf8;
 use command_files::{NO_GAME, has_no_event, write};
@@ -21,7 +23,9 @@ pub fn tell_case<'a, R: Runtime + AllocGlobal>(
     pair: &Checked<'_>,
     case: &mut Case,
     line: Option<u32>,
-) -> Result<Exit, Trouble<'a>> {
+) -> Result<Exit, Trouble<'a>>
+    requires { IsWalkFor rules.now (list_in pair.now) case.old.read case.old.walk }
+{
     if has_no_event(case) {
         write(rt, NO_GAME)?;
         return Ok(exit_of_case(case, line));
@@ -54,7 +58,9 @@ fn text_of(
     pair: &Checked<'_>,
     case: &mut Case,
     line: Option<u32>,
-) -> Result<Vec<u8>, AllocError> {
+) -> Result<Vec<u8>, AllocError>
+    requires { IsWalkFor rules.now (list_in pair.now) case.old.read case.old.walk }
+{
     let mut told = Vec::new(alloc);
     push_explanation(alloc, &mut told, rules, pair.list(), case, line)?;
     if let (None, Ok(entry)) = (line, &mut case.read) {

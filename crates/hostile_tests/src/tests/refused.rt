@@ -316,9 +316,11 @@ fn explained(alloc: Global, game: &[u8]) -> Option<Vec<u8>> {
         return None;
     };
     let mut game = Feed::new(game, 8192, NEVER);
-    let case = open_case(alloc, &rules, &pair, &mut game).ok()?;
+    let Ok(case) = open_case(alloc, &rules, &pair, &mut game) else {
+        return None;
+    };
     let mut text = Vec::new(alloc);
-    push_explanation(alloc, &mut text, &rules, &list, &case, None).ok()?;
+    push_explanation(alloc, &mut text, &rules, pair.list(), &case, None).ok()?;
     Some(text)
 }
 
