@@ -1,7 +1,7 @@
 //! The text of an annotated sheet.
 ghost use Rattle.std.specs.Prelude.{◌≤◌, length, IfOk};
 ghost use Rattle.lex_check.specs.Pairs.{list_in};
-ghost use Rattle.engine.specs.Explaining.{IsWalkFor};
+ghost use Rattle.engine.specs.Explaining.{HasItsWalk};
 ghost use Rattle.annotations.specs.Texts.{IsAnnotated};
 
 use crate::notes::{push_note, push_sentences};
@@ -128,7 +128,7 @@ fn notes_of(
     entry: &Entry,
     walk: &Walk,
 ) -> Result<Vec<u8>, AllocError>
-    requires { IsWalkFor sheet.now.rules.now (list_in sheet.now.pair.now) sheet.now.case.now.read sheet.now.case.now.walk }
+    requires { HasItsWalk sheet.now.rules.now (list_in sheet.now.pair.now) sheet.now.case.now }
 {
     let events = entry.record.events.as_slice();
     let faulty = faulty_line(&entry.finding);
@@ -152,7 +152,7 @@ fn notes_of(
 
 /// The notes of a sheet. None if its text is not a record.
 fn notes_in(alloc: Global, sheet: &SheetToAnnotate<'_>) -> Result<Vec<u8>, AllocError>
-    requires { IsWalkFor sheet.now.rules.now (list_in sheet.now.pair.now) sheet.now.case.now.read sheet.now.case.now.walk }
+    requires { HasItsWalk sheet.now.rules.now (list_in sheet.now.pair.now) sheet.now.case.now }
 {
     match (&sheet.case.read, &sheet.case.walk) {
         (Ok(entry), Some(walk)) => notes_of(alloc, sheet, entry, walk),
@@ -166,7 +166,7 @@ fn notes_in(alloc: Global, sheet: &SheetToAnnotate<'_>) -> Result<Vec<u8>, Alloc
 ///
 /// It fails only if memory runs out.
 pub fn annotated_text(alloc: Global, sheet: &SheetToAnnotate<'_>) -> Result<Vec<u8>, AllocError>
-    requires { IsWalkFor sheet.now.rules.now (list_in sheet.now.pair.now) sheet.now.case.now.read sheet.now.case.now.walk }
+    requires { HasItsWalk sheet.now.rules.now (list_in sheet.now.pair.now) sheet.now.case.now }
     ensures { IfOk result (λ text. IsAnnotated sheet.now.case.now.text.items text.items) }
 {
     let notes = notes_in(alloc, sheet)?;

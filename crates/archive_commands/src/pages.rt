@@ -1,7 +1,7 @@
 //! The pages of an archive: one for each game, and their index.
 ghost use Rattle.std.specs.Prelude.{◌≡◌, OnOk};
 ghost use Rattle.lex_check.specs.Pairs.{list_in};
-ghost use Rattle.engine.specs.Explaining.{IsWalkFor};
+ghost use Rattle.engine.specs.Explaining.{HasItsWalk};
 
 use crate::archiving::{fields_of, unread_by};
 use crate::likely::likely_if;
@@ -94,7 +94,7 @@ impl<'a> Pages<'a> {
         case: &Case,
         likely: Option<&Repair>,
     ) -> Result<PageField, AllocError>
-        requires { IsWalkFor rules.now (list_in pair.now) case.now.read case.now.walk }
+        requires { HasItsWalk rules.now (list_in pair.now) case.now }
     {
         if !has_page(case) {
             return Ok(PageField::Missing);

@@ -1,6 +1,6 @@
 //! The object of what explains a case.
 ghost use Rattle.game_rows.specs.Walks.{IsWalkOf};
-ghost use Rattle.engine.specs.Explaining.{IsWalkFor};
+ghost use Rattle.engine.specs.Explaining.{HasItsWalk};
 
 use answer_json::push_bad_record;
 use case_explanations::explain;
@@ -84,14 +84,14 @@ pub fn case_text(
     likely: Option<&Repair>,
     line: Option<u32>,
 ) -> Result<Vec<u8>, AllocError>
-    requires { IsWalkFor rules.now list.now case.now.read case.now.walk }
+    requires { HasItsWalk rules.now list.now case.now }
 {
     let mut text = Vec::new(alloc);
     match (&case.read, &case.walk) {
         (Ok(entry), Some(walk)) => push_entry(
             alloc, &mut text, rules, list, case, entry, walk, likely, line,
         )?,
-        (Ok(_), None) => {}
+        (Ok(_), None) => unreachable!(),
         (Err(fault), _) => push_bad_record(alloc, &mut text, *fault)?,
     }
     Ok(text)

@@ -43,6 +43,10 @@ IsWalkFor rules list (Ok entry) None = ⊥
 IsWalkFor rules list (Err fault) (Some walk) = ⊥
 IsWalkFor rules list (Err fault) None = ⊤
 
+-- a case has its walk: the one over its record, if there is one
+abbrev pub HasItsWalk : Rules → (list : List (List ℕ)) → Case → Type 0
+HasItsWalk rules list case = IsWalkFor rules list case.read case.walk
+
 -- the case of a text: the text itself, and the entry of the record that it means, or its first fault; and the walk over the record
 abbrev pub IsCaseOf : Rules → (list : List (List ℕ)) → (text : List ℕ) → Case → Type 0
 IsCaseOf rules list text case = (case.text.items ≡ text) × IsEntryOf rules list text case.read × IsWalkFor rules list case.read case.walk

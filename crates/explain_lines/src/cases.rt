@@ -1,7 +1,7 @@
 //! What explains a case.
 ghost use Rattle.std.specs.Prelude.{◌≡◌, ◌++◌, OnOk};
 ghost use Rattle.case_openings.specs.Openings.{opening, GoesOn};
-ghost use Rattle.engine.specs.Explaining.{IsWalkFor};
+ghost use Rattle.engine.specs.Explaining.{HasItsWalk};
 
 use crate::boards::push_shown;
 use crate::facts::push_facts;
@@ -29,7 +29,7 @@ pub fn push_explanation(
     case: &Case,
     line: Option<u32>,
 ) -> Result<(), AllocError>
-    requires { IsWalkFor rules.now list.now case.now.read case.now.walk }
+    requires { HasItsWalk rules.now list.now case.now }
     ensures { OnOk result (GoesOn (opening case.now.text.items case.now.read line) text.old.items text.new.items) }
 {
     let sentences = sentences_of(alloc, rules, list, case, line)?;
@@ -52,7 +52,7 @@ fn sentences_of(
     case: &Case,
     line: Option<u32>,
 ) -> Result<Vec<u8>, AllocError>
-    requires { IsWalkFor rules.now list.now case.now.read case.now.walk }
+    requires { HasItsWalk rules.now list.now case.now }
 {
     let mut text = Vec::new(alloc);
     match (&case.read, &case.walk) {
@@ -61,7 +61,7 @@ fn sentences_of(
                 push_told(&mut text, &told)?;
             }
         }
-        (Ok(_), None) => {}
+        (Ok(_), None) => unreachable!(),
         (Err(fault), _) => push_unread(alloc, &mut text, case.text.as_slice(), *fault)?,
     }
     Ok(text)
@@ -112,14 +112,14 @@ pub fn push_reason(
     list: &WordList,
     case: &Case,
 ) -> Result<(), AllocError>
-    requires { IsWalkFor rules.now list.now case.now.read case.now.walk }
+    requires { HasItsWalk rules.now list.now case.now }
 {
     match (&case.read, &case.walk) {
         (Ok(entry), Some(walk)) => match explain(alloc, rules, list, entry, walk, None)? {
             None => Ok(()),
             Some(told) => push_facts(text, &told),
         },
-        (Ok(_), None) => Ok(()),
+        (Ok(_), None) => unreachable!(),
         (Err(fault), _) => push_unread(alloc, text, case.text.as_slice(), *fault),
     }
 }

@@ -3,7 +3,7 @@ ghost use Rattle.std.specs.{Prelude.{◌≡◌, ◌<◌, ◌≤◌, ℕ, List, l
 ghost use Rattle.gcg_read.specs.declared.events.Event.{Event};
 ghost use Rattle.lex_check.specs.Pairs.{list_in};
 ghost use Rattle.game_rows.specs.Walks.{IsWalk, IsWalkOf};
-ghost use Rattle.engine.specs.Explaining.{IsCaseOf, IsWalkFor};
+ghost use Rattle.engine.specs.Explaining.{IsCaseOf, HasItsWalk};
 ghost use Rattle.game_page.specs.Pages.{faulty_place, place_in_view, ShowsEntry, IsShownOf};
 
 use crate::banners::push_banner;
@@ -110,7 +110,7 @@ fn shown_by<'a>(
     entry: &'a Entry,
     walk: &Walk,
 ) -> Result<Shown<'a>, AllocError>
-    requires case { IsWalkFor contents.now.rules.now (list_in contents.now.pair.now) contents.now.case.now.read contents.now.case.now.walk }
+    requires case { HasItsWalk contents.now.rules.now (list_in contents.now.pair.now) contents.now.case.now }
     requires walk { IsWalkOf contents.now.rules.now (list_in contents.now.pair.now) entry.now.record.events walk.now }
     ensures { IfOk result (λ shown. (right : List Event)
         → IsWalk contents.now.rules.now (list_in contents.now.pair.now) entry.now.record.events right walk.now
@@ -142,7 +142,7 @@ fn shown_by<'a>(
 ///
 /// It fails only if memory runs out.
 pub fn shown_of<'a>(alloc: Global, contents: &Contents<'a>) -> Result<Option<Shown<'a>>, AllocError>
-    requires { IsWalkFor contents.now.rules.now (list_in contents.now.pair.now) contents.now.case.now.read contents.now.case.now.walk }
+    requires { HasItsWalk contents.now.rules.now (list_in contents.now.pair.now) contents.now.case.now }
     ensures { IfOk result (λ shown. (text : List ℕ)
         → IsCaseOf contents.now.rules.now (list_in contents.now.pair.now) text contents.now.case.now
         → IsShownOf contents.now.rules.now (list_in contents.now.pair.now) text contents.now.case.now.read (option_copied contents.now.likely) shown) }
@@ -179,7 +179,7 @@ pub fn push_page(
     page: &mut PageText,
     contents: &Contents<'_>,
 ) -> Result<(), AllocError>
-    requires { IsWalkFor contents.now.rules.now (list_in contents.now.pair.now) contents.now.case.now.read contents.now.case.now.walk }
+    requires { HasItsWalk contents.now.rules.now (list_in contents.now.pair.now) contents.now.case.now }
 {
     match shown_of(alloc, contents)? {
         None => Ok(()),

@@ -5,7 +5,7 @@ ghost use Rattle.lex_check.specs.Pairs.{list_in};
 ghost use Rattle.call_stages.specs.Runs.{Gives, outcomes};
 ghost use Rattle.call_stages.specs.Sources.{game_source};
 ghost use Rattle.command_files.specs.Telling.{IsCaseTold};
-ghost use Rattle.engine.specs.Explaining.{IsWalkFor};
+ghost use Rattle.engine.specs.Explaining.{HasItsWalk};
 
 use case_objects::case_text;
 use command_files::{GivenFiles, SheetFile, Told, write};
@@ -27,7 +27,7 @@ fn object_of(
     case: &mut Case,
     line: Option<u32>,
 ) -> Result<Vec<u8>, AllocError>
-    requires { IsWalkFor rules.now (list_in pair.now) case.old.read case.old.walk }
+    requires { HasItsWalk rules.now (list_in pair.now) case.old }
 {
     let likely = match line {
         Some(_) => None,
@@ -44,7 +44,7 @@ fn tell_explained<R: Runtime + AllocGlobal>(
     case: &mut Case,
     line: Option<u32>,
 ) -> Result<Exit, Trouble<'static>>
-    requires { IsWalkFor rules.now (list_in pair.now) case.old.read case.old.walk }
+    requires { HasItsWalk rules.now (list_in pair.now) case.old }
 {
     let Ok(text) = object_of(rt.alloc(), rules, pair, case, line) else {
         return Err(Trouble::NoMemory);

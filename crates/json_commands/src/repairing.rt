@@ -5,7 +5,7 @@ ghost use Rattle.lex_check.specs.Pairs.{list_in};
 ghost use Rattle.call_stages.specs.Runs.{Gives, outcomes};
 ghost use Rattle.call_stages.specs.Sources.{game_source};
 ghost use Rattle.command_files.specs.Telling.{IsCaseTold};
-ghost use Rattle.repair_answers.specs.Answers.{HasItsWalk};
+ghost use Rattle.engine.specs.Explaining.{HasItsWalk};
 
 use answer_json::push_bad_record;
 use command_files::{GivenFiles, SheetFile, Told, has_no_event, write};

@@ -8,8 +8,8 @@ use Rattle.engine.specs.declared.entries.Entry.{Entry}
 use Rattle.engine.specs.declared.explains.Case.{Case}
 use Rattle.engine.specs.declared.findings.Finding.{Finding}
 use Rattle.engine.specs.declared.findings.Finding.TheVariants as finding
-use Rattle.engine.specs.Explaining.{IsWalkFor}
-use Rattle.repair_answers.specs.Answers.{HasItsWalk, is_illegal, RepairsIn, RepairsBy, RepairsOf}
+use Rattle.engine.specs.Explaining.{IsWalkFor, HasItsWalk}
+use Rattle.repair_answers.specs.Answers.{is_illegal, RepairsIn, RepairsBy, RepairsOf}
 use Rattle.repair_answers.specs.declared.answers.Faulty.{Faulty}
 
 pub none_legal : (what : Finding) (rules : Rules) (list : List (List ℕ)) (written : List Event) (walk : Walk) (most : ℕ) → is_illegal what ≡ false
@@ -34,7 +34,7 @@ none_by (Err fault) rules list walk most none is = refl
 
 -- if the text is not a record, there is no walk
 pub none_walked : (rules : Rules) (list : List (List ℕ)) (case : Case) (most : ℕ) → HasItsWalk rules list case → case.walk ≡ None → RepairsOf case.read rules list case.walk most None
-none_walked rules list case most has none = none_by case.read rules list case.walk most none has.1.2
+none_walked rules list case most has none = none_by case.read rules list case.walk most none has
 
 pub walked : (rules : Rules) (list : List (List ℕ)) (case : Case) (walk : Walk) → HasItsWalk rules list case → case.walk ≡ Some walk → IsWalkFor rules list case.read (Some walk)
-walked rules list case walk has is = subst (IsWalkFor rules list case.read) is has.1.2
+walked rules list case walk has is = subst (IsWalkFor rules list case.read) is has

@@ -9,7 +9,7 @@ use Rattle.engine.specs.declared.entries.Entry.{Entry}
 use Rattle.engine.specs.declared.explains.Case.{Case}
 use Rattle.engine.specs.declared.findings.Finding.{Finding}
 use Rattle.engine.specs.declared.findings.Finding.TheVariants as finding
-use Rattle.engine.specs.Explaining.{case_verdict, IsCaseOf}
+use Rattle.engine.specs.Explaining.{case_verdict}
 use Rattle.play_changes.specs.PlayChanges.{ArePlayChanges}
 use Rattle.record_repairs.specs.Repairs.{AreFirstRepairs}
 use Rattle.record_repairs.specs.declared.remains.Remains.{Remains}
@@ -19,10 +19,6 @@ use Rattle.repair_answers.specs.Tried.{many_tried}
 use Rattle.repair_answers.specs.Unchanged.{IsUnchanged}
 use Rattle.repair_answers.specs.declared.answers.Faulty.{Faulty}
 use Rattle.repair_answers.specs.declared.answers.RepairAnswer.{RepairAnswer}
-
--- a case of a record has its walk
-abbrev pub HasItsWalk : Rules → (list : List (List ℕ)) → Case → Type 0
-HasItsWalk rules list case = (text : List ℕ) × IsCaseOf rules list text case
 
 -- how many numbers and words are wrong if only the numbers are: fewer must stay wrong with a repair
 abbrev pub below_of : Option Remains → Option ℕ

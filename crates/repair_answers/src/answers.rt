@@ -1,9 +1,9 @@
 //! The answer of `repair`.
 ghost use Rattle.std.specs.Prelude.{◌≡◌, Some, IfOk, OnOk};
 ghost use Rattle.game_rows.specs.Walks.{IsWalkOf};
-ghost use Rattle.engine.specs.Explaining.{IsWalkFor};
+ghost use Rattle.engine.specs.Explaining.{IsWalkFor, HasItsWalk};
 ghost use Rattle.lex_check.specs.Pairs.{list_in};
-ghost use Rattle.repair_answers.specs.Answers.{below_of, is_illegal, RepairsIn, RepairsBy, RepairsOf, IsRepairAnswer, HasItsWalk};
+ghost use Rattle.repair_answers.specs.Answers.{below_of, is_illegal, RepairsIn, RepairsBy, RepairsOf, IsRepairAnswer};
 
 use crate::evidence::{Told, lines_of};
 use crate::lists::many_tried;

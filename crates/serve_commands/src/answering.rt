@@ -1,6 +1,6 @@
 //! The answer to a request: the exit status of the command of its name, and what that command prints of the same bytes.
 ghost use Rattle.lex_check.specs.Pairs.{list_in};
-ghost use Rattle.engine.specs.Explaining.{IsWalkFor};
+ghost use Rattle.engine.specs.Explaining.{HasItsWalk};
 ghost use Rattle.known_bests.specs.Known.{AreKnown};
 ghost use Rattle.serve_answers.specs.Replies.{IsReplyTo};
 
@@ -101,7 +101,7 @@ fn tell_explained(
     told: &ToldCase,
     line: Option<u32>,
 ) -> Result<Response, AllocError>
-    requires { IsWalkFor judges.now.rules.now (list_in judges.now.pair.now) told.now.case.read told.now.case.walk }
+    requires { HasItsWalk judges.now.rules.now (list_in judges.now.pair.now) told.now.case }
 {
     let list = judges.pair.list();
     let text = case_text(
@@ -208,7 +208,7 @@ fn tell_tidied(alloc: Global, decision: Decision) -> Result<Response, AllocError
 
 /// The page of a case; if there is none, what `explain` says of the case.
 fn tell_page(alloc: Global, judges: &Judges<'_>, told: &ToldCase) -> Result<Response, AllocError>
-    requires { IsWalkFor judges.now.rules.now (list_in judges.now.pair.now) told.now.case.read told.now.case.walk }
+    requires { HasItsWalk judges.now.rules.now (list_in judges.now.pair.now) told.now.case }
 {
     if !has_page(&told.case) {
         return tell_explained(alloc, judges, told, None);

@@ -1,6 +1,6 @@
 //! `annotate`: a sheet with notes.
 ghost use Rattle.lex_check.specs.Pairs.{list_in};
-ghost use Rattle.engine.specs.Explaining.{IsWalkFor};
+ghost use Rattle.engine.specs.Explaining.{HasItsWalk};
 
 use crate::made_texts::write_made;
 use annotations::{SheetToAnnotate, annotated_text};
@@ -13,7 +13,7 @@ pub fn write_annotated<'a, R: Runtime + AllocGlobal>(
     sheet: &SheetToAnnotate<'_>,
     out: &'a str,
 ) -> Result<Exit, Trouble<'a>>
-    requires { IsWalkFor sheet.now.rules.now (list_in sheet.now.pair.now) sheet.now.case.now.read sheet.now.case.now.walk }
+    requires { HasItsWalk sheet.now.rules.now (list_in sheet.now.pair.now) sheet.now.case.now }
 {
     let Ok(text) = annotated_text(rt.alloc(), sheet) else {
         return Err(Trouble::NoMemory);

@@ -1,6 +1,6 @@
 //! `explain`: what is wrong with a record, or how one of its lines is judged, in plain words.
 ghost use Rattle.lex_check.specs.Pairs.{list_in};
-ghost use Rattle.engine.specs.Explaining.{IsWalkFor};
+ghost use Rattle.engine.specs.Explaining.{HasItsWalk};
 
 use crate::encodings::in_utf8;
 use command_files::{NO_GAME, has_no_event, write};
@@ -24,7 +24,7 @@ pub fn tell_case<'a, R: Runtime + AllocGlobal>(
     case: &mut Case,
     line: Option<u32>,
 ) -> Result<Exit, Trouble<'a>>
-    requires { IsWalkFor rules.now (list_in pair.now) case.old.read case.old.walk }
+    requires { HasItsWalk rules.now (list_in pair.now) case.old }
 {
     if has_no_event(case) {
         write(rt, NO_GAME)?;
@@ -59,7 +59,7 @@ fn text_of(
     case: &mut Case,
     line: Option<u32>,
 ) -> Result<Vec<u8>, AllocError>
-    requires { IsWalkFor rules.now (list_in pair.now) case.old.read case.old.walk }
+    requires { HasItsWalk rules.now (list_in pair.now) case.old }
 {
     let mut told = Vec::new(alloc);
     push_explanation(alloc, &mut told, rules, pair.list(), case, line)?;

@@ -1,6 +1,6 @@
 //! `page`: the page of a game.
 ghost use Rattle.lex_check.specs.Pairs.{list_in};
-ghost use Rattle.engine.specs.Explaining.{IsWalkFor};
+ghost use Rattle.engine.specs.Explaining.{HasItsWalk};
 
 use crate::made_texts::write_made;
 use exit_statuses::{Exit, Trouble};
@@ -15,7 +15,7 @@ pub fn write_page<'a, R: Runtime + AllocGlobal>(
     contents: &Contents<'_>,
     out: &'a str,
 ) -> Result<Exit, Trouble<'a>>
-    requires { IsWalkFor contents.now.rules.now (list_in contents.now.pair.now) contents.now.case.now.read contents.now.case.now.walk }
+    requires { HasItsWalk contents.now.rules.now (list_in contents.now.pair.now) contents.now.case.now }
 {
     let Ok(page) = page_of(rt.alloc(), contents) else {
         return Err(Trouble::NoMemory);
@@ -25,7 +25,7 @@ pub fn write_page<'a, R: Runtime + AllocGlobal>(
 
 /// The page of a case, or nothing if its text is not a record.
 fn page_of(alloc: Global, contents: &Contents<'_>) -> Result<PageText, AllocError>
-    requires { IsWalkFor contents.now.rules.now (list_in contents.now.pair.now) contents.now.case.now.read contents.now.case.now.walk }
+    requires { HasItsWalk contents.now.rules.now (list_in contents.now.pair.now) contents.now.case.now }
 {
     let mut page = PageText::new(alloc);
     push_page(alloc, &mut page, contents)?;

@@ -1,6 +1,6 @@
 //! `repair`: the single changes of a faulty record after which it is a game.
 ghost use Rattle.lex_check.specs.Pairs.{list_in};
-ghost use Rattle.repair_answers.specs.Answers.{HasItsWalk};
+ghost use Rattle.engine.specs.Explaining.{HasItsWalk};
 
 use crate::encodings::in_utf8;
 use command_files::{NO_GAME, has_no_event, write_beside, write_out};

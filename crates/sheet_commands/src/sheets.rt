@@ -5,8 +5,7 @@ ghost use Rattle.lex_check.specs.Pairs.{list_in};
 ghost use Rattle.call_stages.specs.Runs.{Gives, outcomes};
 ghost use Rattle.call_stages.specs.Sources.{game_source};
 ghost use Rattle.command_files.specs.Telling.{IsCaseTold};
-ghost use Rattle.engine.specs.Explaining.{IsWalkFor};
-ghost use Rattle.repair_answers.specs.Answers.{HasItsWalk};
+ghost use Rattle.engine.specs.Explaining.{HasItsWalk};
 ghost use Rattle.sheet_commands.specs.Telling.{IsAuditTold};
 
 use crate::annotating::write_annotated;
@@ -70,7 +69,7 @@ fn tell_page<'a, R: Runtime + AllocGlobal, F: Read + Drop, S: Read + Drop>(
     case: &mut Case,
     out: &'a str,
 ) -> Result<Exit, Trouble<'a>>
-    requires { IsWalkFor given.now.rules.now (list_in given.now.pair.now) case.old.read case.old.walk }
+    requires { HasItsWalk given.now.rules.now (list_in given.now.pair.now) case.old }
 {
     let Ok(maker) = maker_of(given) else {
         return Err(Trouble::NoMemory);
@@ -97,7 +96,7 @@ fn tell_annotated<'a, R: Runtime + AllocGlobal, F: Read + Drop, S: Read + Drop>(
     number: usize,
     out: &'a str,
 ) -> Result<Exit, Trouble<'a>>
-    requires { IsWalkFor given.now.rules.now (list_in given.now.pair.now) case.now.read case.now.walk }
+    requires { HasItsWalk given.now.rules.now (list_in given.now.pair.now) case.now }
 {
     let sheet = SheetToAnnotate {
         rules: given.rules,

@@ -7,7 +7,7 @@ use Rattle.command_files.specs.Telling.{IsCaseTold}
 use Rattle.json_commands.proofs.repairing.repair_in_json.Goals as goal
 
 pub tell_repairs-requires : goal.tell_repairs-requires
-tell_repairs-requires g c = (c.in-Ok.ensures.taken.text, c.in-Ok.ensures.taken.means)
+tell_repairs-requires g c = c.in-Ok.ensures.taken.means.2
 
 pub returns-in-Ok : goal.returns-in-Ok
 returns-in-Ok g c =

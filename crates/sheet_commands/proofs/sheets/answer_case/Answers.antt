@@ -7,7 +7,7 @@ use Rattle.command_files.specs.Telling.{IsCaseTold}
 use Rattle.sheet_commands.proofs.sheets.answer_case.Goals as goal
 
 pub tell_of_case-requires : goal.tell_of_case-requires
-tell_of_case-requires g c = (c.in-Ok.ensures.taken.text, c.in-Ok.ensures.taken.means)
+tell_of_case-requires g c = c.in-Ok.ensures.taken.means.2
 
 pub returns-in-Ok : goal.returns-in-Ok
 returns-in-Ok g c =
