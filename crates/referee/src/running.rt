@@ -5,7 +5,8 @@ use clap::Error;
 use clap::error::ErrorKind;
 use command_files::{STANDARD_OUTPUT, write};
 use command_line::{
-    CaseTask, GameFiles, GameRequest, PROGRAM_NAME, Request, SheetTask, mistake, parse_arguments,
+    CaseTask, GameFiles, GameRequest, PROGRAM_NAME, PairFiles, Request, SheetTask, mistake,
+    parse_arguments,
 };
 use engine::{Judging, Verdict};
 use exit_statuses::{Exit, Trouble};
@@ -95,18 +96,12 @@ fn carry_out<'a, R: Runtime + AllocGlobal>(
         Request::Game {
             files,
             request,
-            json: false,
-        } => answer_about_game(rt, files, request),
-        Request::Game {
-            files,
-            request,
-            json: true,
-        } => answer_in_object(rt, files, request),
+            json,
+        } => answer_about_game(rt, files, request, json),
         Request::Archive(games) => archive(rt, &games, watched),
         Request::Index { lines, out } => index(rt, lines, out),
         Request::Build { words, out } => ended(build(rt, words, out)),
-        Request::Check { pair, json: false } => ended(check(rt, pair)),
-        Request::Check { pair, json: true } => check_in_json(rt, pair),
+        Request::Check { pair, json } => check_pair(rt, pair, json),
         Request::Convert {
             format,
             lexicon,
@@ -117,22 +112,30 @@ fn carry_out<'a, R: Runtime + AllocGlobal>(
             rules,
             before,
             game,
-            json: false,
-        } => ended(board(rt, rules, before, game)),
-        Request::Board {
-            rules,
-            before,
-            game,
-            json: true,
-        } => board_in_json(rt, rules, before, game),
+            json,
+        } => show_board(rt, rules, before, game, json),
         Request::Serve { rules, pair } => serve(rt, rules, pair),
         Request::Word { pair, each, words } => word(rt, pair, &words, each),
         Request::Rules => print_rules(rt),
     }
 }
 
-/// Carries out a request about the game of a record.
+/// Carries out a request about the game of a record: answers in text, or with a JSON object.
 fn answer_about_game<'a, R: Runtime + AllocGlobal>(
+    rt: &R,
+    files: GameFiles<'a>,
+    request: GameRequest<'a>,
+    json: bool,
+) -> Result<Exit, Trouble<'a>> {
+    if json {
+        answer_in_object(rt, files, request)
+    } else {
+        answer_in_text(rt, files, request)
+    }
+}
+
+/// Carries out a request for a text about the game of a record.
+fn answer_in_text<'a, R: Runtime + AllocGlobal>(
     rt: &R,
     files: GameFiles<'a>,
     request: GameRequest<'a>,
@@ -161,6 +164,34 @@ fn answer_in_object<'a, R: Runtime + AllocGlobal>(
         GameRequest::Sheet(task) => return answer_sheet(rt, files, task),
     };
     answer_in_json(rt, files, task)
+}
+
+/// Checks a lexicon by its word list: answers in text, or with a JSON object.
+fn check_pair<'a, R: Runtime + AllocGlobal>(
+    rt: &R,
+    pair: PairFiles<'a>,
+    json: bool,
+) -> Result<Exit, Trouble<'a>> {
+    if json {
+        check_in_json(rt, pair)
+    } else {
+        ended(check(rt, pair))
+    }
+}
+
+/// Shows the board of a record, before a line if one is named: in text, or as a JSON object.
+fn show_board<'a, R: Runtime + AllocGlobal>(
+    rt: &R,
+    rules: Option<&'a str>,
+    before: Option<u32>,
+    game: &'a str,
+    json: bool,
+) -> Result<Exit, Trouble<'a>> {
+    if json {
+        board_in_json(rt, rules, before, game)
+    } else {
+        ended(board(rt, rules, before, game))
+    }
 }
 
 /// How a game is judged, with a search or without.
