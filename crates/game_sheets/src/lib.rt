@@ -4,9 +4,11 @@
 mod last_totals;
 mod laws;
 mod mending;
+mod points;
 mod wrong_numbers;
 
 pub use last_totals::last_total;
 pub use laws::law_of_corrections;
 pub use mending::{mend, take};
+pub use points::law_of_points;
 pub use wrong_numbers::{WrongNumber, had_before};

@@ -5,7 +5,7 @@ ghost use Rattle.record_changes.specs.Applied.{applied};
 ghost use Rattle.record_repairs.specs.Trying.{HaveNone, IsCorrectionOf};
 
 use crate::mending::mend;
-use crate::writable::law_of_points;
+use game_sheets::law_of_points;
 use game_turns::{Machine, law_of_tallies};
 use gcg_read::{Event, Events};
 use lex_list::WordList;

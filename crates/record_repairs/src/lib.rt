@@ -30,7 +30,6 @@ mod standing;
 mod sums;
 mod trying;
 mod with_plays;
-mod writable;
 
 pub use finding::repairs;
 pub use first_changes::{makes, sheet_with};

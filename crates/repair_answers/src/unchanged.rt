@@ -1,7 +1,6 @@
 //! A record with no change except to its numbers.
 ghost use Rattle.std.specs.Prelude.{◌≡◌, ◌++◌, filter, IfOk, OnOk};
 ghost use Rattle.event_notes.specs.Unlisted.{letters_in};
-ghost use Rattle.game_sheets.specs.Corrections.{HavePoints};
 ghost use Rattle.game_turns.specs.Passing.{rules_in, record_in, list_in};
 ghost use Rattle.game_turns.specs.Places.{AreAllowed};
 ghost use Rattle.record_repairs.specs.Remaining.{is_on_line, words_of_rows};
@@ -12,9 +11,9 @@ use engine::{RackFinding, play_through, settle_racks};
 use event_notes::{SpelledWord, unlisted_of};
 use game_deal::law_of_bounds;
 use game_rows::{Audited, Row, audit, numbers_of, renumber};
-use game_sheets::WrongNumber;
+use game_sheets::{WrongNumber, law_of_points};
 use game_turns::Passed;
-use gcg_read::{Event, Record};
+use gcg_read::Record;
 use lex_list::WordList;
 use record_repairs::Remains;
 use ref_tiles::Rules;
@@ -70,16 +69,6 @@ fn left_of(alloc: Global, list: &WordList, audited: Audited) -> Result<Remains, 
     let mut wrong = audited.wrong;
     keep_lines(&mut wrong);
     Ok(Remains { wrong, unlisted })
-}
-
-/// Each score and each total is one that a record can write. The call changes nothing: its contract is the law.
-fn law_of_points(events: &[Event])
-    ensures { HavePoints events.now }
-{
-    for event in events {
-        let _score = event.score.value();
-        let _total = event.total.value();
-    }
 }
 
 /// Whether no racks of a record that passed are ruled out.

@@ -6,8 +6,8 @@ ghost use Rattle.game_rows.specs.Rows.{HaveRows};
 ghost use Rattle.engine.specs.Archiving.{unlisted_plays};
 ghost use Rattle.sheet_comparisons.specs.Corrected.{IsCorrectionOf};
 
-use crate::points::law_of_points;
 use game_rows::{Refusal, Row, walk_and_correct};
+use game_sheets::law_of_points;
 use gcg_read::Events;
 use lex_list::WordList;
 use ref_tiles::Rules;

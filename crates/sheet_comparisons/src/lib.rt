@@ -10,7 +10,6 @@ mod corrections;
 mod costs;
 mod finds;
 mod laws;
-mod points;
 mod settling;
 mod sheets;
 mod trials;

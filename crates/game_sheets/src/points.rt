@@ -1,10 +1,10 @@
-//! That each number of some events is one that a record can write.
+//! The numbers of events are ones that a record can write.
 ghost use Rattle.game_sheets.specs.Corrections.{HavePoints};
 
 use gcg_read::Event;
 
 /// Each score and each total is one that a record can write. The call changes nothing: its contract is the law.
-pub(crate) fn law_of_points(events: &[Event])
+pub fn law_of_points(events: &[Event])
     ensures { HavePoints events.now }
 {
     for event in events {

@@ -3,7 +3,7 @@ use Rattle.std.proofs.lemmas.Bool.{cases_lt}
 use Rattle.std.proofs.lemmas.Option.{same_Some, slice_get-get_or, slice_get_within}
 use Rattle.gcg_read.specs.declared.events.Event.{Event}
 use Rattle.game_sheets.specs.Corrections.{HasPoints}
-use Rattle.repair_answers.proofs.unchanged.law_of_points.Goals as goal
+use Rattle.game_sheets.proofs.points.law_of_points.Goals as goal
 
 points_here : (events : List Event) (i k : ℕ) (d e : Event) → i < length events → d ≡ get_or events i d → HasPoints d → k ≡ i → slice_get events k ≡ Some e → HasPoints e
 points_here events i k d e within is has same at =
