@@ -13,10 +13,10 @@ use Rattle.gcg_read.specs.declared.events.Seat.TheVariants.{First, Second}
 use Rattle.gcg_read.specs.declared.records.Record.{Record}
 use Rattle.game_sheets.specs.WrongNumbers.{had_before}
 use Rattle.game_board.specs.Laying.{board_before, AreLaid}
-use Rattle.game_board.specs.Tiles.{all_off}
+use Rattle.game_board.specs.Tiles.{kinds_off, all_off}
 use Rattle.engine.specs.TopBefore.{shown_rack}
 use Rattle.game_answers.specs.declared.boards.ShownBoard.{ShownBoard}
-use Rattle.game_answers.specs.Boards.{row_marks, board_marks, kinds_off, line_at, IsShownBoard}
+use Rattle.game_answers.specs.Boards.{row_marks, board_marks, line_at, IsShownBoard}
 use Rattle.game_answers.proofs.BoardTexts.{told_board}
 
 -- one more row

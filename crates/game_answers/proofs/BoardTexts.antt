@@ -12,9 +12,9 @@ use Rattle.gcg_read.specs.declared.records.Record.{Record}
 use Rattle.game_sheets.specs.WrongNumbers.{had_before}
 use Rattle.game_board.specs.Laying.{board_before}
 use Rattle.game_board.specs.Texts.{place_text, end_text, heading_text, row_name, cell_text, cells_text, row_line, rows_text, squares_text, columns_line, marks_lines, player_line, stated_rack, rack_text, players_text, kind_text, kinds_text, kinds_line, count_line, off_text, board_text}
-use Rattle.game_board.specs.Tiles.{off_board, all_off}
+use Rattle.game_board.specs.Tiles.{off_board, kinds_off, all_off}
 use Rattle.engine.specs.TopBefore.{shown_rack}
-use Rattle.game_answers.specs.Boards.{mark_at, row_marks, board_marks, kinds_off, line_at}
+use Rattle.game_answers.specs.Boards.{mark_at, row_marks, board_marks, line_at}
 use Rattle.game_answers.specs.BoardTexts.{heading_of, told_row, told_rows, told_player, told_kinds, told_nine, told_off}
 
 -- ---- which board it is

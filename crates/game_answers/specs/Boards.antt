@@ -11,7 +11,7 @@ use Rattle.gcg_read.specs.Records.{record_of}
 use Rattle.game_sheets.specs.WrongNumbers.{had_before}
 use Rattle.game_board.specs.Laying.{board_before, AreLaid}
 use Rattle.game_board.specs.Marks.{square_mark}
-use Rattle.game_board.specs.Tiles.{off_board, all_off}
+use Rattle.game_board.specs.Tiles.{kinds_off, all_off}
 use Rattle.call_stages.specs.declared.decisions.Decision.{Decision}
 use Rattle.call_stages.specs.declared.verdicts.Verdict.TheVariants as verdict
 use Rattle.call_stages.specs.Stages.{IsRecordOf}
@@ -31,10 +31,6 @@ row_marks rules board row many = map (mark_at rules board row) (range_with_len 0
 -- those of the first rows
 unfoldable pub board_marks : Rules → List (Option Tile) → (many : ℕ) → List (List ℕ)
 board_marks rules board many = map (λ row. row_marks rules board row 15) (range_with_len 0 many)
-
--- how many tiles of each of the first kinds are not on the board
-unfoldable pub kinds_off : Rules → List (Option Tile) → (many : ℕ) → List ℕ
-kinds_off rules board many = map (off_board rules board) (range_with_len 0 many)
 
 -- the line of an event, if there is one
 abbrev pub line_at : Option Event → Option ℕ

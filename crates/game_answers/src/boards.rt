@@ -1,24 +1,23 @@
 //! The board of a record, as a value.
-ghost use Rattle.std.specs.Prelude.{◌≡◌, ◌≤◌, ◌<◌, IfOk, length, slice_get, count_by};
+ghost use Rattle.std.specs.Prelude.{◌≡◌, ◌≤◌, ◌<◌, IfOk, length, slice_get};
 ghost use Rattle.std.specs.Option.{option_copied};
 ghost use Rattle.devices.specs.Devices.{HasRoom};
 ghost use Rattle.ref_play.specs.Words.{items_of};
 ghost use Rattle.gcg_read.specs.Records.{most_bytes};
-ghost use Rattle.game_board.specs.Tiles.{is_of, off_board};
 ghost use Rattle.call_stages.specs.Stages.{IsRead};
 ghost use Rattle.engine.specs.Boards.{place_asked};
-ghost use Rattle.game_answers.specs.Boards.{mark_at, row_marks, board_marks, kinds_off, line_at, IsShownBoard, IsBoardAt, IsBoardOf};
+ghost use Rattle.game_answers.specs.Boards.{mark_at, row_marks, board_marks, line_at, IsShownBoard, IsBoardAt, IsBoardOf};
 
 use crate::tops::{place_asked, shown_rack};
 use arrayvec::ArrayVec;
 use call_stages::{Decision, RunFault, read_text, record_from};
 use devices::Input;
-use game_board::{lay_plays, square_mark, tiles_off};
+use game_board::{kinds_off, lay_plays, square_mark, tiles_off};
 use game_sheets::had_before;
 use gcg_read::{Event, MAX_BYTES, Players, Record, Seat};
 use ref_board::{Board, Dir, SIDE, Square};
 use ref_play::PlayFault;
-use ref_tiles::{Counts, KINDS, Rules, Tile};
+use ref_tiles::{Counts, Rules};
 use std::alloc::{AllocError, Global};
 
 /// The marks of the squares of a row.
@@ -79,49 +78,6 @@ fn board_marks(alloc: Global, rules: &Rules, board: &Board) -> Result<Vec<RowMar
         rows.push(row_marks(rules, board, row))?;
     }
     Ok(rows)
-}
-
-/// Whether a tile of the kind with this number is on a square.
-fn is_of(cell: Option<Tile>, number: usize) -> bool
-    ensures { result ≡ is_of number cell }
-{
-    match cell {
-        None => false,
-        Some(tile) => tile.kind.number() == number,
-    }
-}
-
-/// How many tiles of a kind are on the board.
-fn laid_of(board: &Board, number: usize) -> usize
-    ensures { result ≡ count_by (is_of number) board.now }
-{
-    board
-        .cells()
-        .iter()
-        .filter(|cell| is_of(**cell, number))
-        .count()
-}
-
-/// How many tiles of a kind are not on the board.
-#[tactic(auto, unfolding(game_board::specs::Tiles::off_board))]
-fn off_board(rules: &Rules, board: &Board, number: usize) -> usize
-    requires { number < 27 }
-    ensures { result ≡ off_board rules.now board.now number }
-{
-    let numbers = rules.counts.numbers();
-    (numbers[number] as usize).saturating_sub(laid_of(board, number))
-}
-
-/// How many tiles of each kind are not on the board.
-#[tactic(auto, using(ref_play::proofs::Ranges::map_range_more), unfolding(crate::specs::Boards::kinds_off))]
-fn kinds_off(alloc: Global, rules: &Rules, board: &Board) -> Result<Vec<usize>, AllocError>
-    ensures { IfOk result (λ off. off.items ≡ kinds_off rules.now board.now 27) }
-{
-    let mut off = Vec::new(alloc);
-    for number in 0..KINDS {
-        off.push(off_board(rules, board, number))?;
-    }
-    Ok(off)
 }
 
 /// The event at a place, if there is one.

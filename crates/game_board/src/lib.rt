@@ -14,4 +14,4 @@ pub use laying::{Laying, lay, lay_plays};
 pub use marks::{square_mark, tile_mark};
 pub use places::place_of_line;
 pub use texts::board_text;
-pub use tiles::tiles_off;
+pub use tiles::{kinds_off, tiles_off};

@@ -1,9 +1,10 @@
 //! The tiles that are not on the board.
-ghost use Rattle.std.specs.Prelude.{◌≡◌, ◌<◌, ◌≤◌, count_by};
-ghost use Rattle.game_board.specs.Tiles.{is_of, off_board, all_off};
+ghost use Rattle.std.specs.Prelude.{◌≡◌, ◌<◌, ◌≤◌, IfOk, count_by};
+ghost use Rattle.game_board.specs.Tiles.{is_of, off_board, kinds_off, all_off};
 
 use ref_board::Board;
 use ref_tiles::{KINDS, Rules, Tile};
+use std::alloc::{AllocError, Global};
 
 /// Whether a tile of the kind with this number lies on a square.
 fn is_of(cell: Option<Tile>, number: usize) -> bool
@@ -35,6 +36,20 @@ pub fn off_board(rules: &Rules, board: &Board, number: usize) -> usize
 {
     let numbers = rules.counts.numbers();
     (numbers[number] as usize).saturating_sub(laid_of(board, number))
+}
+
+/// The number of tiles of each kind that are not on the board, A to Z and then blanks.
+///
+/// It fails only if memory runs out.
+#[tactic(auto, using(ref_play::proofs::Ranges::map_range_more), unfolding(crate::specs::Tiles::kinds_off))]
+pub fn kinds_off(alloc: Global, rules: &Rules, board: &Board) -> Result<Vec<usize>, AllocError>
+    ensures { IfOk result (λ off. off.items ≡ kinds_off rules.now board.now 27) }
+{
+    let mut off = Vec::new(alloc);
+    for number in 0..KINDS {
+        off.push(off_board(rules, board, number))?;
+    }
+    Ok(off)
 }
 
 /// The number of tiles of all kinds that are not on the board.

@@ -10,7 +10,7 @@ use Rattle.ref_play.specs.Formed.{along}
 use Rattle.gcg_read.specs.declared.events.Event.{Event}
 use Rattle.gcg_read.specs.declared.events.EventKind.{EventKind}
 use Rattle.gcg_read.specs.declared.events.EventKind.TheVariants as kind
-use Rattle.game_board.specs.Tiles.{off_board, all_off}
+use Rattle.game_board.specs.Tiles.{kinds_off, all_off}
 use Rattle.score_sheets.specs.declared.pictures.Picture.{Picture}
 use Rattle.score_sheets.specs.declared.positions.PlayedTile.{PlayedTile}
 use Rattle.score_sheets.specs.declared.positions.LaidPlay.{LaidPlay}
@@ -43,10 +43,6 @@ IsLaidBy p kind.Withdraw play = play ≡ None
 IsLaidBy p kind.Challenge play = play ≡ None
 IsLaidBy p kind.Time play = play ≡ None
 IsLaidBy p (kind.LastRack tiles) play = play ≡ None
-
--- how many tiles of each of the first kinds are not on a board, A to Z and then blanks
-unfoldable pub kinds_off : Rules → (board : List (Option Tile)) → (kinds : ℕ) → List ℕ
-kinds_off rules board kinds = map (off_board rules board) (range_with_len 0 kinds)
 
 -- what is said of the board after an event
 pub record IsPositionOf (rules : Rules) (k : EventKind) (p : Picture) (x : Position) : Type 0 where

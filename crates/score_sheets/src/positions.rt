@@ -1,15 +1,14 @@
 //! What is said of the boards after the events.
-ghost use Rattle.std.specs.Prelude.{◌≡◌, ◌+◌, ◌<◌, ◌≤◌, ◌==◌, IfOk, length, count_by};
+ghost use Rattle.std.specs.Prelude.{◌≡◌, ◌+◌, ◌≤◌, ◌==◌, IfOk, length, count_by};
 ghost use Rattle.ref_board.specs.Lines.{place_of};
-ghost use Rattle.game_board.specs.Tiles.{is_of, off_board};
-ghost use Rattle.score_sheets.specs.Positions.{played_tile, played_tiles, is_new_tile, IsLaidAt, IsLaidBy, kinds_off, IsPositionOf, ArePositions};
+ghost use Rattle.score_sheets.specs.Positions.{played_tile, played_tiles, is_new_tile, IsLaidAt, IsLaidBy, IsPositionOf, ArePositions};
 
 use crate::pictures::Picture;
-use game_board::tiles_off;
+use game_board::{kinds_off, tiles_off};
 use gcg_read::{Event, EventKind};
-use ref_board::{Board, Dir, SIDE, Square};
+use ref_board::{Dir, SIDE, Square};
 use ref_play::{RACK, along};
-use ref_tiles::{KINDS, Rules, Tile};
+use ref_tiles::{Rules, Tile};
 use std::alloc::{AllocError, Global};
 
 /// A square that a play covers.
@@ -115,49 +114,6 @@ fn laid_by(
         | EventKind::Time
         | EventKind::LastRack(_) => Ok(None),
     }
-}
-
-/// Whether a tile of the kind with this number lies on a square.
-fn is_of(cell: Option<Tile>, number: usize) -> bool
-    ensures { result ≡ is_of number cell }
-{
-    match cell {
-        None => false,
-        Some(tile) => tile.kind.number() == number,
-    }
-}
-
-/// How many tiles of a kind are on the board.
-fn laid_of(board: &Board, number: usize) -> usize
-    ensures { result ≡ count_by (is_of number) board.now }
-{
-    board
-        .cells()
-        .iter()
-        .filter(|cell| is_of(**cell, number))
-        .count()
-}
-
-/// How many tiles of a kind are not on the board.
-#[tactic(auto, unfolding(game_board::specs::Tiles::off_board))]
-fn off_board(rules: &Rules, board: &Board, number: usize) -> usize
-    requires { number < 27 }
-    ensures { result ≡ off_board rules.now board.now number }
-{
-    let numbers = rules.counts.numbers();
-    (numbers[number] as usize).saturating_sub(laid_of(board, number))
-}
-
-/// How many tiles of each kind are not on the board.
-#[tactic(auto, using(ref_play::proofs::Ranges::map_range_more), unfolding(crate::specs::Positions::kinds_off))]
-fn kinds_off(alloc: Global, rules: &Rules, board: &Board) -> Result<Vec<usize>, AllocError>
-    ensures { IfOk result (λ off. off.items ≡ kinds_off rules.now board.now 27) }
-{
-    let mut off = Vec::new(alloc);
-    for number in 0..KINDS {
-        off.push(off_board(rules, board, number))?;
-    }
-    Ok(off)
 }
 
 /// What is said of the board after an event.
