@@ -27,3 +27,4 @@ pub use leaving::GameAnswers;
 pub use letters::word_of;
 pub use plays::{ScoredPlay, best_plays};
 pub use tops::{FoundPlays, find_plays, top_plays};
+pub use verdicts::verdict_on;

@@ -1,4 +1,4 @@
-//! The verdict on a record in which the rules allow every event, without its report.
+//! The verdict on a record of which the rules allow every event, without its report.
 ghost use Rattle.std.specs.Prelude.{◌≡◌, IfOk};
 ghost use Rattle.game_turns.specs.{Passing.{rules_in, record_in}, Places.{AreAllowed}};
 ghost use Rattle.lex_check.specs.Pairs.{list_in};
@@ -38,7 +38,7 @@ fn legal(passed: &Passed<'_>) -> Verdict
     }
 }
 
-/// The verdict only by the deal of the rule of completion.
+/// The verdict by the deal of the rule of completion, without a search.
 #[tactic(auto, using(crate::proofs::VerdictLaws::rule_dealt, crate::proofs::VerdictLaws::rule_past, crate::proofs::VerdictLaws::rule_open))]
 fn verdict_by_rule(
     alloc: Global,
@@ -80,8 +80,10 @@ fn verdict_by_search(
     }
 }
 
-/// The verdict on a record in which the rules allow every event, only by the deal of the rule of completion or by a search.
-pub(crate) fn verdict_on(
+/// The verdict on a record of which the rules allow every event, by the deal of the rule of completion or by a search.
+///
+/// It fails only if memory runs out.
+pub fn verdict_on(
     alloc: Global,
     passed: &Passed<'_>,
     pair: &Checked<'_>,

@@ -11,7 +11,6 @@ mod records;
 mod replies;
 mod tidying;
 mod told_cases;
-mod verdicts;
 mod words;
 
 pub use replies::{Reply, reply_to};

@@ -8,11 +8,10 @@ ghost use Rattle.call_stages.specs.Stages.{IsRead};
 ghost use Rattle.game_answers.specs.Bounds.{refused_verdict};
 ghost use Rattle.serve_answers.specs.PlainGames.{IsVerdictAlone, IsPlainGame, IsPlainGameOf};
 
-use crate::verdicts::verdict_on;
 use call_stages::{Decision, GameFault, RunFault, Verdict, read_text, record_from};
 use devices::Input;
 use engine::{Judging, play_through};
-use game_answers::JudgedGame;
+use game_answers::{JudgedGame, verdict_on};
 use game_turns::{Passed, RuleFault};
 use gcg_read::{MAX_BYTES, Record};
 use lex_check::Checked;
