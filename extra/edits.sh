@@ -7,6 +7,7 @@
 # 'N of M edits refused', and the status is 0 if all were. Where `rt ci` keeps what it proved (docs/GATE.md), run it after the gate.
 set -u
 cd "$(dirname "$0")/.." || exit 2
+root=$PWD
 processors=${1:-$(nproc)}
 shift
 tops=("$@")
@@ -21,10 +22,7 @@ for top in "${tops[@]}"; do
         exit 64
     fi
 done
-if ! command -v rt > /dev/null; then
-    echo "extra/edits.sh: there is no command rt: put the folder bin of the Rattle toolchain on the PATH" >&2
-    exit 2
-fi
+extra/rt version > /dev/null || exit 2
 
 . extra/crates.sh
 room=$(mktemp -d) || exit 2
@@ -38,7 +36,7 @@ for top in "${tops[@]}"; do
 done
 edits=$(find "$room/copy" -name '*.edit' | wc -l)
 echo "$edits edits are to be tried, $processors at a time, once ${#wanted[@]} crates are proved"
-(cd "$room/copy" && RT_JOBS=$processors exec rt ci) > "$room/said" 2>&1
+(cd "$room/copy" && RT_JOBS=$processors exec "$root/extra/rt" ci) > "$room/said" 2>&1
 status=$?
 grep -E '^rt: must-fail ' "$room/said"
 refused=$(grep -cE '^rt: must-fail [^:]*: refused' "$room/said")

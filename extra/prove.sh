@@ -7,16 +7,14 @@
 # prover said of it is printed, and the status is 1. With CRATE that crate is proved, and those below it.
 set -u
 cd "$(dirname "$0")/.." || exit 2
+root=$PWD
 processors=${1:-$(nproc)}
 top=${2:-referee}
 if [ $# -gt 2 ] || ! [[ $processors =~ ^[1-9][0-9]*$ ]] || ! [ -d "crates/$top" ]; then
     echo "usage: extra/prove.sh [PROCESSORS [CRATE]]" >&2
     exit 64
 fi
-if ! command -v rt > /dev/null; then
-    echo "extra/prove.sh: there is no command rt: put the folder bin of the Rattle toolchain on the PATH" >&2
-    exit 2
-fi
+extra/rt version > /dev/null || exit 2
 
 . extra/crates.sh
 want "$top"
@@ -35,7 +33,7 @@ show() {
         echo "${BASH_REMATCH[1]} ${BASH_REMATCH[2]}, $done of ${#wanted[@]}, after $((SECONDS / 60)) min"
     done
 }
-(cd "$room/copy" && RT_JOBS=$processors exec rt ci) 2>&1 | show
+(cd "$room/copy" && RT_JOBS=$processors exec "$root/extra/rt" ci) 2>&1 | show
 if [ "${PIPESTATUS[0]}" != 0 ]; then
     echo "extra/prove.sh: not all is proved. What was said beside that something is:" >&2
     grep -vE '^statements |: proved|modules loaded|^rt: .* (proved|is kept)|^empty contracts' "$room/said" | tail -n 60 >&2
