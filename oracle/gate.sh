@@ -35,6 +35,7 @@ part() {
 }
 
 part edits crates
+part sums .
 if [ -x "$program" ]; then
     for script in program manual pages sentences releases; do
         part "$script" "$program"
