@@ -1,8 +1,8 @@
 """Compares extra/rt with the `rt` that it starts: sums FOLDER
 
-The toolchains are made up here: one whose `rt` makes the sum of a crate anew for each path to it, one that keeps its sums itself, and one that is
-no script in Python. With each of them extra/rt has to print the same and to end with the same status, and with the first it has to read the file of
-each crate once for each sum that is asked for. A file that changes between two sums has to change the second. If the machine has a toolchain whose
+The toolchains are made up here: one whose `rt` makes the sum of a crate again for each path to it, one that keeps its sums itself, and one that is
+not a script in Python. With each of them extra/rt has to print the same and to end with the same status, and with the first it has to read the file
+of each crate once for each sum that is asked for. A file that changes between two sums has to change the second. If the machine has a toolchain whose
 sums are made like those of the first, sums of crates of FOLDER, which has a crates.txt, are compared too. Nothing is proved here.
 """
 import os
@@ -14,7 +14,7 @@ from importlib.machinery import SourceFileLoader
 from importlib.util import module_from_spec, spec_from_loader
 from pathlib import Path
 
-ROOT = Path(__file__).resolve().parents[2]
+STARTER = [sys.executable, str(Path(__file__).resolve().parents[2] / "extra" / "rt")]
 LOADED = """
 import os, sys
 from importlib.machinery import SourceFileLoader
@@ -63,13 +63,13 @@ def made(folder, **files):
     return folder
 
 
-def run(program, toolchain, folder):
-    """What a program prints and its status, with a toolchain, in a new folder with the files of four crates."""
+def run(command, toolchain, folder):
+    """What a command prints and its status, with only a toolchain on the PATH, in a new folder with the files of four crates."""
     folder.mkdir()
     for name in "abcd":
         Path(folder, name).write_text(name)
-    path = os.pathsep.join([str(toolchain), os.path.dirname(sys.executable), "/usr/bin", "/bin"])
-    ran = subprocess.run([program, "one", "two words"], cwd=folder, env={**os.environ, "PATH": path}, capture_output=True, text=True, check=False)
+    env = {**os.environ, "PATH": str(toolchain)}
+    ran = subprocess.run([*command, "one", "two words"], cwd=folder, env=env, capture_output=True, text=True, check=False)
     return ran.returncode, ran.stdout, ran.stderr
 
 
@@ -84,27 +84,27 @@ def faults_of_made_up(room):
         "shell": made(room / "shell", rt=SHELL),
     }
     for name, toolchain in toolchains.items():
-        plain = run(toolchain / "rt", toolchain, room / f"{name}-plain")
-        status, printed, said = run(ROOT / "extra" / "rt", toolchain, room / f"{name}-once")
+        plain = run([toolchain / "rt"], toolchain, room / f"{name}-plain")
+        status, printed, said = run(STARTER, toolchain, room / f"{name}-once")
         if (status, printed) != plain[:2]:
             yield f"{name}: {status} {printed!r}, and not {plain[:2]}"
         if name == "anew" and (plain[2].split(), said.split()) != (["8", "16", "24"], ["6", "12", "18"]):
             yield f"{name}: files were read {plain[2]!r} and {said!r} times"
         if name != "anew" and said != plain[2]:
             yield f"{name}: {said!r}, and not {plain[2]!r}"
-    if run(ROOT / "extra" / "rt", room / "nowhere", room / "without")[0] != 2:
+    if run(STARTER, room / "nowhere", room / "without")[0] != 2:
         yield "a machine without rt"
 
 
 def faults_of_this_one(folder):
     """What is not as it has to be with the toolchain of this machine, for the crates of a repository that depend on few others."""
-    loader = SourceFileLoader("starting", str(ROOT / "extra" / "rt"))
+    loader = SourceFileLoader("starting", STARTER[1])
     starting = module_from_spec(spec_from_loader(loader.name, loader))
     loader.exec_module(starting)
     rt = starting.loaded(os.path.realpath(shutil.which("rt") or "rt"))
     made_by = starting.whose_sums_repeat(rt)
     if made_by is None:
-        print("left out: the sums of the repository, which need a toolchain that makes them anew for each path")
+        print("left out: the sums of the repository, which need a toolchain that makes them again for each path")
         return
     crates = [it for it in rt.rtlib.crates_below(os.path.abspath(folder)) if len(it.below()) < 12]
     plain = [it.stamp() for it in crates]
