@@ -21,7 +21,8 @@ type Row = (
     u16,
 );
 
-const FEW: &[u8] = b"AT\nTA\nABAS\nTABA\n";
+/// Four words, of which only AT and TA fit beside a single A.
+pub const FEW: &[u8] = b"AT\nTA\nABAS\nTABA\n";
 
 const ALL: &[u8] = b"ABCDEFGHIJKLMNOPQRSTUVWXYZ";
 
@@ -42,16 +43,28 @@ const ROWS: [Row; 9] = [
     (b"AT\nRA\nRAT\nWORD\n", &WORD_AT, (9, 6, Across), b"T", 2),
 ];
 
-fn assert_row(rt: &impl Abort, alloc: Global, rules: &Rules, row: Row) {
-    let (words, tiles, (line, column, dir), letters, points) = row;
-    let list = list_of(rt, alloc, words);
-    let paths = SortedPaths::new(alloc, &list).expect(rt, "the paths");
-    let cross = Cross::scratch(rules, &laid(rt, tiles), &paths);
+/// Asserts the letters and the points of a square, by its row and its column, for a play of a direction.
+pub fn assert_cross(
+    rt: &impl Abort,
+    cross: &Cross,
+    place: (usize, usize, Dir),
+    letters: &[u8],
+    points: u16,
+) {
+    let (line, column, dir) = place;
     let square = at(rt, line, column);
     assert_eq!(rt; cross.side(dir, square), points, "{:?}", square);
     for (letter, may) in cross.mask(dir, square).iter().enumerate() {
         assert_eq!(rt; *may, has_letter(letters, letter), "{:?}", square);
     }
+}
+
+fn assert_row(rt: &impl Abort, alloc: Global, rules: &Rules, row: Row) {
+    let (words, tiles, place, letters, points) = row;
+    let list = list_of(rt, alloc, words);
+    let paths = SortedPaths::new(alloc, &list).expect(rt, "the paths");
+    let cross = Cross::scratch(rules, &laid(rt, tiles), &paths);
+    assert_cross(rt, &cross, place, letters, points);
 }
 
 #[test]

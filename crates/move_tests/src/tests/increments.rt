@@ -1,6 +1,7 @@
 //! Cross-sets that are updated after puts and lifts: boards whose tiles, or whose plays, are put and lifted in several orders,
 //! all values compared with those that are computed anew.
-use super::boards::{Laid, at, list_of, text_of};
+use super::boards::{Laid, TWO, at, laid, list_of, text_of};
+use super::crosses::{FEW, assert_cross};
 use gcg_read::Text;
 use gen_cross::Cross;
 use lex_check::SortedPaths;
@@ -50,6 +51,30 @@ fn assert_same(rt: &impl Abort, kept: &Cross, made: &Cross) {
         let square = at(rt, number / SIDE, number % SIDE);
         assert_value(rt, kept, made, Dir::Across, square);
         assert_value(rt, kept, made, Dir::Down, square);
+    }
+}
+
+/// The letters and the points of 8F, 8H and 8J for plays down: first A is on 8G and on 8I, then also B on 8H, and then B is lifted.
+const AROUND_B: [[(&[u8], u16); 3]; 3] = [
+    [(b"T", 1), (b"", 2), (b"T", 1)],
+    [(b"T", 5), (b"", 0), (b"S", 5)],
+    [(b"T", 1), (b"", 2), (b"T", 1)],
+];
+
+#[test]
+fn tile_between_two(rt: HostRuntime) {
+    let rules = english_rules();
+    let list = list_of(&rt, rt.alloc(), FEW);
+    let paths = SortedPaths::new(rt.alloc(), &list).expect(&rt, "the paths");
+    let mut board = laid(&rt, &TWO);
+    let mut cross = Cross::scratch(&rules, &board, &paths);
+    for (turns, [before, between, after]) in AROUND_B.iter().enumerate() {
+        if turns > 0 {
+            turn(&rt, &rules, &mut board, &mut cross, &paths, (7, 7, b'B'));
+        }
+        assert_cross(&rt, &cross, (7, 5, Dir::Down), before.0, before.1);
+        assert_cross(&rt, &cross, (7, 7, Dir::Down), between.0, between.1);
+        assert_cross(&rt, &cross, (7, 9, Dir::Down), after.0, after.1);
     }
 }
 
