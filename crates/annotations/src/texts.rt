@@ -1,15 +1,15 @@
 //! The text of an annotated sheet.
 ghost use Rattle.std.specs.Prelude.{◌≤◌, length, IfOk};
 ghost use Rattle.lex_check.specs.Pairs.{list_in};
-ghost use Rattle.engine.specs.Explaining.{HasItsWalk};
+ghost use Rattle.game_case.specs.Explaining.{HasItsWalk};
 ghost use Rattle.annotations.specs.Texts.{IsAnnotated};
 
 use crate::notes::{push_note, push_sentences};
-use engine::{Case, Entry, Finding, MOST_PLAYS};
 use explain_lines::push_reason;
 use game_answers::{ScoredPlay, best_plays};
 use game_board::place_of_line;
-use game_report::{full_rack, is_judged};
+use game_case::{Case, Entry, Finding};
+use game_report::{MOST_PLAYS, full_rack, is_judged};
 use game_rows::Walk;
 use game_turns::Machine;
 use gcg_notes::push_with_notes;

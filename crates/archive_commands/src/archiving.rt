@@ -9,6 +9,7 @@ use crate::names::{Given, Listed, Names};
 use crate::pages::Pages;
 use crate::progress::Progress;
 use archive_lines::{Fields, LikelyFields, PageField, Unread, push_json_line, push_tab_line};
+use call_stages::{Question, RulesSource, RunFault, ask};
 use command_files::{
     GivenFiles, Inputs, LexiconFile, RulesFile, Source, Told, UsedOutput, Words, digests_of,
     given_up, is_folder, open, open_inputs, open_source, refuse, sheet_of, shown, tell_others,
@@ -17,8 +18,8 @@ use command_files::{
 use command_line::{Archive, ArchiveNames, PROGRAM, Progressing};
 use devices::{FromRead, Input};
 use either::Either;
-use engine::{Entry, Question, RulesSource, RunFault, archive_entry, ask};
 use exit_statuses::{Exit, Trouble, exit_of_line};
+use game_case::{Entry, archive_entry};
 use game_page::Maker;
 use lex_check::Checked;
 use name_texts::Encoding;

@@ -2,7 +2,7 @@
 ghost use Rattle.std.specs.Prelude.{◌≡◌, OnOk};
 
 use archive_lines::LikelyFields;
-use engine::Entry;
+use game_case::Entry;
 use gcg_read::Record;
 use lex_check::Checked;
 use name_texts::Encoding;

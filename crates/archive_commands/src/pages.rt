@@ -1,15 +1,15 @@
 //! The pages of an archive: one for each game, and their index.
 ghost use Rattle.std.specs.Prelude.{◌≡◌, OnOk};
 ghost use Rattle.lex_check.specs.Pairs.{list_in};
-ghost use Rattle.engine.specs.Explaining.{HasItsWalk};
+ghost use Rattle.game_case.specs.Explaining.{HasItsWalk};
 
 use crate::archiving::{fields_of, unread_by};
 use crate::likely::likely_if;
 use archive_lines::{Fields, PageField, Unread};
 use command_files::{has_page, unopened, write_whole_file};
 use devices::FromRead;
-use engine::{Case, open_case};
 use exit_statuses::Trouble;
+use game_case::{Case, open_case};
 use game_page::{Contents, Index, IndexPlayer, IndexRow, Maker, push_page};
 use lex_check::Checked;
 use name_texts::Encoding;

@@ -6,8 +6,8 @@ use Rattle.archive_lines.specs.declared.answers.Ending.{Ending}
 use Rattle.archive_lines.specs.declared.answers.Ending.TheVariants.{Complete, Unfinished}
 use Rattle.archive_lines.specs.declared.answers.Unread.{Unread as Reason}
 use Rattle.archive_lines.specs.declared.answers.Unread.TheVariants.{CannotOpen, IsFolder, ReadFailed, NoMemory}
-use Rattle.engine.specs.declared.findings.Finding.{Finding}
-use Rattle.engine.specs.declared.findings.Finding.TheVariants as finding
+use Rattle.game_case.specs.declared.findings.Finding.{Finding}
+use Rattle.game_case.specs.declared.findings.Finding.TheVariants as finding
 
 abbrev pub answer_text : Answer → List ℕ
 answer_text Legal = codes "legal"

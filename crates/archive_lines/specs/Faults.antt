@@ -7,8 +7,8 @@ use Rattle.game_turns.specs.declared.faults.RuleFault.TheVariants as rule
 use Rattle.call_stages.specs.declared.verdicts.GameFault.{GameFault}
 use Rattle.call_stages.specs.declared.verdicts.GameFault.TheVariants as game
 use Rattle.call_stages.specs.Reports.{fault_text}
-use Rattle.engine.specs.declared.findings.Finding.{Finding}
-use Rattle.engine.specs.declared.findings.Finding.TheVariants as finding
+use Rattle.game_case.specs.declared.findings.Finding.{Finding}
+use Rattle.game_case.specs.declared.findings.Finding.TheVariants as finding
 
 -- the line of the fault of a game
 abbrev pub line_in : Finding → Option ℕ

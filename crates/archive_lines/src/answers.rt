@@ -2,7 +2,7 @@
 ghost use Rattle.std.specs.Prelude.{◌≡◌};
 ghost use Rattle.archive_lines.specs.Answers.{answer_of, ending_in};
 
-use engine::Finding;
+use game_case::Finding;
 use serde::{Described, Serialize, Serializer};
 
 /// What a line answers about a game.

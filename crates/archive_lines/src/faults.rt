@@ -7,7 +7,8 @@ ghost use Rattle.text_lines.specs.Fields.{is_blank};
 ghost use Rattle.call_stages.specs.Reports.{fault_text};
 ghost use Rattle.archive_lines.specs.Faults.{line_in, line_of_fault, fault_in, name_in, expected_of, expected_in};
 
-use engine::{Finding, GameFault, fault_text};
+use call_stages::{GameFault, fault_text};
+use game_case::Finding;
 use game_turns::RuleFault;
 use gcg_read::ReadFault;
 use std::alloc::{AllocError, Global};

@@ -8,7 +8,7 @@ use crate::faults::{expected_in, fault_in, line_in, line_of_fault, name_in, owne
 use crate::likely::LikelyFields;
 use crate::pages::PageField;
 use crate::players::{nick_of, total_of};
-use engine::Entry;
+use game_case::Entry;
 use gcg_read::{ReadFault, Seat};
 use name_texts::Encoding;
 use serde::Serialize;

@@ -5,8 +5,8 @@ use Rattle.devices.specs.Devices.{Device}
 use Rattle.ref_tiles.specs.declared.rulebook.Rules.{Rules}
 use Rattle.gcg_read.specs.Laws.{LinesRise}
 use Rattle.call_stages.specs.Stages.{IsRead}
-use Rattle.engine.specs.declared.audits.Audit.{Audit}
-use Rattle.engine.specs.Auditing.{IsAuditOfRecord}
+use Rattle.game_case.specs.declared.audits.Audit.{Audit}
+use Rattle.game_case.specs.Auditing.{IsAuditOfRecord}
 use Rattle.audit_lines.specs.declared.answers.AuditAnswer.{AuditAnswer}
 use Rattle.audit_lines.specs.Told.{stop_of, AreTold}
 use Rattle.audit_lines.specs.Numbers.{told_number, told_numbers}

@@ -11,7 +11,7 @@ use Rattle.game_sheets.specs.declared.wrong_numbers.WrongNumber.{WrongNumber}
 use Rattle.game_sheets.specs.Corrections.{IsRenumbered, AreRenumbered, HasPoints, HavePoints}
 use Rattle.game_sheets.specs.Auditing.{IsAudited}
 use Rattle.game_sheets.proofs.Numbers.{same_event}
-use Rattle.engine.specs.declared.audits.Audit.{Audit}
+use Rattle.game_case.specs.declared.audits.Audit.{Audit}
 use Rattle.audit_lines.specs.Corrected.{IsReadBack}
 
 -- the events of an audit are those that are written, with other numbers

@@ -3,7 +3,7 @@ use Rattle.std.specs.Prelude.{ℕ, List, Result, Ok, Err}
 use Rattle.ref_tiles.specs.declared.rulebook.Rules.{Rules}
 use Rattle.call_stages.specs.declared.decisions.Decision.{Decision}
 use Rattle.call_stages.specs.Stages.{IsRecordOf}
-use Rattle.engine.specs.Auditing.{IsAuditOfRecord}
+use Rattle.game_case.specs.Auditing.{IsAuditOfRecord}
 use Rattle.audit_lines.specs.declared.answers.AuditAnswer.{AuditAnswer}
 use Rattle.audit_lines.specs.Told.{stop_of, AreTold}
 

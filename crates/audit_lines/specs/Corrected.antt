@@ -2,8 +2,8 @@
 use Rattle.std.specs.Prelude.{◌≡◌, ◌≤◌, ℕ, List, length, Ok}
 use Rattle.ref_tiles.specs.declared.rulebook.Rules.{Rules}
 use Rattle.gcg_read.specs.Records.{record_of, most_bytes}
-use Rattle.engine.specs.declared.audits.Audit.{Audit}
-use Rattle.engine.specs.Auditing.{IsAuditOfRecord}
+use Rattle.game_case.specs.declared.audits.Audit.{Audit}
+use Rattle.game_case.specs.Auditing.{IsAuditOfRecord}
 
 -- The bytes are a record again, if they are no longer than a record may be: the corrected record of an audit, on the lines of the sheet.
 abbrev pub IsReadBack : Audit → (bytes : List ℕ) → Type 0

@@ -7,8 +7,8 @@ use Rattle.gcg_read.specs.declared.players.Players.{Players}
 use Rattle.gcg_read.specs.Players.{player_of}
 use Rattle.gcg_read.specs.declared.events.Event.{Event}
 use Rattle.gcg_write.specs.Fields.{kind_text}
-use Rattle.engine.specs.declared.audits.Audit.{Audit}
-use Rattle.engine.specs.Explaining.{finding_line}
+use Rattle.game_case.specs.declared.audits.Audit.{Audit}
+use Rattle.game_case.specs.Explaining.{finding_line}
 use Rattle.audit_lines.specs.declared.told.ToldNumber.{ToldNumber}
 use Rattle.audit_lines.specs.declared.told.ToldNumber.TheVariants as told
 use Rattle.audit_lines.specs.Numbers.{told_numbers}

@@ -5,7 +5,7 @@ use Rattle.gcg_read.specs.declared.events.Event.{Event}
 use Rattle.game_board.specs.Places.{place_of_line}
 use Rattle.game_sheets.specs.declared.wrong_numbers.WrongNumber.{WrongNumber}
 use Rattle.game_sheets.specs.declared.wrong_numbers.WrongNumber.TheVariants as wrong
-use Rattle.engine.specs.declared.audits.Audit.{Audit}
+use Rattle.game_case.specs.declared.audits.Audit.{Audit}
 use Rattle.audit_lines.specs.declared.told.ToldNumber.{ToldNumber}
 use Rattle.audit_lines.specs.declared.told.ToldNumber.TheVariants as told
 use Rattle.audit_lines.specs.Told.{stop_of, right_total}

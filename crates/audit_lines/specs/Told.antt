@@ -11,8 +11,8 @@ use Rattle.game_sheets.specs.LastTotals.{last_total}
 use Rattle.game_sheets.specs.WrongNumbers.{had_before}
 use Rattle.call_stages.specs.declared.verdicts.GameFault.{GameFault}
 use Rattle.call_stages.specs.declared.verdicts.GameFault.TheVariants as game
-use Rattle.engine.specs.declared.findings.Finding.{Finding}
-use Rattle.engine.specs.declared.findings.Finding.TheVariants as finding
+use Rattle.game_case.specs.declared.findings.Finding.{Finding}
+use Rattle.game_case.specs.declared.findings.Finding.TheVariants as finding
 use Rattle.audit_lines.specs.declared.told.ToldNumber.{ToldNumber}
 use Rattle.audit_lines.specs.declared.told.ToldNumber.TheVariants as told
 

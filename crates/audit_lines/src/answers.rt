@@ -10,7 +10,7 @@ ghost use Rattle.audit_lines.specs.Numbers.{told_numbers};
 use crate::told::{ToldNumber, told_numbers};
 use call_stages::{Decision, RunFault};
 use devices::Input;
-use engine::{Audit, audit_sheet};
+use game_case::{Audit, audit_sheet};
 use gcg_read::law_of_lines;
 use lex_check::Checked;
 use ref_tiles::Rules;

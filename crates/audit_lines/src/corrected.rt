@@ -3,7 +3,7 @@ ghost use Rattle.std.specs.Prelude.{◌≡◌, IfOk};
 ghost use Rattle.gcg_numbers.specs.Numbers.{text_with};
 ghost use Rattle.audit_lines.specs.Corrected.{IsReadBack};
 
-use engine::Audit;
+use game_case::Audit;
 use gcg_numbers::{law_of_numbers, push_with_numbers};
 use gcg_read::Event;
 use std::alloc::{AllocError, Global};

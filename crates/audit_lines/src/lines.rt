@@ -3,12 +3,12 @@ ghost use Rattle.std.specs.Prelude.{◌≡◌, ◌++◌, ◌∷◌, [], OnOk, co
 ghost use Rattle.std.specs.Fmt.{signed_decimal};
 ghost use Rattle.gcg_read.specs.Players.{player_of};
 ghost use Rattle.audit_lines.specs.Lines.{should_be, right_text, both_text, line_text, numbers_text, wrong_text, end_text, event_text, on_the_sheet, other_total, corrected_total, told_text, told_texts, audit_text};
-ghost use Rattle.engine.specs.Explaining.{finding_line};
+ghost use Rattle.game_case.specs.Explaining.{finding_line};
 
 use crate::kinds::push_kind;
 use crate::told::{ToldNumber, told_numbers};
 use decimal_text::push_number;
-use engine::{Audit, Finding, finding_line};
+use game_case::{Audit, Finding, finding_line};
 use gcg_read::{Players, Record, Seat};
 use std::alloc::{AllocError, Global};
 

@@ -2,7 +2,7 @@
 ghost use Rattle.std.specs.Prelude.{◌≡◌};
 ghost use Rattle.audit_lines.specs.Standing.{stands};
 
-use engine::{Audit, Finding};
+use game_case::{Audit, Finding};
 
 /// Whether the corrected record stands: the rules allow each of its events, and no racks are ruled out.
 pub fn is_corrected(audit: &Audit) -> bool

@@ -6,8 +6,8 @@ ghost use Rattle.audit_lines.specs.Told.{stop_by, stop_of, right_total};
 ghost use Rattle.audit_lines.specs.Numbers.{score_on, sum_on, told_number, told_numbers};
 
 use call_stages::GameFault;
-use engine::{Audit, Finding};
 use game_board::place_of_line;
+use game_case::{Audit, Finding};
 use game_sheets::WrongNumber;
 use gcg_read::{Event, Seat};
 use std::alloc::{AllocError, Global};

@@ -24,7 +24,7 @@ mod rules_sources;
 mod transfers;
 mod verdicts;
 
-pub use deal_search::Earlier;
+pub use deal_cuts::Earlier;
 pub use decisions::Decision;
 pub use doors::ask;
 pub use faults::RunFault;

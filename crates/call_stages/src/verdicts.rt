@@ -1,5 +1,5 @@
 //! What the referee answers.
-use deal_search::Earlier;
+use deal_cuts::Earlier;
 use game_turns::RuleFault;
 use ref_tiles::Kind;
 

@@ -3,7 +3,7 @@ use Rattle.std.proofs.Common.{◌≡◌, ℕ, Bool, List, [], ◌∷◌, refl, s
 use Rattle.ref_tiles.specs.declared.rulebook.Rules.{Rules}
 use Rattle.gcg_read.specs.declared.events.Event.{Event}
 use Rattle.game_turns.specs.Places.{AreAllowed}
-use Rattle.engine.specs.declared.findings.Finding.TheVariants as finding
+use Rattle.game_case.specs.declared.findings.Finding.TheVariants as finding
 use Rattle.event_facts.specs.declared.facts.Fact.{Fact}
 use Rattle.event_facts.specs.declared.facts.Fact.TheVariants as fact
 use Rattle.event_facts.specs.Wholes.{AddsNotes}

@@ -5,9 +5,9 @@ use Rattle.ref_tiles.specs.declared.rulebook.Rules.{Rules}
 use Rattle.gcg_read.specs.declared.events.Event.{Event}
 use Rattle.game_board.specs.Places.{is_from, place_of_line}
 use Rattle.case_openings.specs.Openings.{place_of_fault}
-use Rattle.engine.specs.declared.entries.Entry.{Entry}
-use Rattle.engine.specs.declared.findings.Finding.{Finding}
-use Rattle.engine.specs.declared.findings.Finding.TheVariants as finding
+use Rattle.game_case.specs.declared.entries.Entry.{Entry}
+use Rattle.game_case.specs.declared.findings.Finding.{Finding}
+use Rattle.game_case.specs.declared.findings.Finding.TheVariants as finding
 use Rattle.explanations.specs.declared.explaining.Explanation.{Explanation}
 use Rattle.explanations.specs.Explaining.{ExplainsEvent}
 use Rattle.case_explanations.specs.Explaining.{AreWholeFacts, Explains, IsExplanationAt}

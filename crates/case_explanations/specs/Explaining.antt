@@ -5,9 +5,9 @@ use Rattle.gcg_read.specs.declared.events.Event.{Event}
 use Rattle.game_turns.specs.Places.{AreAllowed}
 use Rattle.game_board.specs.Places.{place_of_line}
 use Rattle.case_openings.specs.Openings.{place_of_fault}
-use Rattle.engine.specs.declared.entries.Entry.{Entry}
-use Rattle.engine.specs.declared.findings.Finding.{Finding}
-use Rattle.engine.specs.declared.findings.Finding.TheVariants as finding
+use Rattle.game_case.specs.declared.entries.Entry.{Entry}
+use Rattle.game_case.specs.declared.findings.Finding.{Finding}
+use Rattle.game_case.specs.declared.findings.Finding.TheVariants as finding
 use Rattle.event_facts.specs.declared.facts.Fact.{Fact}
 use Rattle.event_facts.specs.declared.facts.Fact.TheVariants as fact
 use Rattle.event_facts.specs.Wholes.{AreNotes}

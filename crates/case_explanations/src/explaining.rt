@@ -4,11 +4,12 @@ ghost use Rattle.game_rows.specs.Walks.{IsWalkOf};
 ghost use Rattle.explanations.specs.Explaining.{ExplainsEvent};
 ghost use Rattle.case_explanations.specs.Explaining.{GoOnWithNotes, AreWholeFacts, IsExplanation};
 
+use call_stages::GameFault;
 use case_openings::place_of_fault;
-use engine::{Entry, Finding, GameFault};
 use event_facts::{Fact, push_notes};
 use explanations::{Explanation, explain_event, passed_by};
 use game_board::place_of_line;
+use game_case::{Entry, Finding};
 use game_rows::Walk;
 use gcg_read::Record;
 use lex_list::WordList;

@@ -1,12 +1,12 @@
 //! The object of what explains a case.
 ghost use Rattle.game_rows.specs.Walks.{IsWalkOf};
-ghost use Rattle.engine.specs.Explaining.{HasItsWalk};
+ghost use Rattle.game_case.specs.Explaining.{HasItsWalk};
 
 use answer_json::push_bad_record;
 use case_explanations::explain;
-use engine::{Case, Entry, Finding, case_verdict};
 use explanation_json::{push_explained, push_no_game};
 use explanations::Explanation;
+use game_case::{Case, Entry, Finding, case_verdict};
 use game_facts::line_of;
 use game_rows::Walk;
 use gcg_read::Record;

@@ -4,10 +4,10 @@ use Rattle.gcg_read.specs.declared.events.Event.{Event}
 use Rattle.gcg_read.specs.declared.faults.ReadFault.{ReadFault}
 use Rattle.game_board.specs.Places.{place_of_line}
 use Rattle.game_facts.specs.Lines.{line_of}
-use Rattle.engine.specs.declared.entries.Entry.{Entry}
-use Rattle.engine.specs.declared.findings.Finding.{Finding}
-use Rattle.engine.specs.declared.findings.Finding.TheVariants as finding
-use Rattle.engine.specs.Explaining.{case_line}
+use Rattle.game_case.specs.declared.entries.Entry.{Entry}
+use Rattle.game_case.specs.declared.findings.Finding.{Finding}
+use Rattle.game_case.specs.declared.findings.Finding.TheVariants as finding
+use Rattle.game_case.specs.Explaining.{case_line}
 use Rattle.call_stages.specs.Reports.{bad_line_line}
 
 -- line NUMBER: BYTES, if there is such a line

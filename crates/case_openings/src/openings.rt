@@ -1,12 +1,12 @@
 //! How an explanation begins.
 ghost use Rattle.std.specs.Prelude.{◌≡◌, ◌++◌, OnOk};
-ghost use Rattle.engine.specs.Explaining.{case_line};
+ghost use Rattle.game_case.specs.Explaining.{case_line};
 ghost use Rattle.call_stages.specs.Reports.{bad_line_line};
 ghost use Rattle.case_openings.specs.Openings.{place_shown, place_of_fault, record_opening, opening};
 
 use crate::lines::push_line;
-use engine::{Case, Entry, Finding, case_line};
 use game_board::place_of_line;
+use game_case::{Case, Entry, Finding, case_line};
 use gcg_read::Event;
 use std::alloc::{AllocError, Global};
 

@@ -6,8 +6,8 @@ use Rattle.call_stages.specs.declared.verdicts.Verdict.{Verdict}
 use Rattle.call_stages.specs.declared.verdicts.Verdict.TheVariants as verdict
 use Rattle.call_stages.specs.Reading.{ReadsNoMore, ReadsNext}
 use Rattle.call_stages.specs.Telling.{IsTold}
-use Rattle.engine.specs.declared.explains.Case.{Case}
-use Rattle.engine.specs.Explaining.{IsCaseOf}
+use Rattle.game_case.specs.declared.explains.Case.{Case}
+use Rattle.game_case.specs.Explaining.{IsCaseOf}
 
 -- the case of the record is given, and the text may not be a record
 abbrev pub IsCaseTold : {T : Type 0} → Rules → (list : List (List ℕ)) → Result T Decision → (texts : List (List ℕ)) → Verdict → List ℕ → Type 0

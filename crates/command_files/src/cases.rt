@@ -1,6 +1,5 @@
 //! Records that have no game.
-
-use engine::{Case, Finding};
+use game_case::{Case, Finding};
 
 /// The answer about a record without an event.
 pub const NO_GAME: &[u8] = b"no game\n";

@@ -1,10 +1,10 @@
 //! The files of a call: how they are opened and written, and what is said of the one that failed.
 
 use crate::sources::{Words, seen_words, shown};
+use call_stages::{RunFault, Verdict};
 use command_line::STANDARD_OUTPUT_NAME;
 use devices::{FromRead, FromWrite, write_whole};
 use either::Either;
-use engine::{RunFault, Verdict};
 use exit_statuses::Trouble;
 use std::io::{Printer, Read, Write};
 use std::rt::{Files, Runtime};

@@ -7,10 +7,10 @@ use crate::files::{
 };
 use crate::sources::{Seen, Source, Words, open_words, seen_words, shown};
 use crate::telling::give_hint;
+use call_stages::{Decision, Given, RulesInput, RulesSource};
 use command_line::{PairFiles, STANDARD_OUTPUT_NAME, WordsFile};
 use devices::{FromRead, FromWrite, Input, write_whole};
 use digesting::Digesting;
-use engine::{Decision, Given, RulesInput, RulesSource};
 use exit_statuses::{Exit, Trouble};
 use hints::Known;
 use ref_tiles::{MAX_RULES_BYTES, english_rules};

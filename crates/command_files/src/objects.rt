@@ -3,7 +3,7 @@
 use crate::inputs::write;
 use crate::sources::shown;
 use answer_json::{push_refusal, push_trouble};
-use engine::Decision;
+use call_stages::Decision;
 use exit_statuses::{Exit, Trouble};
 use std::alloc::{AllocError, Global};
 use std::rt::Runtime;

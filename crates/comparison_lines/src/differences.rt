@@ -2,7 +2,7 @@
 
 use crate::counting::{before_pair, pair_at};
 use crate::written::{event_at, push_numbers, push_pair};
-use engine::{GameFault, fault_text};
+use call_stages::{GameFault, fault_text};
 use sentence_parts::{Part, say};
 use sheet_alignments::{MOST_ITEMS, Pair, Side, chosen_side};
 use sheet_comparisons::{Best, Sheets, Stopped, Trial};

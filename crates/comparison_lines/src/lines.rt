@@ -3,7 +3,7 @@
 use crate::counting::before_pair;
 use crate::differences::{push_difference, push_scores, push_stop};
 use crate::repaired::push_repaired;
-use engine::{Finding, finding_line};
+use game_case::{Finding, finding_line};
 use repaired_choices::RepairedChoices;
 use sentence_parts::{Part, say};
 use sheet_alignments::{MOST_ITEMS, Side, chosen_side, many_choices, many_items};

@@ -3,7 +3,7 @@
 use crate::counting::pair_at;
 use crate::lines::push_name;
 use crate::written::event_at;
-use engine::{Finding, finding_line};
+use game_case::{Finding, finding_line};
 use gcg_read::Event;
 use record_repairs::Repair;
 use repair_lines::push_change;

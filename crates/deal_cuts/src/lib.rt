@@ -6,6 +6,7 @@
 #![tactic(auto)]
 
 mod cuts;
+mod earlier;
 mod flows;
 mod laws;
 mod ruling;
@@ -13,5 +14,6 @@ mod splits;
 mod told;
 
 pub use cuts::{Cut, Places};
+pub use earlier::Earlier;
 pub use laws::law_of_fronts;
 pub use ruling::rules_out;

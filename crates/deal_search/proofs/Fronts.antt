@@ -6,7 +6,7 @@ use Rattle.deal_steps.specs.declared.steps.Step.{Step}
 use Rattle.deal_cuts.specs.Cutting.{HasNoDeal}
 use Rattle.deal_steps.specs.declared.deals.Held.{Held}
 use Rattle.deal_steps.specs.Fitting.{Fits}
-use Rattle.deal_search.specs.declared.settling.Earlier.TheVariants as known
+use Rattle.deal_cuts.specs.declared.earlier.Earlier.TheVariants as known
 use Rattle.deal_search.specs.Settling.{EndsDeals, IsKnownOf}
 
 pub ends_in_front : (rules : Rules) (steps front : List Step) (m n : ℕ) → front ≡ take m steps → EndsDeals rules front n → EndsDeals rules steps n

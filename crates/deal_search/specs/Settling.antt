@@ -5,8 +5,8 @@ use Rattle.deal_steps.specs.declared.deals.Held.{Held}
 use Rattle.deal_steps.specs.declared.steps.Step.{Step}
 use Rattle.deal_steps.specs.Fitting.{Fits}
 use Rattle.deal_cuts.specs.Cutting.{HasNoDeal}
-use Rattle.deal_search.specs.declared.settling.Earlier.{Earlier}
-use Rattle.deal_search.specs.declared.settling.Earlier.TheVariants as known
+use Rattle.deal_cuts.specs.declared.earlier.Earlier.{Earlier}
+use Rattle.deal_cuts.specs.declared.earlier.Earlier.TheVariants as known
 use Rattle.deal_search.specs.declared.settling.Settling.{Settling}
 use Rattle.deal_search.specs.declared.settling.Settling.TheVariants as settling
 

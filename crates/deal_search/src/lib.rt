@@ -17,4 +17,4 @@ mod picking;
 mod piles;
 mod settling;
 
-pub use settling::{Earlier, Settling, settle, settle_within};
+pub use settling::{Settling, settle, settle_within};

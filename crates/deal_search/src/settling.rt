@@ -1,25 +1,16 @@
 //! Whether racks fit the steps of a game.
 ghost use Rattle.std.specs.Prelude.{◌≡◌, ◌+◌, ◌<◌, ◌≤◌, ◌==◌, true, length, vec_len, IfOk, OnOk, if◌then◌else◌};
-ghost use Rattle.deal_search.specs.declared.settling.Earlier.TheVariants as known;
+ghost use Rattle.deal_cuts.specs.declared.earlier.Earlier.TheVariants as known;
 ghost use Rattle.deal_search.specs.declared.settling.Settling.TheVariants as settling;
 ghost use Rattle.deal_search.specs.Settling.{EndsDeals, IsKnownOf, IsSettled};
 
 use crate::handing::deal_of;
 use crate::mending::{Mended, mend};
 use crate::nets::Net;
-use deal_cuts::{Cut, rules_out};
+use deal_cuts::{Cut, Earlier, rules_out};
 use deal_steps::{Deal, Step, fits};
 use ref_tiles::Rules;
 use std::alloc::{AllocError, Global};
-
-/// What is known about the steps without a deal except the last of them.
-#[derive(Clone, Copy, Debug, PartialEq, Eq)]
-pub enum Earlier {
-    /// Some racks fit them.
-    Dealt,
-    /// Nothing: they were not tried, or neither a deal nor a cut was found for them within the budget.
-    Unsettled,
-}
 
 /// What is known about the deals of a game.
 #[derive(Debug, Drop)]

@@ -1,68 +1,21 @@
--- What is found of the game of a record, without a report.
-use Rattle.std.proofs.Common.{◌≡◌, ℕ, ◌+◌, Bool, List, [], slice_get, Some, ap, sym, ◌∙◌, subst}
+-- What a finding means for the game of a record.
+use Rattle.std.proofs.Common.{◌≡◌, ℕ, ◌+◌, Bool, List, ap, sym, ◌∙◌}
 use Rattle.ref_tiles.specs.declared.rulebook.Rules.{Rules}
-use Rattle.gcg_read.specs.declared.events.Event.{Event}
 use Rattle.gcg_read.specs.declared.records.Record.{Record}
-use Rattle.game_turns.specs.declared.passed.Passed.{Passed}
-use Rattle.game_turns.specs.declared.faults.RuleFault.{RuleFault}
-use Rattle.game_turns.specs.Passing.{rules_in, record_in}
-use Rattle.game_turns.specs.Places.{AreAllowed, IsFirstRefusal, is_finished}
-use Rattle.deal_steps.specs.declared.faults.DealBound.{DealBound}
-use Rattle.deal_steps.specs.declared.faults.DealBound.TheVariants as deal
+use Rattle.game_turns.specs.Places.{is_finished}
+use Rattle.game_turns.proofs.PlaceLaws.{first_not_allowed}
 use Rattle.deal_cuts.specs.Laws.{FrontsDecide}
-use Rattle.deal_search.specs.declared.settling.Earlier.{Earlier}
-use Rattle.game_deal.specs.Laws.{FittingIsBounded}
 use Rattle.game_deal.specs.Recorded.{steps_of}
-use Rattle.engine.specs.declared.findings.Finding.{Finding}
-use Rattle.engine.specs.declared.findings.Finding.TheVariants as finding
-use Rattle.engine.specs.declared.racks.RackFinding.TheVariants as rack
+use Rattle.game_deal.specs.Verdicts.{IsGame}
 use Rattle.call_stages.specs.declared.verdicts.GameFault.{GameFault}
 use Rattle.call_stages.specs.declared.verdicts.GameFault.TheVariants as game
 use Rattle.call_stages.specs.declared.verdicts.Verdict.TheVariants as verdict
+use Rattle.game_case.specs.declared.findings.Finding.{Finding}
+use Rattle.game_case.specs.declared.findings.Finding.TheVariants as finding
+use Rattle.game_case.specs.Archiving.{HasEvents, IsFinding, IsFaulty}
 use Rattle.engine.specs.Judging.{IsJudged}
-use Rattle.engine.specs.Archiving.{past_bound, HasEvents, IsFinding, IsFaulty, FindingsDecide}
-use Rattle.engine.specs.Racks.{AreFound}
-use Rattle.engine.specs.Verdicts.{IsGame}
-use Rattle.engine.proofs.Deals.{exceeds}
-use Rattle.engine.proofs.Headlines.{legal_answer, game_of, same_complete, first_not_allowed}
-use Rattle.engine.proofs.Settled.{ends_on, left_open}
-
--- ---- what is found of racks
-
-pub by_deal : (passed : Passed) (words : List (List ℕ)) (complete : Bool) → HasEvents (record_in passed) → AreAllowed (rules_in passed) words (record_in passed).events
-    → AreFound passed rack.Dealt → complete ≡ is_finished (rules_in passed) (record_in passed).events → IsFinding (rules_in passed) words (record_in passed) (finding.Legal complete)
-by_deal passed words complete has allowed deal is = (has, record { allowed = allowed; racks = deal.racks; dealt = deal.fits }, is)
-
-past_of : FittingIsBounded → (passed : Passed) (words : List (List ℕ)) (bound : DealBound) → HasEvents (record_in passed) → AreAllowed (rules_in passed) words (record_in passed).events
-    → AreFound passed (rack.PastBound bound) → IsFinding (rules_in passed) words (record_in passed) (past_bound bound)
-past_of law passed words (deal.RackTooBig line) has allowed found = (has, exceeds law (rules_in passed) words (record_in passed).events (deal.RackTooBig line) allowed found)
-past_of law passed words (deal.TilesShort line kind) has allowed found = (has, exceeds law (rules_in passed) words (record_in passed).events (deal.TilesShort line kind) allowed found)
-
-pub past : FittingIsBounded → (passed : Passed) (words : List (List ℕ)) (bound : DealBound) (f : Finding) → HasEvents (record_in passed) → AreAllowed (rules_in passed) words (record_in passed).events
-    → AreFound passed (rack.PastBound bound) → f ≡ past_bound bound → IsFinding (rules_in passed) words (record_in passed) f
-past law passed words bound f has allowed found is = subst (λ (g : Finding). IsFinding (rules_in passed) words (record_in passed) g) (sym is) (past_of law passed words bound has allowed found)
-
-pub out : (passed : Passed) (words : List (List ℕ)) (line : ℕ) (earlier : Earlier) → HasEvents (record_in passed) → AreAllowed (rules_in passed) words (record_in passed).events
-    → AreFound passed (rack.NoDeal line earlier) → IsFinding (rules_in passed) words (record_in passed) (finding.Illegal line (game.NoDeal earlier))
-out passed words line earlier has allowed found = (has, ends_on passed words line earlier allowed found)
-
-pub unknown : (passed : Passed) (words : List (List ℕ)) → HasEvents (record_in passed) → AreAllowed (rules_in passed) words (record_in passed).events → AreFound passed rack.Unknown
-    → IsFinding (rules_in passed) words (record_in passed) finding.Unsettled
-unknown passed words has allowed found = (has, left_open passed words allowed found)
-
--- ---- refusals
-
--- if there is an event, there are events
-has_events : (r : Record) (place : ℕ) (event : Event) → slice_get r.events place ≡ Some event → HasEvents r
-has_events r place event stands = λ none. let both : slice_get [] place ≡ Some event = subst (λ (events : List Event). slice_get events place ≡ Some event) none stands in cc
-
-pub refused : (rules : Rules) (words : List (List ℕ)) (r : Record) (line : ℕ) (why : RuleFault) (f : Finding) → IsFirstRefusal rules words r.events line why
-    → f ≡ finding.Illegal line (game.Rule why) → IsFinding rules words r f
-refused rules words r line why f first is =
-    subst (λ (g : Finding). IsFinding rules words r g) (sym is) (has_events r first.place first.event first.stands, first)
-
-pub not_allowed : (rules : Rules) (words : List (List ℕ)) (r : Record) (line : ℕ) (why : RuleFault) → IsFirstRefusal rules words r.events line why → AreAllowed rules words r.events → ⊥
-not_allowed rules words r line why first allowed = first_not_allowed rules words r.events line why first allowed
+use Rattle.engine.specs.Findings.{FindingsDecide}
+use Rattle.engine.proofs.Headlines.{legal_answer, game_of, same_complete}
 
 faulty_no_game : FrontsDecide → (rules : Rules) (words : List (List ℕ)) (r : Record) (line : ℕ) (fault : GameFault) → IsFaulty rules words r.events line fault → IsGame rules words r.events → ⊥
 faulty_no_game fronts rules words r line (game.Rule why) is there = first_not_allowed rules words r.events line why is there.allowed

@@ -2,7 +2,6 @@
 use Rattle.std.proofs.Common.{◌≡◌, ◌+◌, ◌≢◌, IfOk, ◌<◌, ◌≤◌, ℕ, pos, Bool, true, false, List, [], ◌∷◌, ◌++◌, length, refl, ap, subst, sym, ◌∙◌, arith, ◌⊎◌, inl, inr, ⊎_elim, Option, Some, None, Result, Ok, Err, if◌then◌else◌}
 use Rattle.std.specs.Prelude.{codes, nat_lt, slice_index_or}
 use Rattle.std.specs.Fmt.{signed_decimal}
-use Rattle.std.specs.Option.{IsSomeAnd}
 use Rattle.std.proofs.lemmas.Option.{slice_get_within}
 use Rattle.ref_tiles.specs.declared.tiles.Tile.{Tile}
 use Rattle.ref_tiles.specs.declared.rulebook.Rules.{Rules}
@@ -25,9 +24,7 @@ use Rattle.devices.specs.Devices.{Device}
 use Rattle.std.specs.Io.KnownBytes.{Appends}
 use Rattle.deal_steps.specs.declared.faults.DealBound.{DealBound}
 use Rattle.deal_steps.specs.declared.faults.DealBound.TheVariants as deal
-use Rattle.game_turns.specs.declared.faults.RuleFault.{RuleFault}
-use Rattle.game_turns.specs.Places.{AreAllowed, IsFirstRefusal, fault_at, is_finished}
-use Rattle.gcg_read.specs.declared.events.Event.{Event}
+use Rattle.game_turns.specs.Places.{is_finished}
 use Rattle.game_deal.specs.Plain.{HaveNoExchange}
 use Rattle.game_turns.specs.Tallies.{tally_at}
 use Rattle.call_stages.specs.declared.faults.RunFault.{RunFault}
@@ -46,15 +43,12 @@ use Rattle.deal_cuts.specs.Laws.{FrontsDecide}
 use Rattle.engine.specs.Settling.{IsSettledLegal, IsUndealt, IsSettled, IsSettledBy, SettledLegalMeansLegal, SettledIllegalMeansNoGame}
 use Rattle.call_stages.specs.Sources.{Source, AreGiven}
 use Rattle.call_stages.specs.Telling.{IsOwn}
-use Rattle.engine.specs.Verdicts.{IsGame}
+use Rattle.game_deal.specs.Verdicts.{IsGame}
 use Rattle.engine.specs.Headlines.{Texts, in_order, IsBestPrinted, IsLegalGame, IsLegalRun, LegalMeansLegal, LegalMeansLegalByText, IllegalMeansNoGame, PlainGamesAreDecided}
 use Rattle.engine.specs.JudgingLaws.{legal_own}
+use Rattle.game_deal.proofs.FoundRacks.{some_of}
+use Rattle.game_turns.proofs.PlaceLaws.{first_not_allowed}
 use Rattle.engine.specs.VerdictLaws.{illegal_own}
-
--- a value for which something holds
-pub some_of : {T : Type 0} (o : Option T) (P : T → Type 0) → IsSomeAnd o P → (x : T) × P x
-some_of None P h = absurd h
-some_of (Some x) P h = (x, h)
 
 -- a file without a fault has the shape of a lexicon
 shape_by : (b : Bool) (rest : Option FileFault) → (if b then Some form.Length else rest) ≡ None → rest ≡ None
@@ -286,12 +280,6 @@ settled_run law rules first second third old new result run =
 
 legal_never : (rules : Rules) (words : List (List ℕ)) (r : Record) (line : ℕ) (fault : GameFault) (report : List ℕ) → IsLegal rules words r (verdict.Illegal line fault) report → ⊥
 legal_never rules words r line fault report legal = let both = legal.told.verdict_is in cc
-
-pub first_not_allowed : (rules : Rules) (words : List (List ℕ)) (events : List Event) (line : ℕ) (why : RuleFault) → IsFirstRefusal rules words events line why → AreAllowed rules words events → ⊥
-first_not_allowed rules words events line why first allowed =
-    let none : fault_at rules words events first.place ≡ None = allowed first.place (slice_get_within events first.place first.event first.stands) in
-    let both : None ≡ Some why = sym none ∙ first.fails in
-    cc
 
 refused_no_game : (rules : Rules) (words : List (List ℕ)) (r : Record) (v : Verdict) (report : List ℕ) → IsRefused rules words r v report → IsGame rules words r.events → ⊥
 refused_no_game rules words r v report refused game = first_not_allowed rules words r.events refused.line refused.why refused.first game.allowed

@@ -1,4 +1,3 @@
-pub mod Deals
 pub mod Headlines
 pub mod Settled
 pub mod StayingLegal
@@ -7,5 +6,3 @@ pub mod BuiltFiles
 pub mod ConvertedFiles
 pub mod Toppings
 pub mod ShownBoards
-pub mod AuditedRecords
-pub mod WalkedRecords

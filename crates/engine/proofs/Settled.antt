@@ -1,22 +1,16 @@
 -- Verdicts on records, by what is found of their racks.
-use Rattle.std.proofs.Common.{◌≡◌, ℕ, Bool, true, false, List, Option, Some, IfSome, IsTrue, ◌↔◌, sym, subst, ◌∙◌, inl, inr}
+use Rattle.std.proofs.Common.{◌≡◌, ℕ, List, Some, inl, inr}
 use Rattle.ref_tiles.specs.declared.rulebook.Rules.{Rules}
 use Rattle.gcg_read.specs.declared.records.Record.{Record}
 use Rattle.game_turns.specs.declared.faults.RuleFault.{RuleFault}
 use Rattle.game_turns.specs.declared.passed.Passed.{Passed}
 use Rattle.game_turns.specs.Passing.{rules_in, record_in}
 use Rattle.game_turns.specs.Places.{AreAllowed, IsFirstRefusal}
-use Rattle.deal_steps.specs.declared.deals.Held.{Held}
 use Rattle.deal_steps.specs.declared.faults.DealBound.{DealBound}
 use Rattle.deal_steps.specs.Bounds.{first_bound}
-use Rattle.deal_steps.specs.Fitting.{Fits}
 use Rattle.deal_completion.specs.Completion.{dealt}
-use Rattle.deal_search.specs.declared.settling.Earlier.{Earlier}
-use Rattle.game_deal.specs.declared.faults.DealFault.{DealFault}
-use Rattle.game_deal.specs.Bounded.{bound_in, IsBounded, FitsRecord}
-use Rattle.game_deal.specs.Faulty.{bound_told, IsFaultOf}
+use Rattle.deal_cuts.specs.declared.earlier.Earlier.{Earlier}
 use Rattle.game_deal.specs.Laws.{FittingIsBounded}
-use Rattle.game_deal.specs.Plain.{HaveNoExchange}
 use Rattle.game_deal.specs.Recorded.{steps_of}
 use Rattle.engine.specs.declared.judging.Judging.{Judging}
 use Rattle.engine.specs.declared.judging.Judging.TheVariants as judging
@@ -27,59 +21,11 @@ use Rattle.engine.specs.Judging.{IsToldBound, IsToldLegal, IsPastBound, IsJudged
 use Rattle.call_stages.specs.Reports.{illegal_line, unsettled_line}
 use Rattle.engine.specs.Settling.{IsSettled, IsJudgedBy}
 use Rattle.call_stages.specs.Telling.{IsTold}
-use Rattle.engine.specs.Racks.{IsUndealtByRule, AreTried, AreFound}
-use Rattle.engine.specs.declared.racks.RackFinding.TheVariants as rack
-use Rattle.engine.specs.declared.racks.RackTrial.TheVariants as trial
-use Rattle.engine.specs.Verdicts.{IsDealt, IsUnsettled, HasNoDealBy}
-use Rattle.engine.proofs.Deals.{exceeds}
-use Rattle.engine.proofs.Headlines.{some_of}
-
--- ---- what is found of racks
-
-pub ends_on : (passed : Passed) (words : List (List ℕ)) (line : ℕ) (earlier : Earlier) → AreAllowed (rules_in passed) words (record_in passed).events → AreFound passed (rack.NoDeal line earlier)
-    → HasNoDealBy (rules_in passed) words (record_in passed).events line earlier
-ends_on passed words line earlier allowed found =
-    record {
-      allowed = allowed;
-      bounded = found.0;
-      place = found.1.place;
-      event = found.1.event;
-      stands = found.1.stands;
-      on_line = found.1.on_line;
-      undealt = found.1.undealt;
-      known = found.1.known;
-    }
-
-pub left_open : (passed : Passed) (words : List (List ℕ)) → AreAllowed (rules_in passed) words (record_in passed).events → IsUndealtByRule passed
-    → IsUnsettled (rules_in passed) words (record_in passed).events
-left_open passed words allowed left = record { allowed = allowed; bounded = left.bounded; undealt = left.undealt; exchanged = left.exchanged }
-
--- ---- the deal of the rule, and the search
-
-pub tried_dealt : (passed : Passed) (b : Bool) → b ≡ true → IsTrue b ↔ IsDealt (rules_in passed) (record_in passed).events → AreTried passed trial.Dealt
-tried_dealt passed b holds same = same.0 holds
-
-pub tried_open : (passed : Passed) (b : Bool) → IsBounded passed → b ≡ false → IsTrue b ↔ IsDealt (rules_in passed) (record_in passed).events
-    → (HaveNoExchange (record_in passed).events → IsTrue b) → AreTried passed trial.Open
-tried_open passed b bounded fails same plain =
-    record {
-      bounded = bounded;
-      undealt = λ is. let both : false ≡ true = sym fails ∙ same.1 is in cc;
-      exchanged = λ none. let both : false ≡ true = sym fails ∙ plain none in cc;
-    }
-
--- a fault gives the first bound that is exceeded, which both a trial and a finding give
-pub tried_past : (passed : Passed) (why : DealFault) (bound : DealBound) → IsFaultOf passed why → bound_told why ≡ Some bound → bound_in passed ≡ Some bound
-tried_past passed why bound fault told = subst (λ (o : Option DealBound). IfSome o (λ b. bound_in passed ≡ Some b)) told fault
-
--- if the deal of the rule fits, some deal does
-pub dealt_found : (passed : Passed) → AreTried passed trial.Dealt → AreFound passed rack.Dealt
-dealt_found passed is =
-    let deal = some_of (dealt (rules_in passed) (steps_of (rules_in passed) (record_in passed).events)) (Fits (rules_in passed) (steps_of (rules_in passed) (record_in passed).events)) is in
-    record { racks = deal.0; fits = deal.1 }
-
-pub found_deal : (passed : Passed) (racks : List Held) → FitsRecord passed racks → AreFound passed rack.Dealt
-found_deal passed racks fits = record { racks = racks; fits = fits }
+use Rattle.game_deal.specs.Racks.{AreTried, AreFound}
+use Rattle.game_deal.specs.declared.racks.RackFinding.TheVariants as rack
+use Rattle.game_deal.specs.declared.racks.RackTrial.TheVariants as trial
+use Rattle.game_deal.proofs.Deals.{exceeds}
+use Rattle.game_deal.proofs.FoundRacks.{ends_on, left_open}
 
 -- ---- verdicts
 

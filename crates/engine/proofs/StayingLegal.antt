@@ -8,7 +8,8 @@ use Rattle.call_stages.specs.declared.verdicts.Verdict.{Verdict}
 use Rattle.call_stages.specs.declared.verdicts.Verdict.TheVariants as verdict
 use Rattle.engine.specs.Judging.{IsLegal, IsRefused, IsPastBound, IsLeftOpen}
 use Rattle.engine.specs.Settling.{IsSettledLegal, IsUndealt, IsSettled, LegalStaysLegal}
-use Rattle.engine.proofs.Headlines.{legal_answer, game_of, first_not_allowed}
+use Rattle.engine.proofs.Headlines.{legal_answer, game_of}
+use Rattle.game_turns.proofs.PlaceLaws.{first_not_allowed}
 
 settled_as : FrontsDecide → (rules : Rules) (words : List (List ℕ)) (r : Record) (complete : Bool) (report : List ℕ) → IsLegal rules words r (verdict.Legal complete) report
     → (v : Verdict) (settled : List ℕ) → IsSettled rules words r v settled → v ≡ verdict.Legal complete

@@ -31,7 +31,7 @@ use Rattle.engine.specs.Judging.{IsDecided, IsDecidedByText}
 use Rattle.call_stages.specs.Lexicons.{IsLexicon}
 use Rattle.call_stages.specs.Reports.{legal_line}
 use Rattle.call_stages.specs.Sources.{Source, AreGiven}
-use Rattle.engine.specs.Verdicts.{IsGame}
+use Rattle.game_deal.specs.Verdicts.{IsGame}
 
 -- What is printed for a full rack: a play that is legal, with words of the list and tiles of the rack, and that no such
 -- play outscores; or that there is no such play.

@@ -13,7 +13,7 @@ use Rattle.call_stages.specs.Reading.{ReadsNoMore, ReadsList, ReadsLexicon, Read
 use Rattle.call_stages.specs.Reports.{illegal_line, unsettled_line}
 use Rattle.engine.specs.LegalReports.{IsLegalReport}
 use Rattle.call_stages.specs.Telling.{IsTold}
-use Rattle.engine.specs.Verdicts.{IsDealt, Exceeds, IsUnsettled}
+use Rattle.game_deal.specs.Verdicts.{IsDealt, Exceeds, IsUnsettled}
 
 -- the report of a legal game: the verdict says whether it has ended, and the report has a line for each event
 pub record IsToldLegal (rules : Rules) (words : List (List ℕ)) (r : Record) (v : Verdict) (report : List ℕ) : Type 0 where

@@ -1,6 +1,4 @@
 pub mod LegalReports
-pub mod Verdicts
-pub mod Racks
 pub mod Judging
 pub mod Topping
 pub mod Tidying
@@ -15,7 +13,4 @@ pub mod VerdictLaws
 pub mod JudgingLaws
 pub mod BestPlayLaws
 pub mod TurnPlayLaws
-pub mod Archiving
-pub mod WalkedEntries
-pub mod Auditing
-pub mod Explaining
+pub mod Findings

@@ -2,7 +2,7 @@
 use Rattle.std.specs.Prelude.{◌≡◌, ◌⊎◌, ℕ, Bool, List}
 use Rattle.ref_tiles.specs.declared.rulebook.Rules.{Rules}
 use Rattle.gcg_read.specs.declared.records.Record.{Record}
-use Rattle.deal_search.specs.declared.settling.Earlier.{Earlier}
+use Rattle.deal_cuts.specs.declared.earlier.Earlier.{Earlier}
 use Rattle.engine.specs.declared.judging.Judging.{Judging}
 use Rattle.engine.specs.declared.judging.Judging.TheVariants as judging
 use Rattle.call_stages.specs.declared.verdicts.GameFault.TheVariants as game
@@ -13,7 +13,7 @@ use Rattle.engine.specs.Judging.{IsToldLegal, IsRefused, IsPastBound, IsLeftOpen
 use Rattle.call_stages.specs.Reading.{ReadsNoMore, ReadsList, ReadsLexicon, ReadsRecord, ReadsRules}
 use Rattle.call_stages.specs.Reports.{illegal_line}
 use Rattle.call_stages.specs.Telling.{IsTold}
-use Rattle.engine.specs.Verdicts.{IsGame, HasNoDealBy}
+use Rattle.game_deal.specs.Verdicts.{IsGame, HasNoDealBy}
 
 -- the record is a game, and the report is that of a legal game
 pub record IsSettledLegal (rules : Rules) (words : List (List ℕ)) (r : Record) (v : Verdict) (report : List ℕ) : Type 0 where

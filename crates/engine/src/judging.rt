@@ -8,11 +8,10 @@ ghost use Rattle.call_stages.specs.Telling.{IsTold};
 ghost use Rattle.call_stages.specs.Reports as reports;
 
 use crate::legal_reports::legal_report;
-use crate::racks::{RackFinding, RackTrial, settle_racks, try_racks};
 use call_stages::{
     AskedGame, Decision, GameFault, GameQuestion, Verdict, illegal_line, unsettled_line,
 };
-use game_deal::{DealBound, law_of_bounds};
+use game_deal::{DealBound, RackFinding, RackTrial, law_of_bounds, settle_racks, try_racks};
 use game_turns::{Passed, play_through};
 use lex_check::Checked;
 use std::alloc::{AllocError, Global};

@@ -1,5 +1,5 @@
 //! The headline, and what conversion keeps. The functions do nothing: their contracts are the laws.
-ghost use Rattle.engine.specs.Archiving.{FindingsDecide};
+ghost use Rattle.engine.specs.Findings.{FindingsDecide};
 ghost use Rattle.engine.specs.Converting.{StaysLexicon};
 ghost use Rattle.engine.specs.Settling.{SettledLegalMeansLegal, SettledIllegalMeansNoGame, LegalStaysLegal};
 ghost use Rattle.engine.specs.Headlines.{LegalMeansLegal, LegalMeansLegalByText, IllegalMeansNoGame, PlainGamesAreDecided};

@@ -15,28 +15,21 @@
 #![tactic(auto)]
 
 mod asking;
-mod audits;
 mod best_plays;
 mod boards;
 mod building;
 mod checking;
 mod converting;
-mod entries;
-mod explains;
-mod findings;
 mod judging;
 mod laws;
 mod legal_reports;
-mod racks;
 mod running;
 mod tidying;
 mod top_before;
 mod topping;
 mod turn_plays;
-mod unlisted;
 
 pub use asking::run_question;
-pub use audits::{Audit, audit_sheet};
 pub use best_plays::BestPlays;
 pub use boards::{run_board, run_board_ruled};
 pub use building::run_build;
@@ -48,9 +41,7 @@ pub use call_stages::{
 };
 pub use checking::run_check;
 pub use converting::run_convert;
-pub use entries::{Entry, archive_entry};
-pub use explains::{Case, case_line, case_verdict, finding_line, open_case};
-pub use findings::Finding;
+pub use game_deal::{RackFinding, RackTrial, settle_racks, try_racks};
 pub use game_report::MOST_PLAYS;
 pub use game_turns::{Passed, play_through};
 pub use judging::Judging;
@@ -59,7 +50,6 @@ pub use laws::{
     law_of_plain_games, law_of_ruled_games, law_of_settled_games, law_of_undealt_games,
 };
 pub use legal_reports::legal_report;
-pub use racks::{RackFinding, RackTrial, settle_racks, try_racks};
 pub use running::{run, run_ruled, run_settled, run_settled_ruled};
 pub use tidying::run_tidy;
 pub use top_before::{run_top_before, run_top_before_ruled};

@@ -3,8 +3,8 @@ use Rattle.std.specs.Prelude.{ℕ, max, List, [], ◌∷◌}
 use Rattle.exit_statuses.specs.Exits.{status_of}
 use Rattle.exit_statuses.specs.declared.exits.Exit.{Exit}
 use Rattle.exit_statuses.specs.declared.exits.Exit.TheVariants as exit
-use Rattle.engine.specs.declared.findings.Finding.{Finding}
-use Rattle.engine.specs.declared.findings.Finding.TheVariants as finding
+use Rattle.game_case.specs.declared.findings.Finding.{Finding}
+use Rattle.game_case.specs.declared.findings.Finding.TheVariants as finding
 
 -- the exit by the finding only: a record without an event is not a game
 abbrev pub exit_of_finding : Finding → Exit

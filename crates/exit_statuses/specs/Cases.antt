@@ -6,7 +6,7 @@ use Rattle.game_board.specs.Places.{place_of_line}
 use Rattle.exit_statuses.specs.declared.exits.Exit.{Exit}
 use Rattle.exit_statuses.specs.declared.exits.Exit.TheVariants as exit
 use Rattle.exit_statuses.specs.Audits.{exit_of_finding}
-use Rattle.engine.specs.declared.entries.Entry.{Entry}
+use Rattle.game_case.specs.declared.entries.Entry.{Entry}
 
 -- whether there is an event to be explained, if a line is named
 abbrev pub exit_by : (verdict place : Exit) → Option ℕ → Exit

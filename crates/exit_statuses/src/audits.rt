@@ -4,7 +4,7 @@ ghost use Rattle.exit_statuses.specs.Audits.{exit_of_finding, exit_of_numbers, a
 ghost use Rattle.exit_statuses.specs.Exits.{status_of};
 
 use crate::exits::Exit;
-use engine::{Audit, Finding};
+use game_case::{Audit, Finding};
 use game_sheets::WrongNumber;
 
 /// The exit by the finding only: a record without an event is not a game.

@@ -4,8 +4,8 @@ ghost use Rattle.exit_statuses.specs.Cases.{exit_on, explain_exit};
 
 use crate::audits::exit_of_finding;
 use crate::exits::Exit;
-use engine::Case;
 use game_board::place_of_line;
+use game_case::Case;
 use gcg_read::Event;
 
 /// The exit of a line that is named in a record, or of its verdict.

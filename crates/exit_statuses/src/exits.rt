@@ -1,7 +1,7 @@
 //! The exit status of each verdict, and why the program could not finish.
 ghost use Rattle.std.specs.Prelude.{◌≡◌, max};
 
-use engine::{RunFault, Verdict};
+use call_stages::{RunFault, Verdict};
 use std::fmt;
 use watching::Reason;
 

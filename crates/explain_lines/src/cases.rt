@@ -1,14 +1,14 @@
 //! What explains a case.
 ghost use Rattle.std.specs.Prelude.{◌≡◌, ◌++◌, OnOk};
 ghost use Rattle.case_openings.specs.Openings.{opening, GoesOn};
-ghost use Rattle.engine.specs.Explaining.{HasItsWalk};
+ghost use Rattle.game_case.specs.Explaining.{HasItsWalk};
 
 use crate::boards::push_shown;
 use crate::facts::push_facts;
 use case_explanations::explain;
 use case_openings::push_opening;
-use engine::Case;
 use explanations::{Explanation, Picture};
+use game_case::Case;
 use gcg_read::ReadFault;
 use lex_list::WordList;
 use record_sentences::{push_missing, push_record_fault};

@@ -9,18 +9,18 @@ use Rattle.game_turns.specs.Passing.{rules_in, record_in}
 use Rattle.game_turns.specs.Places.{AreAllowed, IsFirstRefusal}
 use Rattle.deal_steps.specs.declared.faults.DealBound.{DealBound}
 use Rattle.deal_steps.specs.declared.faults.DealBound.TheVariants as deal
-use Rattle.deal_search.specs.declared.settling.Earlier.{Earlier}
+use Rattle.deal_cuts.specs.declared.earlier.Earlier.{Earlier}
 use Rattle.game_deal.specs.Laws.{FittingIsBounded}
 use Rattle.call_stages.specs.declared.verdicts.GameFault.TheVariants as game
 use Rattle.call_stages.specs.declared.verdicts.Verdict.{Verdict}
 use Rattle.call_stages.specs.declared.verdicts.Verdict.TheVariants as verdict
 use Rattle.engine.specs.declared.judging.Judging.{Judging}
 use Rattle.engine.specs.declared.judging.Judging.TheVariants as judging
-use Rattle.engine.specs.declared.racks.RackFinding.TheVariants as rack
-use Rattle.engine.specs.declared.racks.RackTrial.TheVariants as trial
+use Rattle.game_deal.specs.declared.racks.RackFinding.TheVariants as rack
+use Rattle.game_deal.specs.declared.racks.RackTrial.TheVariants as trial
 use Rattle.engine.specs.Judging.{IsToldBound, IsToldLegal}
-use Rattle.engine.specs.Racks.{AreTried, AreFound}
-use Rattle.engine.proofs.FoundGames.{not_allowed}
+use Rattle.game_deal.specs.Racks.{AreTried, AreFound}
+use Rattle.game_turns.proofs.PlaceLaws.{first_not_allowed}
 use Rattle.engine.proofs.Settled as settled
 use Rattle.game_report.specs.EventLines.{AreEventLines}
 use Rattle.game_answers.specs.declared.answers.EventAnswer.{EventAnswer}
@@ -110,7 +110,7 @@ refused_with : (question : Judging) (rules : Rules) (words : List (List ℕ)) (r
 refused_with question rules words r line why first =
     record {
       judged = settled.judged_refused question rules words r line why (refused_verdict line why) (report_by (refused_verdict line why) []) first (record { verdict_is = refl; told = refl });
-      answered = not_allowed rules words r line why first;
+      answered = first_not_allowed rules words r.events line why first;
     }
 
 pub judged_refused : (question : Judging) (rules : Rules) (words : List (List ℕ)) (r : Record) (line : ℕ) (why : RuleFault) (v : Verdict) (a : Option GameAnswers)

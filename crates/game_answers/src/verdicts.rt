@@ -7,8 +7,8 @@ ghost use Rattle.game_answers.specs.Games.{IsVerdictOn};
 ghost use Rattle.game_answers.specs.Bounds.{bound_verdict, legal_verdict};
 
 use call_stages::{GameFault, Verdict};
-use engine::{Judging, RackFinding, RackTrial, settle_racks, try_racks};
-use game_deal::{DealBound, law_of_bounds};
+use engine::Judging;
+use game_deal::{DealBound, RackFinding, RackTrial, law_of_bounds, settle_racks, try_racks};
 use game_turns::Passed;
 use lex_check::Checked;
 use std::alloc::{AllocError, Global};

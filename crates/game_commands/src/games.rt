@@ -2,6 +2,7 @@
 ghost use Rattle.std.specs.Prelude.{IfOk};
 ghost use Rattle.devices.specs.Devices.{HasRoom};
 
+use call_stages::{RulesInput, RulesSource, RunFault, Verdict};
 use command_files::{
     InputFile, Inputs, LexiconFile, RulesFile, STANDARD_OUTPUT, SheetFile, Source, UsedOutput,
     Words, advise_bad_record, advise_no_game, give_hint, open_inputs, open_rules, open_sheet,
@@ -10,11 +11,11 @@ use command_files::{
 use command_line::{GameFiles, PlaysAsked};
 use devices::{FromRead, FromWrite, Input, Output};
 use engine::{
-    MOST_PLAYS, RulesInput, RulesSource, RunFault, Verdict, run, run_board, run_board_ruled,
-    run_ruled, run_settled, run_settled_ruled, run_tidy, run_top, run_top_before,
-    run_top_before_ruled, run_top_ruled,
+    run, run_board, run_board_ruled, run_ruled, run_settled, run_settled_ruled, run_tidy, run_top,
+    run_top_before, run_top_before_ruled, run_top_ruled,
 };
 use exit_statuses::Trouble;
+use game_report::MOST_PLAYS;
 use hints::Known;
 use std::alloc::Global;
 use std::io::{self, Read};

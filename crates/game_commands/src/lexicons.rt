@@ -1,12 +1,13 @@
 //! The commands that keep the lexicon of a word list.
 
+use call_stages::{RunFault, Verdict};
 use command_files::{
     STANDARD_OUTPUT, UsedOutput, end_out, give_hint, known_words, open_lexicon, open_out,
     open_words, repeat_fault, shown, shown_out, tell_others, used, used_words, verdict_of, watched,
 };
 use command_line::{PairFiles, WordsFile};
 use devices::{FromRead, FromWrite};
-use engine::{RunFault, Verdict, run_build, run_check, run_convert};
+use engine::{run_build, run_check, run_convert};
 use exit_statuses::Trouble;
 use hints::Known;
 use lex_file::Format;

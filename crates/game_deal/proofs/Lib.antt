@@ -10,3 +10,6 @@ pub mod FitWalks
 pub mod CountedTiles
 pub mod PlainRecords
 pub mod SettledRecords
+pub mod Deals
+pub mod FoundRacks
+pub mod Outcomes

@@ -7,3 +7,5 @@ pub mod Needing
 pub mod Walking
 pub mod Settling
 pub mod Laws
+pub mod Verdicts
+pub mod Racks

@@ -4,7 +4,7 @@ use Rattle.gcg_read.specs.declared.events.Event.{Event}
 use Rattle.game_turns.specs.declared.passed.Passed.{Passed}
 use Rattle.game_turns.specs.Passing.{rules_in, record_in}
 use Rattle.deal_cuts.specs.Cutting.{HasNoDeal}
-use Rattle.deal_search.specs.declared.settling.Earlier.{Earlier}
+use Rattle.deal_cuts.specs.declared.earlier.Earlier.{Earlier}
 use Rattle.deal_search.specs.Settling.{IsKnownOf}
 use Rattle.game_deal.specs.declared.settling.Settled.{Settled}
 use Rattle.game_deal.specs.declared.settling.Settled.TheVariants as settled

@@ -7,8 +7,8 @@ ghost use Rattle.game_deal.specs.Needing.{passed_of};
 ghost use Rattle.game_deal.specs.Settling.{IsSettledOf};
 
 use crate::needs::Needs;
-use deal_cuts::Cut;
-use deal_search::{Earlier, Settling, settle as settle_steps};
+use deal_cuts::{Cut, Earlier};
+use deal_search::{Settling, settle as settle_steps};
 use deal_steps::Deal;
 use std::alloc::{AllocError, Global};
 

@@ -5,8 +5,8 @@ use Rattle.gcg_read.specs.declared.events.Event.{Event}
 use Rattle.gcg_read.specs.declared.faults.ReadFault.{ReadFault}
 use Rattle.game_rows.specs.declared.walking.Walk.{Walk}
 use Rattle.game_rows.specs.Walks.{IsWalk, IsWalkOf}
-use Rattle.engine.specs.declared.entries.Entry.{Entry}
-use Rattle.engine.specs.Explaining.{IsWalkFor}
+use Rattle.game_case.specs.declared.entries.Entry.{Entry}
+use Rattle.game_case.specs.Explaining.{IsWalkFor}
 use Rattle.record_repairs.specs.declared.repair.Repair.{Repair}
 use Rattle.game_page.specs.declared.showing.Shown.{Shown}
 use Rattle.game_page.specs.Pages.{ShowsEntry, IsShownOf}

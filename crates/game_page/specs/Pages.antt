@@ -5,9 +5,9 @@ use Rattle.gcg_read.specs.declared.events.Event.{Event}
 use Rattle.gcg_read.specs.declared.faults.ReadFault.{ReadFault}
 use Rattle.game_rows.specs.declared.walking.Walk.{Walk}
 use Rattle.game_rows.specs.Walks.{IsWalk}
-use Rattle.engine.specs.declared.entries.Entry.{Entry}
-use Rattle.engine.specs.declared.findings.Finding.{Finding}
-use Rattle.engine.specs.Explaining.{case_line}
+use Rattle.game_case.specs.declared.entries.Entry.{Entry}
+use Rattle.game_case.specs.declared.findings.Finding.{Finding}
+use Rattle.game_case.specs.Explaining.{case_line}
 use Rattle.case_openings.specs.Openings.{place_of_fault}
 use Rattle.case_explanations.specs.Explaining.{IsExplanation}
 use Rattle.record_words.specs.Words.{AreWordsOf}

@@ -3,7 +3,7 @@ ghost use Rattle.std.specs.{Prelude.{◌≡◌, ◌<◌, ◌≤◌, ℕ, List, l
 ghost use Rattle.gcg_read.specs.declared.events.Event.{Event};
 ghost use Rattle.lex_check.specs.Pairs.{list_in};
 ghost use Rattle.game_rows.specs.Walks.{IsWalk, IsWalkOf};
-ghost use Rattle.engine.specs.Explaining.{IsCaseOf, HasItsWalk};
+ghost use Rattle.game_case.specs.Explaining.{IsCaseOf, HasItsWalk};
 ghost use Rattle.game_page.specs.Pages.{faulty_place, place_in_view, ShowsEntry, IsShownOf};
 
 use crate::banners::push_banner;
@@ -16,8 +16,8 @@ use crate::rows::push_rows;
 use crate::showing::{Shown, faulty_line};
 use case_explanations::explain;
 use case_openings::place_of_fault;
-use engine::{Case, Entry, Finding, case_line};
 use explain_lines::push_reason;
+use game_case::{Case, Entry, Finding, case_line};
 use game_rows::Walk;
 use gcg_read::Event;
 use lex_check::Checked;

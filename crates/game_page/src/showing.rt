@@ -3,8 +3,8 @@
 use crate::feet::Maker;
 use crate::likely::Likely;
 use crate::lines::Line;
-use engine::Finding;
 use explanations::Explanation;
+use game_case::Finding;
 use gcg_read::{Event, Player, Seat};
 use name_texts::Encoding;
 use record_words::RecordWords;

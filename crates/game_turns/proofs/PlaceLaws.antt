@@ -14,7 +14,7 @@ use Rattle.game_turns.specs.declared.machine.Machine.{Machine}
 use Rattle.game_turns.specs.Machines.{rules_of, state_of}
 use Rattle.game_turns.specs.Tallies.{State, tally, tally_at, withdraws}
 use Rattle.game_turns.specs.Checks.{fault_in}
-use Rattle.game_turns.specs.Places.{fault_of_event, fault_at, AreAllowedTo}
+use Rattle.game_turns.specs.Places.{fault_of_event, fault_at, AreAllowed, AreAllowedTo, IsFirstRefusal}
 use Rattle.game_turns.specs.Changes.{after}
 use Rattle.game_turns.proofs.NextTallies.{IsNext, IsLatest, tally_after}
 
@@ -102,3 +102,10 @@ pub copied_get : (events : List Event) (place : ℕ) (o : Option (Bor Event)) �
     → option_copied o ≡ slice_get events place
 copied_get events place None there item = sym (slice_get_past events place (ltb-false place (length events) (sym there)))
 copied_get events place (Some x) there item = sym (slice_get_read events (length events) place x.now refl (ltb-true place (length events) (sym there)) item)
+
+-- if some event is refused, not all are allowed
+pub first_not_allowed : (rules : Rules) (words : List (List ℕ)) (events : List Event) (line : ℕ) (why : RuleFault) → IsFirstRefusal rules words events line why → AreAllowed rules words events → ⊥
+first_not_allowed rules words events line why first allowed =
+    let none : fault_at rules words events first.place ≡ None = allowed first.place (slice_get_within events first.place first.event first.stands) in
+    let both : None ≡ Some why = sym none ∙ first.fails in
+    cc

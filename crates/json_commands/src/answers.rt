@@ -10,13 +10,14 @@ ghost use Rattle.json_commands.specs.Values.{IsValueTold};
 use crate::audit_answers::audit;
 use crate::explain_answers::explain_in_json;
 use crate::repairing::repair_in_json;
+use call_stages::{Question, RunFault, ask};
 use command_files::{
     GivenFiles, RulesFile, SheetFile, Told, UsedOutput, Words, given_up, open_inputs, open_sheet,
     refuse_in_json, tell_others, told_in_json, used_source, write,
 };
 use command_line::GameFiles;
 use devices::{FromRead, Input};
-use engine::{Judging, Question, RunFault, TurnPlays, ask};
+use engine::{Judging, TurnPlays};
 use exit_statuses::{Exit, Trouble};
 use game_answers::{FoundPlays, JudgedGame, judge_game, top_plays};
 use game_json::{push_found_plays, push_judged_game};

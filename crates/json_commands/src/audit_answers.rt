@@ -8,9 +8,9 @@ ghost use Rattle.audit_lines.specs.Answers.{IsAuditAnswerOf};
 ghost use Rattle.json_commands.specs.Values.{IsValueTold};
 
 use audit_lines::{AuditAnswer, answer_audit};
+use call_stages::RunFault;
 use command_files::{GivenFiles, SheetFile, Told, write};
 use devices::Input;
-use engine::RunFault;
 use exit_statuses::{Exit, Trouble, exit_of_audit};
 use sheet_json::push_audit_answer;
 use std::io::Read;

@@ -1,10 +1,10 @@
 //! `board --json`: the board of a record, as an object.
 
+use call_stages::{RulesSource, Verdict};
 use command_files::{
     UsedOutput, given_up, open_rules, open_sheet, refuse_in_json, told_in_json, used_rules,
     used_source, write,
 };
-use engine::{RulesSource, Verdict};
 use exit_statuses::{Exit, Trouble};
 use game_answers::{ShownBoard, shown_board};
 use sheet_json::push_shown_board;

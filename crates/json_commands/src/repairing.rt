@@ -5,13 +5,14 @@ ghost use Rattle.lex_check.specs.Pairs.{list_in};
 ghost use Rattle.call_stages.specs.Runs.{Gives, outcomes};
 ghost use Rattle.call_stages.specs.Sources.{game_source};
 ghost use Rattle.command_files.specs.Telling.{IsCaseTold};
-ghost use Rattle.engine.specs.Explaining.{HasItsWalk};
+ghost use Rattle.game_case.specs.Explaining.{HasItsWalk};
 
 use answer_json::push_bad_record;
+use call_stages::RunFault;
 use command_files::{GivenFiles, SheetFile, Told, has_no_event, write};
 use devices::Input;
-use engine::{Case, RunFault, open_case};
 use exit_statuses::{Exit, Trouble, exit_of_case};
+use game_case::{Case, open_case};
 use lex_check::Checked;
 use ref_tiles::Rules;
 use repair_answers::answer_repairs;

@@ -1,11 +1,12 @@
 //! `top --json`: the best plays before a line of a record, as an object.
 
 use crate::answers::{AnswerTask, answer_in_json};
-use call_stages::InputFault;
+use call_stages::{Decision, InputFault};
 use command_files::{open_inputs, open_sheet, refuse_in_json, told_in_json};
 use command_line::{GameFiles, PlaysAsked};
-use engine::{Decision, MOST_PLAYS, TurnPlays};
+use engine::TurnPlays;
 use exit_statuses::{Exit, Trouble};
+use game_report::MOST_PLAYS;
 use gcg_read::read_rack;
 use std::rt::Runtime;
 

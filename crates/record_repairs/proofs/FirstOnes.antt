@@ -9,7 +9,7 @@ use Rattle.std.proofs.lemmas.Option.{same_Some, slice_get_read, slice_get_within
 use Rattle.ref_tiles.specs.declared.rulebook.Rules.{Rules}
 use Rattle.gcg_read.specs.declared.events.Event.{Event}
 use Rattle.game_sheets.proofs.Fronts.{one_correction}
-use Rattle.engine.specs.Verdicts.{IsGame, IsUnsettled}
+use Rattle.game_deal.specs.Verdicts.{IsGame, IsUnsettled}
 use Rattle.record_changes.specs.Applied.{applied}
 use Rattle.record_changes.specs.declared.slips.Change.{Change}
 use Rattle.record_repairs.specs.Costs.{Rank, costs, rank_at, rank_of, is_ahead, cost_of}

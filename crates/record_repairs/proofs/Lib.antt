@@ -4,7 +4,6 @@ pub mod Stops
 pub mod Starts
 pub mod Trials
 pub mod Walked
-pub mod Outcomes
 pub mod Shapes
 pub mod Changes
 pub mod WrongLines

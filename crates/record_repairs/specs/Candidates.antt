@@ -2,7 +2,7 @@
 use Rattle.std.specs.Prelude.{◌≡◌, ℕ, ◌<◌, true, List, ◌++◌, All, AllPairs, Contains, Option}
 use Rattle.ref_tiles.specs.declared.rulebook.Rules.{Rules}
 use Rattle.gcg_read.specs.declared.events.Event.{Event}
-use Rattle.engine.specs.Verdicts.{IsGame}
+use Rattle.game_deal.specs.Verdicts.{IsGame}
 use Rattle.record_changes.specs.Applied.{applied}
 use Rattle.record_changes.specs.declared.slips.Change.{Change}
 use Rattle.record_repairs.specs.Costs.{Rank, rank_at, is_earlier, is_ahead}

@@ -6,7 +6,7 @@ use Rattle.game_turns.specs.declared.faults.RuleFault.{RuleFault}
 use Rattle.game_sheets.specs.Corrections.{IsCorrection, StopsAt}
 use Rattle.deal_cuts.specs.Cutting.{HasNoDeal}
 use Rattle.game_deal.specs.Recorded.{steps_of}
-use Rattle.engine.specs.Verdicts.{IsGame}
+use Rattle.game_deal.specs.Verdicts.{IsGame}
 use Rattle.record_changes.specs.declared.slips.Change.{Change}
 use Rattle.record_changes.specs.Applied.{applied}
 use Rattle.record_repairs.specs.Trying.{HaveNone}

@@ -3,7 +3,7 @@ use Rattle.std.specs.Prelude.{◌≡◌, ℕ, ◌≤◌, List, [], ◌++◌, len
 use Rattle.ref_tiles.specs.declared.rulebook.Rules.{Rules}
 use Rattle.gcg_read.specs.declared.events.Event.{Event}
 use Rattle.deal_steps.specs.declared.steps.Step.{Step}
-use Rattle.engine.specs.Verdicts.{IsGame}
+use Rattle.game_deal.specs.Verdicts.{IsGame}
 use Rattle.record_repairs.specs.FirstSteps.{AreFirstSteps}
 use Rattle.record_repairs.specs.Trying.{IsWritable}
 use Rattle.record_repairs.specs.declared.rack_stops.RackStop.{RackStop}

@@ -2,7 +2,7 @@
 use Rattle.std.specs.Prelude.{◌≡◌, ◌⊎◌, ℕ, List, [], ◌∷◌, ◌++◌}
 use Rattle.ref_tiles.specs.declared.rulebook.Rules.{Rules}
 use Rattle.gcg_read.specs.declared.events.Event.{Event}
-use Rattle.engine.specs.Verdicts.{IsGame, IsUnsettled}
+use Rattle.game_deal.specs.Verdicts.{IsGame, IsUnsettled}
 use Rattle.record_changes.specs.Applied.{applied}
 use Rattle.record_repairs.specs.Remaining.{Remain}
 use Rattle.record_repairs.specs.Repairs.{IsAmong}

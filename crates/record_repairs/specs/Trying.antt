@@ -7,7 +7,7 @@ use Rattle.game_turns.specs.Machines.{rules_of, state_of}
 use Rattle.game_turns.specs.Places.{AreAllowedTo}
 use Rattle.game_turns.specs.Tallies.{tally_at, withdraws}
 use Rattle.game_sheets.specs.Corrections.{IsCorrection, HavePoints, AreRenumbered}
-use Rattle.engine.specs.Verdicts.{IsGame}
+use Rattle.game_deal.specs.Verdicts.{IsGame}
 use Rattle.record_changes.specs.declared.slips.Change.{Change}
 use Rattle.record_changes.specs.Applied.{applied}
 use Rattle.record_repairs.specs.Costs.{cost_of}

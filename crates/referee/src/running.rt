@@ -1,6 +1,7 @@
 //! What the program does: it parses the command line as a request, carries it out, and says what kept it from finishing.
 
 use archive_commands::{archive, index};
+use call_stages::Verdict;
 use clap::Error;
 use clap::error::ErrorKind;
 use command_files::{STANDARD_OUTPUT, write};
@@ -8,7 +9,7 @@ use command_line::{
     CaseTask, GameFiles, GameRequest, PROGRAM_NAME, PairFiles, Request, SheetTask, mistake,
     parse_arguments,
 };
-use engine::{Judging, Verdict};
+use engine::Judging;
 use exit_statuses::{Exit, Trouble};
 use game_commands::{board, build, check, convert, judge, tidy, top, word};
 use json_commands::{AnswerTask, answer_in_json, board_in_json, check_in_json, top_in_json};

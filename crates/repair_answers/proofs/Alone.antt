@@ -15,7 +15,7 @@ use Rattle.game_rows.specs.declared.refusals.Stop.{Stop}
 use Rattle.game_rows.specs.declared.walking.Walk.{Walk}
 use Rattle.game_rows.specs.Refusals.{EndsAt}
 use Rattle.game_rows.specs.Walks.{IsWalk}
-use Rattle.engine.specs.Verdicts.{IsGame}
+use Rattle.game_deal.specs.Verdicts.{IsGame}
 use Rattle.record_repairs.specs.Remaining.{is_on_line}
 use Rattle.record_repairs.specs.Trying.{IsWritable}
 use Rattle.record_repairs.specs.declared.remains.Remains.{Remains}

@@ -4,11 +4,11 @@ use Rattle.ref_tiles.specs.declared.rulebook.Rules.{Rules}
 use Rattle.gcg_read.specs.declared.events.Event.{Event}
 use Rattle.gcg_read.specs.declared.faults.ReadFault.{ReadFault}
 use Rattle.game_rows.specs.declared.walking.Walk.{Walk}
-use Rattle.engine.specs.declared.entries.Entry.{Entry}
-use Rattle.engine.specs.declared.explains.Case.{Case}
-use Rattle.engine.specs.declared.findings.Finding.{Finding}
-use Rattle.engine.specs.declared.findings.Finding.TheVariants as finding
-use Rattle.engine.specs.Explaining.{IsWalkFor, HasItsWalk}
+use Rattle.game_case.specs.declared.entries.Entry.{Entry}
+use Rattle.game_case.specs.declared.explains.Case.{Case}
+use Rattle.game_case.specs.declared.findings.Finding.{Finding}
+use Rattle.game_case.specs.declared.findings.Finding.TheVariants as finding
+use Rattle.game_case.specs.Explaining.{IsWalkFor, HasItsWalk}
 use Rattle.repair_answers.specs.Answers.{is_illegal, RepairsIn, RepairsBy, RepairsOf}
 use Rattle.repair_answers.specs.declared.answers.Faulty.{Faulty}
 

@@ -3,9 +3,9 @@ use Rattle.std.specs.Prelude.{◌≡◌, ◌≤◌, ℕ, ◌+◌, ◌*◌, ⊤, 
 use Rattle.ref_tiles.specs.declared.rulebook.Rules.{Rules}
 use Rattle.gcg_read.specs.declared.events.Event.{Event}
 use Rattle.gcg_read.specs.declared.faults.ReadFault.{ReadFault}
-use Rattle.engine.specs.declared.entries.Entry.{Entry}
-use Rattle.engine.specs.declared.findings.Finding.{Finding}
-use Rattle.engine.specs.declared.findings.Finding.TheVariants as finding
+use Rattle.game_case.specs.declared.entries.Entry.{Entry}
+use Rattle.game_case.specs.declared.findings.Finding.{Finding}
+use Rattle.game_case.specs.declared.findings.Finding.TheVariants as finding
 use Rattle.game_rows.specs.declared.walking.Walk.{Walk}
 use Rattle.game_rows.specs.Walks.{IsWalkOf}
 use Rattle.play_changes.specs.PlayChanges.{ArePlayChanges}

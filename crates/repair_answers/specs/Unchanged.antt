@@ -8,7 +8,7 @@ use Rattle.game_rows.specs.declared.rows.Row.{Row}
 use Rattle.game_sheets.specs.declared.wrong_numbers.WrongNumber.{WrongNumber}
 use Rattle.game_sheets.specs.Corrections.{AreRenumbered}
 use Rattle.game_sheets.specs.WrongNumbers.{wrong_lines}
-use Rattle.engine.specs.Verdicts.{IsGame, IsUnsettled}
+use Rattle.game_deal.specs.Verdicts.{IsGame, IsUnsettled}
 use Rattle.record_repairs.specs.Remaining.{is_on_line, unlisted_words, words_of_rows}
 use Rattle.record_repairs.specs.Trying.{IsWritable}
 use Rattle.record_repairs.specs.declared.remains.Remains.{Remains}

@@ -1,7 +1,7 @@
 //! The answer of `repair`.
 ghost use Rattle.std.specs.Prelude.{◌≡◌, Some, IfOk, OnOk};
 ghost use Rattle.game_rows.specs.Walks.{IsWalkOf};
-ghost use Rattle.engine.specs.Explaining.{IsWalkFor, HasItsWalk};
+ghost use Rattle.game_case.specs.Explaining.{IsWalkFor, HasItsWalk};
 ghost use Rattle.lex_check.specs.Pairs.{list_in};
 ghost use Rattle.repair_answers.specs.Answers.{below_of, is_illegal, RepairsIn, RepairsBy, RepairsOf, IsRepairAnswer};
 
@@ -10,7 +10,8 @@ use crate::lists::many_tried;
 use crate::pair_lines::pair_lines;
 use crate::singles::first_repairs;
 use crate::unchanged::unchanged;
-use engine::{Case, Entry, Finding, Verdict, case_verdict};
+use call_stages::Verdict;
+use game_case::{Case, Entry, Finding, case_verdict};
 use game_rows::Walk;
 use gcg_read::{ReadFault, Record};
 use lex_check::Checked;

@@ -7,7 +7,7 @@ use crate::answers::below_of;
 use crate::choices::{Choice, NUMBER, choice_among, cost_of};
 use crate::singles::first_repairs;
 use crate::unchanged::unchanged;
-use engine::{Case, Entry, Finding};
+use game_case::{Case, Entry, Finding};
 use game_rows::walk_as_written;
 use gcg_read::Record;
 use lex_check::Checked;

@@ -7,12 +7,11 @@ ghost use Rattle.record_repairs.specs.Remaining.{is_on_line, words_of_rows};
 ghost use Rattle.repair_answers.specs.Unchanged.{IsFound, IsUnchanged, AreLeft, HasOtherNumbers};
 
 use deal_cuts::law_of_fronts;
-use engine::{RackFinding, play_through, settle_racks};
 use event_notes::{SpelledWord, unlisted_of};
-use game_deal::law_of_bounds;
+use game_deal::{RackFinding, law_of_bounds, settle_racks};
 use game_rows::{Audited, Row, audit, numbers_of, renumber};
 use game_sheets::{WrongNumber, law_of_points};
-use game_turns::Passed;
+use game_turns::{Passed, play_through};
 use gcg_read::Record;
 use lex_list::WordList;
 use record_repairs::Remains;
@@ -72,7 +71,7 @@ fn left_of(alloc: Global, list: &WordList, audited: Audited) -> Result<Remains, 
 }
 
 /// Whether no racks of a record that passed are ruled out.
-#[tactic(auto, using(crate::proofs::Found::a_game, record_repairs::proofs::Outcomes::none_past, record_repairs::proofs::Outcomes::none_by, crate::proofs::Found::unsettled))]
+#[tactic(auto, using(crate::proofs::Found::a_game, game_deal::proofs::Outcomes::none_past, game_deal::proofs::Outcomes::none_by, crate::proofs::Found::unsettled))]
 fn may_be_game(alloc: Global, passed: &Passed<'_>) -> Result<bool, AllocError>
     requires { AreAllowed (rules_in passed.now) (list_in passed.now) (record_in passed.now).events }
     ensures { IfOk result (IsFound (rules_in passed.now) (list_in passed.now) (record_in passed.now).events) }

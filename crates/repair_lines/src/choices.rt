@@ -1,6 +1,6 @@
 //! Whether the repaired sheet is written.
 
-use engine::Case;
+use game_case::Case;
 use gcg_read::Players;
 use record_repairs::Repair;
 use repair_answers::{Choice, RepairAnswer, choice_of};

@@ -4,7 +4,7 @@ use crate::evidence::push_evidence;
 use crate::letters::push_difference;
 use crate::slips::push_slip;
 use decimal_text::push_number;
-use engine::{Case, case_line};
+use game_case::{Case, case_line};
 use gcg_read::{Event, Players, Record};
 use record_changes::Change;
 use record_repairs::Repair;

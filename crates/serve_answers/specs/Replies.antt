@@ -5,9 +5,9 @@ use Rattle.ref_tiles.specs.declared.rulebook.Rules.{Rules}
 use Rattle.gcg_read.specs.declared.faults.ReadFault.{ReadFault}
 use Rattle.audit_lines.specs.Answers.{IsAuditAnswerOf}
 use Rattle.call_stages.specs.declared.decisions.Decision.{Decision}
-use Rattle.engine.specs.declared.entries.Entry.{Entry}
+use Rattle.game_case.specs.declared.entries.Entry.{Entry}
 use Rattle.engine.specs.declared.judging.Judging.{Judging}
-use Rattle.engine.specs.Explaining.{IsCaseOf}
+use Rattle.game_case.specs.Explaining.{IsCaseOf}
 use Rattle.engine.specs.TopBefore.{given_rack}
 use Rattle.game_answers.specs.Boards.{IsBoardOf}
 use Rattle.game_answers.specs.declared.games.JudgedGame.{JudgedGame}

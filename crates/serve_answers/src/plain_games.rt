@@ -10,9 +10,9 @@ ghost use Rattle.serve_answers.specs.PlainGames.{IsVerdictAlone, IsPlainGame, Is
 
 use call_stages::{Decision, GameFault, RunFault, Verdict, read_text, record_from};
 use devices::Input;
-use engine::{Judging, play_through};
+use engine::Judging;
 use game_answers::{JudgedGame, verdict_on};
-use game_turns::{Passed, RuleFault};
+use game_turns::{Passed, RuleFault, play_through};
 use gcg_read::{MAX_BYTES, Record};
 use lex_check::Checked;
 use ref_tiles::Rules;

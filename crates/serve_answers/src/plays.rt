@@ -11,9 +11,10 @@ ghost use Rattle.serve_answers.specs.Given.{FailsForMemoryAlone, read_of};
 ghost use Rattle.serve_answers.specs.Plays.{number_asked, ArePlaysBy};
 
 use crate::records::GivenRecord;
-use call_stages::InputFault;
-use engine::{Decision, MOST_PLAYS, RunFault, TurnPlays};
+use call_stages::{Decision, InputFault, RunFault};
+use engine::TurnPlays;
 use game_answers::{FoundPlays, top_plays};
+use game_report::MOST_PLAYS;
 use gcg_read::read_rack;
 use lex_check::Checked;
 use ref_tiles::Rules;

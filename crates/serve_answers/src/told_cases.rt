@@ -5,7 +5,8 @@ ghost use Rattle.serve_answers.specs.Given.{FailsForMemoryAlone, read_of};
 ghost use Rattle.serve_answers.specs.Replies.{IsLikelyAsked, IsToldCaseOf};
 
 use crate::games::case_in;
-use engine::{Case, RunFault};
+use call_stages::RunFault;
+use game_case::Case;
 use lex_check::Checked;
 use record_repairs::Repair;
 use ref_tiles::Rules;

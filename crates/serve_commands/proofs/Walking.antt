@@ -1,7 +1,7 @@
 -- The walk over the record of a case that is told of.
 use Rattle.std.proofs.Common.{ℕ, List}
 use Rattle.ref_tiles.specs.declared.rulebook.Rules.{Rules}
-use Rattle.engine.specs.Explaining.{HasItsWalk}
+use Rattle.game_case.specs.Explaining.{HasItsWalk}
 use Rattle.serve_answers.specs.declared.replies.Reply.TheVariants as reply
 use Rattle.serve_answers.specs.declared.told_cases.ToldCase.{ToldCase}
 use Rattle.serve_answers.specs.Replies.{IsReplyTo}

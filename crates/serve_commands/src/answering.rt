@@ -1,15 +1,15 @@
 //! The answer to a request: the exit status of the command of its name, and what that command prints of the same bytes.
 ghost use Rattle.lex_check.specs.Pairs.{list_in};
-ghost use Rattle.engine.specs.Explaining.{HasItsWalk};
+ghost use Rattle.game_case.specs.Explaining.{HasItsWalk};
 ghost use Rattle.known_bests.specs.Known.{AreKnown};
 ghost use Rattle.serve_answers.specs.Replies.{IsReplyTo};
 
 use crate::words::{push_no_word, push_ruled};
 use answer_json::push_refusal;
 use audit_lines::{AuditAnswer, corrected_text, is_corrected};
+use call_stages::{Decision, RunFault, Verdict};
 use case_objects::case_text;
 use command_files::has_page;
-use engine::{Decision, RunFault, Verdict};
 use exit_statuses::{Exit, exit_of_audit, exit_of_case};
 use game_answers::{FoundPlays, JudgedGame, ShownBoard};
 use game_json::{push_found_plays, push_judged_game};

@@ -7,13 +7,13 @@ ghost use Rattle.serve_commands.specs.Telling.{AreServed, served_later};
 use crate::answering::Judges;
 use crate::lines::{Lines, NextLine};
 use crate::telling::{NO_MEMORY_LINE, make_line, make_refusal, ready_line};
+use call_stages::{Question, RunFault, ask};
 use command_files::{
     Digests, GivenFiles, RulesFile, Told, UsedOutput, Words, digests_of, given_up, open_inputs,
     refuse_in_json, shown, tell_others, told_in_json, write,
 };
 use command_line::{PROGRAM, PairFiles, STANDARD_INPUT};
 use devices::FromRead;
-use engine::{Question, RunFault, ask};
 use exit_statuses::{Exit, Trouble};
 use game_page::Maker;
 use known_bests::KnownBests;

@@ -1,7 +1,7 @@
 //! What is printed.
 
-use deal_cuts::Cut;
-use deal_search::{Earlier, Settling};
+use deal_cuts::{Cut, Earlier};
+use deal_search::Settling;
 use deal_steps::{Held, Step};
 use itoa::Buffer;
 use ref_tiles::{Counts, KINDS};

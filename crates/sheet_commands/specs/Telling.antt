@@ -6,8 +6,8 @@ use Rattle.call_stages.specs.declared.verdicts.Verdict.{Verdict}
 use Rattle.call_stages.specs.declared.verdicts.Verdict.TheVariants as verdict
 use Rattle.call_stages.specs.Reading.{ReadsNoMore, ReadsNext, ReadsRecord}
 use Rattle.call_stages.specs.Telling.{IsTold}
-use Rattle.engine.specs.declared.audits.Audit.{Audit}
-use Rattle.engine.specs.Auditing.{IsAuditOf}
+use Rattle.game_case.specs.declared.audits.Audit.{Audit}
+use Rattle.game_case.specs.Auditing.{IsAuditOf}
 
 -- the audit of the record is reported, or the record is bad
 abbrev pub IsAuditTold : {T : Type 0} → Rules → (list : List (List ℕ)) → Result T Decision → (texts : List (List ℕ)) → Verdict → List ℕ → Type 0

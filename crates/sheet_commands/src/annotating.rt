@@ -1,6 +1,6 @@
 //! `annotate`: a sheet with notes.
 ghost use Rattle.lex_check.specs.Pairs.{list_in};
-ghost use Rattle.engine.specs.Explaining.{HasItsWalk};
+ghost use Rattle.game_case.specs.Explaining.{HasItsWalk};
 
 use crate::made_texts::write_made;
 use annotations::{SheetToAnnotate, annotated_text};

@@ -2,8 +2,8 @@
 
 use audit_lines::{corrected_text, is_corrected, push_audit};
 use command_files::{NO_GAME, write_beside, write_out};
-use engine::{Audit, Finding};
 use exit_statuses::{Exit, Trouble, exit_of_audit};
+use game_case::{Audit, Finding};
 use std::alloc::{AllocError, Global};
 use std::rt::{Files, Runtime};
 

@@ -5,8 +5,8 @@ use command_files::{
     NO_GAME, UsedOutput, advise_bad_record, advise_no_game, given_up, has_no_event, open_sheet,
     used_source, write_beside, write_out,
 };
-use engine::{Case, case_line, open_case};
 use exit_statuses::{Exit, Trouble};
+use game_case::{Case, case_line, open_case};
 use gcg_read::Record;
 use lex_check::Checked;
 use lex_list::WordList;

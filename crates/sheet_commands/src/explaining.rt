@@ -1,12 +1,12 @@
 //! `explain`: what is wrong with a record, or how one of its lines is judged, in plain words.
 ghost use Rattle.lex_check.specs.Pairs.{list_in};
-ghost use Rattle.engine.specs.Explaining.{HasItsWalk};
+ghost use Rattle.game_case.specs.Explaining.{HasItsWalk};
 
 use crate::encodings::in_utf8;
 use command_files::{NO_GAME, has_no_event, write};
-use engine::{Case, Entry};
 use exit_statuses::{Exit, Trouble, exit_of_case};
 use explain_lines::push_explanation;
+use game_case::{Case, Entry};
 use lex_check::Checked;
 use name_texts::Encoding;
 use ref_tiles::Rules;

@@ -1,8 +1,8 @@
 //! The texts that are made of a sheet: its page, and the sheet with notes.
 
 use command_files::{NO_GAME, has_no_event, has_page, write_beside, write_out};
-use engine::{Case, case_line};
 use exit_statuses::{Exit, Trouble, exit_of_case};
+use game_case::{Case, case_line};
 use std::rt::Runtime;
 
 /// Writes a text that was made of a case to the output `out`, which is opened here, and the verdict line to standard output, or to standard

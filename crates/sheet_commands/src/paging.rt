@@ -1,6 +1,6 @@
 //! `page`: the page of a game.
 ghost use Rattle.lex_check.specs.Pairs.{list_in};
-ghost use Rattle.engine.specs.Explaining.{HasItsWalk};
+ghost use Rattle.game_case.specs.Explaining.{HasItsWalk};
 
 use crate::made_texts::write_made;
 use exit_statuses::{Exit, Trouble};

@@ -1,11 +1,11 @@
 //! `repair`: the single changes of a faulty record after which it is a game.
 ghost use Rattle.lex_check.specs.Pairs.{list_in};
-ghost use Rattle.engine.specs.Explaining.{HasItsWalk};
+ghost use Rattle.game_case.specs.Explaining.{HasItsWalk};
 
 use crate::encodings::in_utf8;
 use command_files::{NO_GAME, has_no_event, write_beside, write_out};
-use engine::Case;
 use exit_statuses::{Exit, Trouble, exit_of_case};
+use game_case::Case;
 use lex_check::Checked;
 use name_texts::Encoding;
 use record_repairs::Repair;

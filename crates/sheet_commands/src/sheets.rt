@@ -5,7 +5,7 @@ ghost use Rattle.lex_check.specs.Pairs.{list_in};
 ghost use Rattle.call_stages.specs.Runs.{Gives, outcomes};
 ghost use Rattle.call_stages.specs.Sources.{game_source};
 ghost use Rattle.command_files.specs.Telling.{IsCaseTold};
-ghost use Rattle.engine.specs.Explaining.{HasItsWalk};
+ghost use Rattle.game_case.specs.Explaining.{HasItsWalk};
 ghost use Rattle.sheet_commands.specs.Telling.{IsAuditTold};
 
 use crate::annotating::write_annotated;
@@ -15,6 +15,7 @@ use crate::explaining::tell_case;
 use crate::paging::write_page;
 use crate::repairing::tell_repairs;
 use annotations::SheetToAnnotate;
+use call_stages::{Question, RunFault, Verdict, ask};
 use command_files::{
     Digests, GivenFiles, RulesFile, SheetFile, Told, UsedOutput, Words, advise_bad_record,
     advise_no_game, digests_of, given_up, is_record, open_inputs, open_sheet, refuse, tell_others,
@@ -22,8 +23,8 @@ use command_files::{
 };
 use command_line::{CaseTask, GameFiles, PROGRAM, SheetTask};
 use devices::{FromRead, Input};
-use engine::{Case, Question, RunFault, Verdict, ask, audit_sheet, open_case};
 use exit_statuses::{Exit, Trouble};
+use game_case::{Case, audit_sheet, open_case};
 use game_page::{Contents, Maker};
 use repair_answers::likely_in_case;
 use std::alloc::{AllocError, Global};

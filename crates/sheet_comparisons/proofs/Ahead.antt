@@ -4,7 +4,7 @@ use Rattle.std.specs.Prelude.{Contains}
 use Rattle.ref_tiles.specs.declared.rulebook.Rules.{Rules}
 use Rattle.gcg_read.specs.declared.events.Event.{Event}
 use Rattle.gcg_read.specs.declared.records.Record.{Record}
-use Rattle.engine.specs.Verdicts.{IsGame}
+use Rattle.game_deal.specs.Verdicts.{IsGame}
 use Rattle.sheet_alignments.specs.declared.merging.NumbersOf.TheVariants.{Taken}
 use Rattle.sheet_alignments.specs.declared.pairs.Pair.{Pair}
 use Rattle.sheet_alignments.specs.Alignments.{own_pairs}

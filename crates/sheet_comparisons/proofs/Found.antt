@@ -6,7 +6,7 @@ use Rattle.std.proofs.lemmas.List.Elements.{All-append, All-contains, Contains-a
 use Rattle.ref_tiles.specs.declared.rulebook.Rules.{Rules}
 use Rattle.gcg_read.specs.declared.events.Event.{Event}
 use Rattle.game_sheets.specs.Laws.{OneCorrection}
-use Rattle.engine.specs.Verdicts.{IsGame, IsUnsettled}
+use Rattle.game_deal.specs.Verdicts.{IsGame, IsUnsettled}
 use Rattle.sheet_alignments.specs.declared.merging.NumbersOf.TheVariants.{Taken}
 use Rattle.sheet_comparisons.specs.declared.sheets.Sheets.{Sheets}
 use Rattle.sheet_comparisons.specs.declared.best.Best.{Best}

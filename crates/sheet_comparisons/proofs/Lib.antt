@@ -1,4 +1,3 @@
-pub mod Outcomes
 pub mod Corrected
 pub mod Found
 pub mod Wrong

@@ -4,8 +4,8 @@ use Rattle.ref_tiles.specs.declared.rulebook.Rules.{Rules}
 use Rattle.gcg_read.specs.declared.events.Event.{Event}
 use Rattle.game_sheets.specs.Corrections.{IsCorrection, HavePoints}
 use Rattle.game_sheets.specs.WrongNumbers.{wrong_lines}
-use Rattle.engine.specs.Archiving.{unlisted_plays}
-use Rattle.engine.specs.Verdicts.{IsGame}
+use Rattle.game_case.specs.Archiving.{unlisted_plays}
+use Rattle.game_deal.specs.Verdicts.{IsGame}
 use Rattle.sheet_alignments.specs.declared.pairs.Side.{Side}
 use Rattle.sheet_alignments.specs.declared.pairs.Side.TheVariants.{First, Second}
 use Rattle.sheet_alignments.specs.declared.merging.NumbersOf.{NumbersOf}

@@ -3,7 +3,7 @@ use Rattle.std.specs.Prelude.{◌≡◌, ℕ, List}
 use Rattle.ref_tiles.specs.declared.rulebook.Rules.{Rules}
 use Rattle.gcg_read.specs.declared.events.Event.{Event}
 use Rattle.game_sheets.specs.Corrections.{StopsAt}
-use Rattle.engine.specs.Archiving.{unlisted_plays}
+use Rattle.game_case.specs.Archiving.{unlisted_plays}
 use Rattle.sheet_comparisons.specs.Choices.{IsRight}
 use Rattle.sheet_comparisons.specs.declared.corrections.Corrected.{Corrected}
 use Rattle.sheet_comparisons.specs.declared.corrections.Stopped.{Stopped}

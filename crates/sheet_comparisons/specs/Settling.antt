@@ -3,7 +3,7 @@ use Rattle.std.specs.Prelude.{◌≡◌, ℕ, List}
 use Rattle.ref_tiles.specs.declared.rulebook.Rules.{Rules}
 use Rattle.gcg_read.specs.declared.events.Event.{Event}
 use Rattle.game_turns.specs.Places.{is_finished}
-use Rattle.engine.specs.Verdicts.{IsGame, IsUnsettled}
+use Rattle.game_deal.specs.Verdicts.{IsGame, IsUnsettled}
 use Rattle.sheet_comparisons.specs.declared.settling.Outcome.{Outcome}
 use Rattle.sheet_comparisons.specs.declared.settling.Outcome.TheVariants as outcome
 

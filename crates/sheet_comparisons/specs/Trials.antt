@@ -2,7 +2,7 @@
 use Rattle.std.specs.Prelude.{◌≡◌, ℕ, List}
 use Rattle.ref_tiles.specs.declared.rulebook.Rules.{Rules}
 use Rattle.gcg_read.specs.declared.events.Event.{Event}
-use Rattle.engine.specs.Verdicts.{IsGame}
+use Rattle.game_deal.specs.Verdicts.{IsGame}
 use Rattle.sheet_alignments.specs.declared.merging.NumbersOf.TheVariants.{Taken}
 use Rattle.sheet_comparisons.specs.declared.sheets.Sheets.{Sheets}
 use Rattle.sheet_comparisons.specs.declared.trials.Trial.{Trial}

@@ -3,7 +3,7 @@ ghost use Rattle.std.specs.Prelude.{◌≡◌, ◌≤◌, List, ℕ, length, not
 ghost use Rattle.ref_tiles.specs.declared.rulebook.Rules.{Rules};
 ghost use Rattle.gcg_read.specs.declared.events.Event.{Event};
 ghost use Rattle.game_rows.specs.Rows.{HaveRows};
-ghost use Rattle.engine.specs.Archiving.{unlisted_plays};
+ghost use Rattle.game_case.specs.Archiving.{unlisted_plays};
 ghost use Rattle.sheet_comparisons.specs.Corrected.{IsCorrectionOf};
 
 use game_rows::{Refusal, Row, walk_and_correct};

@@ -3,7 +3,7 @@ ghost use Rattle.std.specs.Prelude.{◌≡◌, ◌+◌, ◌+ℤ◌, ◌<◌, ◌
 ghost use Rattle.std.specs.Ordering.{int_eq};
 ghost use Rattle.gcg_read.specs.Numerals.{IsPoints};
 ghost use Rattle.ref_tiles.specs.declared.rulebook.Rules.{Rules};
-ghost use Rattle.engine.specs.Archiving.{unlisted_plays};
+ghost use Rattle.game_case.specs.Archiving.{unlisted_plays};
 ghost use Rattle.game_sheets.specs.WrongNumbers.{wrong_at, wrong_lines};
 ghost use Rattle.sheet_comparisons.specs.Choices.{wrong_on, costs, cost_of};
 

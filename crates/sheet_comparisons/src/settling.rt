@@ -5,9 +5,8 @@ ghost use Rattle.game_turns.specs.Places.{AreAllowed};
 ghost use Rattle.sheet_comparisons.specs.Settling.{IsOutcome};
 
 use deal_cuts::law_of_fronts;
-use engine::{RackFinding, play_through, settle_racks};
-use game_deal::law_of_bounds;
-use game_turns::Passed;
+use game_deal::{RackFinding, law_of_bounds, settle_racks};
+use game_turns::{Passed, play_through};
 use gcg_read::Record;
 use lex_list::WordList;
 use ref_tiles::Rules;
@@ -28,7 +27,7 @@ pub(crate) enum Outcome {
 }
 
 /// What is found of the racks of a record that passed.
-#[tactic(auto, using(crate::proofs::Outcomes::a_game, crate::proofs::Outcomes::none_past, crate::proofs::Outcomes::none_by, crate::proofs::Outcomes::unsettled))]
+#[tactic(auto, using(game_deal::proofs::Outcomes::a_game, game_deal::proofs::Outcomes::none_past, game_deal::proofs::Outcomes::none_by, game_deal::proofs::FoundRacks::left_open))]
 fn outcome_of(alloc: Global, passed: &Passed<'_>) -> Result<Outcome, AllocError>
     requires { AreAllowed (rules_in passed.now) (list_in passed.now) (record_in passed.now).events }
     ensures { IfOk result (IsOutcome (rules_in passed.now) (list_in passed.now) (record_in passed.now).events) }

@@ -6,7 +6,7 @@ use answer_json::{
 };
 use audit_lines::{AuditAnswer, ToldNumber};
 use call_stages::Verdict;
-use engine::Finding;
+use game_case::Finding;
 use gcg_read::{Event, EventKind, Player, Record, Seat};
 use serde::Serialize;
 use std::alloc::{AllocError, Global};

@@ -2,12 +2,13 @@
 ghost use Rattle.devices.specs.Devices.{HasRoom};
 
 use crate::feeds::{Feed, NEVER};
+use call_stages::{RunFault, Verdict};
 use devices::Output;
 use engine::{
-    MOST_PLAYS, RunFault, Verdict, run, run_board, run_board_ruled, run_build, run_check,
-    run_convert, run_ruled, run_settled, run_settled_ruled, run_tidy, run_top, run_top_before,
-    run_top_before_ruled, run_top_ruled,
+    run, run_board, run_board_ruled, run_build, run_check, run_convert, run_ruled, run_settled,
+    run_settled_ruled, run_tidy, run_top, run_top_before, run_top_before_ruled, run_top_ruled,
 };
+use game_report::MOST_PLAYS;
 use lex_file::Format;
 use ref_tiles::{Rules, english_rules};
 use std::alloc::Global;

@@ -1,7 +1,7 @@
 //! Records, and what settles them: a deal, a proof that there is none, or nothing within the budget.
 use Answer::{Dealt, NoDeal, Unknown};
-use deal_cuts::rules_out;
-use deal_search::{Earlier, Settling, settle, settle_within};
+use deal_cuts::{Earlier, rules_out};
+use deal_search::{Settling, settle, settle_within};
 use deal_steps::{Step, fits};
 use game_deal::all_steps;
 use game_turns::play_through;

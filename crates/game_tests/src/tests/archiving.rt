@@ -1,7 +1,8 @@
 //! Lines of an archive.
 use archive_lines::{Answer, Fields, LineRead, Unread, push_json_line, push_tab_line};
-use engine::{Entry, Finding, GameFault};
+use call_stages::GameFault;
 use exit_statuses::exit_of_answer;
+use game_case::{Entry, Finding};
 use game_turns::RuleFault;
 use gcg_read::{ReadFault, Record, Why};
 use name_texts::Encoding;

@@ -1,6 +1,6 @@
 //! Boards of records, as texts.
 use super::pieces::told_of;
-use engine::Verdict;
+use call_stages::Verdict;
 use std::alloc::Global;
 use std::process::Abort;
 use test_calls::{Call, Inputs, NO_INPUTS};

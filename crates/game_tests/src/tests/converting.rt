@@ -1,7 +1,7 @@
 //! Lexicon files that are converted into a format, over memory.
 use super::lexicons::{checked_bytes, expect};
 use super::pieces::told_of;
-use engine::Verdict;
+use call_stages::Verdict;
 use lex_file::Format;
 use std::alloc::Global;
 use std::process::Abort;

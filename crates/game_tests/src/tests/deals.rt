@@ -2,7 +2,7 @@
 //! judged, `games` asserts that it is not unsettled without an exchange.
 use super::games::{Row, report_all, report_with, told_by};
 use super::turns::SHORT;
-use engine::{Earlier, GameFault, Verdict};
+use call_stages::{Earlier, GameFault, Verdict};
 use test_calls::{Call, GameRules};
 
 /// No player has shown more tiles than have come to the rack, and both together no more of a kind than the game has.

@@ -1,6 +1,6 @@
 //! Records that are judged over memory.
 use super::pieces::told_of;
-use engine::Verdict;
+use call_stages::Verdict;
 use gcg_read::{EventKind, read};
 use lex_build::build;
 use lex_list::WordList;

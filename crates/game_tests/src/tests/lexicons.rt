@@ -4,8 +4,9 @@ ghost use Rattle.std.specs.Prelude.{None};
 
 use super::games::judged_by;
 use super::pieces::told_of;
+use call_stages::Verdict;
 use devices::{DeviceFailed, FromRead, FromWrite, Input};
-use engine::{Verdict, run_check};
+use engine::run_check;
 use std::alloc::Global;
 use std::process::Abort;
 use test_calls::{Call, Inputs, NO_INPUTS};

@@ -1,6 +1,6 @@
 //! What calls of the engine report, however few bytes a read of their inputs gives.
+use call_stages::Verdict;
 use devices::FromWrite;
-use engine::Verdict;
 use ref_tiles::ENGLISH_TEXT;
 use std::alloc::Global;
 use std::process::Abort;

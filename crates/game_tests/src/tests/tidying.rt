@@ -1,6 +1,6 @@
 //! Records that are tidied.
 use super::pieces::told_of;
-use engine::Verdict;
+use call_stages::Verdict;
 use test_calls::{Call, Inputs, NO_INPUTS};
 
 /// Records, and what is answered and written for them: their normal form, or their first fault.

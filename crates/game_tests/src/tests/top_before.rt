@@ -1,6 +1,6 @@
 //! The best plays before a line of a record.
 use super::games::told_by;
-use engine::{GameFault, Verdict};
+use call_stages::{GameFault, Verdict};
 use game_turns::RuleFault;
 use std::alloc::Global;
 use std::process::Abort;

@@ -1,8 +1,8 @@
 //! The best plays on the board after a record.
 use super::games::told_by;
 use super::pieces::told_of;
+use call_stages::{GameFault, Verdict};
 use devices::FromWrite;
-use engine::{GameFault, Verdict};
 use game_turns::RuleFault;
 use std::alloc::Global;
 use std::process::Abort;

@@ -1,6 +1,6 @@
 //! Damaged inputs.
 use super::jobs::{Job, WITHDRAWN, attempt, working};
-use engine::Verdict;
+use call_stages::Verdict;
 use test_calls::Call;
 use test_samples::AT;
 

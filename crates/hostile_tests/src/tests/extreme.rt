@@ -2,8 +2,9 @@
 ghost use Rattle.devices.specs.Devices.{Device, HasRoom};
 ghost use Rattle.std.specs.Prelude.{◌≡◌, None};
 
+use call_stages::Verdict;
 use devices::{DeviceFailed, FromRead, FromWrite, Input};
-use engine::{Verdict, run};
+use engine::run;
 use ref_tiles::english_rules;
 use std::alloc::Global;
 use std::process::Abort;

@@ -2,7 +2,7 @@
 ghost use Rattle.std.specs.Prelude.{◌<◌};
 
 use super::jobs::{JUDGED, Job, OTHERS, attempt, working};
-use engine::RunFault;
+use call_stages::RunFault;
 use std::alloc::Global;
 use std::process::Abort;
 use test_calls::{Call, Mishap, NEVER};

@@ -1,5 +1,5 @@
 //! Worked jobs for the calls of the engine.
-use engine::{Earlier, GameFault, RunFault, Verdict};
+use call_stages::{Earlier, GameFault, RunFault, Verdict};
 use lex_file::Format;
 use ref_tiles::ENGLISH_TEXT;
 use std::alloc::Global;

@@ -5,8 +5,9 @@ use super::jobs::{
     RULED, RULED_BOARD, RULED_NO_DEAL, RULED_PLAYS, RULED_PLAYS_BEFORE, SETTLED, SHOWN, STALE,
     TIDIED, UNSETTLED, WITHDRAWN, WORD, attempt, working,
 };
-use engine::{RunFault, open_case, pair_file};
+use call_stages::{RunFault, pair_file};
 use explain_lines::push_explanation;
+use game_case::open_case;
 use game_deal::{DealFault, bounds, complete};
 use game_turns::play_through;
 use gcg_read::{Record, read};

@@ -2,7 +2,7 @@ use Rattle.std.proofs.Common.{Ok, subst}
 use Rattle.gcg_read.specs.Records.{most_bytes}
 use Rattle.lex_check.specs.Pairs.{list_in}
 use Rattle.call_stages.specs.Stages.{IsRead}
-use Rattle.engine.specs.Auditing.{IsAuditOf}
+use Rattle.game_case.specs.Auditing.{IsAuditOf}
 use Rattle.audit_lines.specs.Answers.{IsAuditAnswerOf}
 use Rattle.audit_lines.proofs.Answering.{answered, read_on}
 use Rattle.audit_lines.proofs.answers.answer_audit.Goals as goal

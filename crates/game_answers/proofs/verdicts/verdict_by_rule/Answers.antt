@@ -1,6 +1,6 @@
 use Rattle.std.proofs.Common.{subst}
 use Rattle.lex_check.specs.Pairs.{list_in}
-use Rattle.engine.specs.Racks.{AreTried}
+use Rattle.game_deal.specs.Racks.{AreTried}
 use Rattle.game_answers.proofs.VerdictLaws.{rule_past}
 use Rattle.game_answers.proofs.verdicts.verdict_by_rule.Goals as goal
 

@@ -1,6 +1,6 @@
 use Rattle.std.proofs.Common.{subst}
 use Rattle.lex_check.specs.Pairs.{list_in}
-use Rattle.engine.specs.Racks.{AreFound}
+use Rattle.game_deal.specs.Racks.{AreFound}
 use Rattle.game_answers.proofs.VerdictLaws.{search_past}
 use Rattle.game_answers.proofs.verdicts.verdict_by_search.Goals as goal
 

@@ -2,7 +2,7 @@ use Rattle.std.proofs.Common.{Ok, [], refl}
 use Rattle.lex_check.specs.Pairs.{list_in}
 use Rattle.call_stages.specs.Runs.{outcomes}
 use Rattle.call_stages.proofs.Giving.{gives_failed, gives_last}
-use Rattle.engine.specs.Explaining.{IsCaseOf}
+use Rattle.game_case.specs.Explaining.{IsCaseOf}
 use Rattle.command_files.specs.Telling.{IsCaseTold}
 use Rattle.json_commands.proofs.repairing.repair_in_json.Goals as goal
 

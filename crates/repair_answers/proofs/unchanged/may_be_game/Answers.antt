@@ -1,6 +1,6 @@
 use Rattle.std.proofs.Common.{subst}
-use Rattle.engine.specs.Racks.{AreFound}
-use Rattle.record_repairs.proofs.Outcomes.{none_by}
+use Rattle.game_deal.specs.Racks.{AreFound}
+use Rattle.game_deal.proofs.Outcomes.{none_by}
 use Rattle.repair_answers.proofs.unchanged.may_be_game.Goals as goal
 
 pub returns-in-NoDeal : goal.returns-in-NoDeal

@@ -6,7 +6,7 @@ use Rattle.call_stages.specs.Reports.{bad_record_line}
 use Rattle.call_stages.specs.Runs.{outcomes}
 use Rattle.call_stages.proofs.Giving.{gives_failed, gives_last}
 use Rattle.call_stages.proofs.Stages.{meaning_bad}
-use Rattle.engine.specs.Auditing.{IsAuditOf}
+use Rattle.game_case.specs.Auditing.{IsAuditOf}
 use Rattle.sheet_commands.specs.Telling.{IsAuditTold}
 use Rattle.sheet_commands.proofs.sheets.audit.Goals as goal
 

@@ -1,6 +1,6 @@
 use Rattle.std.proofs.Common.{◌≡◌, length, ap, ◌∙◌, refl, arith}
-use Rattle.engine.specs.Archiving.{unlisted_plays, unlisted_to}
-use Rattle.engine.proofs.WalkedRecords.{unlisted_more}
+use Rattle.game_case.specs.Archiving.{unlisted_plays, unlisted_to}
+use Rattle.game_case.proofs.WalkedRecords.{unlisted_more}
 use Rattle.sheet_comparisons.proofs.corrections.unlisted_plays.Goals as goal
 
 pub loop-place-init : goal.loop-place-init

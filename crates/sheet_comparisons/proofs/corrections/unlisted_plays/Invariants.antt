@@ -2,7 +2,7 @@ use Rattle.std.proofs.Common.{◌≡◌, ◌≤◌, ℕ, List}
 use Rattle.ref_tiles.specs.declared.rulebook.Rules.{Rules}
 use Rattle.gcg_read.specs.declared.events.Event.{Event}
 use Rattle.game_rows.specs.Rows.{HaveRows}
-use Rattle.engine.specs.Archiving.{unlisted_to}
+use Rattle.game_case.specs.Archiving.{unlisted_to}
 use Rattle.sheet_comparisons.proofs.corrections.unlisted_plays.Given as goal
 
 abbrev pub invariant-loop-place : goal.invariant-loop-place

@@ -1,0 +1,3 @@
+pub mod FoundGames
+pub mod AuditedRecords
+pub mod WalkedRecords

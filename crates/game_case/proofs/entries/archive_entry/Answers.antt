@@ -1,0 +1,10 @@
+use Rattle.gcg_read.specs.Records.{most_bytes}
+use Rattle.lex_check.specs.Pairs.{list_in}
+use Rattle.game_case.specs.Archiving.{IsEntryOf}
+use Rattle.call_stages.proofs.Readings.{taken}
+use Rattle.game_case.proofs.entries.archive_entry.Goals as goal
+
+pub returns : goal.returns
+returns g c =
+    taken most_bytes (g.G.Input.device c.args.game.now) (g.G.Input.device c.read_text.new.input) (IsEntryOf c.args.rules.now (list_in c.args.pair.now)) c.in_ok-text.text.items c.deref.result.now
+    c.in_ok-entry_from.field-0 c.in_ok-text.ensures.whole c.deref.ensures.value c.in_ok-entry_from.ensures c.in_ok-text.ensures.worked c.in_ok-text.ensures.taken

@@ -1,0 +1,4 @@
+pub mod Archiving
+pub mod WalkedEntries
+pub mod Auditing
+pub mod Explaining
