@@ -31,6 +31,7 @@ show() {
         [[ $line =~ ^rt:\ ([a-z_]+)\ (proved|is\ kept) ]] || continue
         done=$((done + 1))
         echo "${BASH_REMATCH[1]} ${BASH_REMATCH[2]}, $done of ${#wanted[@]}, after $((SECONDS / 60)) min"
+        [ "${BASH_REMATCH[1]}" != engine ] || echo "the theorem of \`judge\` is proved: the contract of \`run\`, the call that the program makes"
     done
 }
 (cd "$room/copy" && RT_JOBS=$processors exec "$root/extra/rt" ci) 2>&1 | show
@@ -44,3 +45,4 @@ if [ "$top" = referee ]; then
     cp "$room/copy/crates/referee/out/referee" crates/referee/out/referee || exit 1
     echo "crates/referee/out/referee is proved and built, after $((SECONDS / 60)) min"
 fi
+echo "left out: the tests (extra/test.sh), the edits that must fail, and the second judge, all of which the gate tries (.ci/run)"
