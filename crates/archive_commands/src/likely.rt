@@ -9,7 +9,7 @@ use name_texts::Encoding;
 use record_repairs::Repair;
 use ref_tiles::Rules;
 use repair_answers::likely_in;
-use repair_lines::{push_change_of, push_numbers};
+use repair_words::{push_change_of, push_numbers};
 use std::alloc::{AllocError, Global};
 
 /// The likely repair of a game, if the line has one.

@@ -6,7 +6,7 @@ use crate::written::event_at;
 use game_case::{Finding, finding_line};
 use gcg_read::Event;
 use record_repairs::Repair;
-use repair_lines::push_change;
+use repair_words::push_change;
 use repaired_choices::{BestRepair, RepairedChoice, RepairedChoices};
 use sentence_parts::{Part, say};
 use sheet_comparisons::Sheets;

@@ -8,7 +8,7 @@ use gcg_read::Record;
 use page_pieces::{PageText, Piece};
 use record_changes::{MissingLine, Slip};
 use record_repairs::Repair;
-use repair_lines::push_likely;
+use repair_words::push_likely;
 use score_sheets::{Picture, shown_at};
 use std::alloc::{AllocError, Global};
 
@@ -60,7 +60,7 @@ fn likely_by(alloc: Global, record: &Record, repair: &Repair) -> Result<Likely, 
     ensures { IfOk result (λ likely. IsBoardOf repair.now likely.board) }
 {
     let mut words = Vec::new(alloc);
-    push_likely(&mut words, record, repair)?;
+    push_likely(&mut words, record, Some(repair))?;
     Ok(Likely {
         words,
         board: board_of(repair),

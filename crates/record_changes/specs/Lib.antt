@@ -3,3 +3,5 @@ pub mod TileCounts
 pub mod Applied
 pub mod Weights
 pub mod Laws
+pub mod Spots
+pub mod Numbers

@@ -1,4 +1,3 @@
-pub mod Spots
 pub mod Alike
 pub mod Tried
 pub mod Unchanged

@@ -1,26 +1,9 @@
 -- Repairs in lines.
-use Rattle.std.specs.Prelude.{◌≡◌, ℕ, ◌+◌, ◌-◌, ◌*◌, not, Bool, true, false, List, [], ◌∷◌, ◌++◌, map, filter, take, length, All, slice_get, Option, Some, if◌then◌else◌}
+use Rattle.std.specs.Prelude.{◌≡◌, ℕ, ◌+◌, ◌-◌, not, Bool, true, false, List, [], ◌∷◌, ◌++◌, map, filter, take, length, All, slice_get, Option, Some, if◌then◌else◌}
 use Rattle.std.specs.List.{list_all, range_with_len}
-use Rattle.record_changes.specs.declared.slips.Slip.{Slip}
-use Rattle.record_changes.specs.declared.slips.Slip.TheVariants as slip
 use Rattle.record_repairs.specs.declared.repair.Repair.{Repair}
 use Rattle.repair_answers.specs.Alike.{is_like}
 use Rattle.repair_answers.specs.declared.evidence.Told.{Told}
-
--- whether a line that should not be there is left out
-abbrev pub leaves_out : Slip → Bool
-leaves_out slip.Repeated = true
-leaves_out slip.ExtraPass = true
-leaves_out slip.Extra = true
-leaves_out other = false
-
--- how many numbers a sheet has with a slip: a score and a total on each line, except one that should not be there
-abbrev pub numbers_with : Slip → (events : ℕ) → ℕ
-numbers_with what events = 2 * (if leaves_out what then events - 1 else events)
-
--- how many numbers it has with two slips
-abbrev pub numbers_with_both : (first second : Slip) → (events : ℕ) → ℕ
-numbers_with_both first second events = if leaves_out first then numbers_with second (events - 1) else numbers_with second events
 
 abbrev pub are_like : Option Repair → Option Repair → Bool
 are_like (Some one) (Some two) = is_like one two

@@ -11,11 +11,9 @@ mod likely;
 mod lists;
 mod pair_lines;
 mod singles;
-mod spots;
 mod unchanged;
 
 pub use answers::{Faulty, RepairAnswer, answer_repairs};
 pub use choices::{Choice, choice_of};
-pub use evidence::{Told, numbers_with, numbers_with_both};
+pub use evidence::Told;
 pub use likely::{likely_in, likely_in_case, likely_repair};
-pub use spots::{Spot, second_spot, spot_of};

@@ -5,9 +5,9 @@ use crate::slip_names::slip_name;
 use answer_json::text_of;
 use gcg_read::{Event, Players, Record};
 use gcg_write::line_text;
-use record_changes::{Change, Slip, weight_of, wrong_events};
+use record_changes::{Change, Slip, Spot, numbers_with, spot_of, weight_of, wrong_events};
 use record_repairs::Repair;
-use repair_answers::{Spot, Told, numbers_with, spot_of};
+use repair_answers::Told;
 use serde::Serialize;
 use std::alloc::{AllocError, Global};
 

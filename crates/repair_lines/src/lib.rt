@@ -5,16 +5,8 @@
 #![tactic(auto)]
 
 mod choices;
-mod evidence;
 mod letters;
-mod likely;
 mod lines;
-mod missing;
-mod names;
-mod plays;
-mod slips;
-mod words;
 
 pub use choices::push_choice;
-pub use likely::{push_change_of, push_likely, push_numbers};
-pub use lines::{push_change, push_repairs};
+pub use lines::push_repairs;

@@ -1,47 +1,16 @@
 //! The lines of an answer.
 
-use crate::evidence::push_evidence;
 use crate::letters::push_difference;
-use crate::slips::push_slip;
 use decimal_text::push_number;
 use game_case::{Case, case_line};
-use gcg_read::{Event, Players, Record};
-use record_changes::Change;
+use gcg_read::Record;
+use record_changes::{numbers_with, numbers_with_both, second_spot};
 use record_repairs::Repair;
-use repair_answers::{
-    Faulty, RepairAnswer, Spot, Told, numbers_with, numbers_with_both, second_spot, spot_of,
-};
+use repair_answers::{Faulty, RepairAnswer, Told};
 use repair_pairs::{Head, Pair, Pairs};
-use sentence_parts::{Part, say, say_of_line};
+use repair_words::{push_change, push_change_at, push_change_of, push_evidence};
+use sentence_parts::{Part, say};
 use std::alloc::{AllocError, Global};
-
-/// Appends where a change is in the file.
-fn push_spot(text: &mut Vec<u8>, spot: Spot) -> Result<(), AllocError> {
-    match spot {
-        Spot::On(line) => say_of_line(text, "line ", line, ": "),
-        Spot::Before(line) => say_of_line(text, "before line ", line, ": "),
-        Spot::Behind(line) => say_of_line(text, "after line ", line, ": "),
-    }
-}
-
-/// Appends a change: where it is in the file, what should be there, and what is.
-pub fn push_change(
-    text: &mut Vec<u8>,
-    players: &Players,
-    events: &[Event],
-    change: &Change,
-    right: &[Event],
-) -> Result<(), AllocError> {
-    push_spot(text, spot_of(events, change))?;
-    let place = change.place;
-    push_slip(
-        text,
-        players,
-        &change.slip,
-        right.get(place),
-        events.get(place),
-    )
-}
 
 /// Appends what the other repairs of a line have where they differ from the first.
 fn push_others(text: &mut Vec<u8>, repairs: &[Repair], others: &[usize]) -> Result<(), AllocError> {
@@ -69,22 +38,11 @@ fn push_told(
     let Some(repair) = repairs.get(told.first) else {
         return Ok(());
     };
-    let events = record.events.as_slice();
-    let change = &repair.listed.change;
-    push_change(
-        text,
-        &record.players,
-        events,
-        change,
-        repair.right.as_slice(),
-    )?;
+    push_change_of(text, record, repair)?;
     push_others(text, repairs, told.others.as_slice())?;
     text.extend_from_slice(b"\n")?;
-    push_evidence(
-        text,
-        &repair.remains,
-        numbers_with(&change.slip, events.len()),
-    )
+    let numbers = numbers_with(&repair.listed.change.slip, record.events.len());
+    push_evidence(text, &repair.remains, numbers)
 }
 
 /// Appends both changes of a pair.
@@ -99,13 +57,13 @@ fn push_both(
     push_change(text, &record.players, events, &head.first.change, made)?;
     text.extend_from_slice(b"; and ")?;
     let second = &pair.then.listed.change;
-    push_spot(text, second_spot(made, second))?;
-    push_slip(
+    push_change_at(
         text,
         &record.players,
-        &second.slip,
-        pair.then.right.as_slice().get(second.place),
-        made.get(second.place),
+        made,
+        second,
+        pair.then.right.as_slice(),
+        second_spot(made, second),
     )
 }
 

@@ -11,7 +11,7 @@ use lex_check::Checked;
 use name_texts::Encoding;
 use ref_tiles::Rules;
 use repair_answers::likely_in;
-use repair_lines::push_likely;
+use repair_words::push_likely;
 use std::alloc::{AllocError, Global};
 use std::rt::Runtime;
 
@@ -45,10 +45,8 @@ fn push_likely_in(
     pair: &Checked<'_>,
     entry: &mut Entry,
 ) -> Result<(), AllocError> {
-    match likely_in(alloc, rules, pair, entry)? {
-        Some(repair) => push_likely(told, &entry.record, &repair),
-        None => Ok(()),
-    }
+    let likely = likely_in(alloc, rules, pair, entry)?;
+    push_likely(told, &entry.record, likely.as_ref())
 }
 
 /// What explains a case, or one of its lines. If the record states its encoding, names in it are UTF-8.

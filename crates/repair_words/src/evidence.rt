@@ -81,7 +81,9 @@ pub(crate) fn push_share(
 }
 
 /// Appends how many of `numbers` numbers are right, each number that is not, and each word that is not in the list.
-pub(crate) fn push_evidence(
+///
+/// It fails only if memory runs out.
+pub fn push_evidence(
     text: &mut Vec<u8>,
     remains: &Remains,
     numbers: u128,

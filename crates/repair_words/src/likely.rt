@@ -1,10 +1,10 @@
 //! The repair that is likelier than all others by far.
 
+use crate::changes::push_change;
 use crate::evidence::{push_evidence, push_share};
-use crate::lines::push_change;
 use gcg_read::Record;
+use record_changes::numbers_with;
 use record_repairs::Repair;
-use repair_answers::numbers_with;
 use std::alloc::AllocError;
 
 /// Appends the change of a repair of a record: where it is in the file, what should be there, and what is.
@@ -36,10 +36,17 @@ pub fn push_numbers(
     push_share(text, &repair.remains, numbers)
 }
 
-/// Appends the likely repair of a record: its change on a line that begins with `Likely: `, and its evidence.
+/// Appends the likely repair of a record, if it has one: its change on a line that begins with `Likely: `, and its evidence.
 ///
 /// It fails only if memory runs out.
-pub fn push_likely(text: &mut Vec<u8>, record: &Record, repair: &Repair) -> Result<(), AllocError> {
+pub fn push_likely(
+    text: &mut Vec<u8>,
+    record: &Record,
+    likely: Option<&Repair>,
+) -> Result<(), AllocError> {
+    let Some(repair) = likely else {
+        return Ok(());
+    };
     text.extend_from_slice(b"Likely: ")?;
     push_change_of(text, record, repair)?;
     text.extend_from_slice(b"\n")?;

@@ -1,9 +1,9 @@
 //! Where a change is in the file.
 ghost use Rattle.std.specs.Prelude.{◌≡◌};
-ghost use Rattle.repair_answers.specs.Spots.{line_at, last_line, on_line, before_line, spot_of};
+ghost use Rattle.record_changes.specs.Spots.{line_at, last_line, on_line, before_line, spot_of};
 
+use crate::slips::{Change, Slip};
 use gcg_read::Event;
-use record_changes::{Change, Slip};
 
 /// Where a change is in the file: on a line, or between two of them. Lines are counted from 1.
 #[derive(Clone, Copy, Debug, PartialEq, Eq)]

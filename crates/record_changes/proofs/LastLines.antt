@@ -2,7 +2,7 @@
 use Rattle.std.proofs.Common.{◌≡◌, suc, ◌-◌, List, [], ◌∷◌, length, slice_get, Some, None, refl, sym, ap, ◌∙◌, arith}
 use Rattle.std.proofs.lemmas.Option.{same_Some}
 use Rattle.gcg_read.specs.declared.events.Event.{Event}
-use Rattle.repair_answers.specs.Spots.{last_line}
+use Rattle.record_changes.specs.Spots.{last_line}
 
 pub last_there : (events : List Event) (e : Event) → slice_get events (length events - 1) ≡ Some e → e.line ≡ last_line events
 last_there [] e at = cc

@@ -5,8 +5,8 @@ use Rattle.gcg_read.specs.declared.events.Event.{Event}
 use Rattle.record_changes.specs.declared.slips.Change.{Change}
 use Rattle.record_changes.specs.declared.slips.Slip.{Slip}
 use Rattle.record_changes.specs.declared.slips.Slip.TheVariants as slip
-use Rattle.repair_answers.specs.declared.spots.Spot.{Spot}
-use Rattle.repair_answers.specs.declared.spots.Spot.TheVariants as spot
+use Rattle.record_changes.specs.declared.spots.Spot.{Spot}
+use Rattle.record_changes.specs.declared.spots.Spot.TheVariants as spot
 
 -- the line of the event at a place; none after the last
 abbrev pub line_at : List Event → (place : ℕ) → Option ℕ

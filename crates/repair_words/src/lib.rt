@@ -1,0 +1,17 @@
+//! One repair of a record, in plain words for a director: where it is, what should be there, what is, and its evidence.
+//!
+//! [`push_likely`] writes the likely repair of a record. The answer of `repair` has its repairs in the same words; `repair_lines` writes it.
+#![tactic(auto)]
+
+mod changes;
+mod evidence;
+mod likely;
+mod missing;
+mod names;
+mod plays;
+mod slips;
+mod words;
+
+pub use changes::{push_change, push_change_at};
+pub use evidence::push_evidence;
+pub use likely::{push_change_of, push_likely, push_numbers};
