@@ -2,9 +2,11 @@
 ghost use Rattle.std.specs.Prelude.{◌≤◌, length, IfOk};
 ghost use Rattle.lex_check.specs.Pairs.{list_in};
 ghost use Rattle.game_case.specs.Explaining.{HasItsWalk};
+ghost use Rattle.game_rows.specs.Walks.{IsWalkOf};
 ghost use Rattle.annotations.specs.Texts.{IsAnnotated};
 
 use crate::notes::{push_note, push_sentences};
+use case_explanations::explain;
 use explain_lines::push_reason;
 use game_answers::{ScoredPlay, best_plays};
 use game_board::place_of_line;
@@ -128,7 +130,7 @@ fn notes_of(
     entry: &Entry,
     walk: &Walk,
 ) -> Result<Vec<u8>, AllocError>
-    requires { HasItsWalk sheet.now.rules.now (list_in sheet.now.pair.now) sheet.now.case.now }
+    requires { IsWalkOf sheet.now.rules.now (list_in sheet.now.pair.now) entry.now.record.events walk.now }
 {
     let events = entry.record.events.as_slice();
     let faulty = faulty_line(&entry.finding);
@@ -137,14 +139,10 @@ fn notes_of(
     let noted = &events[..count_noted(events, faulty)];
     push_notes(alloc, &mut notes, sheet, walk, noted, rows.as_slice())?;
     if faulty.is_some() {
+        let list = sheet.pair.list();
+        let explanation = explain(alloc, sheet.rules, list, entry, walk, None)?;
         let mut reason = Vec::new(alloc);
-        push_reason(
-            alloc,
-            &mut reason,
-            sheet.rules,
-            sheet.pair.list(),
-            sheet.case,
-        )?;
+        push_reason(&mut reason, explanation.as_ref())?;
         push_sentences(&mut notes, reason.as_slice().trim_ascii_end())?;
     }
     Ok(notes)

@@ -10,11 +10,12 @@ use command_files::{has_page, unopened, write_whole_file};
 use devices::FromRead;
 use exit_statuses::Trouble;
 use game_case::{Case, open_case};
-use game_page::{Contents, Index, IndexPlayer, IndexRow, Maker, push_page};
+use game_page::{Contents, Index, IndexPlayer, IndexRow, Maker, push_page, shown_of};
 use lex_check::Checked;
 use name_texts::Encoding;
 use page_names::push_page_name;
 use page_pieces::PageText;
+use page_words::{Sentences, sentences_of};
 use record_repairs::Repair;
 use ref_tiles::Rules;
 use std::alloc::{AllocError, Global};
@@ -110,7 +111,11 @@ impl<'a> Pages<'a> {
             up: Some(folders_of(file.as_str())),
             maker: &self.maker,
         };
-        push_page(alloc, &mut self.page, &contents)?;
+        if let Some(shown) = shown_of(alloc, &contents)? {
+            let explanation = shown.explanation.as_ref();
+            let Sentences { reason, likely } = sentences_of(alloc, case, explanation, likely)?;
+            push_page(&mut self.page, &shown, reason.as_slice(), likely.as_slice())?;
+        }
         let path = path_in(alloc, self.folder, file.as_str())?;
         if put_page(rt, path.as_str(), self.page.as_slice())? {
             Ok(PageField::Written(file))

@@ -102,24 +102,15 @@ fn push_told(text: &mut Vec<u8>, told: &Explanation<'_>) -> Result<(), AllocErro
     }
 }
 
-/// Appends the sentences that explain the verdict on a record, and nothing else.
+/// Appends the sentences of an explanation, if there is one, and nothing that is shown with them.
 ///
 /// It fails only if memory runs out.
 pub fn push_reason(
-    alloc: Global,
     text: &mut Vec<u8>,
-    rules: &Rules,
-    list: &WordList,
-    case: &Case,
-) -> Result<(), AllocError>
-    requires { HasItsWalk rules.now list.now case.now }
-{
-    match (&case.read, &case.walk) {
-        (Ok(entry), Some(walk)) => match explain(alloc, rules, list, entry, walk, None)? {
-            None => Ok(()),
-            Some(told) => push_facts(text, &told),
-        },
-        (Ok(_), None) => unreachable!(),
-        (Err(fault), _) => push_unread(alloc, text, case.text.as_slice(), *fault),
+    explanation: Option<&Explanation<'_>>,
+) -> Result<(), AllocError> {
+    match explanation {
+        Some(explanation) => push_facts(text, explanation),
+        None => Ok(()),
     }
 }

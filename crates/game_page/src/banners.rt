@@ -10,6 +10,7 @@ use crate::sums::push_sum;
 use explanations::Picture;
 use game_case::Finding;
 use gcg_read::{Event, Points, Seat};
+use name_texts::Encoding;
 use page_pieces::{PageText, Piece};
 use record_words::Note;
 use score_sheets::Standing;
@@ -221,21 +222,26 @@ fn push_line(page: &mut PageText, shown: &Shown<'_>) -> Result<(), AllocError> {
 }
 
 /// Appends what explains the verdict.
-fn push_why(page: &mut PageText, shown: &Shown<'_>) -> Result<(), AllocError> {
+fn push_why(page: &mut PageText, reason: &[u8], encoding: Encoding) -> Result<(), AllocError> {
     page.push(&[
         Piece::Markup("<p class=\"why\">"),
-        Piece::Recorded(shown.reason.as_slice().trim_ascii_end(), shown.encoding),
+        Piece::Recorded(reason.trim_ascii_end(), encoding),
         Piece::Markup("</p>\n"),
     ])
 }
 
 /// Appends the verdict, the event that it is about, what explains it, and the likely repair.
-fn push_verdict(page: &mut PageText, shown: &Shown<'_>) -> Result<(), AllocError> {
+fn push_verdict(
+    page: &mut PageText,
+    shown: &Shown<'_>,
+    reason: &[u8],
+    likely: &[u8],
+) -> Result<(), AllocError> {
     push_line(page, shown)?;
     push_faulty(page, shown)?;
-    push_why(page, shown)?;
+    push_why(page, reason, shown.encoding)?;
     push_fault_sum(page, shown)?;
-    push_likely_words(page, shown)?;
+    push_likely_words(page, shown, likely)?;
     page.push(&[Piece::Markup("</section>\n")])
 }
 
@@ -261,13 +267,15 @@ fn push_back(page: &mut PageText, up: Option<usize>) -> Result<(), AllocError> {
 pub fn push_banner<'n, 'a>(
     page: &mut PageText,
     shown: &'n Shown<'a>,
+    reason: &[u8],
+    likely: &[u8],
 ) -> Result<&'n [Note<'a>], AllocError> {
     page.push(&[Piece::Markup("<header>\n")])?;
     push_back(page, shown.up)?;
     push_names(page, shown)?;
     push_result(page, shown)?;
     let notes = push_words(page, shown)?;
-    push_verdict(page, shown)?;
+    push_verdict(page, shown, reason, likely)?;
     page.push(&[Piece::Markup("</header>\n")])?;
     Ok(notes)
 }

@@ -16,7 +16,6 @@ use crate::rows::push_rows;
 use crate::showing::{Shown, faulty_line};
 use case_explanations::explain;
 use case_openings::place_of_fault;
-use explain_lines::push_reason;
 use game_case::{Case, Entry, Finding, case_line};
 use game_rows::Walk;
 use gcg_read::Event;
@@ -110,15 +109,12 @@ fn shown_by<'a>(
     entry: &'a Entry,
     walk: &Walk,
 ) -> Result<Shown<'a>, AllocError>
-    requires case { HasItsWalk contents.now.rules.now (list_in contents.now.pair.now) contents.now.case.now }
-    requires walk { IsWalkOf contents.now.rules.now (list_in contents.now.pair.now) entry.now.record.events walk.now }
+    requires { IsWalkOf contents.now.rules.now (list_in contents.now.pair.now) entry.now.record.events walk.now }
     ensures { IfOk result (λ shown. (right : List Event)
         → IsWalk contents.now.rules.now (list_in contents.now.pair.now) entry.now.record.events right walk.now
         → ShowsEntry contents.now.rules.now (list_in contents.now.pair.now) contents.now.case.now.text.items contents.now.case.now.read (option_copied contents.now.likely) entry.now shown) }
 {
     let (rules, pair, case) = (contents.rules, contents.pair, contents.case);
-    let mut reason = Vec::new(alloc);
-    push_reason(alloc, &mut reason, rules, pair.list(), case)?;
     let events = entry.record.events.as_slice();
     let faulty = faulty_place(events, &entry.finding);
     let place = place_in_view(events, &faulty);
@@ -130,9 +126,8 @@ fn shown_by<'a>(
         finding: entry.finding,
         faulty,
         verdict: case_line(alloc, case)?,
-        reason,
         explanation: explain(alloc, rules, pair.list(), entry, walk, None)?,
-        likely: likely_of(alloc, &entry.record, contents.likely)?,
+        likely: likely_of(contents.likely),
         up: contents.up,
         maker: contents.maker,
     })
@@ -158,10 +153,18 @@ pub fn shown_of<'a>(alloc: Global, contents: &Contents<'a>) -> Result<Option<Sho
     Ok(Some(shown))
 }
 
-/// Appends what a page shows.
-fn push_contents(page: &mut PageText, shown: &Shown<'_>) -> Result<(), AllocError> {
+/// Appends the page of a game: what it shows, which [`shown_of`] gives, with the sentences that explain the verdict (`reason`) and those of the likely
+/// repair (`likely`).
+///
+/// It fails only if memory runs out.
+pub fn push_page(
+    page: &mut PageText,
+    shown: &Shown<'_>,
+    reason: &[u8],
+    likely: &[u8],
+) -> Result<(), AllocError> {
     push_head(page, shown)?;
-    let notes = push_banner(page, shown)?;
+    let notes = push_banner(page, shown, reason, likely)?;
     page.push(&[Piece::Markup("<main>\n")])?;
     push_end(page, shown)?;
     page.push(&[Piece::Markup("<section class=\"events\">\n<h2>The sheet</h2>\n")])?;
@@ -169,20 +172,4 @@ fn push_contents(page: &mut PageText, shown: &Shown<'_>) -> Result<(), AllocErro
     page.push(&[Piece::Markup("</section>\n</main>\n")])?;
     push_foot(page, shown.maker)?;
     page.push(&[Piece::Markup("</body>\n</html>\n")])
-}
-
-/// Appends the page of a game, which shows what [`shown_of`] gives. Appends nothing if the text is not a record.
-///
-/// It fails only if memory runs out.
-pub fn push_page(
-    alloc: Global,
-    page: &mut PageText,
-    contents: &Contents<'_>,
-) -> Result<(), AllocError>
-    requires { HasItsWalk contents.now.rules.now (list_in contents.now.pair.now) contents.now.case.now }
-{
-    match shown_of(alloc, contents)? {
-        None => Ok(()),
-        Some(shown) => push_contents(page, &shown),
-    }
 }

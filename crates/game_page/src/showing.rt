@@ -28,8 +28,6 @@ pub struct Shown<'a> {
     pub faulty: Option<usize>,
     /// The line with the verdict.
     pub verdict: Vec<u8>,
-    /// The sentences that explain it.
-    pub reason: Vec<u8>,
     /// What explains it, with the words of the play.
     pub explanation: Option<Explanation<'a>>,
     /// The likely repair of the record, if there is one.

@@ -13,10 +13,11 @@ use command_files::has_page;
 use exit_statuses::{Exit, exit_of_audit, exit_of_case};
 use game_answers::{FoundPlays, JudgedGame, ShownBoard};
 use game_json::{push_found_plays, push_judged_game};
-use game_page::{Contents, Maker, push_page};
+use game_page::{Contents, Maker, push_page, shown_of};
 use known_bests::KnownBests;
 use lex_check::Checked;
 use page_pieces::PageText;
+use page_words::{Sentences, sentences_of};
 use ref_tiles::Rules;
 use serve_answers::{Reply, Ruled, ToldCase, reply_to};
 use serve_requests::Request;
@@ -222,7 +223,16 @@ fn tell_page(alloc: Global, judges: &Judges<'_>, told: &ToldCase) -> Result<Resp
         up: None,
     };
     let mut page = PageText::new(alloc);
-    push_page(alloc, &mut page, &contents)?;
+    if let Some(shown) = shown_of(alloc, &contents)? {
+        let explanation = shown.explanation.as_ref();
+        let Sentences { reason, likely } = sentences_of(
+            alloc,
+            &told.case,
+            explanation,
+            contents.likely,
+        )?;
+        push_page(&mut page, &shown, reason.as_slice(), likely.as_slice())?;
+    }
     let text = Vec::from_slice(alloc, page.as_slice())?;
     Ok(Response::text(exit_of_case(&told.case, None), text))
 }

@@ -4,8 +4,9 @@ ghost use Rattle.game_case.specs.Explaining.{HasItsWalk};
 
 use crate::made_texts::write_made;
 use exit_statuses::{Exit, Trouble};
-use game_page::{Contents, push_page};
+use game_page::{Contents, push_page, shown_of};
 use page_pieces::PageText;
+use page_words::{Sentences, sentences_of};
 use std::alloc::{AllocError, Global};
 use std::rt::Runtime;
 
@@ -28,6 +29,15 @@ fn page_of(alloc: Global, contents: &Contents<'_>) -> Result<PageText, AllocErro
     requires { HasItsWalk contents.now.rules.now (list_in contents.now.pair.now) contents.now.case.now }
 {
     let mut page = PageText::new(alloc);
-    push_page(alloc, &mut page, contents)?;
+    if let Some(shown) = shown_of(alloc, contents)? {
+        let explanation = shown.explanation.as_ref();
+        let Sentences { reason, likely } = sentences_of(
+            alloc,
+            contents.case,
+            explanation,
+            contents.likely,
+        )?;
+        push_page(&mut page, &shown, reason.as_slice(), likely.as_slice())?;
+    }
     Ok(page)
 }

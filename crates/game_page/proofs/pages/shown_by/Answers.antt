@@ -20,11 +20,11 @@ returns c =
       finding = refl;
       faulty = c.faulty_place-faulty.ensures.is ∙ ap (λ (es : List Event). faulty_place es entry.finding) same;
       verdict = c.in_ok-case_line.ensures;
-      explanation = subst (λ (l : List (List ℕ)). IsExplanation rules l entry None c.in_ok-explain.field-0) c.list-2.ensures.list c.in_ok-explain.ensures;
+      explanation = subst (λ (l : List (List ℕ)). IsExplanation rules l entry None c.in_ok-explain.field-0) c.list.ensures.list c.in_ok-explain.ensures;
       words = subst (λ (t : List ℕ). AreWordsOf t c.in_ok-words_of.field-0) c.as_slice.ensures.value c.in_ok-words_of.ensures;
       right = right;
       walk = c.args.walk.now;
       walked = is;
       sheet = subst (λ (p : ℕ). IsScoreSheet rules list entry.record right p c.in_ok-score_sheet.field-0) at (c.in_ok-score_sheet.ensures right is);
-      repaired = c.in_ok-likely_of.ensures;
+      repaired = c.likely_of.ensures;
     }
