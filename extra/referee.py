@@ -72,7 +72,7 @@ def text_of(game):
     """The text of a record that is given as bytes. Where it states ISO-8859-1, it states UTF-8 afterwards, as the program is given it."""
     if isinstance(game, str):
         return game
-    states = re.compile(rb"^(#character-encoding[ \t]+)iso-8859-1", re.IGNORECASE | re.MULTILINE)
+    states = re.compile(rb"^(#character-encoding[ \t]+)iso-8859-1(?![^ \t\r\n])", re.IGNORECASE | re.MULTILINE)
     try:
         if not states.search(game):
             return game.decode()

@@ -104,6 +104,8 @@ class Client(Differences):
             self.expect(referee.page("#player1 A <Ann>\n" + WORD).startswith("<!DOCTYPE html>"))
             latin = b"#character-encoding ISO-8859-1\n#player1 A \xc9mile\n>A: DORWAAE 8E WORD +16 16\n"
             self.expect("Émile" in referee.page(latin) and referee.judge(latin).players[0]["name"] == "Émile", text_of(latin))
+            other = "#character-encoding ISO-8859-15\n#player1 A Émile\n>A: DORWAAE 8E WORD +16 16\n"
+            self.expect(text_of(other.encode()) == other and referee.judge(other.encode()).players[0]["name"] == "Émile", text_of(other.encode()))
         self.raised(Broken, lambda: referee.judge(WORD))
         self.expect(self.raised(BadInput, lambda: Referee(pair[1], pair[0], program=self.program)).answer.verdict == "bad word list")
         self.expect(self.raised(BadInput, lambda: Referee(pair[0], pair[0], program=self.program)).answer.verdict == "bad lexicon")
